@@ -1,0 +1,5 @@
+pub mod Bits
+pub mod Cipher
+pub mod Des
+pub mod Schedule
+pub mod Tables

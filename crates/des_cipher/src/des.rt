@@ -1,0 +1,42 @@
+// DES on bytes.
+
+ghost use Rattle.std.specs.Prelude.{◌≡◌, ℕ, List};
+ghost use Rattle.des_cipher.specs.Des.{des_of, spread_of, SameButLowBits};
+
+use crate::bits::{bytes_from, number, write_bits};
+use crate::cipher::encipher;
+use crate::schedule::key_schedule;
+
+/// A key of 7 bytes spread over 8: seven bits in each byte, in order, and the low bit of each zero
+/// (MS-NRPC 3.1.4.4.2, InitLMKey).
+pub fn spread_key(key: [u8; 7]) -> [u8; 8]
+    ensures { result ≡ spread_of key }
+{
+    let mut bits = [false; 56];
+    write_bits(&key, &mut bits);
+    let mut spread = [0; 8];
+    for i in 0..8 {
+        spread[i] = 2 * number(&bits[7 * i..7 * i + 7]);
+    }
+    spread
+}
+
+/// DES (FIPS 46-3) of a block under a key of 8 bytes. The low bit of each byte of the key, its parity bit, has no
+/// effect.
+pub fn des_block8(key: [u8; 8], block: [u8; 8]) -> [u8; 8]
+    ensures value { result ≡ des_of key block }
+    ensures parity_is_free { (other : List ℕ) → SameButLowBits key other → result ≡ des_of other block }
+{
+    let mut key_bits = [false; 64];
+    write_bits(&key, &mut key_bits);
+    let mut block_bits = [false; 64];
+    write_bits(&block, &mut block_bits);
+    bytes_from(&encipher(&key_schedule(&key_bits), &block_bits))
+}
+
+/// DES (FIPS 46-3) of a block under a key of 7 bytes, which is spread over 8 (MS-NLMP 6, `DES(K, D)`).
+pub fn des_block(key: [u8; 7], block: [u8; 8]) -> [u8; 8]
+    ensures { result ≡ des_of (spread_of key) block }
+{
+    des_block8(spread_key(key), block)
+}
