@@ -1,0 +1,3 @@
+pub mod Hmac
+pub mod Md4
+pub mod StandsFor
