@@ -1,0 +1,2 @@
+pub mod Rc4Laws
+pub mod StepLemmas

@@ -1,0 +1,3 @@
+pub mod CellStates
+pub mod Rc4
+pub mod Steps
