@@ -1,2 +1,7 @@
+pub mod Decimal
+pub mod Maps
 pub mod Memory
+pub mod Names
 pub mod Numbers
+pub mod Sid
+pub mod Units

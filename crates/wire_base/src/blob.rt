@@ -36,4 +36,19 @@ impl Blob {
     {
         self.bytes.as_slice()
     }
+
+    /// The bytes of a vector, without a copy.
+    pub fn from_vec(bytes: Vec<u8>) -> Blob
+        ensures { result ≡ bytes.items }
+    {
+        Blob { bytes }
+    }
+
+    /// The bytes as a vector, without a copy.
+    pub fn into_vec(self) -> Vec<u8>
+        ensures { result.items ≡ self }
+    {
+        let Blob { bytes } = self;
+        bytes
+    }
 }

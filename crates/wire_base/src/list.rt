@@ -1,9 +1,10 @@
 //! The one list type of every crate, seen by contracts as the list of its items.
 
-ghost use Rattle.std.specs.Prelude.{◌≡◌, [], ◌∷◌, ◌++◌, length, OnOk, OnErr, slice_get, option_copied};
+ghost use Rattle.std.specs.Prelude.{◌≡◌, [], ◌∷◌, ◌++◌, ◌↔◌, IsTrue, length, IfOk, OnOk, OnErr, slice_get, option_copied};
 
 use crate::blob::Blob;
 use crate::memory::NoMemory;
+use crate::names::Name;
 use std::alloc::Global;
 use std::marker::Model;
 
@@ -18,6 +19,27 @@ pub type Frames = List<Blob>;
 
 /// 32-bit numbers.
 pub type Numbers = List<u32>;
+
+/// Numbers of calls, counted from 0.
+pub type Calls = List<u32>;
+
+/// Names of accounts, computers or domains.
+pub type Names = List<Name>;
+
+/// Pairs of byte strings, as the names of files and what is in them.
+pub type Texts = List<(Blob, Blob)>;
+
+/// Moments of a clock.
+pub type Moments = List<u64>;
+
+/// Challenges of 8 bytes.
+pub type Draws = List<[u8; 8]>;
+
+/// Groups of an account: the relative identifier and the attributes of each.
+pub type Groups = List<(u32, u32)>;
+
+/// What was sent: the link and the bytes of each.
+pub type Sends = List<(u32, Blob)>;
 
 impl<T> Model for List<T> {
     ghost use Rattle.std.specs.Prelude.{List as list};
@@ -55,6 +77,13 @@ impl<T> List<T> {
         self.items.len()
     }
 
+    /// Whether there is no item.
+    pub fn is_empty(&self) -> bool
+        ensures { IsTrue result ↔ (self.now ≡ []) }
+    {
+        self.items.is_empty()
+    }
+
     /// The item at a place, counted from 0. None exactly past the end.
     pub fn get(&self, at: usize) -> Option<&T>
         ensures { option_copied result ≡ slice_get self.now at }
@@ -67,5 +96,31 @@ impl<T> List<T> {
         ensures { result.now ≡ self.now }
     {
         self.items.as_slice()
+    }
+
+    /// A list of the items of a vector, without a copy.
+    pub fn from_vec(items: Vec<T>) -> Self
+        ensures { result ≡ items.items }
+    {
+        List { items }
+    }
+
+    /// The items as a vector, without a copy.
+    pub fn into_vec(self) -> Vec<T>
+        ensures { result.items ≡ self }
+    {
+        let List { items } = self;
+        items
+    }
+
+    /// A copy of the items.
+    pub fn copy(alloc: Global, items: &[T]) -> Result<Self, NoMemory>
+    where
+        T: Copy,
+        ensures { IfOk result (λ l. l ≡ items.now) }
+    {
+        Ok(List {
+            items: Vec::from_slice(alloc, items)?,
+        })
     }
 }

@@ -1,0 +1,7 @@
+pub mod DecimalLaws
+pub mod MapLaws
+pub mod MemoryLaws
+pub mod NameLaws
+pub mod NumberLaws
+pub mod SidLaws
+pub mod UnitLaws

@@ -1,0 +1,155 @@
+-- Laws of maps as lists of entries.
+use Rattle.std.proofs.Common.{◌≡◌, ℕ, zero, suc, ◌<◌, Bool, true, false, List, [], ◌∷◌, ◌++◌, ◌⊎◌, length, get_or, set, Option, Some, None, refl, sym, ◌∙◌, arith, inl, inr}
+use Rattle.std.specs.List.{All, remove}
+use Rattle.std.specs.Option.{option_map}
+use Rattle.std.proofs.lemmas.Bool.{cases_Bool}
+use Rattle.std.proofs.lemmas.List.Elements.{All-nil, All-cons, All-head, All-tail}
+use Rattle.wire_base.specs.Maps.{place_of, has_key, lookup, put, take_out}
+
+-- ---- a place
+
+-- the first item that passes stands at the place
+pub record IsFirstAt {T : Type 0} (test : T → Bool) (items : List T) (place : ℕ) : Type 0 where
+  pub inside : place < length items
+  pub passes : (d : T) → test (get_or items place d) ≡ true
+  pub before : (earlier : ℕ) (d : T) → earlier < place → test (get_or items earlier d) ≡ false
+
+one_on : (o : Option ℕ) (place : ℕ) → option_map suc o ≡ Some place → (p : ℕ) × (place ≡ suc p) × (o ≡ Some p)
+one_on None place e = absurd cc
+one_on (Some p) place e = (p, cc, refl)
+
+none_on : (o : Option ℕ) → option_map suc o ≡ None → o ≡ None
+none_on None e = refl
+none_on (Some p) e = absurd cc
+
+-- where the place of the first that passes is, by the first item
+place_cases : {A : Type 0} (test : A → Bool) (item : A) (items : List A) (place : ℕ) → place_of test (item ∷ items) ≡ Some place → ((test item ≡ true) × (place ≡ 0)) ⊎ ((test item ≡ false) × ((p : ℕ) × (place ≡ suc p) × (place_of test items ≡ Some p)))
+place_cases test item items place found =
+    elim (cases_Bool (test item)) [
+      | inl pass ↦ inl (pass, let here : place_of test (item ∷ items) ≡ Some 0 = rw pass refl in cc)
+      | inr fail ↦
+          let later : place_of test (item ∷ items) ≡ option_map suc (place_of test items) = rw fail refl in
+          inr (fail, one_on (place_of test items) place (sym later ∙ found))
+    ]
+
+none_cases : {A : Type 0} (test : A → Bool) (item : A) (items : List A) → place_of test (item ∷ items) ≡ None → (test item ≡ false) × (place_of test items ≡ None)
+none_cases test item items none =
+    elim (cases_Bool (test item)) [
+      | inl pass ↦ absurd (let here : place_of test (item ∷ items) ≡ Some 0 = rw pass refl in cc)
+      | inr fail ↦
+          let later : place_of test (item ∷ items) ≡ option_map suc (place_of test items) = rw fail refl in
+          (fail, none_on (place_of test items) (sym later ∙ none))
+    ]
+
+before_cons : {A : Type 0} (test : A → Bool) (item : A) (items : List A) (place : ℕ) → test item ≡ false → IsFirstAt test items place → (earlier : ℕ) (d : A) → earlier < suc place → test (get_or (item ∷ items) earlier d) ≡ false
+before_cons test item items place fail first zero d lt = fail
+before_cons test item items place fail first (suc earlier) d lt = first.before earlier d (omega arith)
+
+-- what is found stands there
+pub IsFirstAt-place_of : {A : Type 0} (test : A → Bool) (items : List A) (place : ℕ) → place_of test items ≡ Some place → IsFirstAt test items place
+IsFirstAt-place_of test [] place found = absurd cc
+IsFirstAt-place_of test (item ∷ items) place found =
+    elim (place_cases test item items place found) [
+      | inl h ↦ rw h.1 (record { inside = omega arith; passes = λ d. h.0; before = λ earlier d lt. absurd (omega arith) })
+      | inr h ↦
+          let first = IsFirstAt-place_of test items h.1.0 h.1.2 in
+          rw h.1.1 (record { inside = omega (arith, first.inside); passes = first.passes; before = before_cons test item items h.1.0 h.0 first })
+    ]
+
+-- and what stands there is found
+pub place_of-IsFirstAt : {A : Type 0} (test : A → Bool) (items : List A) (place : ℕ) → IsFirstAt test items place → place_of test items ≡ Some place
+place_of-IsFirstAt test [] place first = absurd (omega (arith, first.inside))
+place_of-IsFirstAt test (item ∷ items) zero first = rw (first.passes item) refl
+place_of-IsFirstAt test (item ∷ items) (suc place) first =
+    let fail : test item ≡ false = first.before 0 item (omega arith) in
+    let later : IsFirstAt test items place = record {
+      inside = omega (arith, first.inside);
+      passes = first.passes;
+      before = λ earlier d lt. first.before (suc earlier) d (omega arith);
+    } in
+    rw (fail, place_of-IsFirstAt test items place later) refl
+
+-- where nothing is found no item passes
+pub none_from_place_of : {A : Type 0} (test : A → Bool) (items : List A) → place_of test items ≡ None → All (λ item. test item ≡ false) items
+none_from_place_of test [] none = All-nil (λ item. test item ≡ false)
+none_from_place_of test (item ∷ items) none =
+    let parts = none_cases test item items none in
+    All-cons (λ x. test x ≡ false) item items parts.0 (none_from_place_of test items parts.1)
+
+-- where no item passes nothing is found
+pub place_of-none : {A : Type 0} (test : A → Bool) (items : List A) → All (λ item. test item ≡ false) items → place_of test items ≡ None
+place_of-none test [] none = refl
+place_of-none test (item ∷ items) none =
+    rw (All-head (λ x. test x ≡ false) item items none, place_of-none test items (All-tail (λ x. test x ≡ false) item items none)) refl
+
+-- ---- a map at a place
+
+pub put_at : {K V : Type 0} (same : K → K → Bool) (key : K) (value : V) (entries : List (K × V)) (place : ℕ) → place_of (has_key same key) entries ≡ Some place → put same key value entries ≡ set entries place (key, value)
+put_at same key value [] place found = absurd cc
+put_at same key value (entry ∷ entries) place found =
+    elim (place_cases (has_key same key) entry entries place found) [
+      | inl h ↦ rw (h.0, h.1) refl
+      | inr h ↦ rw (h.0, h.1.1, put_at same key value entries h.1.0 h.1.2) refl
+    ]
+
+pub put_new : {K V : Type 0} (same : K → K → Bool) (key : K) (value : V) (entries : List (K × V)) → place_of (has_key same key) entries ≡ None → put same key value entries ≡ entries ++ (key, value) ∷ []
+put_new same key value [] none = refl
+put_new same key value (entry ∷ entries) none =
+    let parts = none_cases (has_key same key) entry entries none in
+    rw (parts.0, put_new same key value entries parts.1) refl
+
+pub take_out_at : {K V : Type 0} (same : K → K → Bool) (key : K) (entries : List (K × V)) (place : ℕ) → place_of (has_key same key) entries ≡ Some place → take_out same key entries ≡ remove entries place
+take_out_at same key [] place found = absurd cc
+take_out_at same key (entry ∷ entries) place found =
+    elim (place_cases (has_key same key) entry entries place found) [
+      | inl h ↦ rw (h.0, h.1) refl
+      | inr h ↦ rw (h.0, h.1.1, take_out_at same key entries h.1.0 h.1.2) refl
+    ]
+
+pub take_out_none : {K V : Type 0} (same : K → K → Bool) (key : K) (entries : List (K × V)) → place_of (has_key same key) entries ≡ None → take_out same key entries ≡ entries
+take_out_none same key [] none = refl
+take_out_none same key (entry ∷ entries) none =
+    let parts = none_cases (has_key same key) entry entries none in
+    rw (parts.0, take_out_none same key entries parts.1) refl
+
+pub lookup_at : {K V : Type 0} (same : K → K → Bool) (key : K) (entries : List (K × V)) (place : ℕ) (d : K × V) → place_of (has_key same key) entries ≡ Some place → lookup same key entries ≡ Some (get_or entries place d).1
+lookup_at same key [] place d found = absurd cc
+lookup_at same key (entry ∷ entries) place d found =
+    elim (place_cases (has_key same key) entry entries place found) [
+      | inl h ↦ rw (h.0, h.1) refl
+      | inr h ↦ rw (h.0, h.1.1, lookup_at same key entries h.1.0 d h.1.2) refl
+    ]
+
+pub lookup_none : {K V : Type 0} (same : K → K → Bool) (key : K) (entries : List (K × V)) → place_of (has_key same key) entries ≡ None → lookup same key entries ≡ None
+lookup_none same key [] none = refl
+lookup_none same key (entry ∷ entries) none =
+    let parts = none_cases (has_key same key) entry entries none in
+    rw (parts.0, lookup_none same key entries parts.1) refl
+
+-- ---- a map after a change
+
+-- a key that was put has its value
+pub lookup-put_same : {K V : Type 0} (same : K → K → Bool) (key : K) (value : V) (entries : List (K × V)) → same key key ≡ true → lookup same key (put same key value entries) ≡ Some value
+lookup-put_same same key value [] itself = rw itself refl
+lookup-put_same same key value (entry ∷ entries) itself =
+    elim (cases_Bool (has_key same key entry)) [
+      | inl pass ↦ rw (pass, itself) refl
+      | inr fail ↦ rw (fail, fail) (lookup-put_same same key value entries itself)
+    ]
+
+-- another key keeps its value, where no key is the same as both
+pub lookup-put_other : {K V : Type 0} (same : K → K → Bool) (key other : K) (value : V) (entries : List (K × V)) → ((k : K) → same key k ≡ true → same other k ≡ false) → same other key ≡ false → lookup same other (put same key value entries) ≡ lookup same other entries
+lookup-put_other same key other value [] apart differ = rw differ refl
+lookup-put_other same key other value (entry ∷ entries) apart differ =
+    elim (cases_Bool (has_key same key entry)) [
+      | inl pass ↦ rw (pass, differ, apart entry.0 pass) refl
+      | inr fail ↦ rw (fail, lookup-put_other same key other value entries apart differ) refl
+    ]
+
+pub lookup-take_out_other : {K V : Type 0} (same : K → K → Bool) (key other : K) (entries : List (K × V)) → ((k : K) → same key k ≡ true → same other k ≡ false) → lookup same other (take_out same key entries) ≡ lookup same other entries
+lookup-take_out_other same key other [] apart = refl
+lookup-take_out_other same key other (entry ∷ entries) apart =
+    elim (cases_Bool (has_key same key entry)) [
+      | inl pass ↦ rw (pass, apart entry.0 pass) refl
+      | inr fail ↦ rw (fail, lookup-take_out_other same key other entries apart) refl
+    ]
