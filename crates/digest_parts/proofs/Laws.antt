@@ -70,7 +70,7 @@ bytes_of-hmac_of key message place = at_each_place (hmac_of key message) (All-hm
 length-copies : (n x : ℕ) → length (replicate n x) ≡ n
 length-copies n x = length-replicate n x
 
--- a padded message is whole blocks, and its last 8 bytes are the length field
+-- a padded message is whole blocks
 pub length-padded : (message : List ℕ) → length (padded message) % 64 ≡ 0
 unfolding padded
 length-padded message =

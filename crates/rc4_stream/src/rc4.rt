@@ -47,8 +47,8 @@ impl Rc4 {
         }
     }
 
-    /// Combines each byte by exclusive or with the next byte of the key stream. The number of bytes used, these
-    /// among them, stays below 2^63.
+    /// Combines each byte by exclusive or with the next byte of the key stream. The condition: the number of bytes
+    /// used, these among them, stays below 2^63.
     pub fn apply(&mut self, bytes: &mut [u8])
         requires { self.old.used + length bytes.old < 2 ^ 63 }
         ensures bytes { bytes.new ≡ applied self.old.key self.old.used bytes.old }
