@@ -1,0 +1,25 @@
+-- How what is told in two calls, one after the other, comes together.
+use Rattle.std.proofs.Common.{◌≡◌, List, [], ◌++◌, length, Option, Some, None, refl, sym, ap, ◌∙◌, arith, append-nil, append_assoc, length-append}
+use Rattle.std.proofs.Math.Seq.{take-append_seam}
+use Rattle.outside.specs.Telling.{Appends, AppendsFront}
+
+pub Appends-trans : {X : Type 0} (first second third : Option (List X)) (xs ys : List X) →
+    Appends first second xs → Appends second third ys → Appends first third (xs ++ ys)
+Appends-trans None None third xs ys p q = q
+Appends-trans None (Some b) third xs ys p q = cc
+Appends-trans (Some a) second None xs ys p q = tt
+Appends-trans (Some a) None (Some c) xs ys p q = cc
+Appends-trans (Some a) (Some b) (Some c) xs ys p q = q ∙ ap (λ now. now ++ ys) p ∙ append_assoc a xs ys
+
+-- all of a front is a front of all
+pub AppendsFront-append : {X : Type 0} (old new : Option (List X)) (front rest : List X) → Appends old new front → AppendsFront old new (front ++ rest)
+AppendsFront-append None new front rest p = p
+AppendsFront-append (Some a) None front rest p = tt
+AppendsFront-append (Some a) (Some b) front rest p =
+    let whole : a ++ (front ++ rest) ≡ b ++ rest = sym (append_assoc a front rest) ∙ ap (λ now. now ++ rest) (sym p) in
+    (omega (arith, ap length p, length-append a front), sym (rw whole (take-append_seam b rest)))
+
+-- nothing was taken
+pub Appends-nothing : {X : Type 0} (told : Option (List X)) → Appends told told []
+Appends-nothing None = refl
+Appends-nothing (Some a) = sym (append-nil a)

@@ -1,0 +1,41 @@
+-- Events and links of a port (this project's own choice).
+use Rattle.std.specs.Prelude.{ℕ, Bool, true, false, not, ◌&&◌, ◌||◌, ◌==◌, nat_le, List, [], ◌∷◌, length, Option, Some, Result, Ok, Err, IsTrue}
+use Rattle.outside.specs.declared.event.Event.{Event}
+use Rattle.outside.specs.declared.event.Event.TheVariants as event
+use Rattle.outside.specs.declared.event.Happening.{Happening}
+use Rattle.outside.specs.declared.event.Happening.TheVariants as happening
+use Rattle.outside.specs.declared.port.PortRefused.{PortRefused}
+use Rattle.outside.specs.declared.port.TheConstants.{MOST_EVENT_BYTES}
+
+-- an event that a port may give: the others are the answers to a dial
+abbrev pub is_given : Event → Bool
+is_given (event.Opened link) = true
+is_given (event.Bytes link bytes) = nat_le (length bytes) MOST_EVENT_BYTES
+is_given (event.Closed link) = true
+is_given (event.Dialled link) = false
+is_given event.DialFailed = false
+is_given event.Stop = true
+
+abbrev pub IsGiven : Event → Type 0
+IsGiven what = IsTrue (is_given what)
+
+-- what a call of `next` adds to the story
+abbrev pub given : Result Event PortRefused → Option ℕ → List Happening
+given (Ok what) want = happening.Given what want ∷ []
+given (Err refused) want = []
+
+-- whether the link is open after one more happening
+abbrev pub linked_after : Happening → ℕ → Bool → Bool
+linked_after (happening.Given (event.Opened other) want) link before = before || (other == link)
+linked_after (happening.Given (event.Closed other) want) link before = before && not (other == link)
+linked_after (happening.Dialled peer (Some other)) link before = before || (other == link)
+linked_after (happening.Shut other) link before = before && not (other == link)
+linked_after _ link before = before
+
+-- whether the link is open after the story, beginning with none
+abbrev pub linked_from : Bool → List Happening → ℕ → Bool
+linked_from before [] link = before
+linked_from before (happened ∷ later) link = linked_from (linked_after happened link before) later link
+
+abbrev pub is_linked : List Happening → ℕ → Bool
+is_linked story link = linked_from false story link

@@ -1,0 +1,46 @@
+//! Files that are read whole.
+
+ghost use Rattle.std.specs.Prelude.{◌≡◌, ◌≤◌, ℕ, List, [], ◌∷◌, Bool, Option, IfSome, IfOk, length};
+ghost use Rattle.outside.specs.Causes.{Rose};
+ghost use Rattle.outside.specs.Telling.{Appends};
+ghost use Rattle.outside.specs.Contents.{AnswersFrom, reading};
+
+use std::alloc::Global;
+use thiserror::Error;
+use wire_base::Blob;
+
+/// The most bytes of a file.
+pub const MOST_FILE_BYTES: usize = 16777216;
+
+/// Why a file wasn't read.
+#[derive(Clone, Copy, Debug, PartialEq, Eq, Error)]
+pub enum FileRefused {
+    /// It couldn't be read. The count of faults rose in this call.
+    #[error("the file could not be read")]
+    Failed,
+    /// It has more bytes than a file may have here.
+    #[error("the file is too long")]
+    TooLong,
+    /// No memory was found for its content.
+    #[error("no memory")]
+    Memory,
+}
+
+/// Files by name (this project's own choice). `faults` counts the failures and never falls. `contents` is, where it is told, what
+/// the files hold, and `reads` the names that were read, in order, each with whether that failed.
+pub trait Files {
+    ghost faults: { Self → ℕ };
+
+    ghost contents: { Self → Option (List (List ℕ × List ℕ)) };
+
+    ghost reads: { Self → Option (List (List ℕ × Bool)) };
+
+    /// The whole content of the file, at most 16,777,216 bytes.
+    fn read(&mut self, alloc: Global, name: &[u8]) -> Result<Blob, FileRefused>
+        ensures cause { result ≡ Err FileRefused.Failed → Rose (faults self.old) (faults self.new) }
+        ensures faults { faults self.old ≤ faults self.new }
+        ensures limit { IfOk result (λ content. length content ≤ MOST_FILE_BYTES) }
+        ensures content { IfSome (contents self.old) (λ files. AnswersFrom files name.now result) }
+        ensures contents { contents self.new ≡ contents self.old }
+        ensures told { Appends (reads self.old) (reads self.new) (reading name.now result) };
+}

@@ -1,0 +1,38 @@
+//! What an end meets outside itself: a port, files, a sink, a clock and a maker of challenges, as traits whose contracts say
+//! what each call may answer, and scripted implementations in memory.
+//!
+//! A port, files and a sink count their failures, and answer `Failed` only where a count rose. What an implementation tells of
+//! its content is optional: the real ones tell nothing.
+#![tactic(auto)]
+
+mod chances;
+mod clock;
+mod event;
+mod files;
+mod list_chances;
+mod list_clock;
+mod map_files;
+mod out_sink;
+mod port;
+mod script;
+mod script_port;
+mod sink;
+mod sure_sink;
+mod vec_sink;
+
+pub use chances::{Chances, Spent};
+pub use clock::Clock;
+pub use event::{Event, Events, Happening};
+pub use files::{FileRefused, Files, MOST_FILE_BYTES};
+pub use list_chances::ListChances;
+pub use list_clock::ListClock;
+pub use map_files::MapFiles;
+pub use out_sink::OutSink;
+pub use port::{Failed, MOST_EVENT_BYTES, Port, PortRefused};
+pub use script_port::{FIRST_DIALLED, ScriptPort};
+pub use sink::Sink;
+pub use sure_sink::SureSink;
+pub use vec_sink::VecSink;
+
+#[cfg(test)]
+mod tests;
