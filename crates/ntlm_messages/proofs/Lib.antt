@@ -1,0 +1,9 @@
+pub mod AuthenticateLaws
+pub mod AuthenticateWritten
+pub mod ChallengeLaws
+pub mod ChallengeWritten
+pub mod FieldLaws
+pub mod NegotiateLaws
+pub mod NegotiateWritten
+pub mod PairsLaws
+pub mod WrittenLaws

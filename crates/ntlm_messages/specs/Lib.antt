@@ -1,0 +1,10 @@
+pub mod Authenticate
+pub mod Challenge
+pub mod Fields
+pub use Rattle.ntlm_flags.specs.Flags
+pub mod Negotiate
+pub mod Pairs
+pub mod Text
+pub use Rattle.wire_base.specs.Memory
+pub use Rattle.wire_base.specs.Numbers
+pub use Rattle.wire_base.specs.Units

@@ -1,0 +1,162 @@
+//! What the three messages share: the first twelve bytes and the payload fields (MS-NLMP 2.2.1).
+
+ghost use Rattle.std.specs.Prelude.{◌≡◌, ◌+◌, ◌≤◌, ◌<◌, ◌^◌, ◌++◌, length, OnOk, IfSome, IsTrue, nat_le};
+ghost use Rattle.std.specs.List.{list_all};
+ghost use Rattle.ntlm_flags.specs.Flags.{has_flag};
+ghost use Rattle.ntlm_messages.specs.Fields.{Gives, short_at, long_at, header_of, field_of, text_of, gap_of, bytes_if, field_bytes, bytes_of, fits_of};
+
+use crate::refused::{Field, MessageRefused, WriteRefused};
+use ntlm_flags::{NTLMSSP_NEGOTIATE_UNICODE, has_flag};
+use std::alloc::AllocError;
+use wire_base::{u16_at, u32_at};
+
+/// The first eight bytes of every message.
+pub const SIGNATURE: [u8; 8] = *b"NTLMSSP\0";
+
+/// The 16-bit number at a place of the header, 0 where the bytes end before it does.
+pub fn short_at(bytes: &[u8], place: usize) -> u16
+    ensures { result ≡ short_at bytes.now place }
+{
+    u16_at(bytes, place).unwrap_or(0)
+}
+
+/// The 32-bit number at a place of the header, 0 where the bytes end before it does.
+pub fn long_at(bytes: &[u8], place: usize) -> u32
+    ensures { result ≡ long_at bytes.now place }
+{
+    u32_at(bytes, place).unwrap_or(0)
+}
+
+/// Whether the bytes have the fixed header of a message of that type.
+#[tactic(auto, unfolding(crate::specs::Fields::header_of))]
+pub fn check_header(bytes: &[u8], kind: u32, size: usize) -> Result<(), MessageRefused>
+    ensures value { result ≡ header_of kind size bytes.now }
+    ensures whole { OnOk result (size ≤ length bytes.now) }
+{
+    if bytes.len() < size {
+        return Err(MessageRefused::ShortHeader);
+    }
+    if !bytes.starts_with(&SIGNATURE) {
+        return Err(MessageRefused::BadSignature);
+    }
+    let found = long_at(bytes, 8);
+    if found != kind {
+        return Err(MessageRefused::BadType(found));
+    }
+    Ok(())
+}
+
+/// The bytes of the payload field that stands at `place` of a header of `size` bytes.
+#[tactic(auto, unfolding(crate::specs::Fields::field_of))]
+pub fn field_at(
+    bytes: &[u8],
+    name: Field,
+    place: usize,
+    size: usize,
+) -> Result<&[u8], MessageRefused>
+    requires { place ≤ 64 }
+    ensures { Gives (λ part. part.now) result (field_of name place size bytes.now) }
+{
+    let len = usize::from(short_at(bytes, place));
+    if len == 0 {
+        return Ok(&[]);
+    }
+    let offset = long_at(bytes, place + 4) as usize;
+    if offset < size || bytes.len() < offset + len {
+        return Err(MessageRefused::FieldOutside(name));
+    }
+    Ok(&bytes[offset..offset + len])
+}
+
+/// Whether a text has an even length, where texts are UTF-16LE.
+#[tactic(auto, unfolding(crate::specs::Fields::text_of))]
+pub fn check_text(flags: u32, name: Field, text: &[u8]) -> Result<(), MessageRefused>
+    ensures { result ≡ text_of name flags text.now }
+{
+    if has_flag(flags, NTLMSSP_NEGOTIATE_UNICODE) && text.len() % 2 == 1 {
+        return Err(MessageRefused::OddText(name));
+    }
+    Ok(())
+}
+
+/// The least offset of the fields at these places that aren't empty, or the message's length where there is none.
+pub fn gap_at(bytes: &[u8], places: &[usize]) -> usize
+    requires { IsTrue (list_all (λ place. nat_le place 64) places.now) }
+    ensures value { result ≡ gap_of places.now bytes.now }
+    ensures within { result ≤ length bytes.now }
+{
+    let [place, rest @ ..] = places else {
+        return bytes.len();
+    };
+    let gap = gap_at(bytes, rest);
+    if short_at(bytes, *place) == 0 {
+        return gap;
+    }
+    gap.min(long_at(bytes, *place + 4) as usize)
+}
+
+/// The bytes of a fixed number at a place, where they are there.
+pub fn bytes_at<const N: usize>(bytes: &[u8], there: bool, place: usize) -> Option<[u8; N]>
+    requires { IsTrue there → place + N ≤ length bytes.now }
+    ensures { result ≡ bytes_if there place N bytes.now }
+{
+    if !there {
+        return None;
+    }
+    bytes[place..].first_chunk::<N>().copied()
+}
+
+/// Whether a payload field's length has 16 bits.
+pub fn check_length(name: Field, part: &[u8]) -> Result<(), WriteRefused>
+    ensures value { result ≡ fits_of name part.now }
+    ensures fits { OnOk result (length part.now ≤ 65535) }
+{
+    if part.len() > 65535 {
+        return Err(WriteRefused::TooLong(name));
+    }
+    Ok(())
+}
+
+/// Appends a payload field's place in the header: its length twice, and the offset of its bytes.
+pub fn put_field(out: &mut Vec<u8>, part: &[u8], offset: usize) -> Result<(), AllocError>
+    requires len { length part.now ≤ 65535 }
+    requires offset { offset < 2 ^ 32 }
+    ensures { OnOk result (out.new.items ≡ out.old.items ++ field_bytes part.now offset) }
+{
+    let len = (part.len() as u16).to_le_bytes();
+    out.extend_from_slice(&len)?;
+    out.extend_from_slice(&len)?;
+    out.extend_from_slice(&(offset as u32).to_le_bytes())
+}
+
+/// Appends bytes where there are some.
+pub fn put_bytes<const N: usize>(
+    out: &mut Vec<u8>,
+    bytes: &Option<[u8; N]>,
+) -> Result<(), AllocError>
+    ensures { OnOk result (out.new.items ≡ out.old.items ++ bytes_of bytes.now) }
+{
+    match bytes {
+        None => Ok(()),
+        Some(bytes) => out.extend_from_slice(bytes),
+    }
+}
+
+/// How many bytes an array has.
+fn size_of<const N: usize>(bytes: &[u8; N]) -> usize
+    ensures value { result ≡ length bytes.now }
+    ensures whole { length bytes.now ≡ N }
+{
+    bytes.len()
+}
+
+/// How many bytes there are.
+pub fn count_of<const N: usize>(bytes: &Option<[u8; N]>) -> usize
+    ensures value { result ≡ length (bytes_of bytes.now) }
+    ensures whole { IfSome bytes.now (λ items. length items ≡ N) }
+{
+    match bytes {
+        None => 0,
+        Some(bytes) => size_of(bytes),
+    }
+}

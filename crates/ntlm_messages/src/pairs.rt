@@ -1,0 +1,146 @@
+//! Target information: lists of AV_PAIRs (MS-NLMP 2.2.2.1).
+
+ghost use Rattle.std.specs.Prelude.{◌≡◌, ◌+◌, ◌<◌, ◌^◌, ◌++◌, ℕ, List as list, length, Ok, IfOk, IfErr, OnOk};
+ghost use Rattle.std.specs.List.{flat_map};
+ghost use Rattle.wire_base.specs.Memory.{UpToMemory};
+ghost use Rattle.ntlm_messages.specs.Fields.{Gives};
+ghost use Rattle.ntlm_messages.specs.Pairs.{IsPairs, IsPairsRefusal, ArePairs, pair_of, pairs_of, pair_bytes, written_pairs, may_have_length};
+
+use crate::fields::short_at;
+use std::alloc::{AllocError, Global};
+use thiserror::Error;
+use wire_base::{Blob, List, NoMemory};
+
+/// Pairs of an id and a value in their order, without the end, seen as the list of them.
+pub type Pairs = List<(u16, Blob)>;
+
+/// Why bytes weren't read as pairs: what the walk from the front meets first, or want of memory.
+#[derive(Clone, Copy, Debug, PartialEq, Eq, Error)]
+pub enum PairsRefused {
+    /// No byte is left, and no end stood before.
+    #[error("the list of pairs has no end")]
+    NoEnd,
+    /// The head or the value of the pair that begins at this place of the list is cut.
+    #[error("the pair at {0} is cut")]
+    CutPair(usize),
+    /// The end has a value, the flags (id 6) aren't 4 bytes, or the timestamp (id 7) isn't 8 bytes.
+    #[error("the value of the pair {0} has a wrong length")]
+    BadLength(u16),
+    /// No memory was found.
+    #[error("no memory")]
+    Memory,
+}
+
+impl From<NoMemory> for PairsRefused {
+    ghost use Rattle.ntlm_messages.specs.declared.pairs.PairsRefused.TheVariants.{Memory};
+
+    ghost from_gives = { λ _ e. e ≡ Memory };
+
+    fn from(_error: NoMemory) -> PairsRefused {
+        PairsRefused::Memory
+    }
+}
+
+/// Whether a value of that length may stand behind the id.
+fn may_have_length(id: u16, len: usize) -> bool
+    ensures { result ≡ may_have_length id len }
+{
+    match id {
+        0 => len == 0,
+        6 => len == 4,
+        7 => len == 8,
+        _ => true,
+    }
+}
+
+/// The pair at the front: its id, its value and the bytes behind it.
+#[tactic(auto, unfolding(crate::specs::Pairs::pair_of))]
+fn pair_at(place: usize, bytes: &[u8]) -> Result<(u16, &[u8], &[u8]), PairsRefused>
+    ensures value { Gives (λ pair. (pair.0, pair.1.now, pair.2.now)) result (pair_of place bytes.now) }
+    ensures shorter { IfOk result (λ pair. length pair.2.now + 4 + length pair.1.now ≡ length bytes.now) }
+{
+    if bytes.is_empty() {
+        return Err(PairsRefused::NoEnd);
+    }
+    let id = short_at(bytes, 0);
+    let len = usize::from(short_at(bytes, 2));
+    if bytes.len() < 4 + len {
+        return Err(PairsRefused::CutPair(place));
+    }
+    if !may_have_length(id, len) {
+        return Err(PairsRefused::BadLength(id));
+    }
+    Ok((id, &bytes[4..4 + len], &bytes[4 + len..]))
+}
+
+/// Copies the pairs before the end.
+fn copy_pairs(alloc: Global, bytes: &[u8]) -> Result<Pairs, PairsRefused>
+    ensures { UpToMemory PairsRefused.Memory result (pairs_of bytes.now) }
+{
+    let mut pairs = List::new(alloc);
+    let mut rest = bytes;
+    loop {
+        let (id, value, after) = pair_at(bytes.len() - rest.len(), rest)?;
+        if id == 0 {
+            return Ok(pairs);
+        }
+        pairs.push((id, Blob::copy(alloc, value)?))?;
+        rest = after;
+    }
+}
+
+/// Reads pairs from the front to the end pair. What follows the end is passed over.
+///
+/// At the first pair that isn't taken: `NoEnd` where no byte is left; `CutPair` where its head or value is cut; `BadLength` where its value has a
+/// length that its id doesn't allow. `Memory` where no memory was found.
+pub fn read_pairs(alloc: Global, bytes: &[u8]) -> Result<Pairs, PairsRefused>
+    // The pairs or the first refusal.
+    ensures exact { UpToMemory PairsRefused.Memory result (pairs_of bytes.now) }
+    // What is read is in the grammar.
+    ensures found { IfOk result (λ pairs. IsPairs bytes.now pairs) }
+    // Which refusal it is.
+    ensures refused { IfErr result (λ refused. IsPairsRefusal bytes.now refused) }
+    // What is read can be written.
+    ensures writable { IfOk result (λ pairs. ArePairs pairs) }
+    // What is in the grammar is read, unless memory runs out.
+    ensures only { (pairs : list (ℕ × list ℕ)) → IsPairs bytes.now pairs → UpToMemory PairsRefused.Memory result (Ok pairs) }
+{
+    copy_pairs(alloc, bytes)
+}
+
+/// Appends a pair.
+fn put_pair(out: &mut Vec<u8>, id: u16, value: &[u8]) -> Result<(), AllocError>
+    requires { length value.now < 2 ^ 16 }
+    ensures { OnOk result (out.new.items ≡ out.old.items ++ pair_bytes (id, value.now)) }
+{
+    out.extend_from_slice(&id.to_le_bytes())?;
+    out.extend_from_slice(&(value.len() as u16).to_le_bytes())?;
+    out.extend_from_slice(value)
+}
+
+/// The bytes of pairs, without an end.
+fn pair_list(alloc: Global, pairs: &[(u16, Blob)]) -> Result<Vec<u8>, AllocError>
+    requires { ArePairs pairs.now }
+    ensures { IfOk result (λ out. out.items ≡ flat_map pair_bytes pairs.now) }
+{
+    let mut out = Vec::new(alloc);
+    for (id, value) in pairs {
+        put_pair(&mut out, *id, value.bytes())?;
+    }
+    Ok(out)
+}
+
+/// Writes pairs and the end pair.
+///
+/// The condition: no pair of id 0, values of at most 65,535 bytes, flags (id 6) of 4 bytes and a timestamp (id 7) of 8 bytes.
+#[tactic(auto, unfolding(crate::specs::Pairs::written_pairs))]
+pub fn write_pairs(alloc: Global, pairs: &Pairs) -> Result<Blob, NoMemory>
+    requires { ArePairs pairs.now }
+    ensures written { IfOk result (λ bytes. bytes ≡ written_pairs pairs.now) }
+    // What is written is read back.
+    ensures read_back { IfOk result (λ bytes. pairs_of bytes ≡ Ok pairs.now) }
+{
+    let mut out = pair_list(alloc, pairs.items())?;
+    put_pair(&mut out, 0, &[])?;
+    Ok(Blob::from_vec(out))
+}

@@ -1,0 +1,35 @@
+//! The text fields of messages (MS-NLMP 2.2).
+
+ghost use Rattle.std.specs.Prelude.{◌≡◌, ◌%◌, ◌↔◌, length, IsTrue, IsErrOf, IfOk};
+ghost use Rattle.wire_base.specs.Memory.{UpToMemory};
+ghost use Rattle.ntlm_flags.specs.Flags.{has_flag};
+ghost use Rattle.ntlm_messages.specs.Text.{text_units_of};
+
+use ntlm_flags::{NTLMSSP_NEGOTIATE_UNICODE, has_flag};
+use std::alloc::{AllocError, Global};
+use wire_base::{Units, UnitsRefused};
+
+/// The unit of the number of each byte.
+fn widened(alloc: Global, text: &[u8]) -> Result<Vec<u16>, AllocError>
+    ensures { IfOk result (λ units. units.items ≡ text.now) }
+{
+    let mut units = Vec::new(alloc);
+    for byte in text {
+        units.push(u16::from(*byte))?;
+    }
+    Ok(units)
+}
+
+/// The 16-bit units of a text field of a message with these flags: UTF-16LE where the flag UNICODE is set, else one unit for each byte.
+///
+/// `Odd` exactly where the flag is set and the number of bytes is odd. `Memory` where no memory was found.
+pub fn text_units(alloc: Global, flags: u32, text: &[u8]) -> Result<Units, UnitsRefused>
+    ensures exact { UpToMemory UnitsRefused.Memory result (text_units_of flags text.now) }
+    ensures odd { IsErrOf result UnitsRefused.Odd
+        ↔ (IsTrue (has_flag flags NTLMSSP_NEGOTIATE_UNICODE) × (length text.now % 2 ≡ 1)) }
+{
+    if has_flag(flags, NTLMSSP_NEGOTIATE_UNICODE) {
+        return Units::read(alloc, text);
+    }
+    Ok(Units::from_vec(widened(alloc, text)?))
+}
