@@ -1,0 +1,5 @@
+pub mod Hashes
+pub mod Keys
+pub mod Responses
+pub mod Verification
+pub use Rattle.ntlm_flags.specs.Flags

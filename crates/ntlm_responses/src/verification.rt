@@ -1,0 +1,57 @@
+// The check of an NT response.
+
+ghost use Rattle.std.specs.Prelude.{◌≡◌, ◌≤◌, ◌↔◌, bytes_eq, length, take, drop, IsSome, IfSome};
+ghost use Rattle.digest_parts.specs.Hmac.{hmac_of};
+ghost use Rattle.digest_parts.specs.Md4.{md4_of};
+ghost use Rattle.ntlm_responses.specs.Responses.{response_v1_of, proof_of};
+ghost use Rattle.ntlm_responses.specs.Verification.{Verifies, base_key_of, verified_by, verify_of};
+
+use crate::hashes::nt_key_v2;
+use crate::responses::{proof, respond_v1};
+use digest_parts::{hmac_md5, md4};
+
+/// The session base key of an NT response that verifies under the NT hash and the names, as the message has them, against the
+/// challenge that it answers (MS-NLMP 3.3.1 and 3.3.2).
+///
+/// A response of 24 bytes must be the NTLMv1 response; one of 44 bytes or more must begin with the proof of NTLMv2 over its rest,
+/// whatever the rest holds. None exactly where it isn't so; every other length is None.
+#[tactic(auto, using(crate::proofs::VerificationLaws::lengths, crate::proofs::VerificationLaws::decided))]
+pub fn verify(
+    hash: &[u8; 16],
+    user: &[u16],
+    domain: &[u16],
+    challenge: [u8; 8],
+    nt: &[u8],
+) -> Option<[u8; 16]>
+    ensures value { result ≡ verify_of hash.now user.now domain.now challenge nt.now }
+    ensures verifies { IsSome result ↔ Verifies hash.now user.now domain.now challenge nt.now }
+    ensures base_key { IfSome result (λ key. key ≡ base_key_of hash.now user.now domain.now nt.now) }
+{
+    match nt.len() {
+        24 => verify_v1(hash, challenge, nt),
+        44.. => verify_v2(&nt_key_v2(hash, user, domain), challenge, nt),
+        _ => None,
+    }
+}
+
+// The same for a response of 24 bytes.
+fn verify_v1(hash: &[u8; 16], challenge: [u8; 8], nt: &[u8]) -> Option<[u8; 16]>
+    ensures { result ≡ verified_by (bytes_eq nt.now (response_v1_of hash.now challenge)) (md4_of hash.now) }
+{
+    if nt != respond_v1(hash, challenge).as_slice() {
+        return None;
+    }
+    Some(md4(hash))
+}
+
+// The same for a response of 44 bytes or more, under the NTLMv2 key.
+fn verify_v2(key: &[u8; 16], challenge: [u8; 8], nt: &[u8]) -> Option<[u8; 16]>
+    requires { 16 ≤ length nt.now }
+    ensures { result ≡ verified_by (bytes_eq (take 16 nt.now) (proof_of key.now challenge (drop 16 nt.now))) (hmac_of key.now (take 16 nt.now)) }
+{
+    let (claimed, rest) = nt.split_at(16);
+    if claimed != proof(key, challenge, rest).as_slice() {
+        return None;
+    }
+    Some(hmac_md5(key, claimed))
+}
