@@ -1,0 +1,4 @@
+pub mod AcceptLaws
+pub mod RangeLaws
+pub mod RunLaws
+pub mod SignatureParts

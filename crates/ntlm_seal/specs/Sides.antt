@@ -1,0 +1,8 @@
+-- The two ends of a session.
+use Rattle.ntlm_seal.specs.declared.side.Side.{Side}
+use Rattle.ntlm_seal.specs.declared.side.Side.TheVariants.{Client, Server}
+
+-- the other end
+abbrev pub other_side : Side → Side
+other_side Client = Server
+other_side Server = Client
