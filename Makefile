@@ -1,0 +1,19 @@
+# Builds the programs, proved, into bin/, and runs the main job on a built-in sample.
+
+PROGRAMS = nt_member nt_logon
+
+# The sample: the NT hash of `Password`, a challenge, and the AUTHENTICATE message that answers it.
+SAMPLE = $(shell cat crates/nt_member/args)
+
+.PHONY: demo programs $(PROGRAMS)
+
+demo: programs
+	@bin/nt_member $(SAMPLE)
+
+programs: $(PROGRAMS)
+
+# A program is proved, built and run on its stored arguments before it is copied.
+$(PROGRAMS):
+	@mkdir -p bin
+	@cd crates/$@ && rt run -- $$(cat args) > /dev/null
+	@cp crates/$@/out/$@ bin/$@

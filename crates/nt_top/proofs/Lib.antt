@@ -1,0 +1,5 @@
+pub mod Putting
+pub mod TextLaws
+pub mod CheckLaws
+pub mod AskedLaws
+pub mod ShownLaws

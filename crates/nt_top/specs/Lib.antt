@@ -1,0 +1,7 @@
+pub mod Answers
+pub mod Check
+pub mod Ends
+pub mod Exits
+pub mod Needs
+pub mod Refusals
+pub mod Show
