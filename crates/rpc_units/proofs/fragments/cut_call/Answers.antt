@@ -1,0 +1,16 @@
+use Rattle.std.proofs.Common.{◌≤◌, length, arith}
+use Rattle.std.proofs.lemmas.Result.{IfOk-weaker}
+use Rattle.std.specs.List.{AllByRecursion}
+use Rattle.rpc_units.specs.Writing.{written}
+use Rattle.rpc_units.specs.Joining.{IsJoined, stub_size}
+use Rattle.rpc_units.proofs.CuttingLaws.{IsJoined-cut_of, cut_short}
+use Rattle.rpc_units.proofs.fragments.cut_call.Goals as goal
+
+pub returns-clause-joined : goal.returns-clause-joined
+returns-clause-joined c =
+    let some : 1 ≤ stub_size c.args.limit = omega (arith, c.requires.least) in
+    IfOk-weaker c.pieces.result _ (λ units. IsJoined units c.args.unit.now) (λ units e. rw e (IsJoined-cut_of c.args.unit.now c.args.limit c.requires.whole some)) c.pieces.ensures
+
+pub returns-clause-short : goal.returns-clause-short
+returns-clause-short c value =
+    IfOk-weaker c.pieces.result _ (λ units. AllByRecursion (λ u. length (written u) ≤ c.args.limit) units) (λ units e. rw e (cut_short c.args.unit.now c.args.limit c.requires.whole.stub value (omega (arith, c.requires.least)))) c.pieces.ensures
