@@ -31,6 +31,14 @@ const FEATURES: Syntax = Syntax {
     version: 1,
 };
 
+/// An interface of impacket's sample.
+const OWN: Syntax = Syntax {
+    uuid: [
+        0x6f, 0x4c, 0x74, 0x6e, 0x6f, 0x67, 0x4d, 0x4e, 0x8d, 0x65, 0x6d, 0x6f, 0, 0, 0, 1,
+    ],
+    version: 1,
+};
+
 const NONE: Syntax = Syntax {
     uuid: [0; 16],
     version: 0,
@@ -55,7 +63,7 @@ struct Row {
 }
 
 /// Of Samba's client and controller, and of impacket.
-const ROWS: [Row; 17] = [
+const ROWS: [Row; 19] = [
     // bind without trailer, two contexts
     Row {
         unit: "05000b03100000007400000001000000d016d016000000000200000000000100785634123412cdabef0001234567cffb01000000045d888aeb1cc9119fe808002b1048600200000001000100785634123412cdabef0001234567cffb010000002c1cb76c12984045030000000000000001000000",
@@ -264,6 +272,32 @@ const ROWS: [Row; 17] = [
         trailer: None,
         value: 0,
     },
+    // bind with NTLMSSP trailer, level 5
+    Row {
+        unit: "05000b0710000000a400280001000000d016d016000000000200000000000100785634123412cdabef0001234567cffb01000000045d888aeb1cc9119fe808002b1048600200000001000100785634123412cdabef0001234567cffb010000002c1cb76c129840450300000000000000010000000a050000010000004e544c4d53535000010000001582086200000000280000000000000028000000060100000000000f",
+        first: true,
+        last: true,
+        call: 1,
+        body: (11, 5840, 5840, 0),
+        contexts: &[(0, NETLOGON, NDR), (1, NETLOGON, FEATURES)],
+        results: &[],
+        stub: (0, 0),
+        trailer: Some((10, 5, 1)),
+        value: 40,
+    },
+    // bind by impacket with NTLMSSP trailer
+    Row {
+        unit: "05000b03100000007000200007000000d016d0160000000001000000000001006f4c746e6f674d4e8d656d6f0000000101000000045d888aeb1cc9119fe808002b104860020000000a060000010000004e544c4d5353500001000000358288e000000000000000000000000000000000",
+        first: true,
+        last: true,
+        call: 7,
+        body: (11, 5840, 5840, 0),
+        contexts: &[(0, OWN, NDR)],
+        results: &[],
+        stub: (0, 0),
+        trailer: Some((10, 6, 1)),
+        value: 32,
+    },
     // bind_nak by Samba's NDR
     Row {
         unit: "05000d031000000015000000050000000400010500",
@@ -395,6 +429,63 @@ fn has_fields(unit: &Unit, row: &Row, bytes: &[u8]) -> bool {
 fn reads_units_of_peers(rt: HostRuntime) -> Result<(), Fail> {
     for row in &ROWS {
         let bytes = from_hex(rt.alloc(), row.unit)?;
+        let unit = read_unit(rt.alloc(), &bytes)?;
+        assert!(rt; has_fields(&unit, row, &bytes), "{}", row.unit);
+    }
+    Ok(())
+}
+
+/// The fragments of a long request of Samba's client: the row, its unit up to the filling; how many times 4e 00 stands; the end.
+const LONG: [(Row, usize, &'static str); 2] = [
+    (
+        Row {
+            unit: "0500000110000000c8160000020000005a1f00000000040000000000a10f000000000000a10f0000",
+            first: true,
+            last: false,
+            call: 2,
+            body: (0, 8026, 0, 4),
+            contexts: &[],
+            results: &[],
+            stub: (24, 5832),
+            trailer: None,
+            value: 0,
+        },
+        2896,
+        "",
+    ),
+    (
+        Row {
+            unit: "0500000210000000c208000002000000aa08000000000400",
+            first: false,
+            last: true,
+            call: 2,
+            body: (0, 2218, 0, 4),
+            contexts: &[],
+            results: &[],
+            stub: (24, 2242),
+            trailer: None,
+            value: 0,
+        },
+        1104,
+        "0000a2fdccbbc97a353e",
+    ),
+];
+
+/// The bytes of hex, and 4e 00 as many times.
+fn filled(alloc: Global, text: &str, times: usize) -> Result<Vec<u8>, AllocError> {
+    let mut bytes = from_hex(alloc, text)?;
+    for _ in 0..times {
+        bytes.push(0x4e)?;
+        bytes.push(0)?;
+    }
+    Ok(bytes)
+}
+
+#[test]
+fn reads_long_fragments_of_a_peer(rt: HostRuntime) -> Result<(), Fail> {
+    for (row, times, end) in &LONG {
+        let mut bytes = filled(rt.alloc(), row.unit, *times)?;
+        bytes.extend_from_slice(&from_hex(rt.alloc(), end)?)?;
         let unit = read_unit(rt.alloc(), &bytes)?;
         assert!(rt; has_fields(&unit, row, &bytes), "{}", row.unit);
     }
