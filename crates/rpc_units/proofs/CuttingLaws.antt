@@ -1,4 +1,4 @@
--- What was cut is joined again.
+-- What was cut is joined again, and no fewer fragments of that size would be.
 use Rattle.std.proofs.Common.{◌≡◌, ℕ, zero, suc, ◌+◌, ◌-◌, ◌*◌, ◌/◌, ◌<◌, ◌≤◌, eqb, Bool, true, false, List, [], ◌∷◌, ◌++◌, length, take, drop, Option, Some, None, refl, sym, ap, ◌∙◌, arith, inl, inr, append_assoc}
 use Rattle.std.proofs.lemmas.Bool.{cases_lt, le-leb, lt-leb, eq-eqb, and_from}
 use Rattle.std.proofs.lemmas.List.{append-nil, take-append-drop, length-drop, length-take, length-append}
@@ -9,6 +9,7 @@ use Rattle.std.specs.List.{AllByRecursion}
 use Rattle.std.specs.Int.{w32, to_le_bytes}
 use Rattle.rpc_units.specs.declared.unit.Trailer.{Trailer}
 use Rattle.rpc_units.specs.Writing.{zeros, pad_for, value_len, written_body, written_tail, written}
+use Rattle.rpc_units.proofs.JoiningLaws.{with_stub-own, stub_short}
 use Rattle.rpc_units.proofs.WritingLaws.{length_written, length_zeros}
 use Rattle.rpc_units.specs.Joining.{stub_of, with_stub, key_of, same_key, same_call, stubs_of, Continue, IsJoined, fragment, fragments_of, stub_size, cut_of, HasStub, IsWholeCall}
 
@@ -64,15 +65,6 @@ with_stub-again (BindNak reason) s t = refl
 with_stub-again Auth3 s t = refl
 with_stub-again (Fault hint context status) s t = refl
 
-with_stub-own : (body : Body) → with_stub body (stub_of body) ≡ body
-with_stub-own (Request hint context opnum stub) = refl
-with_stub-own (Response hint context stub) = refl
-with_stub-own (Bind send receive group contexts) = refl
-with_stub-own (BindAck send receive group results) = refl
-with_stub-own (BindNak reason) = refl
-with_stub-own Auth3 = refl
-with_stub-own (Fault hint context status) = refl
-
 -- two fragments of a call are of one call
 same_fragments : (unit : RpcUnit) (a b c d : Bool) (s t : List ℕ) → HasStub unit.body → same_call (fragment unit a b s) (fragment unit c d t) ≡ true
 same_fragments unit a b c d s t h = and_from _ _ (eqb_same unit.call) (same_keys unit.body s t h)
@@ -124,6 +116,39 @@ all_joined (suc most) unit size h some enough =
 pub IsJoined-cut_of : (unit : RpcUnit) (limit : ℕ) → IsWholeCall unit → 1 ≤ stub_size limit → IsJoined (cut_of unit limit) unit
 unfolding cut_of
 IsJoined-cut_of unit limit h some = all_joined (length (stub_of unit.body)) unit (stub_size limit) h some (omega arith)
+
+-- ---- the number of the fragments
+
+-- fragments that hold as many stub bytes, and no more each, are as many
+fragments_fewest : (most : ℕ) (unit : RpcUnit) (size : ℕ) (first : Bool) (stub : List ℕ) (others : List RpcUnit) → 1 ≤ length others → length stub ≤ length (stubs_of others) → AllByRecursion (λ u. length (stub_of u.body) ≤ size) others → length (fragments_of most unit size first stub) ≤ length others
+fragments_fewest most unit size first stub [] some enough each = absurd (omega arith)
+fragments_fewest zero unit size first stub (other ∷ others) some enough each = omega arith
+fragments_fewest (suc most) unit size first stub (other ∷ []) some enough each =
+    let all = length-append (stub_of other.body) [] in
+    let less : length (stub_of other.body) ≤ size = each.0 in
+    rw (fragments_end (suc most) unit size first stub (omega arith)) (omega arith)
+fragments_fewest (suc most) unit size first stub (other ∷ next ∷ others) some enough each =
+    elim (cases_lt size (length stub)) [
+      | inl long ↦
+          let all = length-append (stub_of other.body) (stubs_of (next ∷ others)) in
+          let left = length-drop size stub in
+          let less : length (stub_of other.body) ≤ size = each.0 in
+          let more = fragments_fewest most unit size false (drop size stub) (next ∷ others) (omega arith) (omega arith) each.1 in
+          rw (fragments_more most unit size first stub long) (omega arith)
+      | inr short ↦ rw (fragments_end (suc most) unit size first stub short) (omega arith)
+    ]
+
+-- the stub of a whole has no more bytes than those of its fragments
+whole_short : (others : List RpcUnit) (unit : RpcUnit) → IsJoined others unit → (1 ≤ length others) × (length (stub_of unit.body) ≤ length (stubs_of others))
+whole_short [] unit h = absurd h
+whole_short (first ∷ others) unit h = rw h.2 (omega arith, stub_short first.body (stub_of first.body ++ stubs_of others))
+
+-- no fewer fragments of at most so many stub bytes are joined to the call
+pub cut_fewest : (unit : RpcUnit) (limit : ℕ) (others : List RpcUnit) → IsJoined others unit → AllByRecursion (λ u. length (stub_of u.body) ≤ stub_size limit) others → length (cut_of unit limit) ≤ length others
+unfolding cut_of
+cut_fewest unit limit others joined each =
+    let parts = whole_short others unit joined in
+    fragments_fewest (length (stub_of unit.body)) unit (stub_size limit) true (stub_of unit.body) others parts.0 parts.1 each
 
 -- ---- the fragments written
 

@@ -1,6 +1,7 @@
 -- A stream is cut into its units in one way, in whatever pieces it comes.
-use Rattle.std.proofs.Common.{◌≡◌, ℕ, zero, suc, ◌+◌, ◌<◌, ◌≤◌, true, false, List, [], ◌∷◌, ◌++◌, length, take, drop, get_or, Option, Some, None, Result, Ok, Err, refl, sym, ap, subst, ◌∙◌, arith, inl, inr, append_assoc}
-use Rattle.std.specs.Result.{IsErrAnd}
+use Rattle.std.proofs.Common.{◌≡◌, ℕ, zero, suc, ◌+◌, ◌<◌, ◌≤◌, Bool, true, false, List, [], ◌∷◌, ◌++◌, length, take, drop, get_or, Option, Some, None, Result, Ok, Err, refl, sym, ap, subst, ◌∙◌, arith, inl, inr, append_assoc}
+use Rattle.std.specs.Prelude.{IfSome}
+use Rattle.std.specs.Result.{IfOk, IsErrAnd}
 use Rattle.std.specs.Int.{Width, w16, byte_len}
 use Rattle.std.specs.List.{flat_map, AllByRecursion}
 use Rattle.std.proofs.lemmas.Bool.{cases_lt, le-leb, lt-leb, eq-eqb, and_from}
@@ -14,8 +15,10 @@ use Rattle.std.proofs.lemmas.List.Concat.{flat_map-append}
 use Rattle.rpc_units.specs.Layout.{value_at, byte, has_version, has_fragment, fragment_of, kind_of}
 use Rattle.rpc_units.specs.Reading.{kind_in, unit_of}
 use Rattle.rpc_units.specs.Grammar.{IsUnit}
-use Rattle.rpc_units.specs.Stream.{Flow, front_with, front_after, front_of, taken_by, next_of, Leaves, AreUnit, IsStream, Stops, RefusesStream}
-use Rattle.rpc_units.proofs.GrammarLaws.{IsUnit-unit_of, kind_again}
+use Rattle.rpc_units.specs.Stream.{Flow, front_with, front_after, front_of, taken_by, next_by, next_of, Leaves, AreUnit, IsStream, Stops, RefusesStream}
+use Rattle.rpc_units.proofs.GrammarLaws.{IsUnit-unit_of, unit_of-IsUnit, kind_again}
+use Rattle.wire_base.specs.Memory.{UpToMemory}
+use Rattle.wire_base.proofs.MemoryLaws.{UpToMemory-same}
 
 -- ---- a front of the bytes
 
@@ -51,12 +54,13 @@ kind_in-append bytes more unit h =
 pub front_of-unit : (bytes more : List ℕ) → AreUnit bytes → front_of (bytes ++ more) ≡ Ok (Some (length bytes))
 unfolding front_of
 front_of-unit bytes more are =
-    let h = IsUnit-unit_of bytes are.unit are.read in
+    let h = are.form in
+    let read = unit_of-IsUnit bytes are.unit h in
     let known = kind_in-append bytes more are.unit h in
     let least : 16 ≤ length bytes = h.least in
     let total = length-append bytes more in
     let size : fragment_of (bytes ++ more) ≡ length bytes = value_at-append w16 bytes more 8 (omega arith) ∙ h.fragment in
-    rw (le-leb 16 (length (bytes ++ more)) (omega arith), known.1, size, le-leb (length bytes) (length (bytes ++ more)) (omega arith), take_at bytes more (length bytes) refl, are.read) refl
+    rw (le-leb 16 (length (bytes ++ more)) (omega arith), known.1, size, le-leb (length bytes) (length (bytes ++ more)) (omega arith), take_at bytes more (length bytes) refl, read) refl
 
 abbrev size_of : ℕ → Result (Option ℕ) UnitRefused
 size_of n = Ok (Some n)
@@ -77,7 +81,7 @@ front_after-Some (Ok k) held size e =
       | inr long ↦
           let step : front_after (Ok k) held ≡ front_with (unit_of (take (fragment_of held) held)) (fragment_of held) = rw (le-leb _ _ long) refl in
           let parts = front_with-Some (unit_of (take (fragment_of held) held)) (fragment_of held) size (sym step ∙ e) in
-          rw (← parts.1) (long, record { unit = parts.0.0; read = parts.0.1 })
+          rw (← parts.1) (long, record { unit = parts.0.0; form = IsUnit-unit_of (take (fragment_of held) held) parts.0.0 parts.0.1 })
     ]
 
 pub front_of-Some : (held : List ℕ) (size : ℕ) → front_of held ≡ Ok (Some size) → (16 ≤ length held) × (size ≤ length held) × AreUnit (take size held)
@@ -99,7 +103,7 @@ front_of-None held none size are =
 
 -- a unit isn't empty
 pub unit_size : (bytes : List ℕ) → AreUnit bytes → 16 ≤ length bytes
-unit_size bytes are = (IsUnit-unit_of bytes are.unit are.read).least
+unit_size bytes are = are.form.least
 
 -- ---- the stream
 
@@ -161,6 +165,31 @@ next_of-Some flow unit whole e =
 pub next_of-None : (flow : Flow) → flow.broken ≡ false → next_of flow ≡ Ok None → front_of flow.held ≡ Ok None
 next_of-None flow whole e =
     let step : next_of flow ≡ taken_by (front_of flow.held) flow.held = rw whole refl in taken_by-None (front_of flow.held) flow.held (sym step ∙ e)
+
+-- a flow that answers Ok isn't broken
+next_by-Ok : (broken : Bool) (held : List ℕ) (answer : Option (List ℕ)) → next_by broken held ≡ Ok answer → broken ≡ false
+next_by-Ok true held answer e = absurd cc
+next_by-Ok false held answer e = refl
+
+not_broken : (flow : Flow) (answer : Option (List ℕ)) → next_of flow ≡ Ok answer → flow.broken ≡ false
+not_broken flow answer e = next_by-Ok flow.broken flow.held answer e
+
+-- what a call gives is a unit that was in front of what is held afterwards
+pub front_taken : (old new : Flow) (result : Result (Option (List ℕ)) InflowRefused) → UpToMemory inflow.Memory result (next_of old) → Leaves result old new → IfOk result (λ given. IfSome given (λ bytes. AreUnit bytes × (old.held ≡ bytes ++ new.held)))
+front_taken old new (Ok None) answer left = tt
+front_taken old new (Ok (Some bytes)) answer left =
+    let step = next_of-Some old bytes (not_broken old (Some bytes) answer) answer in
+    let held : new.held ≡ drop (length bytes) old.held = ap (λ (f : Flow). f.held) left in
+    (step.0, step.1 ∙ ap (λ (s : List ℕ). bytes ++ s) (sym held))
+front_taken old new (Err e) answer left = tt
+
+-- and the unit in front is given
+pub front_given : (old : Flow) (result : Result (Option (List ℕ)) InflowRefused) (bytes rest : List ℕ) → UpToMemory inflow.Memory result (next_of old) → old.broken ≡ false → AreUnit bytes → old.held ≡ bytes ++ rest → UpToMemory inflow.Memory result (Ok (Some bytes))
+front_given old result bytes rest answer whole are parts =
+    let front : front_of old.held ≡ Ok (Some (length bytes)) = ap front_of parts ∙ front_of-unit bytes rest are in
+    let first : take (length bytes) old.held ≡ bytes = ap (take (length bytes)) parts ∙ take_at bytes rest (length bytes) refl in
+    let same : next_of old ≡ Ok (Some bytes) = rw (whole, front, first) refl in
+    UpToMemory-same inflow.Memory result (next_of old) (Ok (Some bytes)) same answer
 
 pub each_more : (units : List (List ℕ)) (unit : List ℕ) → AllByRecursion AreUnit units → AreUnit unit → AllByRecursion AreUnit (units ++ unit ∷ [])
 each_more [] unit each are = (are, tt)

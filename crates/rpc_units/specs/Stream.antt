@@ -6,6 +6,7 @@ use Rattle.rpc_units.specs.declared.unit.Unit.{Unit as RpcUnit}
 use Rattle.rpc_units.specs.declared.refused.UnitRefused.{UnitRefused}
 use Rattle.rpc_units.specs.declared.refused.InflowRefused.{InflowRefused}
 use Rattle.rpc_units.specs.declared.refused.InflowRefused.TheVariants as inflow
+use Rattle.rpc_units.specs.Grammar.{IsUnit}
 use Rattle.rpc_units.specs.Layout.{fragment_of}
 use Rattle.rpc_units.specs.Reading.{kind_in, unit_of}
 
@@ -53,10 +54,10 @@ Leaves (Err inflow.Broken) old new = new ≡ old
 
 -- ---- the stream
 
--- the bytes are those of a unit
+-- the bytes are those of a unit, by the grammar
 pub record AreUnit (bytes : List ℕ) : Type 0 where
   pub unit : RpcUnit
-  pub read : unit_of bytes ≡ Ok unit
+  pub form : IsUnit bytes unit
 
 -- the stream is the bytes of the units and then the rest, and the rest doesn't begin with the bytes of a unit
 pub record IsStream (stream : List ℕ) (units : List (List ℕ)) (rest : List ℕ) : Type 0 where

@@ -1,8 +1,9 @@
 //! A call cut into fragments.
 
-ghost use Rattle.std.specs.Prelude.{◌≡◌, ◌≤◌, length, IfOk};
+ghost use Rattle.std.specs.Prelude.{◌≡◌, ◌≤◌, List, length, IfOk};
 ghost use Rattle.std.specs.List.{AllByRecursion};
-ghost use Rattle.rpc_units.specs.Joining.{with_stub, fragment, HasStub, IsWholeCall, IsJoined, cut_of};
+ghost use Rattle.rpc_units.specs.declared.unit.Unit.{Unit as RpcUnit};
+ghost use Rattle.rpc_units.specs.Joining.{stub_of, with_stub, stub_size, fragment, HasStub, IsWholeCall, IsJoined, cut_of};
 ghost use Rattle.rpc_units.specs.Writing.{value_len, written};
 
 use crate::joiner::stub;
@@ -11,13 +12,16 @@ use std::alloc::Global;
 use wire_base::{Blob, NoMemory};
 
 /// The call as units of `(limit - 48) / 8 * 8` stub bytes each and the rest in the last, at least one. Each has the call's hint, number, context,
-/// opnum and trailer, and is written with at most `limit` bytes where the authentication value has at most 16. Joined they are the call.
+/// opnum and trailer, and is written with at most `limit` bytes where the authentication value has at most 16. Joined they are the call, and no
+/// fewer fragments of at most that many stub bytes are.
 pub fn cut_call(alloc: Global, unit: &Unit, limit: u16) -> Result<UnitList, NoMemory>
     requires whole { IsWholeCall unit.now }
     requires least { 1432 ≤ limit }
     requires most { limit ≤ 5840 }
     ensures cut { IfOk result (λ units. units ≡ cut_of unit.now limit) }
     ensures joined { IfOk result (λ units. IsJoined units unit.now) }
+    ensures fewest { IfOk result (λ units. (others : List RpcUnit) → IsJoined others unit.now →
+        AllByRecursion (λ u. length (stub_of u.body) ≤ stub_size limit) others → length units ≤ length others) }
     ensures short { value_len unit.now.trailer ≤ 16 → IfOk result (λ units. AllByRecursion (λ u. length (written u) ≤ limit) units) }
 {
     pieces(alloc, unit, limit)

@@ -1,8 +1,8 @@
 //! A stream of units.
 
-ghost use Rattle.std.specs.Prelude.{◌≡◌, ◌++◌, ◌≤◌, [], false, drop, length, OnOk, OnErr, IfOk, IfSome};
+ghost use Rattle.std.specs.Prelude.{◌≡◌, ◌++◌, ◌≤◌, ℕ, List, [], false, drop, length, Some, Ok, OnOk, OnErr, IfOk, IfSome};
 ghost use Rattle.wire_base.specs.Memory.{UpToMemory};
-ghost use Rattle.rpc_units.specs.Stream.{Flow, front_of, next_of, Leaves};
+ghost use Rattle.rpc_units.specs.Stream.{Flow, front_of, next_of, Leaves, AreUnit};
 
 use crate::reading::{kind_of_unit, read_unit, short};
 use crate::refused::{InflowRefused, UnitRefused};
@@ -60,6 +60,17 @@ impl Inflow {
     /// than its fragment length. The unit in front is refused as `read_unit` does, by its header as soon as 16 bytes are held; this ends
     /// the stream, and every later call is Broken. Without memory nothing changes.
     pub fn next(&mut self, alloc: Global) -> Result<Option<Blob>, InflowRefused>
+        ensures answer { UpToMemory InflowRefused.Memory result (next_of self.old) }
+        ensures after { Leaves result self.old self.new }
+        ensures found { IfOk result (λ given. IfSome given (λ bytes. AreUnit bytes × (self.old.held ≡ bytes ++ self.new.held))) }
+        ensures only { (bytes rest : List ℕ) → self.old.broken ≡ false → AreUnit bytes → self.old.held ≡ bytes ++ rest →
+            UpToMemory InflowRefused.Memory result (Ok (Some bytes)) }
+    {
+        self.take_front(alloc)
+    }
+
+    /// Takes the unit in front, if it is whole.
+    fn take_front(&mut self, alloc: Global) -> Result<Option<Blob>, InflowRefused>
         ensures answer { UpToMemory InflowRefused.Memory result (next_of self.old) }
         ensures after { Leaves result self.old self.new }
     {

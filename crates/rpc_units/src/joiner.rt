@@ -1,8 +1,9 @@
 //! The fragments of a call.
 
-ghost use Rattle.std.specs.Prelude.{◌≡◌, ◌++◌, None, Some, true, nat_le, OnOk, OnErr, IfOk};
+ghost use Rattle.std.specs.Prelude.{◌≡◌, ◌++◌, ◌≤◌, List, length, None, Some, true, nat_le, OnOk, OnErr, IfOk};
 ghost use Rattle.wire_base.specs.Memory.{UpToMemory};
-ghost use Rattle.rpc_units.specs.Joining.{stub_of, with_stub, key_of, same_call, stub_len, grown, joined_by, joined_of, answer_of, open_after};
+ghost use Rattle.rpc_units.specs.declared.unit.Unit.{Unit as RpcUnit};
+ghost use Rattle.rpc_units.specs.Joining.{stub_of, with_stub, key_of, same_call, stub_len, grown, joined_by, joined_of, answer_of, open_after, stubs_of, IsJoined, AddsTo};
 
 use crate::refused::JoinRefused;
 use crate::unit::{Body, Unit};
@@ -28,8 +29,18 @@ impl Model for Joiner {
 }
 
 impl Joiner {
-    /// Nothing is open. It takes no memory.
+    /// Nothing is open. What adding fragments from here gives is the whole of them, and the whole of fragments of at most `CALL_LIMIT` stub
+    /// bytes is given, unless memory runs out. It takes no memory.
     pub fn new() -> Joiner
+        ensures none { result ≡ None }
+        ensures whole { (units : List RpcUnit) → (joined : RpcUnit) → AddsTo result units joined → IsJoined units joined }
+        ensures only { (units : List RpcUnit) → (joined : RpcUnit) → IsJoined units joined → length (stubs_of units) ≤ 65536 →
+            AddsTo result units joined }
+    {
+        Joiner::nothing()
+    }
+
+    fn nothing() -> Joiner
         ensures { result ≡ None }
     {
         Joiner { open: None }

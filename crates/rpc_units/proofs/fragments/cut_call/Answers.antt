@@ -1,15 +1,20 @@
-use Rattle.std.proofs.Common.{◌≤◌, length, arith}
+use Rattle.std.proofs.Common.{◌≤◌, List, length, arith}
 use Rattle.std.proofs.lemmas.Result.{IfOk-weaker}
 use Rattle.std.specs.List.{AllByRecursion}
 use Rattle.rpc_units.specs.Writing.{written}
-use Rattle.rpc_units.specs.Joining.{IsJoined, stub_size}
-use Rattle.rpc_units.proofs.CuttingLaws.{IsJoined-cut_of, cut_short}
+use Rattle.rpc_units.specs.declared.unit.Unit.{Unit as RpcUnit}
+use Rattle.rpc_units.specs.Joining.{stub_of, IsJoined, stub_size}
+use Rattle.rpc_units.proofs.CuttingLaws.{IsJoined-cut_of, cut_short, cut_fewest}
 use Rattle.rpc_units.proofs.fragments.cut_call.Goals as goal
 
 pub returns-clause-joined : goal.returns-clause-joined
 returns-clause-joined c =
     let some : 1 ≤ stub_size c.args.limit = omega (arith, c.requires.least) in
     IfOk-weaker c.pieces.result _ (λ units. IsJoined units c.args.unit.now) (λ units e. rw e (IsJoined-cut_of c.args.unit.now c.args.limit c.requires.whole some)) c.pieces.ensures
+
+pub returns-clause-fewest : goal.returns-clause-fewest
+returns-clause-fewest c =
+    IfOk-weaker c.pieces.result _ (λ units. (others : List RpcUnit) → IsJoined others c.args.unit.now → AllByRecursion (λ u. length (stub_of u.body) ≤ stub_size c.args.limit) others → length units ≤ length others) (λ units e. rw e (cut_fewest c.args.unit.now c.args.limit)) c.pieces.ensures
 
 pub returns-clause-short : goal.returns-clause-short
 returns-clause-short c value =
