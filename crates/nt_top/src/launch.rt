@@ -1,7 +1,7 @@
 //! What a program does around the top call.
 
 ghost use Rattle.std.specs.Prelude.{◌≡◌};
-ghost use Rattle.nt_top.specs.Exits.{status_of};
+ghost use Rattle.nt_top.specs.Exits.{status_of, IsStatus};
 
 use crate::exit::{Exit, Role};
 use crate::texts::exit_line;
@@ -17,7 +17,9 @@ use wire_base::List;
 /// isn't empty and memory for it is found, to standard error. Gives the exit status.
 ///
 /// No command has the network, files, the clock or challenges yet, so what stands for them is in memory and empty.
-pub fn start<R: Env + Print + Eprint + AllocGlobal>(rt: &R, role: Role) -> u8 {
+pub fn start<R: Env + Print + Eprint + AllocGlobal>(rt: &R, role: Role) -> u8
+    ensures { IsStatus result }
+{
     let exit = match arguments(rt) {
         Ok(words) => run_words(rt, role, &words),
         Err(exit) => exit,
