@@ -1,5 +1,6 @@
--- What crates above may use of `des_of` and `spread_of`: lengths, bounds, and that a key's low bits have no effect.
-use Rattle.std.proofs.Common.{◌≡◌, ℕ, zero, suc, ◌+◌, ◌-◌, ◌*◌, ◌/◌, ◌%◌, ◌^◌, ◌<◌, ◌≤◌, ◌==◌, Bool, true, false, cond, List, [], ◌∷◌, ◌++◌, map, length, get_or, take, drop, All, slice_range, refl, ap, sym, ◌∙◌, arith, nat_lt, add-one, lit<, lit≤}
+-- What crates above may use of `des_of`, its inverse and `spread_of`: lengths, bounds, that a key's low bits have no effect, and
+-- that DES and its inverse undo each other.
+use Rattle.std.proofs.Common.{◌≡◌, ℕ, zero, suc, ◌+◌, ◌-◌, ◌*◌, ◌/◌, ◌%◌, ◌^◌, ◌<◌, ◌≤◌, ◌==◌, Bool, true, false, cond, List, [], ◌∷◌, ◌++◌, map, length, get_or, take, drop, All, slice_range, reverse, refl, ap, sym, ◌∙◌, arith, nat_lt, add-one, lit<, lit≤}
 use Rattle.std.proofs.lemmas.List.{length-map, length-append, get_or-map, get_or_append_left, get_or-append_right, ext_get_or, length-take, take_all}
 use Rattle.std.proofs.lemmas.Nat.Bits.{bit_at-suc}
 use Rattle.std.proofs.Math.Nat.{mod-lt, pow-le-pow_right, pow-suc}
@@ -12,8 +13,10 @@ use Rattle.des_cipher.specs.Bits.{bit, permuted, number_bits, number_of, bits_of
 use Rattle.des_cipher.specs.Cipher.{cipher}
 use Rattle.des_cipher.specs.Schedule.{round_keys_from, round_keys}
 use Rattle.des_cipher.specs.Tables.{key_choice_c, key_choice_d, rotations}
-use Rattle.des_cipher.specs.Des.{des_of, spread_of, SameButLowBits}
+use Rattle.des_cipher.specs.Des.{des_of, des_back_of, spread_of, IsBlock, SameButLowBits}
 use Rattle.des_cipher.proofs.BitLemmas.{number_of_push, number_of_none, length-number_bits}
+use Rattle.des_cipher.proofs.ByteLaws.{bytes_of-bits_of, bits_of-bytes_of, length-bits_of}
+use Rattle.des_cipher.proofs.FeistelLaws.{cipher_back, cipher_forth, length-cipher}
 
 -- ---- lengths
 
@@ -52,15 +55,29 @@ number_of-lt bits h =
 length-part : (bits : List Bool) (from to : ℕ) → length (slice_range bits from to) ≤ to - from
 length-part bits from to = omega (arith, length-take (to - from) (drop from bits))
 
+-- what 64 bits write is a block
+IsBlock-bytes_of : (bits : List Bool) → IsBlock (bytes_of bits)
+unfolding bytes_of
+IsBlock-bytes_of bits = record {
+  eight = refl;
+  bytes =
+      All-map (λ b. b < 256) (λ i. number_of (slice_range bits (8 * i) (8 * i + 8))) (range_with_len 0 8)
+      (λ k d h.
+      let i : ℕ = get_or (range_with_len 0 8) k d in
+      number_of-lt (slice_range bits (8 * i) (8 * i + 8)) (omega (arith, length-part bits (8 * i) (8 * i + 8))));
+}
+
+pub IsBlock-des_of : (key block : List ℕ) → IsBlock (des_of key block)
+unfolding des_of
+IsBlock-des_of key block = IsBlock-bytes_of (cipher (round_keys (bits_of key)) (bits_of block))
+
+pub IsBlock-des_back_of : (key block : List ℕ) → IsBlock (des_back_of key block)
+unfolding des_back_of
+IsBlock-des_back_of key block = IsBlock-bytes_of (cipher (reverse (round_keys (bits_of key))) (bits_of block))
+
 -- each of the 8 bytes is below 256
 pub All-des_of : (key block : List ℕ) → All (λ b. b < 256) (des_of key block)
-unfolding des_of bytes_of
-All-des_of key block =
-    let bits = cipher (round_keys (bits_of key)) (bits_of block) in
-    All-map (λ b. b < 256) (λ i. number_of (slice_range bits (8 * i) (8 * i + 8))) (range_with_len 0 8)
-    (λ k d h.
-    let i : ℕ = get_or (range_with_len 0 8) k d in
-    number_of-lt (slice_range bits (8 * i) (8 * i + 8)) (omega (arith, length-part bits (8 * i) (8 * i + 8))))
+All-des_of key block = (IsBlock-des_of key block).bytes
 
 pub All-spread_of : (key : List ℕ) → All (λ b. b < 256) (spread_of key)
 unfolding spread_of
@@ -147,3 +164,27 @@ des_of-same_but_low_bits key other block e =
     let d = high_bits_chosen key other key_choice_d e refl in
     ap (λ z. bytes_of (cipher (round_keys_from rotations z (permuted key_choice_d (bits_of key))) (bits_of block))) c
     ∙ ap (λ z. bytes_of (cipher (round_keys_from rotations (permuted key_choice_c (bits_of other)) z) (bits_of block))) d
+
+-- ---- the inverse
+
+-- the inverse undoes DES
+pub des_back_of-des_of : (key block : List ℕ) → IsBlock block → des_back_of key (des_of key block) ≡ block
+unfolding des_of des_back_of
+des_back_of-des_of key block h =
+    let keys = round_keys (bits_of key) in
+    let bits = bits_of block in
+    let long : length bits ≡ 64 = length-bits_of block ∙ ap (λ n. 8 * n) h.eight in
+    ap (λ z. bytes_of (cipher (reverse keys) z)) (bits_of-bytes_of (cipher keys bits) (length-cipher keys bits))
+    ∙ ap bytes_of (cipher_back keys bits long)
+    ∙ bytes_of-bits_of block h
+
+-- DES undoes its inverse
+pub des_of-des_back_of : (key block : List ℕ) → IsBlock block → des_of key (des_back_of key block) ≡ block
+unfolding des_of des_back_of
+des_of-des_back_of key block h =
+    let keys = round_keys (bits_of key) in
+    let bits = bits_of block in
+    let long : length bits ≡ 64 = length-bits_of block ∙ ap (λ n. 8 * n) h.eight in
+    ap (λ z. bytes_of (cipher keys z)) (bits_of-bytes_of (cipher (reverse keys) bits) (length-cipher (reverse keys) bits))
+    ∙ ap bytes_of (cipher_forth keys bits long)
+    ∙ bytes_of-bits_of block h

@@ -1,3 +1,5 @@
 pub mod BitLemmas
+pub mod ByteLaws
 pub mod CipherLemmas
 pub mod DesLaws
+pub mod FeistelLaws

@@ -1,5 +1,5 @@
 -- DES (FIPS 46-3) on keys and blocks of 8 bytes, and keys of 7 bytes.
-use Rattle.std.specs.Prelude.{◌≡◌, ℕ, ◌+◌, ◌*◌, ◌/◌, Bool, false, List, [], ◌∷◌, ◌++◌, map, slice_range}
+use Rattle.std.specs.Prelude.{◌≡◌, ℕ, ◌+◌, ◌*◌, ◌/◌, ◌<◌, Bool, false, List, [], ◌∷◌, ◌++◌, All, length, map, reverse, slice_range}
 use Rattle.std.specs.List.{range_with_len}
 use Rattle.des_cipher.specs.Bits.{number_of, bits_of, bytes_of}
 use Rattle.des_cipher.specs.Cipher.{cipher}
@@ -12,6 +12,19 @@ enciphered key block = cipher (round_keys key) block
 -- DES of a block of 8 bytes under a key of 8 bytes
 unfoldable pub des_of : List ℕ → List ℕ → List ℕ
 des_of key block = bytes_of (enciphered (bits_of key) (bits_of block))
+
+-- the inverse of DES on lists of 64 bits (FIPS 46-3, "Deciphering"): the same cipher under the round keys in reverse order
+abbrev pub deciphered : List Bool → List Bool → List Bool
+deciphered key block = cipher (reverse (round_keys key)) block
+
+-- the inverse of DES of a block of 8 bytes under a key of 8 bytes
+unfoldable pub des_back_of : List ℕ → List ℕ → List ℕ
+des_back_of key block = bytes_of (deciphered (bits_of key) (bits_of block))
+
+-- a block of 8 bytes
+pub record IsBlock (block : List ℕ) : Type 0 where
+  pub eight : length block ≡ 8
+  pub bytes : All (λ b. b < 256) block
 
 -- a key of 7 bytes spread over 8: seven bits in each byte, in order, and a last bit that is not set
 -- (MS-NRPC 3.1.4.4.2, InitLMKey)

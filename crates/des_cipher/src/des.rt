@@ -1,7 +1,8 @@
 // DES on bytes.
 
 ghost use Rattle.std.specs.Prelude.{◌≡◌, ℕ, List};
-ghost use Rattle.des_cipher.specs.Des.{des_of, spread_of, SameButLowBits};
+ghost use Rattle.des_cipher.specs.Bits.{bits_of};
+ghost use Rattle.des_cipher.specs.Des.{des_of, des_back_of, spread_of, IsBlock, SameButLowBits};
 
 use crate::bits::{bytes_from, number, write_bits};
 use crate::cipher::encipher;
@@ -29,9 +30,7 @@ pub fn des_block8(key: [u8; 8], block: [u8; 8]) -> [u8; 8]
 {
     let mut key_bits = [false; 64];
     write_bits(&key, &mut key_bits);
-    let mut block_bits = [false; 64];
-    write_bits(&block, &mut block_bits);
-    bytes_from(&encipher(&key_schedule(&key_bits), &block_bits))
+    bytes_from(&encipher(&key_schedule(&key_bits), &block_bits(&block)))
 }
 
 /// DES (FIPS 46-3) of a block under a key of 7 bytes, which is spread over 8 (MS-NLMP 6, `DES(K, D)`).
@@ -39,4 +38,29 @@ pub fn des_block(key: [u8; 7], block: [u8; 8]) -> [u8; 8]
     ensures { result ≡ des_of (spread_of key) block }
 {
     des_block8(spread_key(key), block)
+}
+
+/// The inverse of `des_block` (FIPS 46-3, "Deciphering"): the cipher under the same round keys in reverse order.
+pub fn des_back(key: [u8; 7], block: [u8; 8]) -> [u8; 8]
+    ensures value { result ≡ des_back_of (spread_of key) block }
+
+    // Each undoes the other, for this key.
+    ensures undoes { (plain : List ℕ) → IsBlock plain → des_back_of (spread_of key) (des_of (spread_of key) plain) ≡ plain }
+    ensures undone { des_of (spread_of key) result ≡ block }
+{
+    let mut key_bits = [false; 64];
+    write_bits(&spread_key(key), &mut key_bits);
+    let mut keys = key_schedule(&key_bits);
+    keys.reverse();
+    bytes_from(&encipher(&keys, &block_bits(&block)))
+}
+
+/// The bits of a block, which has 8 bytes.
+fn block_bits(block: &[u8; 8]) -> [bool; 64]
+    ensures value { result ≡ bits_of block.now }
+    ensures is_block { IsBlock block.now }
+{
+    let mut bits = [false; 64];
+    write_bits(block, &mut bits);
+    bits
 }

@@ -1,4 +1,4 @@
-//! DES (FIPS 46-3) on single blocks, under keys of 8 bytes and of 7 bytes.
+//! DES (FIPS 46-3) on single blocks, under keys of 8 bytes and of 7 bytes, and its inverse under keys of 7 bytes.
 #![tactic(auto)]
 
 mod bits;
@@ -7,7 +7,7 @@ mod des;
 mod schedule;
 mod tables;
 
-pub use des::{des_block, des_block8, spread_key};
+pub use des::{des_back, des_block, des_block8, spread_key};
 
 #[cfg(test)]
 mod tests;

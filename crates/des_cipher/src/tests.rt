@@ -29,18 +29,20 @@ const BLOCKS: [(u64, u64, u64); 18] = [
     (0x634a61ccd10e6ab4, 0x7c430056763f3074, 0x598d5a23b8f75249),
 ];
 
-// A key of 7 bytes, its spread form, a block and the result.
-const SPREAD: [(&[u8; 7], u64, u64, u64); 5] = [
+// A key of 7 bytes, its spread form, a block, the block enciphered and the block deciphered.
+const SPREAD: [(&[u8; 7], u64, u64, u64, u64); 5] = [
     (
         b"\x12\x69\x5b\xc9\xb7\xb7\xf8",
         0x123456789abcdef0,
         0x0123456789abcdef,
         0x85e813540f0ab405,
+        0xee0f7c12e0b09338,
     ),
     (
         b"\xff\xff\xff\xff\xff\xff\xff",
         0xfefefefefefefefe,
         0x0123456789abcdef,
+        0x6dce0dc9006556a3,
         0x6dce0dc9006556a3,
     ),
     (
@@ -48,18 +50,21 @@ const SPREAD: [(&[u8; 7], u64, u64, u64); 5] = [
         0x008080604028180e,
         0x0123456789abcdef,
         0x0d3834a0d3edbfb3,
+        0xea859e1bb4a7afff,
     ),
     (
         b"\xca\x26\x46\x41\x19\x6a\xe3",
         0xca1290c810caaac6,
         0x816fb4085e9ceeb5,
         0xc08b711e91cead41,
+        0x0224b2fcee2bfc75,
     ),
     (
         b"\xb9\x97\x06\x57\x6a\x4b\xb7",
         0xb8cac0ca76522e6e,
         0xf11eec8181c18057,
         0x44675241345d829f,
+        0x6257e3233ed13478,
     ),
 ];
 
@@ -73,9 +78,19 @@ fn enciphers_known_blocks(rt: HostRuntime) {
 
 #[test]
 fn spreads_keys_of_seven_bytes(rt: HostRuntime) {
-    for (key, spread, block, want) in SPREAD {
+    for (key, spread, block, want, _) in SPREAD {
         assert_eq!(rt; u64::from_be_bytes(spread_key(*key)), spread);
         let got = des_block(*key, block.to_be_bytes());
         assert_eq!(rt; u64::from_be_bytes(got), want, "{spread:x} {block:x}");
+    }
+}
+
+#[test]
+fn deciphers_known_blocks(rt: HostRuntime) {
+    for (key, spread, block, enciphered, deciphered) in SPREAD {
+        let got = des_back(*key, block.to_be_bytes());
+        assert_eq!(rt; u64::from_be_bytes(got), deciphered, "{spread:x} {block:x}");
+        let back = des_back(*key, enciphered.to_be_bytes());
+        assert_eq!(rt; u64::from_be_bytes(back), block, "{spread:x} {block:x}");
     }
 }

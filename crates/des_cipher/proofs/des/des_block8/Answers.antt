@@ -9,10 +9,10 @@ use Rattle.des_cipher.proofs.des.des_block8.Goals as goal
 pub returns-clause-value : goal.returns-clause-value
 unfolding des_of
 returns-clause-value c =
-    let block = c.write_bits-2.new.bits in
+    let block = c.block_bits.result in
     c.bytes_from.ensures
     ∙ ap bytes_of (c.encipher.ensures ∙ ap (λ ks. cipher ks block) (c.key_schedule.ensures ∙ ap round_keys c.write_bits.ensures))
-    ∙ ap (λ b. bytes_of (cipher (round_keys (bits_of c.args.key)) b)) c.write_bits-2.ensures
+    ∙ ap (λ b. bytes_of (cipher (round_keys (bits_of c.args.key)) b)) c.block_bits.ensures.value
 
 pub returns-clause-parity_is_free : goal.returns-clause-parity_is_free
 returns-clause-parity_is_free c other same =
