@@ -1,0 +1,4 @@
+pub mod Credentials
+pub mod Flags
+pub mod SessionKeys
+pub use Rattle.des_cipher.specs.Des

@@ -1,0 +1,23 @@
+// The negotiated options of a secure channel (MS-NRPC 3.1.4.2, NegotiateFlags).
+
+ghost use Rattle.std.specs.Prelude.{◌≡◌};
+ghost use Rattle.channel_keys.specs.Flags.{has_flag};
+
+/// RC4 for what is hidden under the session key.
+pub const RC4: u32 = 0x0000_0004;
+/// The strong session key.
+pub const STRONG_KEY: u32 = 0x0000_4000;
+/// AES and SHA2.
+pub const AES: u32 = 0x0100_0000;
+/// Secure RPC: the channel's calls may be sealed.
+pub const SECURE_RPC: u32 = 0x4000_0000;
+
+/// The flags that ends of this project offer and grant (this project's own choice).
+pub const SUPPORTED_FLAGS: u32 = 0x0000_41ff;
+
+/// Whether a flag is set among the flags of a channel.
+pub fn has_flag(flags: u32, flag: u32) -> bool
+    ensures { result ≡ has_flag flags flag }
+{
+    flags & flag == flag
+}
