@@ -1,0 +1,2 @@
+pub mod Sequences
+pub use Rattle.channel_keys.specs.Credentials
