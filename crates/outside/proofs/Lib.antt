@@ -1,3 +1,4 @@
+pub mod CounterLaws
 pub mod Drawn
 pub mod Links
 pub mod TellingLaws

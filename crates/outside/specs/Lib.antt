@@ -1,6 +1,7 @@
 pub mod Causes
 pub mod Telling
 pub mod Contents
+pub mod Counter
 pub mod Links
 pub mod Drawing
 pub mod Scripts

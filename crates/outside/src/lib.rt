@@ -1,5 +1,5 @@
 //! What an end meets outside itself: a port, files, a sink, a clock and a maker of challenges, as traits whose contracts say
-//! what each call may answer, and scripted implementations in memory.
+//! what each call may answer, scripted implementations in memory, and the maker of challenges that counts.
 //!
 //! A port, files and a sink count their failures, and answer `Failed` only where a count rose. What an implementation tells of
 //! its content is optional: the real ones tell nothing.
@@ -7,6 +7,7 @@
 
 mod chances;
 mod clock;
+mod counter_chances;
 mod event;
 mod files;
 mod list_chances;
@@ -22,6 +23,7 @@ mod vec_sink;
 
 pub use chances::{Chances, Spent};
 pub use clock::Clock;
+pub use counter_chances::CounterChances;
 pub use event::{Event, Events, Happening};
 pub use files::{FileRefused, Files, MOST_FILE_BYTES};
 pub use list_chances::ListChances;
