@@ -44,12 +44,6 @@ Passes key seed given = given.credential ≡ cred_of key (add_to seed given.time
 abbrev pub passes : List ℕ → List ℕ → Authenticator → Bool
 passes key seed given = bytes_eq given.credential (cred_of key (add_to seed given.timestamp))
 
--- authenticators pass one after another, the first at this seed and each other one at the seed after those before it
-abbrev pub PassInTurn : List ℕ → List ℕ → List Authenticator → Type 0
-PassInTurn key seed [] = Unit {0}
-PassInTurn key seed (given ∷ later) =
-    Passes key seed given × PassInTurn key (next_seed seed given.timestamp) later
-
 -- ---- one end
 
 -- what an end keeps: the awaited return credential is none where no authenticator that it made waits for its answer

@@ -1,6 +1,6 @@
 // One end's sequence.
 
-ghost use Rattle.std.specs.Prelude.{◌≡◌, ◌+◌, ◌%◌, ◌^◌, ◌↔◌, ◌∷◌, ℕ, List, None, IsOk, IsSome, IfOk, OnOk, OnErr};
+ghost use Rattle.std.specs.Prelude.{◌≡◌, ◌+◌, ◌%◌, ◌^◌, ◌↔◌, ◌∷◌, ℕ, List, None, Some, IsOk, IsSome, IfOk, OnOk, OnErr};
 ghost use Rattle.authenticators.specs.Sequences.{SequenceState, Passes, authenticator_of, add_to, seed_after, moved_by, made, taken_of, judge_of};
 
 use crate::refusal::NotNext;
@@ -71,6 +71,7 @@ impl Sequence {
         requires { IsSome self.old.awaited }
         ensures answer { result ≡ (taken_of self.old credential).answer }
         ensures sequence { self.new ≡ (taken_of self.old credential).sequence }
+        ensures taken { IsOk result ↔ (self.old.awaited ≡ Some credential) }
     {
         let awaited = self.awaited.unwrap();
         if credential != awaited {

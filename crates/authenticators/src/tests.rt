@@ -115,9 +115,11 @@ fn timestamps_at_the_ends_of_their_range(rt: HostRuntime) {
 
 #[test]
 fn a_wrong_return_credential_changes_nothing(rt: HostRuntime) {
-    let mut maker = Sequence::new([7; 16], [0xf0; 8]);
-    let _made = maker.make(5);
-    let awaited = maker.awaits().expect(&rt, "one is awaited");
+    let Run { key, seed, .. } = RUNS[2];
+    let mut maker = Sequence::new(key.to_be_bytes(), seed.to_be_bytes());
+    let made = maker.make(5);
+    assert_eq!(rt; made.credential, 0x35b8528611c96c00u64.to_be_bytes());
+    let awaited = 0x9d6ccd320f24db5cu64.to_be_bytes();
     let mut other = awaited;
     other[7] ^= 1;
     let refusal = maker.take_return(other).err();

@@ -13,7 +13,7 @@ struct Channel {
     des_credentials: [u64; 2],
 }
 
-const CHANNELS: [Channel; 5] = [
+const CHANNELS: [Channel; 10] = [
     Channel {
         secret: 0x0102030405060708090a0b0c0d0e0f10,
         client: 0x0102030405060708,
@@ -58,6 +58,51 @@ const CHANNELS: [Channel; 5] = [
         des: 0x2aeb1e17289a81e30000000000000000,
         strong_credentials: [0x016c12daad1ec2df, 0x5cd96eb918a8096d],
         des_credentials: [0xe65a93959e189771, 0xa30f9dbd73df025f],
+    },
+    Channel {
+        secret: 0xe0148c39d29904f1c37995bce6288961,
+        client: 0x365cfc1824fe9e94,
+        server: 0xd7263ae3351422bc,
+        strong: 0x8be629d22507335db6a078021bdb6c83,
+        des: 0x0f2ffef3e233c60b0000000000000000,
+        strong_credentials: [0x81c20f4bf00e3ba5, 0x5b0a5daccc6ce0db],
+        des_credentials: [0x1c27106109ab16fc, 0x50a7aecddd8db68b],
+    },
+    Channel {
+        secret: 0x50e884e45762b0407f4d52efcd3656d3,
+        client: 0xf0f14b5e560bf534,
+        server: 0x728b4398d1953b64,
+        strong: 0x7bbe0f7098f83b26c014267c755aefce,
+        des: 0xb7404986ef784d9c0000000000000000,
+        strong_credentials: [0xb1f6e68ac289b353, 0x58d0c22eafe23d54],
+        des_credentials: [0xfd8d17f6d6b07a7c, 0x8f24a074aab1f525],
+    },
+    Channel {
+        secret: 0xe2950bd3eacd23877ee9eb74c4bb408c,
+        client: 0x4166f8bd62eaf134,
+        server: 0xb33672b02f4afc99,
+        strong: 0xb243ff26f59af8bdfcaa3377b6d3cb59,
+        des: 0x4448f4568c4455df0000000000000000,
+        strong_credentials: [0xd69d2bafd9b12b45, 0xc0e0417371e4450b],
+        des_credentials: [0x2ff34bd91d31f2ac, 0x74577779208f039d],
+    },
+    Channel {
+        secret: 0xa68eb9822cbbf97eed7a55c94adfb875,
+        client: 0x96621b4fe6341ff3,
+        server: 0x368e1322806947d3,
+        strong: 0xf3c3944518e9e3047a419b181fa6c265,
+        des: 0x2594a9b93bac30d80000000000000000,
+        strong_credentials: [0xe88372ea7af6a2a3, 0xbf1d616f42943b71],
+        des_credentials: [0xf1e240449f87ef58, 0x69c1b6ba8bfa7f7d],
+    },
+    Channel {
+        secret: 0xb0a8826702e251af3ecb3bd331ce0341,
+        client: 0xfb99f16086729807,
+        server: 0xb51abcf8d8340a2f,
+        strong: 0xd0920c1dbe3ad5aa8896fa80600d7ad7,
+        des: 0xefd0df5026defdb10000000000000000,
+        strong_credentials: [0x9ca6824b82763a62, 0xde748d288c8a937d],
+        des_credentials: [0xf9537c9ce620c63b, 0xf21cb896c191e130],
     },
 ];
 
@@ -154,5 +199,18 @@ fn known_credentials_and_their_inverses(rt: HostRuntime) {
             u64::from_be_bytes(cred_back(key, credential.to_be_bytes())),
             input
         );
+    }
+}
+
+#[test]
+fn flags_by_the_standard(rt: HostRuntime) {
+    for (flag, number, supported) in [
+        (RC4, 0x0000_0004, true),
+        (STRONG_KEY, 0x0000_4000, true),
+        (AES, 0x0100_0000, false),
+        (SECURE_RPC, 0x4000_0000, false),
+    ] {
+        assert_eq!(rt; flag, number);
+        assert_eq!(rt; has_flag(SUPPORTED_FLAGS, flag), supported);
     }
 }
