@@ -1,0 +1,12 @@
+-- The names so far and those of the rest are those of all values.
+use Rattle.std.proofs.Common.{◌≡◌, length}
+use Rattle.toml.specs.View.{items_view}
+use Rattle.account_table.specs.Forms.{each, a_name}
+use Rattle.account_table.proofs.ListLaws.{prefixed}
+use Rattle.account_table.proofs.lists.each_name.Given as goal
+
+abbrev pub invariant-loop-rest : goal.invariant-loop-rest
+invariant-loop-rest l = prefixed l.names (each a_name (items_view l.rest)) ≡ each a_name (items_view l.values)
+
+abbrev pub decreases-loop-rest : goal.decreases-loop-rest
+decreases-loop-rest l = length l.rest

@@ -1,0 +1,10 @@
+pub mod AccountTable
+pub mod Document
+pub mod Forms
+pub mod Index
+pub mod Keys
+pub mod Listing
+pub mod LookUps
+pub use Rattle.wire_base.specs.Memory
+pub use Rattle.wire_base.specs.Names
+pub use Rattle.wire_base.specs.Sid

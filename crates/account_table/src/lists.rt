@@ -1,0 +1,105 @@
+//! What lists of values of the account table's document stand for.
+
+ghost use Rattle.std.specs.Prelude.{◌≡◌, [], ◌≤◌, length, IfOk, IfSome, Ok, Err, MatchResult, MatchOption, None, Some, is_some};
+ghost use Rattle.toml.specs.View.{view, items_view};
+ghost use Rattle.toml.specs.Data.{as_table};
+ghost use Rattle.account_table.specs.Forms.{each, a_rid, a_name, rids, computers, tables};
+ghost use Rattle.account_table.specs.Listing.{entries_of};
+
+use crate::values::{name, rid};
+use std::alloc::Global;
+use toml::Value;
+use wire_base::{Name, Names, NoMemory, Numbers};
+
+/// The relative identifier of the group of all users of a domain (MS-DTYP 2.4.2.4).
+pub(crate) const DOMAIN_USERS: u32 = 513;
+
+/// A name of no bytes.
+pub(crate) fn empty_name(alloc: Global) -> Result<Name, NoMemory>
+    ensures { IfOk result (λ name. name ≡ []) }
+{
+    match Name::read(alloc, b"") {
+        Ok(name) => Ok(name),
+        Err(_) => Err(NoMemory),
+    }
+}
+
+/// At most 256 relative identifiers.
+#[tactic(auto, using(crate::proofs::ListLaws::listing))]
+pub(crate) fn rids(alloc: Global, value: &Value) -> Result<Option<Numbers>, NoMemory>
+    ensures { IfOk result (λ numbers. numbers ≡ rids (view value.now)) }
+{
+    match value.as_array() {
+        Some(values) if values.len() <= 256 => each_rid(alloc, values.as_slice()),
+        _ => Ok(None),
+    }
+}
+
+#[tactic(auto, using(crate::proofs::ListLaws::listing))]
+fn each_rid(alloc: Global, values: &[Value]) -> Result<Option<Numbers>, NoMemory>
+    ensures { IfOk result (λ numbers. numbers ≡ each a_rid (items_view values.now)) }
+{
+    let mut numbers = Numbers::new(alloc);
+    let mut rest = values;
+    while let [value, after @ ..] = rest {
+        match rid(value) {
+            Some(number) => numbers.push(number)?,
+            None => return Ok(None),
+        }
+        rest = after;
+    }
+    Ok(Some(numbers))
+}
+
+/// At most 8 names of computers.
+#[tactic(auto, using(crate::proofs::ListLaws::listing))]
+pub(crate) fn computers(alloc: Global, value: &Value) -> Result<Option<Names>, NoMemory>
+    ensures { IfOk result (λ names. names ≡ computers (view value.now)) }
+{
+    match value.as_array() {
+        Some(values) if values.len() <= 8 => each_name(alloc, values.as_slice()),
+        _ => Ok(None),
+    }
+}
+
+#[tactic(auto, using(crate::proofs::ListLaws::listing))]
+fn each_name(alloc: Global, values: &[Value]) -> Result<Option<Names>, NoMemory>
+    ensures { IfOk result (λ names. names ≡ each a_name (items_view values.now)) }
+{
+    let mut names = Names::new(alloc);
+    let mut rest = values;
+    while let [value, after @ ..] = rest {
+        match name(alloc, value)? {
+            Some(name) => names.push(name)?,
+            None => return Ok(None),
+        }
+        rest = after;
+    }
+    Ok(Some(names))
+}
+
+/// The values of a list of tables.
+#[tactic(auto, using(crate::proofs::ListLaws::listing))]
+pub(crate) fn tables(value: &Value) -> Option<&[Value]>
+    ensures { MatchOption result (tables (view value.now) ≡ None) (λ values. (tables (view value.now) ≡ Some (entries_of values.now)) × (length (entries_of values.now) ≡ length values.now)) }
+{
+    match value.as_array() {
+        Some(values) if are_tables(values.as_slice()) => Some(values.as_slice()),
+        _ => None,
+    }
+}
+
+/// Whether each value is a table.
+#[tactic(auto, using(crate::proofs::ListLaws::listing))]
+fn are_tables(values: &[Value]) -> bool
+    ensures { result ≡ is_some (each as_table (items_view values.now)) }
+{
+    let mut rest = values;
+    while let [value, after @ ..] = rest {
+        if !value.is_table() {
+            return false;
+        }
+        rest = after;
+    }
+    true
+}

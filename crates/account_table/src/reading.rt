@@ -1,0 +1,189 @@
+//! The account table's document, entry by entry.
+
+ghost use Rattle.std.specs.Prelude.{◌≡◌, ◌⊎◌, ◌≤◌, ◌+◌, [], None, Ok, Err, length, IfOk, IsTrue, MatchResult};
+ghost use Rattle.wire_base.specs.Memory.{UpToMemory};
+ghost use Rattle.toml.specs.View.{table_view};
+ghost use Rattle.account_table.specs.AccountTable.{has_distinct_names};
+ghost use Rattle.account_table.specs.Document.{user_of, machine_of, accounts_of, document_of, new_name};
+ghost use Rattle.account_table.specs.Listing.{entries_of};
+ghost use Rattle.account_table.specs.Keys.{of_user, of_machine};
+ghost use Rattle.account_table.specs.LookUps.{place_in};
+
+use crate::account::{Account, Kind};
+use crate::accounts::Accounts;
+use crate::forms::{
+    computers_or_none, full_name_or_empty, moment_or_none, needed_hash, needed_kind,
+    needed_machine_name, needed_rid, needed_user_name, rid_or_users, rids_or_users, truth_or_false,
+};
+use crate::key::{Key, Part, Word};
+use crate::lists::{DOMAIN_USERS, empty_name};
+use crate::refused::TableRefused;
+use std::alloc::Global;
+use toml::{Table, Value};
+use wire_base::{Name, Names, Numbers};
+
+/// The document that a text is.
+pub(crate) fn read_document(alloc: Global, text: &[u8]) -> Result<Table, TableRefused>
+    ensures { MatchResult result (λ document. document_of text.now ≡ Ok (table_view document)) (λ refused. (refused ≡ TableRefused.Memory) ⊎ (document_of text.now ≡ Err refused)) }
+{
+    let Ok(text) = str::from_utf8(text) else {
+        return Err(TableRefused::BadToml);
+    };
+    match toml::table_from_str(alloc, text) {
+        Ok(document) => Ok(document),
+        Err(refused) => {
+            if refused.is_memory() {
+                Err(TableRefused::Memory)
+            } else {
+                Err(TableRefused::BadToml)
+            }
+        }
+    }
+}
+
+/// The name, where no account has it.
+#[tactic(auto, unfolding(crate::specs::Document::new_name, crate::specs::LookUps::place_in))]
+fn new_name(name: Name, before: &Accounts) -> Result<Name, TableRefused>
+    ensures { MatchResult result (λ fresh. (fresh ≡ name) × (place_in before.now name ≡ None) × (new_name name before.now ≡ Ok tt)) (λ refused. new_name name before.now ≡ Err refused) }
+{
+    if before.has(&name) {
+        Err(TableRefused::Twice(name))
+    } else {
+        Ok(name)
+    }
+}
+
+fn user_key(entry: u32, word: Word) -> Key
+    ensures { result ≡ of_user entry word }
+{
+    Key {
+        list: Part::User,
+        entry,
+        word,
+    }
+}
+
+fn machine_key(entry: u32, word: Word) -> Key
+    ensures { result ≡ of_machine entry word }
+{
+    Key {
+        list: Part::Machine,
+        entry,
+        word,
+    }
+}
+
+/// The user of that entry, after these accounts.
+#[tactic(auto, unfolding(crate::specs::Document::user_of))]
+fn read_user(
+    alloc: Global,
+    number: u32,
+    entry: &Table,
+    before: &Accounts,
+) -> Result<Account, TableRefused>
+    ensures exact { UpToMemory TableRefused.Memory result (user_of number before.now (table_view entry.now)) }
+    ensures fresh { IfOk result (λ account. place_in before.now account.name ≡ None) }
+    ensures groups { IfOk result (λ account. length account.groups ≤ 256) }
+{
+    let name = needed_user_name(alloc, user_key(number, Word::Name), entry)?;
+    let name = new_name(name, before)?;
+    Ok(Account {
+        name,
+        rid: needed_rid(user_key(number, Word::Rid), entry)?,
+        hash: needed_hash(user_key(number, Word::Hash), entry)?,
+        full_name: full_name_or_empty(alloc, user_key(number, Word::FullName), entry)?,
+        group: rid_or_users(user_key(number, Word::Group), entry)?,
+        groups: rids_or_users(alloc, user_key(number, Word::Groups), entry)?,
+        disabled: truth_or_false(user_key(number, Word::Disabled), entry)?,
+        locked: truth_or_false(user_key(number, Word::Locked), entry)?,
+        must_change: truth_or_false(user_key(number, Word::MustChange), entry)?,
+        expires: moment_or_none(user_key(number, Word::Expires), entry)?,
+        password_set: moment_or_none(user_key(number, Word::PasswordSet), entry)?,
+        password_expires: moment_or_none(user_key(number, Word::PasswordExpires), entry)?,
+        workstations: computers_or_none(alloc, user_key(number, Word::Workstations), entry)?,
+        kind: Kind::User,
+    })
+}
+
+/// The machine of that entry, after these accounts.
+#[tactic(auto, unfolding(crate::specs::Document::machine_of))]
+fn read_machine(
+    alloc: Global,
+    number: u32,
+    entry: &Table,
+    before: &Accounts,
+) -> Result<Account, TableRefused>
+    ensures exact { UpToMemory TableRefused.Memory result (machine_of number before.now (table_view entry.now)) }
+    ensures fresh { IfOk result (λ account. place_in before.now account.name ≡ None) }
+    ensures groups { IfOk result (λ account. length account.groups ≤ 256) }
+{
+    let name = needed_machine_name(alloc, machine_key(number, Word::Name), entry)?;
+    let name = new_name(name, before)?;
+    let kind = needed_kind(machine_key(number, Word::Kind), entry)?;
+    let hash = needed_hash(machine_key(number, Word::Hash), entry)?;
+    let disabled = truth_or_false(machine_key(number, Word::Disabled), entry)?;
+    Ok(Account {
+        name,
+        rid: 0,
+        hash,
+        full_name: empty_name(alloc)?,
+        group: DOMAIN_USERS,
+        groups: Numbers::copy(alloc, &[DOMAIN_USERS])?,
+        disabled,
+        locked: false,
+        must_change: false,
+        expires: 0,
+        password_set: 0,
+        password_expires: 0,
+        workstations: Names::new(alloc),
+        kind,
+    })
+}
+
+/// The users, in order.
+
+pub(crate) fn read_users(alloc: Global, entries: &[Value]) -> Result<Accounts, TableRefused>
+    requires { length entries.now ≤ 10000 }
+    ensures exact { UpToMemory TableRefused.Memory result (accounts_of user_of 0 [] (entries_of entries.now)) }
+    ensures each { IfOk result (λ accounts. length accounts ≤ length entries.now) }
+    ensures different { IfOk result (λ accounts. IsTrue (has_distinct_names accounts)) }
+{
+    let mut accounts = Accounts::new(alloc);
+    let mut number = 0;
+    let mut rest = entries;
+    while let [entry, after @ ..] = rest {
+        if let Some(table) = entry.as_table() {
+            let account = read_user(alloc, number, table, &accounts)?;
+            accounts.push(alloc, account)?;
+            number += 1;
+        }
+        rest = after;
+    }
+    Ok(accounts)
+}
+
+/// The accounts before, and the machines behind them, in order.
+
+pub(crate) fn read_machines(
+    alloc: Global,
+    before: Accounts,
+    entries: &[Value],
+) -> Result<Accounts, TableRefused>
+    requires room { length before + length entries.now ≤ 10000 }
+    requires different { IsTrue (has_distinct_names before) }
+    ensures exact { UpToMemory TableRefused.Memory result (accounts_of machine_of 0 before (entries_of entries.now)) }
+    ensures different { IfOk result (λ accounts. IsTrue (has_distinct_names accounts)) }
+{
+    let mut accounts = before;
+    let mut number = 0;
+    let mut rest = entries;
+    while let [entry, after @ ..] = rest {
+        if let Some(table) = entry.as_table() {
+            let account = read_machine(alloc, number, table, &accounts)?;
+            accounts.push(alloc, account)?;
+            number += 1;
+        }
+        rest = after;
+    }
+    Ok(accounts)
+}

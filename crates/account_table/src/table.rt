@@ -1,0 +1,202 @@
+//! The account table of a domain.
+
+ghost use Rattle.std.specs.Prelude.{◌≡◌, ◌<◌, ◌≤◌, length, IfOk, IfSome, IsTrue, option_copied, slice_get};
+ghost use Rattle.wire_base.specs.Memory.{UpToMemory};
+ghost use Rattle.toml.specs.View.{table_view};
+ghost use Rattle.account_table.specs.AccountTable.{has_distinct_names};
+ghost use Rattle.account_table.specs.Document.{table_of, table_in};
+ghost use Rattle.wire_base.specs.Names.{same_name};
+ghost use Rattle.account_table.specs.Keys.{top};
+ghost use Rattle.account_table.specs.LookUps.{place_in, machine_in, knows_in, route_in, is_machine, opens, is_machine_for, machine_name};
+
+use crate::account::{Account, Kind};
+use crate::accounts::{ACCOUNT_LIMIT, Accounts, machine_name};
+use crate::forms::{needed_name, needed_sid, tables_or_none};
+use crate::key::{Key, Part, Word};
+use crate::reading::{read_document, read_machines, read_users};
+use crate::refused::TableRefused;
+use std::alloc::Global;
+use std::marker::Model;
+use wire_base::{Name, Sid};
+
+/// Where the accounts of a domain are.
+#[derive(Clone, Copy, Debug, PartialEq, Eq)]
+pub enum Route {
+    /// In this table.
+    Own,
+    /// With the trusted domain at this place. No table has one yet.
+    Trust(u32),
+    /// Nowhere that is known.
+    Elsewhere,
+}
+
+/// A domain's name and identifier, and at most 10,000 accounts of different names, users before machines.
+#[derive(Drop)]
+pub struct Table {
+    domain: Name,
+    sid: Sid,
+    listed: Accounts,
+}
+
+impl Model for Table {
+    ghost use Rattle.account_table.specs.AccountTable.{AccountTable};
+
+    ghost Value = { AccountTable };
+
+    ghost view = { λ t. record { domain = t.domain; sid = t.sid; accounts = t.listed } };
+}
+
+impl Table {
+    /// The account table that a text is: a TOML document with the keys of docs/FORMATS.md (this project's own choice).
+    ///
+    /// The first of these refusals, in the order of the document's checks: `BadToml` where the text is no TOML document; `BadValue` of the
+    /// list of users, then of the machines, that isn't a list of tables; `TooMany` above 10,000 users and machines together; then of each
+    /// key in its order `Missing` where it has no default and isn't there, and `BadValue` where it has another form; and `Twice`, right
+    /// after an entry's name, where an account before has it.
+    #[tactic(auto, unfolding(crate::specs::Document::table_of))]
+    pub fn read(alloc: Global, text: &[u8]) -> Result<Table, TableRefused>
+        // The table or the first refusal.
+        ensures exact { UpToMemory TableRefused.Memory result (table_of text.now) }
+        // No two accounts have the same name.
+        ensures different { IfOk result (λ table. IsTrue (has_distinct_names table.accounts)) }
+    {
+        let document = read_document(alloc, text)?;
+        read_table(alloc, &document)
+    }
+
+    /// The domain's name. It takes no memory.
+    pub fn domain(&self) -> &Name
+        ensures { result.now ≡ self.now.domain }
+    {
+        &self.domain
+    }
+
+    /// The domain's identifier. It takes no memory.
+    pub fn sid(&self) -> &Sid
+        ensures { result.now ≡ self.now.sid }
+    {
+        &self.sid
+    }
+
+    /// The account at a place, counted from 0, with at most 256 groups. None exactly past the end. It takes no memory.
+    pub fn account(&self, at: u32) -> Option<&Account>
+        ensures value { option_copied result ≡ slice_get self.now.accounts at }
+        ensures groups { IfSome result (λ account. length account.now.groups ≤ 256) }
+    {
+        self.listed.get(at as usize)
+    }
+
+    /// The place of the account of that name, upper case for lower. None exactly where there is none. It takes no memory and doesn't walk
+    /// the accounts.
+    pub fn find(&self, user: &[u16]) -> Option<u32>
+        ensures value { result ≡ place_in self.now.accounts user.now }
+        ensures within { IfSome result (λ place. place < length self.now.accounts) }
+    {
+        self.listed.place(user)
+    }
+
+    /// The place of the account of that name where it isn't disabled, opens that channel (a workstation 2, a backup controller 6: MS-NRPC
+    /// 2.2.1.3.13) and has the computer's name and `$`. Else None. It takes no memory.
+    #[tactic(auto, unfolding(crate::specs::LookUps::machine_in))]
+    pub fn machine(&self, account: &[u16], channel: u16, computer: &[u16]) -> Option<u32>
+        ensures { result ≡ machine_in self.now.accounts account.now channel computer.now }
+    {
+        let place = self.find(account)?;
+        match self.account(place) {
+            Some(found) if is_machine_for(channel, computer, found) => Some(place),
+            _ => None,
+        }
+    }
+
+    /// Whether a computer's account has the computer's name and `$`. It takes no memory.
+    #[tactic(auto, unfolding(crate::specs::LookUps::knows_in))]
+    pub fn knows(&self, computer: &[u16]) -> bool
+        ensures { result ≡ knows_in self.now.accounts computer.now }
+    {
+        let Some(place) = self.listed.machine_place(computer) else {
+            return false;
+        };
+        match self.account(place) {
+            Some(account) => is_machine(account.kind),
+            None => false,
+        }
+    }
+
+    /// Where the accounts of a domain are: here for an empty name and for the table's own, else elsewhere. It takes no memory.
+    #[tactic(auto, unfolding(crate::specs::LookUps::route_in))]
+    pub fn route(&self, domain: &[u16]) -> Route
+        ensures { result ≡ route_in self.now.domain domain.now }
+    {
+        if domain.is_empty() || self.domain.same_units(domain) {
+            Route::Own
+        } else {
+            Route::Elsewhere
+        }
+    }
+}
+
+/// Whether an account is a computer's.
+fn is_machine(kind: Kind) -> bool
+    ensures { result ≡ is_machine kind }
+{
+    matches!(kind, Kind::Workstation | Kind::Backup)
+}
+
+/// Whether an account of that kind opens a channel of that type.
+fn opens(kind: Kind, channel: u16) -> bool
+    ensures { result ≡ opens kind channel }
+{
+    match kind {
+        Kind::Workstation => channel == 2,
+        Kind::Backup => channel == 6,
+        Kind::User | Kind::Trust => false,
+    }
+}
+
+/// Whether the account isn't disabled and opens that channel for that computer.
+fn is_machine_for(channel: u16, computer: &[u16], account: &Account) -> bool
+    ensures { result ≡ is_machine_for channel computer.now account.now }
+{
+    !account.disabled && opens(account.kind, channel) && is_name_of(&account.name, computer)
+}
+
+/// Whether the name is the computer's and `$`.
+fn is_name_of(name: &Name, computer: &[u16]) -> bool
+    ensures { result ≡ same_name name.now (machine_name computer.now) }
+{
+    if name.bytes().len() != computer.len() + 1 {
+        return false;
+    }
+    name.same_units(machine_name(computer).as_slice())
+}
+
+fn top_key(word: Word) -> Key
+    ensures { result ≡ top word }
+{
+    Key {
+        list: Part::Top,
+        entry: 0,
+        word,
+    }
+}
+
+/// The table of a document.
+#[tactic(auto, unfolding(crate::specs::Document::table_in))]
+fn read_table(alloc: Global, document: &toml::Table) -> Result<Table, TableRefused>
+    ensures exact { UpToMemory TableRefused.Memory result (table_in (table_view document.now)) }
+    ensures different { IfOk result (λ table. IsTrue (has_distinct_names table.accounts)) }
+{
+    let users = tables_or_none(top_key(Word::User), document)?;
+    let machines = tables_or_none(top_key(Word::Machine), document)?;
+    if ACCOUNT_LIMIT < users.len() || ACCOUNT_LIMIT - users.len() < machines.len() {
+        return Err(TableRefused::TooMany);
+    }
+    let domain = needed_name(alloc, top_key(Word::Domain), document)?;
+    let sid = needed_sid(alloc, top_key(Word::Sid), document)?;
+    let listed = read_machines(alloc, read_users(alloc, users)?, machines)?;
+    Ok(Table {
+        domain,
+        sid,
+        listed,
+    })
+}
