@@ -5,10 +5,14 @@ PROGRAMS = nt_member nt_logon
 # The sample: the NT hash of `Password`, a challenge, and the AUTHENTICATE message that answers it.
 SAMPLE = $(shell cat crates/nt_member/args)
 
-.PHONY: demo programs $(PROGRAMS)
+.PHONY: demo bench programs $(PROGRAMS)
 
 demo: programs
 	@bin/nt_member $(SAMPLE)
+
+# How long each operation takes on this machine: lines `ours OPERATION NANOSECONDS`.
+bench:
+	@cd crates/nt_bench && rt run -- measure ours
 
 programs: $(PROGRAMS)
 

@@ -1,0 +1,153 @@
+//! The fixed input of all operations, and one turn of each.
+
+use crate::operation::Operation;
+use crate::sealing::Sides;
+use crate::stream::{PIECE, RunningStream};
+use anyhow::bail;
+use arrayvec::ArrayVec;
+use channel_keys::cred;
+use des_cipher::des_block;
+use digest_parts::{hmac_md5, md4};
+use hex::FromHex;
+use ntlm_messages::read_authenticate;
+use ntlm_responses::verify;
+use rc4_stream::Rc4;
+use rpc_units::{Body, read_unit};
+use std::alloc::{AllocError, Global};
+use wire_base::Units;
+
+/// The bytes 0 to 15: a key, and a short message.
+pub const KEY: [u8; 16] = [0, 1, 2, 3, 4, 5, 6, 7, 8, 9, 10, 11, 12, 13, 14, 15];
+
+/// The NT hash of `Password`.
+const HASH: [u8; 16] = [
+    0xa4, 0xf4, 0x9c, 0x40, 0x65, 0x10, 0xbd, 0xca, 0xb6, 0x82, 0x4e, 0xe7, 0xc3, 0x0f, 0xd8, 0x52,
+];
+
+const CHALLENGE: [u8; 8] = [0x01, 0x23, 0x45, 0x67, 0x89, 0xab, 0xcd, 0xef];
+
+/// The NTLMv1 response of the hash to the challenge.
+const RESPONSE_V1: &str = "67c43011f30298a2ad35ece64f16331c44bdbed927841f94";
+
+/// The NTLMv2 proof of the hash, the names and the challenge over the bytes 0, 1, 2 and so on to 276 of them.
+const PROOF_V2: &str = "d384a02bf52a89bfa7a553c5b75fc197";
+
+/// An AUTHENTICATE of Domain\User with that response.
+const MESSAGE: &str =
+    "4e544c4d5353500003000000000000006400000018001800640000000c000c0040000000080008004c0000001000100054000000000000007c0000000182000044006f006d00610069006e00550073006500720043004f004d005000550054004500520067c43011f30298a2ad35ece64f16331c44bdbed927841f94";
+
+/// The header of a request of 1,048 bytes, its hint, context and opnum (C706 12.6.4.9).
+const REQUEST_HEAD: &str = "050000031000000018040000010000000004000000000200";
+
+/// The last bytes of what an operation gives, at most 16.
+pub type Outcome = ArrayVec<u8, 16>;
+
+/// What the operations work on.
+#[derive(Drop)]
+pub struct Bench {
+    long: Box<[u8; PIECE]>,
+    stream: RunningStream,
+    user: Units,
+    domain: Units,
+    response_v1: [u8; 24],
+    response_v2: [u8; 292],
+    message: Vec<u8>,
+    request: Vec<u8>,
+    sides: Sides,
+}
+
+impl Bench {
+    /// The input as it stands before the first turn.
+    pub fn new(alloc: Global) -> anyhow::Result<Bench> {
+        let mut response_v2 = [0; 292];
+        response_v2[..16].copy_from_slice(&<[u8; 16]>::from_hex(PROOF_V2)?);
+        response_v2[16..].copy_from_slice(&ramp::<276>());
+        let mut request = hex::decode(alloc, REQUEST_HEAD)?;
+        request.extend_from_slice(&ramp::<1024>())?;
+        Ok(Bench {
+            long: Box::new(alloc, ramp())?,
+            stream: RunningStream::new(),
+            user: units(alloc, b"Administrator")?,
+            domain: units(alloc, b"CORP1")?,
+            response_v1: <[u8; 24]>::from_hex(RESPONSE_V1)?,
+            response_v2,
+            message: hex::decode(alloc, MESSAGE)?,
+            request,
+            sides: Sides::new(KEY),
+        })
+    }
+
+    /// One turn of an operation, and the end of what it gives.
+    pub fn perform(&mut self, alloc: Global, operation: Operation) -> anyhow::Result<Outcome> {
+        Ok(match operation {
+            Operation::Md4Short => end_of(&md4(&KEY)),
+            Operation::Md4Long => end_of(&md4(self.long.as_slice())),
+            Operation::DesKeyBlock => end_of(&des_block(ramp(), ramp())),
+            Operation::Rc4Key => end_of(&key_stream()),
+            Operation::Rc4Long => end_of(self.stream.next_piece()),
+            Operation::HmacShort => end_of(&hmac_md5(&KEY, &ramp::<40>())),
+            Operation::HmacLong => end_of(&hmac_md5(&KEY, self.long.as_slice())),
+            Operation::Credential => end_of(&cred(KEY, ramp())),
+            Operation::VerifyV1 => self.verify(&self.response_v1)?,
+            Operation::VerifyV2 => self.verify(&self.response_v2)?,
+            Operation::ReadAuthenticate => end_of(
+                read_authenticate(alloc, &self.message)?.nt.bytes(),
+            ),
+            Operation::ReadUnit => self.read_request(alloc)?,
+            Operation::Seal => end_of(&self.sides.carry()?),
+        })
+    }
+
+    /// The session base key that the check of a response gives.
+    fn verify(&self, response: &[u8]) -> anyhow::Result<Outcome> {
+        match verify(
+            &HASH,
+            self.user.units(),
+            self.domain.units(),
+            CHALLENGE,
+            response,
+        ) {
+            Some(key) => Ok(end_of(&key)),
+            None => bail!("a response was refused"),
+        }
+    }
+
+    /// The stub of the request.
+    fn read_request(&self, alloc: Global) -> anyhow::Result<Outcome> {
+        let unit = read_unit(alloc, &self.request)?;
+        match &unit.body {
+            Body::Request { stub, .. } => Ok(end_of(stub.bytes())),
+            _ => bail!("a request was read as another unit"),
+        }
+    }
+}
+
+/// The bytes 0, 1, 2 and so on, modulo 256.
+pub fn ramp<const N: usize>() -> [u8; N] {
+    let mut bytes = [0; N];
+    for place in 0..N {
+        bytes[place] = (place % 256) as u8;
+    }
+    bytes
+}
+
+/// The last bytes, at most 16.
+fn end_of(bytes: &[u8]) -> Outcome {
+    let from = bytes.len().saturating_sub(16);
+    let mut end = ArrayVec::new();
+    end.try_extend_from_slice(&bytes[from..]).unwrap();
+    end
+}
+
+/// The first 16 bytes of the key stream of the fixed key.
+fn key_stream() -> [u8; 16] {
+    let mut bytes = [0; 16];
+    Rc4::new(&KEY).apply(&mut bytes);
+    bytes
+}
+
+/// An ASCII text as 16-bit units.
+fn units(alloc: Global, text: &[u8]) -> Result<Units, AllocError> {
+    let units = text.iter().map(|letter| u16::from(*letter)).collect(alloc)?;
+    Ok(Units::from_vec(units))
+}

@@ -1,0 +1,70 @@
+//! What is measured.
+
+/// An operation on the fixed input of `Bench`.
+#[derive(Clone, Copy, Debug, PartialEq, Eq)]
+pub enum Operation {
+    /// MD4 of 16 bytes.
+    Md4Short,
+    /// MD4 of 16,384 bytes.
+    Md4Long,
+    /// The key schedule of a DES key of 7 bytes, and one block.
+    DesKeyBlock,
+    /// The key schedule of an RC4 key of 16 bytes, and 16 bytes of its stream.
+    Rc4Key,
+    /// 16,384 bytes of a running RC4 stream.
+    Rc4Long,
+    /// HMAC-MD5 of 40 bytes under a key of 16 bytes.
+    HmacShort,
+    /// HMAC-MD5 of 16,384 bytes under a key of 16 bytes.
+    HmacLong,
+    /// The credential of 8 bytes under a session key.
+    Credential,
+    /// The check of an NTLMv1 response of 24 bytes.
+    VerifyV1,
+    /// The check of an NTLMv2 response of 292 bytes, with names of 36 bytes.
+    VerifyV2,
+    /// Reading an AUTHENTICATE message of 124 bytes.
+    ReadAuthenticate,
+    /// Reading a request of RPC with 1,024 stub bytes.
+    ReadUnit,
+    /// Sealing a range of 1,024 bytes at one side, and opening it at the other.
+    Seal,
+}
+
+/// All of them, in the order in which they are printed.
+pub const OPERATIONS: [Operation; 13] = [
+    Operation::Md4Short,
+    Operation::Md4Long,
+    Operation::DesKeyBlock,
+    Operation::Rc4Key,
+    Operation::Rc4Long,
+    Operation::HmacShort,
+    Operation::HmacLong,
+    Operation::Credential,
+    Operation::VerifyV1,
+    Operation::VerifyV2,
+    Operation::ReadAuthenticate,
+    Operation::ReadUnit,
+    Operation::Seal,
+];
+
+impl Operation {
+    /// The name that is printed.
+    pub fn name(self) -> &'static str {
+        match self {
+            Operation::Md4Short => "md4-16",
+            Operation::Md4Long => "md4-16k",
+            Operation::DesKeyBlock => "des-key-block",
+            Operation::Rc4Key => "rc4-key-16",
+            Operation::Rc4Long => "rc4-16k",
+            Operation::HmacShort => "hmac-40",
+            Operation::HmacLong => "hmac-16k",
+            Operation::Credential => "cred",
+            Operation::VerifyV1 => "verify-v1",
+            Operation::VerifyV2 => "verify-v2",
+            Operation::ReadAuthenticate => "read-authenticate",
+            Operation::ReadUnit => "read-unit",
+            Operation::Seal => "seal-1k",
+        }
+    }
+}
