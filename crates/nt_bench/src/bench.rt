@@ -3,6 +3,7 @@
 use crate::operation::Operation;
 use crate::sealing::Sides;
 use crate::stream::{PIECE, RunningStream};
+use account_table::Table;
 use anyhow::bail;
 use arrayvec::ArrayVec;
 use channel_keys::cred;
@@ -53,6 +54,9 @@ pub struct Bench {
     response_v2: [u8; 292],
     message: Vec<u8>,
     request: Vec<u8>,
+    text: String,
+    table: Table,
+    sought: Units,
     sides: Sides,
 }
 
@@ -64,7 +68,11 @@ impl Bench {
         response_v2[16..].copy_from_slice(&ramp::<276>());
         let mut request = hex::decode(alloc, REQUEST_HEAD)?;
         request.extend_from_slice(&ramp::<1024>())?;
+        let text = table_text(alloc)?;
         Ok(Bench {
+            table: read_table(alloc, &text)?,
+            text,
+            sought: units(alloc, b"USER19999")?,
             long: Box::new(alloc, ramp())?,
             stream: RunningStream::new(),
             user: units(alloc, b"Administrator")?,
@@ -95,6 +103,8 @@ impl Bench {
             ),
             Operation::ReadUnit => self.read_request(alloc)?,
             Operation::Seal => end_of(&self.sides.carry()?),
+            Operation::ReadTable => last_account(&read_table(alloc, &self.text)?),
+            Operation::FindAccount => end_of(&self.find().to_be_bytes()),
         })
     }
 
@@ -112,6 +122,11 @@ impl Bench {
         }
     }
 
+    /// The place of the last user, by a name of other case.
+    fn find(&self) -> u32 {
+        self.table.find(self.sought.units()).unwrap_or(u32::MAX)
+    }
+
     /// The stub of the request.
     fn read_request(&self, alloc: Global) -> anyhow::Result<Outcome> {
         let unit = read_unit(alloc, &self.request)?;
@@ -119,6 +134,31 @@ impl Bench {
             Body::Request { stub, .. } => Ok(end_of(stub.bytes())),
             _ => bail!("a request was read as another unit"),
         }
+    }
+}
+
+/// A table of 10,000 users, of whom the last has the hash of the fixed key.
+fn table_text(alloc: Global) -> anyhow::Result<String> {
+    let mut text = String::from_str(alloc, "domain = \"CORP\"\nsid = \"S-1-5-21-1-2-3\"\n")?;
+    for number in 10_000..20_000 {
+        let user = format!(in alloc;
+            "\n[[user]]\nname = \"user{number}\"\nrid = {number}\nhash = \"000102030405060708090a0b0c0d0e0f\"\n"
+        )?;
+        text.push_str(&user)?;
+    }
+    Ok(text)
+}
+
+/// The table of a text.
+fn read_table(alloc: Global, text: &str) -> anyhow::Result<Table> {
+    Ok(Table::read(alloc, text.as_bytes())?)
+}
+
+/// The hash of the last account of a table.
+fn last_account(table: &Table) -> Outcome {
+    match table.account(9_999) {
+        Some(account) => end_of(&account.hash),
+        None => ArrayVec::new(),
     }
 }
 

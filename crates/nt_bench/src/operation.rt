@@ -29,10 +29,14 @@ pub enum Operation {
     ReadUnit,
     /// Sealing a range of 1,024 bytes at one side, and opening it at the other.
     Seal,
+    /// Reading a table of 10,000 accounts.
+    ReadTable,
+    /// A look-up by name in that table.
+    FindAccount,
 }
 
 /// All of them, in the order in which they are printed.
-pub const OPERATIONS: [Operation; 13] = [
+pub const OPERATIONS: [Operation; 15] = [
     Operation::Md4Short,
     Operation::Md4Long,
     Operation::DesKeyBlock,
@@ -46,6 +50,8 @@ pub const OPERATIONS: [Operation; 13] = [
     Operation::ReadAuthenticate,
     Operation::ReadUnit,
     Operation::Seal,
+    Operation::ReadTable,
+    Operation::FindAccount,
 ];
 
 impl Operation {
@@ -65,6 +71,8 @@ impl Operation {
             Operation::ReadAuthenticate => "read-authenticate",
             Operation::ReadUnit => "read-unit",
             Operation::Seal => "seal-1k",
+            Operation::ReadTable => "table-10k",
+            Operation::FindAccount => "find-10k",
         }
     }
 }
