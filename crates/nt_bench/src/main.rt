@@ -10,6 +10,7 @@ mod stream;
 use bench::Bench;
 use measure::tenths_of_nanoseconds;
 use operation::OPERATIONS;
+use std::io::ErrorKind;
 use std::process::ExitCode;
 use std::rt::{Clock, Env};
 
@@ -33,13 +34,24 @@ fn main(rt: HostRuntime) -> ExitCode {
 
 /// Does what the process's arguments ask for, and gives the exit status: 2 at words of another form.
 fn run<R: Env + Clock + Print + AllocGlobal>(rt: &R) -> anyhow::Result<u8> {
-    let words: Vec<String> = std::env::args(rt)?.skip(1).collect(rt.alloc())?;
+    let Some(words) = arguments(rt)? else {
+        return Ok(2);
+    };
     match read_words(&words) {
         Some(Job::Results) => print_results(rt)?,
         Some(Job::Measure(library)) => print_times(rt, library)?,
         None => return Ok(2),
     }
     Ok(0)
+}
+
+/// The words after the program's name. None where one isn't UTF-8.
+fn arguments<R: Env + AllocGlobal>(rt: &R) -> anyhow::Result<Option<Vec<String>>> {
+    match std::env::args(rt) {
+        Ok(words) => Ok(Some(words.skip(1).collect(rt.alloc())?)),
+        Err(error) if error.kind() == ErrorKind::OutOfMemory => Err(error.into()),
+        Err(_) => Ok(None),
+    }
 }
 
 /// No words, or `measure` and the name of a library.

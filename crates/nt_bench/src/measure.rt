@@ -12,7 +12,7 @@ const TIME: u128 = 500_000_000;
 const ROUND: u128 = 10_000_000;
 
 /// The most rounds of one operation.
-const ROUNDS: u32 = 50;
+const ROUNDS: u32 = 1_000_000;
 
 /// Tenths of nanoseconds that one turn of an operation takes: the best of several rounds within half a second.
 pub fn tenths_of_nanoseconds<R: Clock + AllocGlobal>(
