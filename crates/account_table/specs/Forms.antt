@@ -26,7 +26,7 @@ a_full_name value = option_and_then (λ text. result_ok (name_of text)) (as_str 
 abbrev pub is_some_name : List ℕ → Bool
 is_some_name name = nat_le 1 (length name)
 
--- computers' account names end in a dollar sign (MS-NRPC 3.5.4.4.2)
+-- computers' account names end in a dollar sign (MS-NRPC 3.5.4.4.3)
 abbrev pub ends_in_dollar : List ℕ → Bool
 ends_in_dollar name = ends_with nat_eq name (codes "$")
 
@@ -74,7 +74,7 @@ a_truth value = as_bool value
 abbrev pub a_hash : Data → Option (List ℕ)
 a_hash value = option_and_then (λ text. result_ok (decode_sized text 16)) (as_str value)
 
--- a domain's identifier: one of at most 14 numbers, so that an account's has room
+-- a domain's identifier: at most 14 numbers, since an account's identifier has one more, and at most 15
 abbrev pub is_domain_sid : SidParts → Bool
 is_domain_sid sid = nat_le (length sid.numbers) 14
 

@@ -20,7 +20,7 @@ place_in accounts name = place_of (has_name name) accounts
 abbrev pub account_in : List Account → List ℕ → Option Account
 account_in accounts name = option_and_then (slice_get accounts) (place_in accounts name)
 
--- the name of a computer's account: the computer's and a dollar sign (MS-NRPC 3.5.4.4.2)
+-- the name of a computer's account: the computer's and a dollar sign (MS-NRPC 3.5.4.4.3)
 abbrev pub machine_name : List ℕ → List ℕ
 machine_name computer = computer ++ codes "$"
 

@@ -32,10 +32,10 @@ pub struct Account {
     pub disabled: bool,
     pub locked: bool,
     pub must_change: bool,
-    /// The moment from which the account doesn't log on.
+    /// The moment from which the account has expired.
     pub expires: u64,
     pub password_set: u64,
-    /// The moment from which the password doesn't serve.
+    /// The moment from which the password has expired.
     pub password_expires: u64,
     /// The computers from which the account logs on, at most 8; any where there are none.
     pub workstations: Names,

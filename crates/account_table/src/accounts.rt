@@ -138,7 +138,7 @@ fn upper_name(name: &Name) -> ArrayVec<u16, 64>
     upper
 }
 
-/// The name of a computer's account: the computer's and `$` (MS-NRPC 3.5.4.4.2).
+/// The name of a computer's account: the computer's and `$` (MS-NRPC 3.5.4.4.3).
 pub(crate) fn machine_name(computer: &[u16]) -> ArrayVec<u16, 64>
     requires { length computer.now < 64 }
     ensures { result.items ≡ machine_name computer.now }

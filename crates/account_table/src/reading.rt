@@ -141,7 +141,6 @@ fn read_machine(
 }
 
 /// The users, in order.
-
 pub(crate) fn read_users(alloc: Global, entries: &[Value]) -> Result<Accounts, TableRefused>
     requires { length entries.now ≤ 10000 }
     ensures exact { UpToMemory TableRefused.Memory result (accounts_of user_of 0 [] (entries_of entries.now)) }
@@ -163,7 +162,6 @@ pub(crate) fn read_users(alloc: Global, entries: &[Value]) -> Result<Accounts, T
 }
 
 /// The accounts before, and the machines behind them, in order.
-
 pub(crate) fn read_machines(
     alloc: Global,
     before: Accounts,

@@ -208,7 +208,7 @@ fn fault_of(refused: &TableRefused) -> Option<(Fault, Key)> {
     }
 }
 
-fn top_rows() -> [Row; 9] {
+fn top_rows() -> [Row; 10] {
     [
         ("user = 1\nmachine = 1", Fault::Bad, Word::User),
         ("user = [1]", Fault::Bad, Word::User),
@@ -216,6 +216,11 @@ fn top_rows() -> [Row; 9] {
         ("sid = 'S-1-5-1'\nuser = [{}]", Fault::Missing, Word::Domain),
         ("domain = ''", Fault::Bad, Word::Domain),
         ("domain = \"C\\tP\"", Fault::Bad, Word::Domain),
+        (
+            "domain = 'nnnnnnnnnnnnnnnnnnnnnnnnnnnnnnnnnnnnnnnnnnnnnnnnnnnnnnnnnnnnnnnnn'",
+            Fault::Bad,
+            Word::Domain,
+        ),
         ("domain = 'CORP'", Fault::Missing, Word::Sid),
         ("domain = 'CORP'\nsid = 'S-1-05-1'", Fault::Bad, Word::Sid),
         (
@@ -224,18 +229,6 @@ fn top_rows() -> [Row; 9] {
             Word::Sid,
         ),
     ]
-}
-
-#[test]
-fn refuses_each_top_key(rt: HostRuntime) {
-    for (text, how, word) in top_rows() {
-        let key = Key {
-            list: Part::Top,
-            entry: 0,
-            word,
-        };
-        assert_eq!(rt; refusal(rt.alloc(), text), Some((how, key)), "{text}");
-    }
 }
 
 /// A document with ann and a user of these keys too.
@@ -250,24 +243,45 @@ fn with_machine(alloc: Global, keys: &str) -> Result<String, AllocError> {
     format!(in alloc; "domain = 'CORP'\nsid = 'S-1-5-21-1-2-3'\nmachine = [{{{keys}}}]\n")
 }
 
-fn user_rows() -> [Row; 8] {
+fn user_rows() -> [Row; 11] {
     [
         ("", Fault::Missing, Word::Name),
         ("name = 'bob$'", Fault::Bad, Word::Name),
         ("name = ''", Fault::Bad, Word::Name),
+        (
+            "name = 'nnnnnnnnnnnnnnnnnnnnnnnnnnnnnnnnnnnnnnnnnnnnnnnnnnnnnnnnnnnnnnnnn'",
+            Fault::Bad,
+            Word::Name,
+        ),
         ("name = 'bob'", Fault::Missing, Word::Rid),
         ("name = 'bob', rid = 0", Fault::Bad, Word::Rid),
         ("name = 'bob', rid = 4294967296", Fault::Bad, Word::Rid),
         ("name = 'bob', rid = 1", Fault::Missing, Word::Hash),
         ("name = 'bob', rid = 1, hash = '22'", Fault::Bad, Word::Hash),
+        (
+            "name = 'bob', rid = 1, hash = '2222222222222222222222222222222g'",
+            Fault::Bad,
+            Word::Hash,
+        ),
+        (
+            "name = 'bob', rid = 1, hash = '2222222222222222222222222222222222'",
+            Fault::Bad,
+            Word::Hash,
+        ),
     ]
 }
 
-fn optional_rows() -> [Row; 11] {
+fn optional_rows() -> [Row; 15] {
     [
         ("full_name = 1", Fault::Bad, Word::FullName),
+        (
+            "full_name = 'nnnnnnnnnnnnnnnnnnnnnnnnnnnnnnnnnnnnnnnnnnnnnnnnnnnnnnnnnnnnnnnnn'",
+            Fault::Bad,
+            Word::FullName,
+        ),
         ("group = 0", Fault::Bad, Word::Group),
         ("groups = [513, -1]", Fault::Bad, Word::Groups),
+        ("groups = 513", Fault::Bad, Word::Groups),
         ("disabled = 1", Fault::Bad, Word::Disabled),
         ("locked = 'true'", Fault::Bad, Word::Locked),
         ("must_change = 0", Fault::Bad, Word::MustChange),
@@ -275,6 +289,12 @@ fn optional_rows() -> [Row; 11] {
         ("password_set = 1.5", Fault::Bad, Word::PasswordSet),
         ("password_expires = '0'", Fault::Bad, Word::PasswordExpires),
         ("workstations = ['WS', '']", Fault::Bad, Word::Workstations),
+        ("workstations = 'WS'", Fault::Bad, Word::Workstations),
+        (
+            "workstations = ['nnnnnnnnnnnnnnnnnnnnnnnnnnnnnnnnnnnnnnnnnnnnnnnnnnnnnnnnnnnnnnnnn']",
+            Fault::Bad,
+            Word::Workstations,
+        ),
         (
             "workstations = ['1', '2', '3', '4', '5', '6', '7', '8', '9']",
             Fault::Bad,
@@ -299,26 +319,47 @@ fn behind_needed(alloc: Global, keys: &str) -> Result<String, AllocError> {
     format!(in alloc; "name = 'bob', rid = 1, hash = '22222222222222222222222222222222', {keys}")
 }
 
+/// A list of that many groups.
+fn groups(alloc: Global, count: u32) -> Result<String, AllocError> {
+    let mut keys = String::from_str(alloc, "groups = [")?;
+    for number in 0..count {
+        keys.push_str(format!(in alloc; "1{number}, ")?.as_str())?;
+    }
+    keys.push_str("1]")?;
+    Ok(keys)
+}
+
+/// Whether a second user of these keys, behind those that a user needs, is taken.
+fn takes_user(alloc: Global, keys: &str) -> Result<bool, AllocError> {
+    let text = with_user(alloc, behind_needed(alloc, keys)?.as_str())?;
+    Ok(Table::read(alloc, text.as_str().as_bytes()).is_ok())
+}
+
 #[test]
-fn refuses_each_user_key(rt: HostRuntime) -> Result<(), Fail> {
-    for (keys, how, word) in user_rows() {
-        assert!(rt; refuses_user(rt.alloc(), keys, how, word)?, "{keys}");
+fn takes_values_up_to_the_limits(rt: HostRuntime) -> Result<(), Fail> {
+    for keys in [
+        "full_name = 'nnnnnnnnnnnnnnnnnnnnnnnnnnnnnnnnnnnnnnnnnnnnnnnnnnnnnnnnnnnnnnnn'",
+        "workstations = ['1', '2', '3', '4', '5', '6', '7', 'nnnnnnnnnnnnnnnnnnnnnnnnnnnnnnnnnnnnnnnnnnnnnnnnnnnnnnnnnnnnnnnn']",
+    ] {
+        assert!(rt; takes_user(rt.alloc(), keys)?, "{keys}");
     }
-    for (keys, how, word) in optional_rows() {
-        let whole = behind_needed(rt.alloc(), keys)?;
-        assert!(rt;
-            refuses_user(rt.alloc(), whole.as_str(), how, word)?,
-            "{keys}"
-        );
-    }
+    assert!(rt; takes_user(rt.alloc(), groups(rt.alloc(), 255)?.as_str())?);
+    assert!(rt; !takes_user(rt.alloc(), groups(rt.alloc(), 256)?.as_str())?);
+    let text = "domain = 'CORP'\nsid = 'S-1-5-1-2-3-4-5-6-7-8-9-10-11-12-13-14'";
+    assert!(rt; Table::read(rt.alloc(), text.as_bytes()).is_ok());
     Ok(())
 }
 
-fn machine_rows() -> [Row; 8] {
+fn machine_rows() -> [Row; 9] {
     [
         ("", Fault::Missing, Word::Name),
         ("name = 'F'", Fault::Bad, Word::Name),
         ("name = '$'", Fault::Bad, Word::Name),
+        (
+            "name = 'nnnnnnnnnnnnnnnnnnnnnnnnnnnnnnnnnnnnnnnnnnnnnnnnnnnnnnnnnnnnnnnn$'",
+            Fault::Bad,
+            Word::Name,
+        ),
         ("name = 'F$'", Fault::Missing, Word::Kind),
         ("name = 'F$', kind = 'trust'", Fault::Bad, Word::Kind),
         ("name = 'F$', kind = 'backup'", Fault::Missing, Word::Hash),
@@ -344,14 +385,6 @@ fn refuses_machine(alloc: Global, keys: &str, how: Fault, word: Word) -> Result<
         word,
     };
     Ok(refusal(alloc, text.as_str()) == Some((how, key)))
-}
-
-#[test]
-fn refuses_each_machine_key(rt: HostRuntime) -> Result<(), Fail> {
-    for (keys, how, word) in machine_rows() {
-        assert!(rt; refuses_machine(rt.alloc(), keys, how, word)?, "{keys}");
-    }
-    Ok(())
 }
 
 fn is_no_toml(refused: &TableRefused) -> bool {
@@ -384,6 +417,32 @@ fn is_twice(alloc: Global, list: &str, name: &str) -> Result<bool, AllocError> {
         Ok(_table) => false,
         Err(refused) => names(&refused, name),
     })
+}
+
+#[test]
+fn refuses_each_key(rt: HostRuntime) -> Result<(), Fail> {
+    for (text, how, word) in top_rows() {
+        let key = Key {
+            list: Part::Top,
+            entry: 0,
+            word,
+        };
+        assert_eq!(rt; refusal(rt.alloc(), text), Some((how, key)), "{text}");
+    }
+    for (keys, how, word) in user_rows() {
+        assert!(rt; refuses_user(rt.alloc(), keys, how, word)?, "{keys}");
+    }
+    for (keys, how, word) in optional_rows() {
+        let whole = behind_needed(rt.alloc(), keys)?;
+        assert!(rt;
+            refuses_user(rt.alloc(), whole.as_str(), how, word)?,
+            "{keys}"
+        );
+    }
+    for (keys, how, word) in machine_rows() {
+        assert!(rt; refuses_machine(rt.alloc(), keys, how, word)?, "{keys}");
+    }
+    Ok(())
 }
 
 #[test]
