@@ -1,0 +1,4 @@
+pub mod CallLaws
+pub mod LayoutLaws
+pub mod ListLaws
+pub mod PuttingLaws

@@ -1,0 +1,45 @@
+-- What a controller grants to an account's user (MS-NRPC 2.2.1.4.11; what stands in the fields is this project's own choice). Times are in units
+-- of 100 ns since 1601.
+use Rattle.std.specs.Prelude.{ℕ, ◌==◌, List, [], map, if◌then◌else◌}
+use Rattle.account_table.specs.AccountTable.{AccountTable}
+use Rattle.account_table.specs.declared.account.Account.{Account}
+use Rattle.logon_stubs.specs.declared.info.SamInfo.{SamInfo}
+
+-- the time that never comes
+abbrev pub never : ℕ
+never = 0x7FFFFFFFFFFFFFFF
+
+-- the moment, or never where it is 0
+abbrev pub or_never : ℕ → ℕ
+or_never moment = if moment == 0 then never else moment
+
+-- each group with its attributes, 7: SE_GROUP_MANDATORY 1, SE_GROUP_ENABLED_BY_DEFAULT 2 and SE_GROUP_ENABLED 4 (MS-SAMR 2.2.1.10)
+abbrev pub groups_of : List ℕ → List (ℕ × ℕ)
+groups_of groups = map (λ group. (group, 7)) groups
+
+-- by the table, the controller's name, the account, the session base key and now
+unfoldable pub sam_info_of : AccountTable → List ℕ → Account → List ℕ → ℕ → SamInfo
+sam_info_of table controller account key now = record {
+  logon_time = now;
+  logoff_time = never;
+  kickoff_time = never;
+  password_set = account.password_set;
+  password_can_change = account.password_set;
+  password_must_change = or_never account.password_expires;
+  effective_name = account.name;
+  full_name = account.full_name;
+  script = [];
+  profile = [];
+  home = [];
+  home_drive = [];
+  logon_count = 0;
+  bad_count = 0;
+  user_id = account.rid;
+  group_id = account.group;
+  groups = groups_of account.groups;
+  user_flags = 0;
+  key = key;
+  server = controller;
+  domain = table.domain;
+  sid = table.sid;
+}
