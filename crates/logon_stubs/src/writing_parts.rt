@@ -1,4 +1,4 @@
-//! Parts of a stub that stand in several calls, written.
+//! Parts of a stub that stand in several calls, written. Few pointers were put before each of them, so that the next referent has 32 bits.
 
 ghost use Rattle.std.specs.Prelude.{◌≡◌, ◌*◌, ◌%◌, ◌+◌, ◌<◌, ◌≤◌, ℕ, true, length, IsTrue, OnOk, not, ◌==◌};
 ghost use Rattle.ndr_codec.specs.Layout.{raw, pointer, text};
