@@ -1,0 +1,57 @@
+//! The words of a line: values in hex, numbers in decimal digits, and `-` for what is empty.
+
+use hex::FromHex;
+use std::alloc::Global;
+use wire_base::Units;
+
+/// The word at a place; an empty one behind the last.
+pub(crate) fn word<'a>(words: &[&'a str], at: usize) -> &'a str {
+    match words.get(at) {
+        Some(word) => *word,
+        None => "",
+    }
+}
+
+/// The bytes of a word.
+pub(crate) fn bytes(alloc: Global, word: &str) -> anyhow::Result<Vec<u8>> {
+    if word == "-" {
+        return Ok(Vec::new(alloc));
+    }
+    Ok(hex::decode(alloc, word)?)
+}
+
+/// The 16-bit units of a word, little-endian.
+pub(crate) fn units(alloc: Global, word: &str) -> anyhow::Result<Units> {
+    let bytes = bytes(alloc, word)?;
+    Ok(Units::read(alloc, &bytes)?)
+}
+
+/// Seven bytes.
+pub(crate) fn seven(word: &str) -> anyhow::Result<[u8; 7]> {
+    Ok(<[u8; 7]>::from_hex(word)?)
+}
+
+/// Eight bytes.
+pub(crate) fn eight(word: &str) -> anyhow::Result<[u8; 8]> {
+    Ok(<[u8; 8]>::from_hex(word)?)
+}
+
+/// Sixteen bytes.
+pub(crate) fn sixteen(word: &str) -> anyhow::Result<[u8; 16]> {
+    Ok(<[u8; 16]>::from_hex(word)?)
+}
+
+/// A number of 32 bits, of eight hex digits.
+pub(crate) fn flags(word: &str) -> anyhow::Result<u32> {
+    Ok(u32::from_be_bytes(<[u8; 4]>::from_hex(word)?))
+}
+
+/// The hex digits of bytes.
+pub(crate) fn text(alloc: Global, bytes: &[u8]) -> anyhow::Result<String> {
+    Ok(hex::encode(alloc, bytes)?)
+}
+
+/// The answer to an operation that there is not.
+pub(crate) fn no_case(alloc: Global) -> anyhow::Result<String> {
+    Ok("no such case".to_string(alloc)?)
+}
