@@ -22,6 +22,12 @@ CRATES = HERE.parent / "crates"
 PROGRAMS = {
     "primitive_cases": [
         "des_cipher",
+        "digest_parts",
+        "rc4_stream",
+        "channel_keys",
+        "authenticators",
+        "ntlm_responses",
+        "ntlm_seal",
     ],
     "wire_cases": [],
     "account_cases": [],

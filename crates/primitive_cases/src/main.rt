@@ -4,7 +4,13 @@
 //! operation gives.
 #![tactic(auto)]
 
+mod channel;
 mod des;
+mod digests;
+mod rc4;
+mod responses;
+mod seal;
+mod sequence;
 mod words;
 
 use std::alloc::Global;
@@ -16,6 +22,12 @@ fn answer(alloc: Global, words: &[&str]) -> anyhow::Result<String> {
     let (part, operation) = word(words, 0).split_once('.').unwrap_or(("", ""));
     match part {
         "des" => des::answer(alloc, operation, words),
+        "digest" => digests::answer(alloc, operation, words),
+        "rc4" => rc4::answer(alloc, operation, words),
+        "channel" => channel::answer(alloc, operation, words),
+        "sequence" => sequence::run(alloc, words),
+        "responses" => responses::answer(alloc, operation, words),
+        "seal" => seal::run(alloc, words),
         _ => no_case(alloc),
     }
 }

@@ -46,9 +46,28 @@ pub(crate) fn flags(word: &str) -> anyhow::Result<u32> {
     Ok(u32::from_be_bytes(<[u8; 4]>::from_hex(word)?))
 }
 
+/// A number of 32 bits, in decimal digits.
+pub(crate) fn number(word: &str) -> anyhow::Result<u32> {
+    Ok(word.parse::<u32>()?)
+}
+
+/// A size or a place, in decimal digits.
+pub(crate) fn size(word: &str) -> anyhow::Result<usize> {
+    Ok(number(word)? as usize)
+}
+
 /// The hex digits of bytes.
 pub(crate) fn text(alloc: Global, bytes: &[u8]) -> anyhow::Result<String> {
     Ok(hex::encode(alloc, bytes)?)
+}
+
+/// Puts the answer to a further step of a line behind the others.
+pub(crate) fn add_answer(answers: &mut String, answer: &str) -> anyhow::Result<()> {
+    if !answers.is_empty() {
+        answers.push(';')?;
+    }
+    answers.push_str(answer)?;
+    Ok(())
 }
 
 /// The answer to an operation that there is not.

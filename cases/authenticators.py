@@ -1,0 +1,91 @@
+"""Cases of authenticators.
+
+`sequence.run KEY SEED STEP..`, whose steps are `make=TIMESTAMP`, `judge=TIMESTAMP:CREDENTIAL`, `return=CREDENTIAL` and `awaits`. The
+answers stand with `;` between them.
+"""
+
+from forms import array, line, ok, option, struct, values
+
+
+def not_next(awaited):
+    """The refusal, with the credential that is awaited."""
+    return f"Err({struct('NotNext', awaited=array(awaited))})"
+
+
+def authenticator(step):
+    """The authenticator of a step."""
+    return struct("Authenticator", credential=array(step["credential"]), timestamp=step["timestamp"])
+
+
+def altered(credential):
+    """A credential with one bit changed."""
+    return credential[:-2] + f"{int(credential[-2:], 16) ^ 1:02x}"
+
+
+def scenario(sequence, steps):
+    """A line of steps, each with its answer, on one end's sequence."""
+    words = [step for step, _ in steps]
+    return line("sequence.run", sequence["key"], sequence["seed"], *words), ";".join(
+        answer for _, answer in steps
+    )
+
+
+def made(step):
+    """The maker's part in a step: it makes, awaits, refuses another credential, takes the right one, and then awaits none."""
+    returned = step["awaited_return"]
+    return [
+        (f"make={step['timestamp']}", authenticator(step)),
+        ("awaits", option(returned, array)),
+        (f"return={altered(returned)}", not_next(returned)),
+        ("awaits", option(returned, array)),
+        (f"return={returned}", ok("()")),
+        ("awaits", "None"),
+    ]
+
+
+def judged(step):
+    """The judge's part in a step."""
+    return (f"judge={step['timestamp']}:{step['credential']}", ok(array(step["awaited_return"])))
+
+
+def refused(timestamp, credential, awaited):
+    """The judge's part in a step that it refuses."""
+    return (f"judge={timestamp}:{credential}", not_next(awaited))
+
+
+def cases():
+    """Each line and its answer."""
+    sequences = values("netlogon")["sequences"]
+    out = []
+    for sequence in sequences:
+        steps, last = sequence["steps"], sequence["then_refused"]
+        # The maker's end, the judge's end, and the judge's end once more with a refused step before each, which changes nothing.
+        out.append(
+            scenario(sequence, [("awaits", "None")] + [part for step in steps for part in made(step)])
+        )
+        wrong = refused(last["timestamp"], last["credential"], last["awaited"])
+        out.append(scenario(sequence, [judged(step) for step in steps] + [wrong]))
+        both = []
+        for step in steps:
+            credential = step["credential"]
+            both.append(refused(step["timestamp"], altered(credential), credential))
+            both.append(judged(step))
+        out.append(scenario(sequence, both))
+        # Without the return credentials: the last one made is awaited.
+        each = [(f"make={step['timestamp']}", authenticator(step)) for step in steps]
+        out.append(scenario(sequence, each + [("awaits", option(steps[-1]["awaited_return"], array))]))
+    # Timestamps, each plus one, that sum to 2^32 leave the seed where it stood: what passed passes again (MS-NRPC 3.1.4.5).
+    second = sequences[1]["steps"]
+    half = [step for step in second if step["timestamp"] == 2147483647]
+    out.append(scenario(sequences[1], [judged(step) for step in second] + [judged(step) for step in half]))
+    # 2^32 - 1 twice: the same bytes pass twice. 0 twice: the second is refused, and the credential of its seed is awaited.
+    last, again, none = second[0], second[1], second[2]
+    assert last == again and none["timestamp"] == 0
+    out.append(
+        scenario(
+            sequences[1],
+            [judged(last), judged(last), judged(last), judged(none)]
+            + [refused(0, none["credential"], none["awaited_return"])],
+        )
+    )
+    return out

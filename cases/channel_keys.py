@@ -1,0 +1,50 @@
+"""Cases of channel_keys.
+
+`channel.session_key SECRET CLIENT SERVER FLAGS`, `channel.strong_key SECRET CLIENT SERVER`, `channel.des_key SECRET CLIENT SERVER`,
+`channel.cred KEY INPUT`, `channel.cred_back KEY OUTPUT`, `channel.flag NAME` (the number, and whether this project offers it).
+"""
+
+from forms import line, values
+
+# MS-NRPC 3.1.4.2 (C, O, W and Y of the table of options); what is offered is this project's own choice.
+FLAGS = [
+    ("RC4", "00000004 true"),
+    ("STRONG_KEY", "00004000 true"),
+    ("AES", "01000000 false"),
+    ("SECURE_RPC", "40000000 false"),
+    ("SUPPORTED_FLAGS", "000041ff true"),
+]
+
+# Flags without the strong key's 0x4000, and with it: MS-NRPC 3.1.4.3.
+WITHOUT_STRONG_KEY = ["000001ff", "ffffbfff", "00000000"]
+WITH_STRONG_KEY = ["40004004", "000041ff", "00004000"]
+
+
+def cases():
+    """Each line and its answer."""
+    netlogon = values("netlogon")
+    out = []
+    for channel in netlogon["channels"]:
+        of_channel = channel["secret"], channel["client_challenge"], channel["server_challenge"]
+        strong, des = channel["strong_key"], channel["des_key"]
+        out.append((line("channel.strong_key", *of_channel), strong))
+        out.append((line("channel.des_key", *of_channel), des))
+        for flags in WITHOUT_STRONG_KEY:
+            out.append((line("channel.session_key", *of_channel, flags), des))
+        for flags in WITH_STRONG_KEY:
+            out.append((line("channel.session_key", *of_channel, flags), strong))
+        for key, name in [(strong, "strong"), (des, "des")]:
+            for side in ["client", "server"]:
+                challenge = channel[f"{side}_challenge"]
+                credential = channel[f"{side}_credential_{name}_key"]
+                out.append((line("channel.cred", key, challenge), credential))
+                out.append((line("channel.cred_back", key, credential), challenge))
+    for case in netlogon["credentials"]:
+        key, text, credential = case["key"], case["input"], case["credential"]
+        out.append((line("channel.cred", key, text), credential))
+        out.append((line("channel.cred_back", key, credential), text))
+        out.append((line("channel.cred_back", key, text), case["credential_back_of_input"]))
+        out.append((line("channel.cred", key, case["credential_back_of_input"]), text))
+    for name, answer in FLAGS:
+        out.append((line("channel.flag", name), answer))
+    return out

@@ -1,0 +1,79 @@
+//! Cases of `channel_keys`: secrets, challenges, keys and credentials in hex, flags in eight hex digits.
+
+use crate::words::{eight, flags, no_case, sixteen, text, word};
+use channel_keys::{
+    AES, RC4, SECURE_RPC, STRONG_KEY, SUPPORTED_FLAGS, cred, cred_back, des_key, has_flag,
+    session_key, strong_key,
+};
+use std::alloc::Global;
+
+/// `session_key SECRET CLIENT SERVER FLAGS`: the session key of a channel with these flags.
+fn session_key_of(alloc: Global, words: &[&str]) -> anyhow::Result<String> {
+    let secret = sixteen(word(words, 1))?;
+    let client = eight(word(words, 2))?;
+    let server = eight(word(words, 3))?;
+    let flags = flags(word(words, 4))?;
+    text(alloc, &session_key(secret, client, server, flags))
+}
+
+/// `strong_key SECRET CLIENT SERVER`: the strong key.
+fn strong_key_of(alloc: Global, words: &[&str]) -> anyhow::Result<String> {
+    let secret = sixteen(word(words, 1))?;
+    let client = eight(word(words, 2))?;
+    let server = eight(word(words, 3))?;
+    text(alloc, &strong_key(secret, client, server))
+}
+
+/// `des_key SECRET CLIENT SERVER`: the DES key.
+fn des_key_of(alloc: Global, words: &[&str]) -> anyhow::Result<String> {
+    let secret = sixteen(word(words, 1))?;
+    let client = eight(word(words, 2))?;
+    let server = eight(word(words, 3))?;
+    text(alloc, &des_key(secret, client, server))
+}
+
+/// `cred KEY INPUT`: the credential.
+fn cred_of(alloc: Global, words: &[&str]) -> anyhow::Result<String> {
+    let key = sixteen(word(words, 1))?;
+    let input = eight(word(words, 2))?;
+    text(alloc, &cred(key, input))
+}
+
+/// `cred_back KEY OUTPUT`: the input of which the bytes are the credential.
+fn cred_back_of(alloc: Global, words: &[&str]) -> anyhow::Result<String> {
+    let key = sixteen(word(words, 1))?;
+    let output = eight(word(words, 2))?;
+    text(alloc, &cred_back(key, output))
+}
+
+/// The flag of a name.
+fn flag_of(name: &str) -> u32 {
+    match name {
+        "RC4" => RC4,
+        "STRONG_KEY" => STRONG_KEY,
+        "AES" => AES,
+        "SECURE_RPC" => SECURE_RPC,
+        "SUPPORTED_FLAGS" => SUPPORTED_FLAGS,
+        _ => 0,
+    }
+}
+
+/// `flag NAME`: its number, and whether this project's ends offer it.
+fn flag(alloc: Global, words: &[&str]) -> anyhow::Result<String> {
+    let flag = flag_of(word(words, 1));
+    let offered = has_flag(SUPPORTED_FLAGS, flag);
+    Ok(format!(in alloc; "{flag:08x} {offered}")?)
+}
+
+/// What an operation gives.
+pub(crate) fn answer(alloc: Global, operation: &str, words: &[&str]) -> anyhow::Result<String> {
+    match operation {
+        "session_key" => session_key_of(alloc, words),
+        "strong_key" => strong_key_of(alloc, words),
+        "des_key" => des_key_of(alloc, words),
+        "cred" => cred_of(alloc, words),
+        "cred_back" => cred_back_of(alloc, words),
+        "flag" => flag(alloc, words),
+        _ => no_case(alloc),
+    }
+}

@@ -1,0 +1,67 @@
+//! Cases of `authenticators`: what one end's sequence answers to each step of a line.
+
+ghost use Rattle.std.specs.Prelude.{◌≡◌};
+
+use crate::words::{add_answer, eight, no_case, number, sixteen, word};
+use authenticators::Sequence;
+use std::alloc::Global;
+use wire_base::Authenticator;
+
+/// `make=TIMESTAMP`: the next authenticator.
+fn make(alloc: Global, sequence: &mut Sequence, value: &str) -> anyhow::Result<String> {
+    let timestamp = number(value)?;
+    let made = sequence.make(timestamp);
+    Ok(format!(in alloc; "{made:?}")?)
+}
+
+/// `judge=TIMESTAMP:CREDENTIAL`: the return credential, or the refusal.
+fn judge(alloc: Global, sequence: &mut Sequence, value: &str) -> anyhow::Result<String> {
+    let (timestamp, credential) = value.split_once(':').unwrap_or((value, ""));
+    let given = Authenticator {
+        credential: eight(credential)?,
+        timestamp: number(timestamp)?,
+    };
+    let answer = sequence.judge(&given);
+    Ok(format!(in alloc; "{answer:?}")?)
+}
+
+/// `return=CREDENTIAL`: whether it is the one that is awaited.
+fn take_return(alloc: Global, sequence: &mut Sequence, value: &str) -> anyhow::Result<String> {
+    let credential = eight(value)?;
+    if sequence.awaits().is_none() {
+        return Ok("none is awaited".to_string(alloc)?);
+    }
+    let answer = sequence.take_return(credential);
+    Ok(format!(in alloc; "{answer:?}")?)
+}
+
+/// `awaits`: the return credential that is awaited.
+fn awaits(alloc: Global, sequence: &Sequence) -> anyhow::Result<String> {
+    let awaited = sequence.awaits();
+    Ok(format!(in alloc; "{awaited:?}")?)
+}
+
+/// What a step gives.
+fn step(alloc: Global, sequence: &mut Sequence, step: &str) -> anyhow::Result<String> {
+    let (name, value) = step.split_once('=').unwrap_or((step, ""));
+    match name {
+        "make" => make(alloc, sequence, value),
+        "judge" => judge(alloc, sequence, value),
+        "return" => take_return(alloc, sequence, value),
+        "awaits" => awaits(alloc, sequence),
+        _ => no_case(alloc),
+    }
+}
+
+/// `sequence.run KEY SEED STEP..`: what each step gives.
+pub(crate) fn run(alloc: Global, words: &[&str]) -> anyhow::Result<String> {
+    let key = sixteen(word(words, 1))?;
+    let seed = eight(word(words, 2))?;
+    let mut sequence = Sequence::new(key, seed);
+    let mut answers = String::new(alloc);
+    for each in words.iter().skip(3) {
+        let answer = step(alloc, &mut sequence, each)?;
+        add_answer(&mut answers, &answer)?;
+    }
+    Ok(answers)
+}
