@@ -4,8 +4,9 @@ ghost use Rattle.std.specs.Prelude.{◌≡◌, [], IfOk, OnErr, replicate};
 ghost use Rattle.outside.specs.Drawing.{Draws};
 
 use crate::chances::{Chances, Spent};
+use crate::lists::Draws;
 use std::marker::Model;
-use wire_base::Draws;
+
 
 /// Listed challenges, of which each is drawn once. `start` empties the list drawn and leaves what is left.
 #[derive(Debug, Drop)]

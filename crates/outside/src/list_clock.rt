@@ -4,10 +4,11 @@ ghost use Rattle.std.specs.Prelude.{◌≡◌, [], ◌∷◌, true};
 ghost use Rattle.outside.specs.Telling.{Appends};
 
 use crate::clock::Clock;
+use crate::lists::Moments;
 use std::alloc::Global;
 use std::marker::Model;
 use std::vec::IntoIter;
-use wire_base::Moments;
+
 
 /// A clock that gives the listed moments, of which the last repeats. Where it finds no memory to keep the moment, it gives it all the
 /// same and tells it no longer.

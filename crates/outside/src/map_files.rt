@@ -9,10 +9,11 @@ ghost use Rattle.outside.specs.Scripts.{read_answer, copy_answer, ReadsFile, fil
 ghost use Rattle.wire_base.specs.Memory.{UpToMemory};
 
 use crate::files::{FileRefused, Files, MOST_FILE_BYTES};
+use crate::lists::Texts;
 use crate::script::is_listed;
 use std::alloc::Global;
 use std::marker::Model;
-use wire_base::{Blob, Calls, Texts};
+use wire_base::{Blob, Calls};
 
 /// Names with contents, of which the first of a name counts. Its calls are counted from 0, and those that are listed fail and raise
 /// its count of faults; so does one of a name that it doesn't have. A call that finds no memory for the content changes nothing and

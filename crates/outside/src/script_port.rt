@@ -10,12 +10,13 @@ ghost use Rattle.outside.specs.PortScript.{is_scripted, port_story, next_event, 
 ghost use Rattle.outside.specs.Scripts.{call_fails};
 
 use crate::event::{Event, Events, Happening};
+use crate::lists::Sends;
 use crate::port::{Failed, Port, PortRefused};
 use crate::script::is_listed;
 use std::alloc::Global;
 use std::marker::Model;
 use std::vec::IntoIter;
-use wire_base::{Blob, Calls, List, NoMemory, Sends};
+use wire_base::{Blob, Calls, List, NoMemory};
 
 /// The first link that a dial gives.
 pub const FIRST_DIALLED: u32 = 1000;

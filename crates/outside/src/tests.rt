@@ -6,6 +6,7 @@ ghost use Rattle.outside.specs.PortScript.{is_scripted};
 
 use crate::counter_chances::maker_key;
 use crate::{
+    Draws, Moments, Texts,
     Chances, Clock, CounterChances, Event, Events, FileRefused, Files, ListChances, ListClock,
     MapFiles, OutSink, Port, PortRefused, ScriptPort, Sink, SureSink, VecSink,
 };
@@ -14,7 +15,7 @@ use std::alloc::Global;
 use std::fmt::Display;
 use std::io;
 use std::test::Fail;
-use wire_base::{Blob, Calls, Draws, Moments, Texts};
+use wire_base::{Blob, Calls};
 
 fn listed(alloc: Global, numbers: &[u32]) -> Result<Calls, Fail> {
     let mut calls = Calls::new(alloc);

@@ -2,10 +2,11 @@
 use Rattle.std.proofs.Common.{◌≡◌, ℕ, ◌+◌, ◌<◌, ◌≤◌, ◌≢◌, ◌&&◌, eqb, true, false, List, [], ◌∷◌, length, get_or, drop, refl, sym, ap, ◌∙◌, inl, inr}
 use Rattle.std.specs.List.{All, list_all}
 use Rattle.std.specs.Bool.{Decides}
-use Rattle.std.proofs.lemmas.Bool.{le-leb, eq-eqb, ne_eqb, cases_Bool}
+use Rattle.std.proofs.lemmas.Bool.{le-leb, eq-eqb, eqb-true, ne_eqb, cases_Bool}
 use Rattle.std.proofs.lemmas.List.{length-map, drop_more, drop_all}
 use Rattle.std.proofs.lemmas.List.Elements.{All-head, All-tail}
 use Rattle.std.proofs.lemmas.Slice.Eq.{bytes_eq-Decides}
+use Rattle.wire_base.specs.Maps.{IsSameness, same_number}
 use Rattle.wire_base.specs.Names.{upper_of, upper_case, SameName, same_name, is_name_byte, IsNameByte, is_name}
 
 -- ---- the same name
@@ -65,6 +66,23 @@ list_all-from_All (byte ∷ text) h =
 -- a name passes the test
 pub is_name-from_IsName : (text : List ℕ) → length text ≤ 64 → All IsNameByte text → is_name text ≡ true
 is_name-from_IsName text short each = rw (le-leb _ _ short, list_all-from_All text each) refl
+
+-- ---- sameness
+
+pub IsSameness-same_name : IsSameness same_name
+IsSameness-same_name = record {
+  reflexive = λ key. (same_name-Decides key key).1 refl;
+  symmetric = λ one other same. (same_name-Decides other one).1 (sym ((same_name-Decides one other).0 same));
+  transitive = λ one other third first second.
+      (same_name-Decides one third).1 ((same_name-Decides one other).0 first ∙ (same_name-Decides other third).0 second);
+}
+
+pub IsSameness-same_number : IsSameness same_number
+IsSameness-same_number = record {
+  reflexive = λ key. eq-eqb key key refl;
+  symmetric = λ one other same. eq-eqb other one (sym (eqb-true one other same));
+  transitive = λ one other third first second. eq-eqb one third (eqb-true one other first ∙ eqb-true other third second);
+}
 
 pub ruleset forms = (is_name-from_IsName)
 

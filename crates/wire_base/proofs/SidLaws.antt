@@ -13,7 +13,7 @@ use Rattle.std.proofs.lemmas.Slice.Eq.{bytes_eq-Decides}
 use Rattle.std.proofs.lemmas.Fmt.{digits_decimal}
 use Rattle.std.proofs.lemmas.List.Elements.{All-from_get_or}
 use Rattle.std.proofs.lemmas.Str.Parse.{not_in_digits}
-use Rattle.wire_base.specs.Sid.{SidParts, IsSid, IsSidText, sid_text, is_dash, below, with_first, numbers_of, sid_by, sid_of_parts, sid_of}
+use Rattle.wire_base.specs.Sid.{SidParts, IsSid, IsSidText, sid_text, is_dash, number_below, with_first, numbers_of, sid_by, sid_of_parts, sid_of}
 use Rattle.wire_base.proofs.DecimalLaws.{own, decimal_of-decimal, decimal_from-decimal_of}
 
 -- ---- cutting at the first dash
@@ -51,21 +51,21 @@ regroup : (front : List ℕ) (n : ℕ) (read : Result (List ℕ) SidRefused) →
 regroup front n (Ok numbers) = ap (λ (ns : List ℕ). Ok ns) (append_assoc front (n ∷ []) numbers)
 regroup front n (Err refused) = refl
 
-pub front_more : (front : List ℕ) (n : ℕ) (part : List ℕ) (parts : List (List ℕ)) → length front < 15 → below (2 ^ 32) (decimal_of part) ≡ Some n → with_front (front ++ n ∷ []) (numbers_of (15 - length (front ++ n ∷ [])) parts) ≡ with_front front (numbers_of (15 - length front) (part ∷ parts))
+pub front_more : (front : List ℕ) (n : ℕ) (part : List ℕ) (parts : List (List ℕ)) → length front < 15 → number_below (2 ^ 32) (decimal_of part) ≡ Some n → with_front (front ++ n ∷ []) (numbers_of (15 - length (front ++ n ∷ [])) parts) ≡ with_front front (numbers_of (15 - length front) (part ∷ parts))
 front_more front n part parts room here =
     let next : 15 - length front ≡ suc (15 - length (front ++ n ∷ [])) = omega (arith, length_push front n) in
     regroup front n (numbers_of (15 - length (front ++ n ∷ [])) parts) ∙ rw (next, here) refl
 
 -- the loop's step: new is front with the number of the first part
-pub loop_more : (front new : List ℕ) (n : ℕ) (part : List ℕ) (rest after : List (List ℕ)) (whole : Result (List ℕ) SidRefused) → length front < 15 → below (2 ^ 32) (decimal_of part) ≡ Some n → rest ≡ part ∷ after → new ≡ front ++ n ∷ [] → with_front front (numbers_of (15 - length front) rest) ≡ whole → with_front new (numbers_of (15 - length new) after) ≡ whole
+pub loop_more : (front new : List ℕ) (n : ℕ) (part : List ℕ) (rest after : List (List ℕ)) (whole : Result (List ℕ) SidRefused) → length front < 15 → number_below (2 ^ 32) (decimal_of part) ≡ Some n → rest ≡ part ∷ after → new ≡ front ++ n ∷ [] → with_front front (numbers_of (15 - length front) rest) ≡ whole → with_front new (numbers_of (15 - length new) after) ≡ whole
 loop_more front new n part rest after whole room here parts new-is so_far =
     rw new-is (front_more front n part after room here ∙ rw (← parts) so_far)
 
-bad_at : (front : List ℕ) (room : ℕ) (part : List ℕ) (parts : List (List ℕ)) → below (2 ^ 32) (decimal_of part) ≡ None → with_front front (numbers_of room (part ∷ parts)) ≡ Err NotSid
+bad_at : (front : List ℕ) (room : ℕ) (part : List ℕ) (parts : List (List ℕ)) → number_below (2 ^ 32) (decimal_of part) ≡ None → with_front front (numbers_of room (part ∷ parts)) ≡ Err NotSid
 bad_at front zero part parts bad = refl
 bad_at front (suc room) part parts bad = rw bad refl
 
-pub front_bad : (front : List ℕ) (part : List ℕ) (parts : List (List ℕ)) → below (2 ^ 32) (decimal_of part) ≡ None → with_front front (numbers_of (15 - length front) (part ∷ parts)) ≡ Err NotSid
+pub front_bad : (front : List ℕ) (part : List ℕ) (parts : List (List ℕ)) → number_below (2 ^ 32) (decimal_of part) ≡ None → with_front front (numbers_of (15 - length front) (part ∷ parts)) ≡ Err NotSid
 front_bad front part parts bad = bad_at front (15 - length front) part parts bad
 
 pub front_full : (front : List ℕ) (part : List ℕ) (parts : List (List ℕ)) → length front ≡ 15 → with_front front (numbers_of (15 - length front) (part ∷ parts)) ≡ Err NotSid
@@ -78,24 +78,24 @@ pub ruleset counting = (front_more, front_bad, front_full, front_end)
 
 -- ---- what is read is what is written
 
-below-Some : (limit : ℕ) (o : Option ℕ) (n : ℕ) → below limit o ≡ Some n → (o ≡ Some n) × (n < limit)
-below-Some limit None n e = absurd cc
-below-Some limit (Some m) n e =
+number_below-Some : (limit : ℕ) (o : Option ℕ) (n : ℕ) → number_below limit o ≡ Some n → (o ≡ Some n) × (n < limit)
+number_below-Some limit None n e = absurd cc
+number_below-Some limit (Some m) n e =
     elim (cases_lt m limit) [
-      | inl lt ↦ let here : below limit (Some m) ≡ Some m = rw (lt-ltb m limit lt) refl in let m-is : m ≡ n = cc in (ap (λ (k : ℕ). Some k) m-is, omega arith)
-      | inr le ↦ absurd (let none : below limit (Some m) ≡ None = rw (le-ltb m limit le) refl in cc)
+      | inl lt ↦ let here : number_below limit (Some m) ≡ Some m = rw (lt-ltb m limit lt) refl in let m-is : m ≡ n = cc in (ap (λ (k : ℕ). Some k) m-is, omega arith)
+      | inr le ↦ absurd (let none : number_below limit (Some m) ≡ None = rw (le-ltb m limit le) refl in cc)
     ]
 
-below-at : (limit n : ℕ) → n < limit → below limit (Some n) ≡ Some n
-below-at limit n lt = rw (lt-ltb n limit lt) refl
+number_below-at : (limit n : ℕ) → n < limit → number_below limit (Some n) ≡ Some n
+number_below-at limit n lt = rw (lt-ltb n limit lt) refl
 
-number_takes : (limit n : ℕ) (part : List ℕ) → below limit (decimal_of part) ≡ Some n → (part ≡ decimal n) × (n < limit)
+number_takes : (limit n : ℕ) (part : List ℕ) → number_below limit (decimal_of part) ≡ Some n → (part ≡ decimal n) × (n < limit)
 number_takes limit n part e =
-    let parts = below-Some limit (decimal_of part) n e in
+    let parts = number_below-Some limit (decimal_of part) n e in
     ((decimal_from-decimal_of part n parts.0).0, parts.1)
 
-number_again : (limit n : ℕ) → n < limit → limit ≤ 2 ^ 64 → below limit (decimal_of (decimal n)) ≡ Some n
-number_again limit n lt small = rw (decimal_of-decimal n (omega arith)) (below-at limit n lt)
+number_again : (limit n : ℕ) → n < limit → limit ≤ 2 ^ 64 → number_below limit (decimal_of (decimal n)) ≡ Some n
+number_again limit n lt small = rw (decimal_of-decimal n (omega arith)) (number_below-at limit n lt)
 
 -- a first number and the numbers after it
 record IsFirst (o : Option ℕ) (read : Result (List ℕ) SidRefused) (numbers : List ℕ) : Type 0 where
@@ -121,7 +121,7 @@ numbers_takes room [] [] e = record { texts = refl; each = tt; count = omega ari
 numbers_takes room [] (n ∷ numbers) e = absurd cc
 numbers_takes zero (part ∷ parts) numbers e = absurd cc
 numbers_takes (suc room) (part ∷ parts) numbers e =
-    let f = with_first-Ok (below (2 ^ 32) (decimal_of part)) (numbers_of room parts) numbers e in
+    let f = with_first-Ok (number_below (2 ^ 32) (decimal_of part)) (numbers_of room parts) numbers e in
     let one = number_takes (2 ^ 32) f.first part f.one in
     let more = numbers_takes room parts f.others f.more in
     let texts = ap (λ (text : List ℕ). text ∷ parts) one.0 ∙ ap (λ (ts : List (List ℕ)). decimal f.first ∷ ts) more.texts in
@@ -166,7 +166,7 @@ sid_by-Ok (Some a) (Ok (n ∷ numbers)) sid e =
 parts_takes : (parts : List (List ℕ)) (sid : SidParts) → sid_of_parts parts ≡ Ok sid → (parts ≡ decimal sid.authority ∷ map decimal sid.numbers) × IsSid sid × AllByRecursion (λ n. n < 2 ^ 32) sid.numbers
 parts_takes [] sid e = absurd cc
 parts_takes (part ∷ parts) sid e =
-    let by = sid_by-Ok (below (2 ^ 48) (decimal_of part)) (numbers_of 15 parts) sid e in
+    let by = sid_by-Ok (number_below (2 ^ 48) (decimal_of part)) (numbers_of 15 parts) sid e in
     let one = number_takes (2 ^ 48) sid.authority part by.0 in
     let more = numbers_takes 15 parts sid.numbers by.1 in
     (ap (λ (text : List ℕ). text ∷ parts) one.0 ∙ ap (λ (ts : List (List ℕ)). decimal sid.authority ∷ ts) more.texts, record { authority = one.1; one = by.2; at_most = more.count }, more.each)

@@ -39,9 +39,9 @@ pub record IsSidText (text : List ℕ) (sid : SidParts) : Type 0 where
 abbrev pub is_dash : ℕ → Bool
 is_dash byte = byte == 45
 
-abbrev pub below : ℕ → Option ℕ → Option ℕ
-below limit None = None
-below limit (Some n) = if nat_lt n limit then Some n else None
+abbrev pub number_below : ℕ → Option ℕ → Option ℕ
+number_below limit None = None
+number_below limit (Some n) = if nat_lt n limit then Some n else None
 
 abbrev pub with_first : Option ℕ → Result (List ℕ) SidRefused → Result (List ℕ) SidRefused
 with_first None read = Err NotSid
@@ -52,7 +52,7 @@ with_first (Some n) (Ok numbers) = Ok (n ∷ numbers)
 abbrev pub numbers_of : ℕ → List (List ℕ) → Result (List ℕ) SidRefused
 numbers_of room [] = Ok []
 numbers_of zero (part ∷ parts) = Err NotSid
-numbers_of (suc room) (part ∷ parts) = with_first (below (2 ^ 32) (decimal_of part)) (numbers_of room parts)
+numbers_of (suc room) (part ∷ parts) = with_first (number_below (2 ^ 32) (decimal_of part)) (numbers_of room parts)
 
 abbrev pub sid_by : Option ℕ → Result (List ℕ) SidRefused → Result SidParts SidRefused
 sid_by None read = Err NotSid
@@ -62,7 +62,16 @@ sid_by (Some authority) (Ok (n ∷ numbers)) = Ok (record { authority = authorit
 
 abbrev pub sid_of_parts : List (List ℕ) → Result SidParts SidRefused
 sid_of_parts [] = Err NotSid
-sid_of_parts (authority ∷ numbers) = sid_by (below (2 ^ 48) (decimal_of authority)) (numbers_of 15 numbers)
+sid_of_parts (authority ∷ numbers) = sid_by (number_below (2 ^ 48) (decimal_of authority)) (numbers_of 15 numbers)
+
+-- the authority that a text with this first part writes
+abbrev pub first_authority : List (List ℕ) → Option ℕ
+first_authority [] = None
+first_authority (authority ∷ numbers) = number_below (2 ^ 48) (decimal_of authority)
+
+-- the authority of a text that begins with S-1- and one; None where it begins otherwise
+unfoldable pub authority_of : List ℕ → Option ℕ
+authority_of text = if bytes_eq (take 4 text) (codes "S-1-") then first_authority (slice_split is_dash (drop 4 text)) else None
 
 -- the identifier that the text writes; NotSid where it writes none
 unfoldable pub sid_of : List ℕ → Result SidParts SidRefused

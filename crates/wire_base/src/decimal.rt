@@ -5,12 +5,12 @@ ghost use Rattle.std.specs.Char.{is_ascii_digit};
 ghost use Rattle.std.specs.Fmt.{decimal};
 ghost use Rattle.std.specs.List.{list_all};
 ghost use Rattle.std.specs.Str.Parse.{digits_value};
-ghost use Rattle.wire_base.specs.Decimal.{has_no_leading_zero, fitting, decimal_of};
+ghost use Rattle.wire_base.specs.Decimal.{has_no_leading_zero, number_of_64_bits, decimal_of};
 
 /// The number that the text writes in decimal digits, without a sign or a leading zero (this project's own choice).
 /// None exactly where the text has another form or the number doesn't fit 64 bits. It takes no memory.
 #[tactic(auto, using(crate::proofs::DecimalLaws::reading))]
-pub fn read_decimal(text: &[u8]) -> Option<u64>
+pub(crate) fn read_decimal(text: &[u8]) -> Option<u64>
     ensures value { result ≡ decimal_of text.now }
     ensures found { IfSome result (λ n. text.now ≡ decimal n) }
     ensures none { IfNone result ((n : ℕ) → n < 2 ^ 64 → text.now ≡ decimal n → ⊥) }
@@ -49,7 +49,7 @@ fn are_digits(text: &[u8]) -> bool
 fn digits_as_number(text: &[u8]) -> Option<u64>
     requires some { 0 < length text.now }
     requires digits { IsTrue (list_all is_ascii_digit text.now) }
-    ensures { result ≡ fitting (digits_value 10 text.now) }
+    ensures { result ≡ number_of_64_bits (digits_value 10 text.now) }
 {
     str::from_utf8(text).ok()?.parse::<u64>().ok()
 }

@@ -26,20 +26,8 @@ pub type Calls = List<u32>;
 /// Names of accounts, computers or domains.
 pub type Names = List<Name>;
 
-/// Pairs of byte strings, as the names of files and what is in them.
-pub type Texts = List<(Blob, Blob)>;
-
-/// Moments of a clock.
-pub type Moments = List<u64>;
-
-/// Challenges of 8 bytes.
-pub type Draws = List<[u8; 8]>;
-
 /// Groups of an account: the relative identifier and the attributes of each.
 pub type Groups = List<(u32, u32)>;
-
-/// What was sent: the link and the bytes of each.
-pub type Sends = List<(u32, Blob)>;
 
 impl<T> Model for List<T> {
     ghost use Rattle.std.specs.Prelude.{List as list};

@@ -1,13 +1,14 @@
 //! Names of accounts, computers and domains, and ASCII upper case.
 
-ghost use Rattle.std.specs.Prelude.{◌≡◌, ◌<◌, ◌↔◌, not, length, All, IfSome, IfNone, IfOk, IfErr, IsErrOf, IsTrue, Ok};
+ghost use Rattle.std.specs.Prelude.{◌≡◌, ◌<◌, ◌↔◌, ℕ, not, length, All, IfSome, IfNone, IfOk, IfErr, IsErrOf, IsTrue, Ok};
 ghost use Rattle.std.specs.List.{position};
+ghost use Rattle.wire_base.specs.Maps.{IsSameness, same_number};
 ghost use Rattle.wire_base.specs.Memory.{UpToMemory};
 ghost use Rattle.wire_base.specs.Names.{upper_of, SameName, same_name, is_name_byte, IsNameByte, IsName, IsFirstOutside, IsNameRefusal, name_of};
 
 use crate::memory::NoMemory;
 use crate::units::Units;
-use std::alloc::{AllocError, AllocFailed, Global};
+use std::alloc::Global;
 use std::marker::Model;
 use thiserror::Error;
 
@@ -28,24 +29,13 @@ pub enum NameRefused {
     Memory,
 }
 
-impl From<AllocError> for NameRefused {
+impl From<NoMemory> for NameRefused {
     ghost use Rattle.std.specs.Prelude.{◌≡◌};
     ghost use Rattle.wire_base.specs.declared.names.NameRefused.TheVariants.{Memory};
 
     ghost from_gives = { λ _ e. e ≡ Memory };
 
-    fn from(_error: AllocError) -> NameRefused {
-        NameRefused::Memory
-    }
-}
-
-impl<T: Drop> From<AllocFailed<T>> for NameRefused {
-    ghost use Rattle.std.specs.Prelude.{◌≡◌};
-    ghost use Rattle.wire_base.specs.declared.names.NameRefused.TheVariants.{Memory};
-
-    ghost from_gives = { λ _ e. e ≡ Memory };
-
-    fn from(_error: AllocFailed<T>) -> NameRefused {
+    fn from(_error: NoMemory) -> NameRefused {
         NameRefused::Memory
     }
 }
@@ -60,6 +50,28 @@ pub fn upper_unit(unit: u16) -> u16
         _ => unit,
     }
 }
+
+/// True exactly where two texts are the same name, upper case for lower. It takes no memory.
+#[tactic(auto, using(crate::proofs::NameLaws::comparing))]
+pub fn same_units(one: &[u16], other: &[u16]) -> bool
+    ensures { result ≡ same_name one.now other.now }
+{
+    if one.len() != other.len() {
+        return false;
+    }
+    for i in 0..one.len() {
+        if upper_unit(one[i]) != upper_unit(other[i]) {
+            return false;
+        }
+    }
+    true
+}
+
+/// To be the same name is an equivalence, and so is to be the same number. It does nothing.
+pub fn sameness_is_an_equivalence()
+    ensures names { IsSameness same_name }
+    ensures numbers { IsSameness same_number }
+{}
 
 /// A name of at most 64 bytes of 0x20 to 0x7E, seen as the list of its bytes (this project's own choice). An empty one is a name.
 #[derive(Debug, Drop)]
@@ -80,13 +92,15 @@ impl Model for Name {
 
 impl Name {
     /// The name that the bytes are. TooLong exactly above 64 bytes; else NotAscii with the place of the first byte outside 0x20 to 0x7E,
-    /// exactly where there is one.
+    /// exactly where there is one. Both are judged before memory is looked for.
     #[tactic(auto, using(crate::proofs::NameLaws::forms), unfolding(crate::specs::Names::name_of))]
     pub fn read(alloc: Global, text: &[u8]) -> Result<Name, NameRefused>
         ensures exact { UpToMemory NameRefused.Memory result (name_of text.now) }
         ensures found { IfOk result (λ name. (name ≡ text.now) × IsName text.now) }
         ensures only { IsName text.now → UpToMemory NameRefused.Memory result (Ok text.now) }
         ensures too_long { IsErrOf result NameRefused.TooLong ↔ (64 < length text.now) }
+        ensures not_ascii { (place : ℕ) → IsErrOf result (NameRefused.NotAscii place)
+            ↔ IsNameRefusal text.now (NameRefused.NotAscii place) }
         ensures refused { IfErr result (IsNameRefusal text.now) }
     {
         if text.len() > NAME_LIMIT {
@@ -96,7 +110,7 @@ impl Name {
             return Err(NameRefused::NotAscii(place));
         }
         Ok(Name {
-            bytes: Vec::from_slice(alloc, text)?,
+            bytes: copy_bytes(alloc, text)?,
         })
     }
 
@@ -112,7 +126,7 @@ impl Name {
     pub fn units(&self, alloc: Global) -> Result<Units, NoMemory>
         ensures { IfOk result (λ units. units ≡ self.now) }
     {
-        Ok(Units::from_vec(widened(alloc, self.bytes.as_slice())?))
+        Ok(Units::from_vec(units_of_bytes(alloc, self.bytes.as_slice())?))
     }
 
     /// True exactly where both are the same name, upper case for lower. It takes no memory.
@@ -138,7 +152,7 @@ impl Name {
         ensures { IfOk result (λ name. name ≡ self.now) }
     {
         Ok(Name {
-            bytes: Vec::from_slice(alloc, self.bytes.as_slice())?,
+            bytes: copy_bytes(alloc, self.bytes.as_slice())?,
         })
     }
 }
@@ -152,11 +166,18 @@ fn first_outside(text: &[u8]) -> Option<usize>
     text.iter().position(|byte| !matches!(*byte, 0x20..=0x7E))
 }
 
+/// The same bytes.
+fn copy_bytes(alloc: Global, bytes: &[u8]) -> Result<Vec<u8>, NoMemory>
+    ensures { IfOk result (λ copy. copy.items ≡ bytes.now) }
+{
+    Ok(Vec::from_slice(alloc, bytes)?)
+}
+
 /// A unit for each byte.
-fn widened(alloc: Global, bytes: &[u8]) -> Result<Vec<u16>, AllocError>
+fn units_of_bytes(alloc: Global, bytes: &[u8]) -> Result<Vec<u16>, NoMemory>
     ensures { IfOk result (λ units. units.items ≡ bytes.now) }
 {
-    bytes.iter().map(|byte| u16::from(*byte)).collect(alloc)
+    Ok(bytes.iter().map(|byte| u16::from(*byte)).collect(alloc)?)
 }
 
 /// Whether two texts of bytes are the same name.

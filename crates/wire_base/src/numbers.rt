@@ -3,6 +3,8 @@
 ghost use Rattle.std.specs.Prelude.{◌≡◌, ◌+◌, ◌<◌, ◌↔◌, length, IsNone};
 ghost use Rattle.wire_base.specs.Numbers.{u16_of, u32_of, u64_of};
 
+use byteorder::{ByteOrder, LittleEndian};
+
 /// The 16-bit little-endian number whose lowest byte is at the place `at`.
 /// None exactly where the bytes end before the number does. It takes no memory.
 #[tactic(auto, unfolding(crate::specs::Numbers::number_at))]
@@ -10,8 +12,11 @@ pub fn u16_at(bytes: &[u8], at: usize) -> Option<u16>
     ensures value { result ≡ u16_of bytes.now at }
     ensures ends { IsNone result ↔ (length bytes.now < at + 2) }
 {
-    let number = bytes.get(at..)?.first_chunk::<2>()?;
-    Some(u16::from_le_bytes(*number))
+    let rest = bytes.get(at..)?;
+    if rest.len() < 2 {
+        return None;
+    }
+    Some(LittleEndian::read_u16(rest))
 }
 
 /// The 32-bit little-endian number whose lowest byte is at the place `at`.
@@ -21,8 +26,11 @@ pub fn u32_at(bytes: &[u8], at: usize) -> Option<u32>
     ensures value { result ≡ u32_of bytes.now at }
     ensures ends { IsNone result ↔ (length bytes.now < at + 4) }
 {
-    let number = bytes.get(at..)?.first_chunk::<4>()?;
-    Some(u32::from_le_bytes(*number))
+    let rest = bytes.get(at..)?;
+    if rest.len() < 4 {
+        return None;
+    }
+    Some(LittleEndian::read_u32(rest))
 }
 
 /// The 64-bit little-endian number whose lowest byte is at the place `at`.
@@ -32,6 +40,9 @@ pub fn u64_at(bytes: &[u8], at: usize) -> Option<u64>
     ensures value { result ≡ u64_of bytes.now at }
     ensures ends { IsNone result ↔ (length bytes.now < at + 8) }
 {
-    let number = bytes.get(at..)?.first_chunk::<8>()?;
-    Some(u64::from_le_bytes(*number))
+    let rest = bytes.get(at..)?;
+    if rest.len() < 8 {
+        return None;
+    }
+    Some(LittleEndian::read_u64(rest))
 }

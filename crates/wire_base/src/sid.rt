@@ -4,7 +4,7 @@ ghost use Rattle.std.specs.Prelude.{◌≡◌, ◌<◌, ◌≤◌, ◌^◌, ◌�
 ghost use Rattle.std.specs.List.{position, slice_split};
 ghost use Rattle.wire_base.specs.Memory.{UpToMemory};
 ghost use Rattle.wire_base.specs.Decimal.{decimal_of};
-ghost use Rattle.wire_base.specs.Sid.{SidParts, IsSid, IsSidText, is_dash, below, numbers_of, parts_of, sid_of};
+ghost use Rattle.wire_base.specs.Sid.{SidParts, authority_of, IsSid, IsSidText, is_dash, number_below, numbers_of, parts_of, sid_of};
 
 use crate::decimal::read_decimal;
 use crate::list::Numbers;
@@ -55,12 +55,14 @@ impl Model for Sid {
 
 impl Sid {
     /// The identifier that a text writes: `S-1-`, then the authority and the numbers, joined by `-`, in decimal without leading zeros
-    /// (this project's own choice of MS-DTYP 2.4.2.1). NotSid exactly where the text has another form.
+    /// (this project's own choice of MS-DTYP 2.4.2.1). NotSid exactly where the text has another form; that it begins with `S-1-` and an
+    /// authority is judged before memory is looked for.
     #[tactic(auto, unfolding(crate::specs::Sid::sid_of))]
     pub fn read(alloc: Global, text: &[u8]) -> Result<Sid, SidRefused>
         ensures exact { UpToMemory SidRefused.Memory result (sid_of text.now) }
         ensures found { IfOk result (λ sid. IsSidText text.now sid) }
         ensures only { (sid : SidParts) → IsSidText text.now sid → UpToMemory SidRefused.Memory result (Ok sid) }
+        ensures judged { IfNone (authority_of text.now) (IsErrOf result SidRefused.NotSid) }
         ensures not_sid { IsErrOf result SidRefused.NotSid → (sid : SidParts) → IsSidText text.now sid → ⊥ }
     {
         read_text(alloc, text)
@@ -107,9 +109,10 @@ impl Sid {
 }
 
 /// The identifier, by the parts of its text.
-#[tactic(auto, unfolding(crate::specs::Sid::sid_of))]
+#[tactic(auto, unfolding(crate::specs::Sid::sid_of, crate::specs::Sid::authority_of))]
 fn read_text(alloc: Global, text: &[u8]) -> Result<Sid, SidRefused>
-    ensures { UpToMemory SidRefused.Memory result (sid_of text.now) }
+    ensures exact { UpToMemory SidRefused.Memory result (sid_of text.now) }
+    ensures judged { IfNone (authority_of text.now) (IsErrOf result SidRefused.NotSid) }
 {
     let Some(parts) = text.strip_prefix(b"S-1-") else {
         return Err(SidRefused::NotSid);
@@ -169,7 +172,7 @@ fn dash_at(text: &[u8]) -> Option<usize>
 
 /// The number that the text writes, where it is below the limit.
 fn number_below(text: &[u8], limit: u64) -> Option<u64>
-    ensures { result ≡ below limit (decimal_of text.now) }
+    ensures { result ≡ number_below limit (decimal_of text.now) }
 {
     match read_decimal(text) {
         Some(number) if number < limit => Some(number),

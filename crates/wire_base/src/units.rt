@@ -6,7 +6,7 @@ ghost use Rattle.wire_base.specs.Units.{paired, units_of, utf16_of};
 
 use crate::blob::Blob;
 use crate::memory::NoMemory;
-use std::alloc::{AllocError, AllocFailed, Global};
+use std::alloc::Global;
 use std::marker::Model;
 use thiserror::Error;
 
@@ -21,24 +21,13 @@ pub enum UnitsRefused {
     Memory,
 }
 
-impl From<AllocError> for UnitsRefused {
+impl From<NoMemory> for UnitsRefused {
     ghost use Rattle.std.specs.Prelude.{◌≡◌};
     ghost use Rattle.wire_base.specs.declared.units.UnitsRefused.TheVariants.{Memory};
 
     ghost from_gives = { λ _ e. e ≡ Memory };
 
-    fn from(_error: AllocError) -> UnitsRefused {
-        UnitsRefused::Memory
-    }
-}
-
-impl<T: Drop> From<AllocFailed<T>> for UnitsRefused {
-    ghost use Rattle.std.specs.Prelude.{◌≡◌};
-    ghost use Rattle.wire_base.specs.declared.units.UnitsRefused.TheVariants.{Memory};
-
-    ghost from_gives = { λ _ e. e ≡ Memory };
-
-    fn from(_error: AllocFailed<T>) -> UnitsRefused {
+    fn from(_error: NoMemory) -> UnitsRefused {
         UnitsRefused::Memory
     }
 }
@@ -120,7 +109,7 @@ impl Units {
 }
 
 /// The unit of each two bytes, the low byte first.
-fn pairs(alloc: Global, bytes: &[u8]) -> Result<Vec<u16>, AllocError>
+fn pairs(alloc: Global, bytes: &[u8]) -> Result<Vec<u16>, NoMemory>
     ensures { IfOk result (λ v. v.items ≡ paired bytes.now) }
 {
     let mut units = Vec::with_capacity(alloc, bytes.len() / 2)?;
@@ -134,7 +123,7 @@ fn pairs(alloc: Global, bytes: &[u8]) -> Result<Vec<u16>, AllocError>
 
 /// Two bytes for each unit, the low byte first.
 #[tactic(auto, using(crate::proofs::UnitLaws::writing))]
-fn utf16(alloc: Global, units: &[u16]) -> Result<Vec<u8>, AllocError>
+fn utf16(alloc: Global, units: &[u16]) -> Result<Vec<u8>, NoMemory>
     ensures { IfOk result (λ v. v.items ≡ utf16_of units.now) }
 {
     let mut bytes = Vec::new(alloc);
