@@ -16,5 +16,3 @@ pub use key::{Key, Part, Word};
 pub use refused::TableRefused;
 pub use table::{Route, Table};
 
-#[cfg(test)]
-mod tests;

@@ -1,3 +1,4 @@
+pub mod ChannelTypes
 pub mod Credentials
 pub mod Flags
 pub mod SessionKeys

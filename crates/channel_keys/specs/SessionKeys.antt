@@ -5,8 +5,7 @@ use Rattle.std.specs.Int.{w32, to_le_bytes, from_le_bytes}
 use Rattle.md5.specs.Md5.{md5}
 use Rattle.des_cipher.specs.Des.{des_of, spread_of}
 use Rattle.digest_parts.specs.Hmac.{hmac_of}
-use Rattle.channel_keys.specs.Flags.{has_flag}
-use Rattle.channel_keys.specs.declared.flags.TheConstants.{STRONG_KEY}
+use Rattle.channel_keys.specs.Flags.{has_flag, strong_key_flag}
 
 -- ---- the strong key (3.1.4.3.2)
 
@@ -39,4 +38,4 @@ key_by true secret client server = strong_key_of secret client server
 key_by false secret client server = des_key_of secret client server
 
 abbrev pub key_of : List ℕ → List ℕ → List ℕ → ℕ → List ℕ
-key_of secret client server flags = key_by (has_flag flags STRONG_KEY) secret client server
+key_of secret client server flags = key_by (has_flag flags strong_key_flag) secret client server

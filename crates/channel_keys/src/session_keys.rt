@@ -1,4 +1,4 @@
-// The session key of a secure channel, made of the account's secret and both challenges.
+//! The session key of a secure channel, made of the account's secret and both challenges.
 
 ghost use Rattle.std.specs.Prelude.{◌≡◌, ◌≤◌, ◌++◌, take, drop};
 ghost use Rattle.std.specs.Int.{w32, from_le_bytes};
@@ -45,7 +45,7 @@ pub fn des_key(secret: [u8; 16], client: [u8; 8], server: [u8; 8]) -> [u8; 16]
     key
 }
 
-// The sum of two challenges, half by half.
+/// The sum of two challenges, half by half.
 #[tactic(auto, unfolding(crate::specs::SessionKeys::halves_sum))]
 fn halves_sum(client: [u8; 8], server: [u8; 8]) -> [u8; 8]
     ensures { result ≡ halves_sum client server }
@@ -53,7 +53,7 @@ fn halves_sum(client: [u8; 8], server: [u8; 8]) -> [u8; 8]
     joined(half_sum(&client, &server, 0), half_sum(&client, &server, 4))
 }
 
-// Two halves, one after the other.
+/// Two halves, one after the other.
 fn joined(first: [u8; 4], second: [u8; 4]) -> [u8; 8]
     ensures { result ≡ first ++ second }
 {
@@ -63,7 +63,7 @@ fn joined(first: [u8; 4], second: [u8; 4]) -> [u8; 8]
     joined
 }
 
-// The sum of the numbers of four bytes, low byte first, at a place of two challenges, modulo 2^32.
+/// The sum of the numbers of four bytes, low byte first, at a place of two challenges, modulo 2^32.
 #[tactic(auto, unfolding(crate::specs::SessionKeys::word_plus))]
 fn half_sum(client: &[u8; 8], server: &[u8; 8], at: usize) -> [u8; 4]
     requires { at ≤ 4 }
@@ -73,7 +73,7 @@ fn half_sum(client: &[u8; 8], server: &[u8; 8], at: usize) -> [u8; 4]
     sum.to_le_bytes()
 }
 
-// The number of four bytes of a challenge, low byte first, from a place on.
+/// The number of four bytes of a challenge, low byte first, from a place on.
 fn word(challenge: &[u8; 8], at: usize) -> u32
     requires { at ≤ 4 }
     ensures { result ≡ from_le_bytes w32 (take 4 (drop at challenge.now)) }

@@ -3,3 +3,11 @@ pub mod ByteLaws
 pub mod CipherLemmas
 pub mod DesLaws
 pub mod FeistelLaws
+pub mod Bytes
+pub mod Halving
+pub mod Joined
+pub mod Places
+pub mod RoundLemmas
+pub mod RowFacts
+pub mod SoFar
+pub mod Spread

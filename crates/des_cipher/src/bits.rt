@@ -1,4 +1,4 @@
-// Lists of bits, numbered from 1 as FIPS 46-3 does, and the bytes that they write.
+//! Lists of bits, numbered from 1 as FIPS 46-3 does, and the bytes that they write.
 
 ghost use Rattle.std.specs.Prelude.{◌≡◌, ◌+◌, ◌*◌, ◌^◌, ◌<◌, ◌≤◌, ◌&&◌, ◌++◌, ◌==◌, IsTrue, nat_le, take, drop, length};
 ghost use Rattle.std.specs.Int.{bit_at};
@@ -6,7 +6,7 @@ ghost use Rattle.std.specs.List.{list_all};
 ghost use Rattle.des_cipher.specs.Bits.{permuted, combined, number_bits, number_of, bits_of, bytes_of};
 
 /// The bits with the numbers listed, in this order.
-pub fn permute<const N: usize>(places: &[u8; N], bits: &[bool]) -> [bool; N]
+pub(crate) fn permute<const N: usize>(places: &[u8; N], bits: &[bool]) -> [bool; N]
     requires { IsTrue (list_all (λ p. nat_le 1 p && nat_le p (length bits.now)) places.now) }
     ensures value { result ≡ permuted places.now bits.now }
     ensures len { length result ≡ N }
@@ -19,7 +19,7 @@ pub fn permute<const N: usize>(places: &[u8; N], bits: &[bool]) -> [bool; N]
 }
 
 /// Combines bits with others by exclusive or.
-pub fn combine(bits: &mut [bool], others: &[bool])
+pub(crate) fn combine(bits: &mut [bool], others: &[bool])
     requires { length bits.old ≡ length others.now }
     ensures { bits.new ≡ combined bits.old others.now }
 {
@@ -29,7 +29,7 @@ pub fn combine(bits: &mut [bool], others: &[bool])
 }
 
 /// Writes a part into bits from a place on.
-pub fn put(bits: &mut [bool], at: usize, part: &[bool])
+pub(crate) fn put(bits: &mut [bool], at: usize, part: &[bool])
     requires { at + length part.now ≤ length bits.old }
     ensures { bits.new ≡ take at bits.old ++ part.now ++ drop (at + length part.now) bits.old }
 {
@@ -37,7 +37,7 @@ pub fn put(bits: &mut [bool], at: usize, part: &[bool])
 }
 
 /// Writes two parts, one after the other, over bits.
-pub fn join(bits: &mut [bool], first: &[bool], second: &[bool])
+pub(crate) fn join(bits: &mut [bool], first: &[bool], second: &[bool])
     requires { length first.now + length second.now ≡ length bits.old }
     ensures { bits.new ≡ first.now ++ second.now }
 {
@@ -46,7 +46,7 @@ pub fn join(bits: &mut [bool], first: &[bool], second: &[bool])
 }
 
 /// Whether the bit of a number at a place is set, the lowest being at 0.
-pub fn is_set(number: u8, place: u32) -> bool
+pub(crate) fn is_set(number: u8, place: u32) -> bool
     requires { place < 8 }
     ensures { result ≡ (bit_at number place == 1) }
 {
@@ -55,7 +55,7 @@ pub fn is_set(number: u8, place: u32) -> bool
 
 /// The last four bits of a number, the highest first.
 #[tactic(auto, unfolding(crate::specs::Bits::number_bits))]
-pub fn nibble_bits(number: u8) -> [bool; 4]
+pub(crate) fn nibble_bits(number: u8) -> [bool; 4]
     ensures { result ≡ number_bits 4 number }
 {
     [
@@ -68,7 +68,7 @@ pub fn nibble_bits(number: u8) -> [bool; 4]
 
 /// The bits of a byte, the highest first.
 #[tactic(auto, unfolding(crate::specs::Bits::number_bits))]
-pub fn byte_bits(byte: u8) -> [bool; 8]
+pub(crate) fn byte_bits(byte: u8) -> [bool; 8]
     ensures { result ≡ number_bits 8 byte }
 {
     [
@@ -85,7 +85,7 @@ pub fn byte_bits(byte: u8) -> [bool; 8]
 
 /// The number that up to eight bits write, the highest first.
 #[tactic(auto, using(crate::proofs::BitLemmas::number_of_push, crate::proofs::BitLemmas::number_of_none))]
-pub fn number(bits: &[bool]) -> u8
+pub(crate) fn number(bits: &[bool]) -> u8
     requires { length bits.now ≤ 8 }
     ensures value { result ≡ number_of bits.now }
     ensures below { result < 2 ^ length bits.now }
@@ -99,7 +99,7 @@ pub fn number(bits: &[bool]) -> u8
 
 /// Writes the bits of bytes, eight for each.
 #[tactic(auto, using(crate::proofs::BitLemmas::bits_of_none))]
-pub fn write_bits(bytes: &[u8], bits: &mut [bool])
+pub(crate) fn write_bits(bytes: &[u8], bits: &mut [bool])
     requires { length bits.old ≡ 8 * length bytes.now }
     ensures { bits.new ≡ bits_of bytes.now }
 {
@@ -110,7 +110,7 @@ pub fn write_bits(bytes: &[u8], bits: &mut [bool])
 
 /// The 8 bytes that 64 bits write.
 #[tactic(auto, unfolding(crate::specs::Bits::bytes_of))]
-pub fn bytes_from(bits: &[bool; 64]) -> [u8; 8]
+pub(crate) fn bytes_from(bits: &[bool; 64]) -> [u8; 8]
     ensures { result ≡ bytes_of bits.now }
 {
     let mut bytes = [0; 8];

@@ -1,4 +1,4 @@
-// The cipher of FIPS 46-3 on lists of bits.
+//! The cipher of FIPS 46-3 on lists of bits.
 
 ghost use Rattle.std.specs.Prelude.{◌≡◌, length, take, drop};
 ghost use Rattle.des_cipher.specs.Cipher.{cipher, mixed, substituted, substitutions, box_place};
@@ -10,7 +10,7 @@ use crate::tables::{
 };
 
 /// The block enciphered by one round for each round key, in order.
-pub fn encipher(keys: &[[bool; 48]; 16], block: &[bool; 64]) -> [bool; 64]
+pub(crate) fn encipher(keys: &[[bool; 48]; 16], block: &[bool; 64]) -> [bool; 64]
     ensures { result ≡ cipher keys.now block.now }
 {
     let (mut left, mut right) = halves(&permute(&INITIAL_PERMUTATION, block));

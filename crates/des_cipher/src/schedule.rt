@@ -1,4 +1,4 @@
-// The key schedule of FIPS 46-3.
+//! The key schedule of FIPS 46-3 on lists of bits.
 
 ghost use Rattle.std.specs.Prelude.{◌≡◌};
 ghost use Rattle.des_cipher.specs.Schedule.{round_keys};
@@ -7,7 +7,7 @@ use crate::bits::{join, permute};
 use crate::tables::{KEY_CHOICE_C, KEY_CHOICE_D, ROTATIONS, ROUND_KEY_CHOICE};
 
 /// The round keys of a key, in the order of the rounds.
-pub fn key_schedule(key: &[bool; 64]) -> [[bool; 48]; 16]
+pub(crate) fn key_schedule(key: &[bool; 64]) -> [[bool; 48]; 16]
     ensures { result ≡ round_keys key.now }
 {
     let mut c = permute(&KEY_CHOICE_C, key);

@@ -1,54 +1,54 @@
-// The tables of FIPS 46-3. A permutation lists, for each bit of its output, the number of the bit of its input, from 1.
+//! The tables of FIPS 46-3. A permutation lists, for each bit of its output, the number of the bit of its input, from 1.
 
 /// The initial permutation IP.
-pub const INITIAL_PERMUTATION: [u8; 64] = [
+pub(crate) const INITIAL_PERMUTATION: [u8; 64] = [
     58, 50, 42, 34, 26, 18, 10, 2, 60, 52, 44, 36, 28, 20, 12, 4, 62, 54, 46, 38, 30, 22, 14, 6,
     64, 56, 48, 40, 32, 24, 16, 8, 57, 49, 41, 33, 25, 17, 9, 1, 59, 51, 43, 35, 27, 19, 11, 3, 61,
     53, 45, 37, 29, 21, 13, 5, 63, 55, 47, 39, 31, 23, 15, 7,
 ];
 
 /// The inverse of the initial permutation, with which the cipher ends.
-pub const FINAL_PERMUTATION: [u8; 64] = [
+pub(crate) const FINAL_PERMUTATION: [u8; 64] = [
     40, 8, 48, 16, 56, 24, 64, 32, 39, 7, 47, 15, 55, 23, 63, 31, 38, 6, 46, 14, 54, 22, 62, 30,
     37, 5, 45, 13, 53, 21, 61, 29, 36, 4, 44, 12, 52, 20, 60, 28, 35, 3, 43, 11, 51, 19, 59, 27,
     34, 2, 42, 10, 50, 18, 58, 26, 33, 1, 41, 9, 49, 17, 57, 25,
 ];
 
 /// The bit-selection table E, which gives 48 bits from the 32 of a half.
-pub const EXPANSION: [u8; 48] = [
+pub(crate) const EXPANSION: [u8; 48] = [
     32, 1, 2, 3, 4, 5, 4, 5, 6, 7, 8, 9, 8, 9, 10, 11, 12, 13, 12, 13, 14, 15, 16, 17, 16, 17, 18,
     19, 20, 21, 20, 21, 22, 23, 24, 25, 24, 25, 26, 27, 28, 29, 28, 29, 30, 31, 32, 1,
 ];
 
 /// The permutation P of the 32 bits that the S-boxes give.
-pub const ROUND_PERMUTATION: [u8; 32] = [
+pub(crate) const ROUND_PERMUTATION: [u8; 32] = [
     16, 7, 20, 21, 29, 12, 28, 17, 1, 15, 23, 26, 5, 18, 31, 10, 2, 8, 24, 14, 32, 27, 3, 9, 19,
     13, 30, 6, 22, 11, 4, 25,
 ];
 
 /// Permuted choice 1, first half: the key bits of C.
-pub const KEY_CHOICE_C: [u8; 28] = [
+pub(crate) const KEY_CHOICE_C: [u8; 28] = [
     57, 49, 41, 33, 25, 17, 9, 1, 58, 50, 42, 34, 26, 18, 10, 2, 59, 51, 43, 35, 27, 19, 11, 3, 60,
     52, 44, 36,
 ];
 
 /// Permuted choice 1, second half: the key bits of D.
-pub const KEY_CHOICE_D: [u8; 28] = [
+pub(crate) const KEY_CHOICE_D: [u8; 28] = [
     63, 55, 47, 39, 31, 23, 15, 7, 62, 54, 46, 38, 30, 22, 14, 6, 61, 53, 45, 37, 29, 21, 13, 5,
     28, 20, 12, 4,
 ];
 
 /// Permuted choice 2: the bits of C and D that make a round key.
-pub const ROUND_KEY_CHOICE: [u8; 48] = [
+pub(crate) const ROUND_KEY_CHOICE: [u8; 48] = [
     14, 17, 11, 24, 1, 5, 3, 28, 15, 6, 21, 10, 23, 19, 12, 4, 26, 8, 16, 7, 27, 20, 13, 2, 41, 52,
     31, 37, 47, 55, 30, 40, 51, 45, 33, 48, 44, 49, 39, 56, 34, 53, 46, 42, 50, 36, 29, 32,
 ];
 
 /// The places that C and D are rotated to the left before each round.
-pub const ROTATIONS: [u8; 16] = [1, 1, 2, 2, 2, 2, 2, 2, 1, 2, 2, 2, 2, 2, 2, 1];
+pub(crate) const ROTATIONS: [u8; 16] = [1, 1, 2, 2, 2, 2, 2, 2, 1, 2, 2, 2, 2, 2, 2, 1];
 
 /// The S-boxes S1 to S8: rows 0 to 3, of 16 entries each.
-pub const S_BOXES: [[u8; 64]; 8] = [
+pub(crate) const S_BOXES: [[u8; 64]; 8] = [
     [
         14, 4, 13, 1, 2, 15, 11, 8, 3, 10, 6, 12, 5, 9, 0, 7, 0, 15, 7, 4, 14, 2, 13, 1, 10, 6, 12,
         11, 9, 5, 3, 8, 4, 1, 14, 8, 13, 6, 2, 11, 15, 12, 9, 7, 3, 10, 5, 0, 15, 12, 8, 2, 4, 9,

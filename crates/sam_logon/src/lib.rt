@@ -15,5 +15,3 @@ pub use status::{
     STATUS_WRONG_PASSWORD,
 };
 
-#[cfg(test)]
-mod tests;

@@ -1,18 +1,13 @@
 use Rattle.std.proofs.Common.{◌∙◌, ap}
 use Rattle.des_cipher.specs.Bits.{bits_of, bytes_of}
 use Rattle.des_cipher.specs.Cipher.{cipher}
-use Rattle.des_cipher.specs.Schedule.{round_keys}
 use Rattle.des_cipher.specs.Des.{des_of}
 use Rattle.des_cipher.proofs.DesLaws.{des_of-same_but_low_bits}
 use Rattle.des_cipher.proofs.des.des_block8.Goals as goal
 
 pub returns-clause-value : goal.returns-clause-value
 unfolding des_of
-returns-clause-value c =
-    let block = c.block_bits.result in
-    c.bytes_from.ensures
-    ∙ ap bytes_of (c.encipher.ensures ∙ ap (λ ks. cipher ks block) (c.key_schedule.ensures ∙ ap round_keys c.write_bits.ensures))
-    ∙ ap (λ b. bytes_of (cipher (round_keys (bits_of c.args.key)) b)) c.block_bits.ensures.value
+returns-clause-value c = c.encipher_bytes.ensures.value ∙ ap (λ ks. bytes_of (cipher ks (bits_of c.args.block))) c.round_keys.ensures
 
 pub returns-clause-parity_is_free : goal.returns-clause-parity_is_free
 returns-clause-parity_is_free c other same =
