@@ -1,2 +1,3 @@
+pub mod ChannelLaws
 pub mod ReplayLaws
 pub mod SeedLaws

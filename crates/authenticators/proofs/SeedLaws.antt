@@ -1,5 +1,5 @@
 -- Laws of the seed: how additions add up, and what is known of two seeds that are alike.
-use Rattle.std.proofs.Common.{◌≡◌, ℕ, ◌+◌, ◌%◌, ◌^◌, ◌<◌, List, [], ◌∷◌, ◌++◌, length, get_or, take, drop, All, inl, inr, ap, sym, ◌∙◌, arith}
+use Rattle.std.proofs.Common.{◌≡◌, ℕ, ◌+◌, ◌-◌, ◌%◌, ◌^◌, ◌<◌, List, [], ◌∷◌, ◌++◌, length, get_or, take, drop, All, inl, inr, ap, sym, ◌∙◌, arith}
 use Rattle.std.proofs.lemmas.List.{length-append, length-drop, length-take-le, take-append-drop, get_or_past}
 use Rattle.std.proofs.lemmas.List.Elements.{All-append, All-take, All-drop, All-get_or, All-from_recursion}
 use Rattle.std.proofs.lemmas.List.Sums.{sum_by-cons}
@@ -73,3 +73,12 @@ seed_after-moved_by seed (t ∷ later) h =
     seed_after-moved_by (add_to seed (t + 1)) later (IsBlock-add_to seed (t + 1) h)
     ∙ add_to-add_to seed (t + 1) (moved_by later)
     ∙ ap (add_to seed) (sym (sum_by-cons (λ n. n + 1) t later))
+
+-- two seeds that one number moves to one seed are one
+pub add_to-seeds : (one other : List ℕ) (n : ℕ) → IsBlock one → IsBlock other → add_to one n ≡ add_to other n → one ≡ other
+add_to-seeds one other n h k e =
+    let m : ℕ = 2 ^ 32 - n % 2 ^ 32 in
+    let whole : 0 % 2 ^ 32 ≡ (n + m) % 2 ^ 32 = omega arith in
+    sym (add_to-zero one h) ∙ add_to-alike one 0 (n + m) whole ∙ sym (add_to-add_to one n m)
+    ∙ ap (λ z. add_to z m) e
+    ∙ add_to-add_to other n m ∙ sym (add_to-alike other 0 (n + m) whole) ∙ add_to-zero other k

@@ -52,6 +52,11 @@ pub record SequenceState : Type 0 where
   pub seed : List ℕ
   pub awaited : Option (List ℕ)
 
+-- two ends that have one key and one seed
+pub record InStep (one other : SequenceState) : Type 0 where
+  pub key : one.key ≡ other.key
+  pub seed : one.seed ≡ other.seed
+
 -- after making an authenticator with this timestamp
 abbrev pub made : SequenceState → ℕ → SequenceState
 made s timestamp = record {

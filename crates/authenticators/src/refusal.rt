@@ -1,4 +1,4 @@
-// Why a sequence refuses.
+//! Why a sequence refuses.
 
 use thiserror::Error;
 

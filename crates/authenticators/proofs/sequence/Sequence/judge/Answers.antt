@@ -1,10 +1,8 @@
-use Rattle.std.proofs.Common.{◌≡◌, ◌+◌, ℕ, Bool, true, false, not, List, Ok, refl, ap, sym, ◌∙◌}
-use Rattle.std.proofs.lemmas.Slice.Eq.{bytes_eq-Decides}
+use Rattle.std.proofs.Common.{◌≡◌, ◌+◌, Bool, true, false, not, Ok, refl, ap, sym, ◌∙◌}
 use Rattle.std.specs.Str.{bytes_eq}
 use Rattle.channel_keys.specs.Credentials.{cred_of}
-use Rattle.authenticators.specs.Sequences.{SequenceState, Passes, add_to, passes, judge_by}
+use Rattle.authenticators.specs.Sequences.{SequenceState, add_to, passes, judge_by}
 use Rattle.authenticators.proofs.SeedLaws.{add_to-add_to}
-use Rattle.authenticators.proofs.ReplayLaws.{replay}
 use Rattle.authenticators.proofs.sequence.Sequence.judge.Goals as goal
 
 -- two lists of bytes that were not found to differ
@@ -21,29 +19,21 @@ passed : (c : goal.After-cred) → passes c.self.inside.key c.self.inside.seed c
 passed c =
     let same : bytes_eq c.args.given.now.credential c.cred-awaited.result ≡ true = not_differ _ (sym c.ne.ensures ∙ c.if-ne.false) in
     let at : c.cred-awaited.result ≡ cred_of c.self.inside.key (add_to c.self.inside.seed c.args.given.now.timestamp) =
-    c.cred-awaited.ensures.value ∙ ap (cred_of c.self.inside.key) c.added-seed.ensures.value in
+    c.cred-awaited.ensures ∙ ap (cred_of c.self.inside.key) c.added-seed.ensures in
     ap (bytes_eq c.args.given.now.credential) (sym at) ∙ same
 
 moved : (c : goal.After-cred) → c.added-after.result ≡ add_to c.self.inside.seed (c.args.given.now.timestamp + 1)
 moved c =
-    c.added-after.ensures.value ∙ ap (λ z. add_to z 1) c.added-seed.ensures.value ∙ add_to-add_to c.self.inside.seed c.args.given.now.timestamp 1
+    c.added-after.ensures ∙ ap (λ z. add_to z 1) c.added-seed.ensures ∙ add_to-add_to c.self.inside.seed c.args.given.now.timestamp 1
 
 pub returns-clause-answer : goal.returns-clause-answer
 unfolding before
 returns-clause-answer c =
     let back : c.cred.result ≡ cred_of c.self.inside.key (add_to c.self.inside.seed (c.args.given.now.timestamp + 1)) =
-    c.cred.ensures.value ∙ ap (cred_of c.self.inside.key) (moved c) in
+    c.cred.ensures ∙ ap (cred_of c.self.inside.key) (moved c) in
     rw (← c.self.view_is) (ap Ok back ∙ ap (λ b. (judge_by b (before c) c.args.given.now).answer) (sym (passed c)))
 
 pub returns-clause-sequence : goal.returns-clause-sequence
 unfolding before
 returns-clause-sequence c =
     rw (← c.self.view_is, moved c) (ap (λ b. (judge_by b (before c) c.args.given.now).sequence) (sym (passed c)))
-
-pub returns-clause-replay : goal.returns-clause-replay
-returns-clause-replay c later =
-    let key : List ℕ = c.self.inside.key in
-    let seed : List ℕ = c.self.inside.seed in
-    let given = c.args.given.now in
-    let pass : Passes key seed given = (bytes_eq-Decides given.credential (cred_of key (add_to seed given.timestamp))).0 (passed c) in
-    rw (← c.self.view_is, moved c) (replay key seed given later c.added-seed.ensures.is_block pass)

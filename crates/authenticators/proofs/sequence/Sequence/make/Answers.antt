@@ -1,7 +1,7 @@
 use Rattle.std.proofs.Common.{◌≡◌, ◌+◌, ℕ, List, refl, ap, ◌∙◌}
 use Rattle.channel_keys.specs.Credentials.{cred_of}
 use Rattle.authenticators.specs.Sequences.{add_to}
-use Rattle.authenticators.proofs.SeedLaws.{add_to-add_to, seed_after-moved_by}
+use Rattle.authenticators.proofs.SeedLaws.{add_to-add_to}
 use Rattle.authenticators.proofs.sequence.Sequence.make.Goals as goal
 
 pub returns-clause-sequence : goal.returns-clause-sequence
@@ -10,9 +10,6 @@ returns-clause-sequence c =
     let seed : List ℕ = c.self.inside.seed in
     let t : ℕ = c.args.timestamp in
     let moved : c.added-self-inside.result ≡ add_to seed (t + 1) =
-    c.added-self-inside.ensures.value ∙ ap (λ z. add_to z 1) c.added-seed.ensures.value ∙ add_to-add_to seed t 1 in
-    let back : c.cred.result ≡ cred_of key (add_to seed (t + 1)) = c.cred.ensures.value ∙ ap (cred_of key) moved in
+    c.added-self-inside.ensures ∙ ap (λ z. add_to z 1) c.added-seed.ensures ∙ add_to-add_to seed t 1 in
+    let back : c.cred.result ≡ cred_of key (add_to seed (t + 1)) = c.cred.ensures ∙ ap (cred_of key) moved in
     rw (← c.self.view_is, moved, back) refl
-
-pub returns-clause-moves : goal.returns-clause-moves
-returns-clause-moves c timestamps = rw (← c.self.view_is) (seed_after-moved_by c.self.inside.seed timestamps c.added-seed.ensures.is_block)
