@@ -1,11 +1,11 @@
 -- Laws of the maker of challenges that counts: what is drawn and left at each count, and that no two challenges are alike.
-use Rattle.std.proofs.Common.{◌≡◌, ◌≢◌, ℕ, zero, suc, ◌+◌, ◌-◌, ◌*◌, ◌^◌, ◌<◌, List, [], ◌∷◌, ◌++◌, length, get_or, AllPairs, refl, ap, sym, ◌∙◌, arith}
-use Rattle.std.proofs.lemmas.List.Elements.{All-from_recursion}
+use Rattle.std.proofs.Common.{◌≡◌, ◌≢◌, ℕ, zero, suc, ◌+◌, ◌-◌, ◌*◌, ◌^◌, ◌<◌, List, [], ◌∷◌, ◌++◌, length, get_or, All, AllPairs, refl, ap, sym, ◌∙◌, arith}
+use Rattle.std.proofs.lemmas.List.Elements.{All-from_recursion, All-cons, All-nil}
 use Rattle.std.proofs.lemmas.Nat.{from_le_bytes-to_le_bytes_8}
 use Rattle.std.specs.Int.{w64, to_le_bytes, from_le_bytes}
 use Rattle.channel_keys.specs.Des.{IsBlock}
 use Rattle.channel_keys.specs.Credentials.{cred_of}
-use Rattle.channel_keys.proofs.CredLaws.{cred_of-one_to_one}
+use Rattle.channel_keys.proofs.CredLaws.{IsBlock-cred_of, cred_of-one_to_one}
 use Rattle.outside.specs.Counter.{maker_key_of, challenge_of, challenges_from}
 
 -- the eight bytes of a number
@@ -26,6 +26,13 @@ one_number key m n hm hn e =
 pub challenge_of-key : (seed : List ℕ) (boot count : ℕ) (key challenge : List ℕ) → key ≡ maker_key_of seed → challenge ≡ cred_of key (to_le_bytes w64 (boot * 2 ^ 32 + count)) → challenge ≡ challenge_of seed boot count
 unfolding challenge_of
 challenge_of-key seed boot count key challenge k e = e ∙ ap (λ z. cred_of z (to_le_bytes w64 (boot * 2 ^ 32 + count))) k
+
+-- each challenge is a block
+pub blocks-challenges_from : (seed : List ℕ) (boot count more : ℕ) → All IsBlock (challenges_from seed boot count more)
+unfolding challenges_from challenge_of
+blocks-challenges_from seed boot count zero = All-nil IsBlock
+blocks-challenges_from seed boot count (suc more) =
+    All-cons IsBlock (challenge_of seed boot count) (challenges_from seed boot (count + 1) more) (IsBlock-cred_of (maker_key_of seed) (to_le_bytes w64 (boot * 2 ^ 32 + count))) (blocks-challenges_from seed boot (count + 1) more)
 
 -- challenges of one seed and one boot with different counts differ
 pub challenge_of-counts : (seed : List ℕ) (boot m n : ℕ) → boot < 2 ^ 32 → m < 2 ^ 32 → n < 2 ^ 32 → m ≢ n → challenge_of seed boot m ≢ challenge_of seed boot n

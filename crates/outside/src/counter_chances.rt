@@ -1,13 +1,14 @@
 //! The maker of challenges that counts.
 
-ghost use Rattle.std.specs.Prelude.{◌≡◌, ◌≢◌, ◌+◌, ◌*◌, ◌^◌, ◌<◌, ◌↔◌, ℕ, [], length, AllPairs, IfOk, OnErr, IsErr, replicate};
+ghost use Rattle.std.specs.Prelude.{◌≡◌, ◌≢◌, ◌+◌, ◌*◌, ◌^◌, ◌<◌, ◌↔◌, ℕ, [], length, All, AllPairs, IfOk, OnErr, IsErr, replicate};
 ghost use Rattle.std.specs.Int.{w64, to_le_bytes};
 ghost use Rattle.channel_keys.specs.Credentials.{cred_of};
+ghost use Rattle.channel_keys.specs.Des.{IsBlock};
 ghost use Rattle.outside.specs.Counter.{challenge_of, counter_at, maker_key_of, most_draws};
 ghost use Rattle.outside.specs.Drawing.{Draws};
 
 use crate::chances::{Chances, Spent};
-use channel_keys::cred;
+use channel_keys::CredKey;
 use rand_chacha::ChaCha20Rng;
 use rand_core::{Rng, SeedableRng};
 use std::marker::Model;
@@ -19,7 +20,7 @@ use std::marker::Model;
 pub struct CounterChances {
     seed: [u8; 32],
     boot: u32,
-    key: [u8; 16],
+    key: CredKey,
     count: u32,
 }
 
@@ -43,7 +44,7 @@ impl CounterChances {
         CounterChances {
             seed: [0; 32],
             boot: 0,
-            key: maker_key([0; 32]),
+            key: CredKey::new(maker_key([0; 32])),
             count: 0,
         }
     }
@@ -57,10 +58,13 @@ impl Chances for CounterChances {
         ensures boot { self.new.boot ≡ boot }
         ensures drawn { self.new.drawn ≡ [] }
         ensures exact { self.new ≡ counter_at seed boot 0 }
+
+        // Each challenge is a block of 8 bytes.
+        ensures blocks { All IsBlock self.new.left }
     {
         self.seed = seed;
         self.boot = boot;
-        self.key = maker_key(seed);
+        self.key = CredKey::new(maker_key(seed));
         self.count = 0;
     }
 
@@ -95,10 +99,10 @@ pub fn maker_key(seed: [u8; 32]) -> [u8; 16]
     key
 }
 
-// The challenge of a number of the boot and a count, under a key.
-fn challenge(key: &[u8; 16], boot: u32, count: u32) -> [u8; 8]
+/// The challenge of a number of the boot and a count, under a key.
+fn challenge(key: &CredKey, boot: u32, count: u32) -> [u8; 8]
     ensures { result ≡ cred_of key.now (to_le_bytes w64 (boot * 2 ^ 32 + count)) }
 {
     let number = (u64::from(boot) << 32) + u64::from(count);
-    cred(*key, number.to_le_bytes())
+    key.cred(number.to_le_bytes())
 }
