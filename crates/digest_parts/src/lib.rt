@@ -6,8 +6,6 @@
 mod hmac_digest;
 mod md4_block;
 mod md4_digest;
-#[cfg(test)]
-mod tests;
 
 pub use hmac_digest::{Hmac, hmac_md5};
 pub use md4_digest::{Md4Hasher, md4};

@@ -5,6 +5,3 @@ mod rc4;
 mod state;
 
 pub use rc4::Rc4;
-
-#[cfg(test)]
-mod tests;
