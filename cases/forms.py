@@ -53,7 +53,7 @@ def err(text):
     return f"Err({text})"
 
 
-def struct(name, **fields):
+def struct(name, /, **fields):
     """A struct with named fields, in their order."""
     return name + " { " + ", ".join(f"{key}: {value}" for key, value in fields.items()) + " }"
 

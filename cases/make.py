@@ -30,7 +30,11 @@ PROGRAMS = {
         "ntlm_seal",
     ],
     "wire_cases": [],
-    "account_cases": [],
+    "account_cases": [
+        "account_table",
+        "sam_logon",
+        "outside",
+    ],
     "top_cases": [],
 }
 

@@ -56,8 +56,11 @@ pub(crate) fn size(word: &str) -> anyhow::Result<usize> {
     Ok(number(word)? as usize)
 }
 
-/// The hex digits of bytes.
+/// The hex digits of bytes, or `-` where there are none.
 pub(crate) fn text(alloc: Global, bytes: &[u8]) -> anyhow::Result<String> {
+    if bytes.is_empty() {
+        return Ok("-".to_string(alloc)?);
+    }
     Ok(hex::encode(alloc, bytes)?)
 }
 
