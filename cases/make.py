@@ -35,7 +35,9 @@ PROGRAMS = {
         "sam_logon",
         "outside",
     ],
-    "top_cases": [],
+    "top_cases": [
+        "nt_top",
+    ],
 }
 
 
