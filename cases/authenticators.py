@@ -1,8 +1,10 @@
 """Cases of authenticators.
 
-`sequence.run KEY SEED STEP..`, whose steps are `make=TIMESTAMP`, `judge=TIMESTAMP:CREDENTIAL`, `return=CREDENTIAL` and `awaits`. The
-answers stand with `;` between them.
+`sequence.run KEY SEED STEP..`, whose steps are `make=TIMESTAMP`, `judge=TIMESTAMP:CREDENTIAL`, `return=CREDENTIAL`, `awaits` and `key`.
+The answers stand with `;` between them. `sequence.timestamp NOW`: the timestamp of a moment in units of 100 ns since 1601.
 """
+
+import datetime
 
 from forms import array, line, ok, option, struct, values
 
@@ -53,6 +55,29 @@ def refused(timestamp, credential, awaited):
     return (f"judge={timestamp}:{credential}", not_next(awaited))
 
 
+def of_moments():
+    """Moments and their seconds since 1970, modulo 2^32, by Python's own calendar."""
+    first = datetime.datetime(1601, 1, 1)
+    out = []
+    for when in [
+        first,
+        datetime.datetime(1969, 12, 31, 23, 59, 59),
+        datetime.datetime(1970, 1, 1),
+        datetime.datetime(2000, 2, 29, 12, 30, 15),
+        datetime.datetime(2026, 1, 1),
+        datetime.datetime(2106, 2, 7, 6, 28, 15),
+        datetime.datetime(2106, 2, 7, 6, 28, 16),
+        datetime.datetime(9999, 12, 31, 23, 59, 59),
+    ]:
+        seconds = (when - first) // datetime.timedelta(seconds=1)
+        timestamp = (when - datetime.datetime(1970, 1, 1)) // datetime.timedelta(seconds=1) % 2**32
+        for part in [0, 1, 9_999_999]:
+            out.append((line("sequence.timestamp", 10_000_000 * seconds + part), str(timestamp)))
+    last = 2**64 - 1
+    out.append((line("sequence.timestamp", last), str((last // 10_000_000 - 11_644_473_600) % 2**32)))
+    return out
+
+
 def cases():
     """Each line and its answer."""
     sequences = values("netlogon")["sequences"]
@@ -60,8 +85,9 @@ def cases():
     for sequence in sequences:
         steps, last = sequence["steps"], sequence["then_refused"]
         # The maker's end, the judge's end, and the judge's end once more with a refused step before each, which changes nothing.
+        key = ("key", sequence["key"])
         out.append(
-            scenario(sequence, [("awaits", "None")] + [part for step in steps for part in made(step)])
+            scenario(sequence, [key, ("awaits", "None"), key] + [part for step in steps for part in made(step)])
         )
         wrong = refused(last["timestamp"], last["credential"], last["awaited"])
         out.append(scenario(sequence, [judged(step) for step in steps] + [wrong]))
@@ -88,4 +114,4 @@ def cases():
             + [refused(0, none["credential"], none["awaited_return"])],
         )
     )
-    return out
+    return out + of_moments()

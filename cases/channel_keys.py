@@ -1,7 +1,8 @@
 """Cases of channel_keys.
 
 `channel.session_key SECRET CLIENT SERVER FLAGS`, `channel.strong_key SECRET CLIENT SERVER`, `channel.des_key SECRET CLIENT SERVER`,
-`channel.cred KEY INPUT`, `channel.cred_back KEY OUTPUT`, `channel.flag NAME` (the number, and whether this project offers it).
+`channel.cred KEY INPUT`, `channel.cred_key KEY INPUT` (the kept key, and the credential), `channel.cred_back KEY OUTPUT`,
+`channel.flag NAME` (the number, and whether this project offers it), `channel.granted SUPPORTED OFFERED`, `channel.type NAME`.
 """
 
 from forms import line, values
@@ -13,6 +14,20 @@ FLAGS = [
     ("AES", "01000000 false"),
     ("SECURE_RPC", "40000000 false"),
     ("SUPPORTED_FLAGS", "000041ff true"),
+]
+
+# MS-NRPC 2.2.1.3.13.
+TYPES = [("WORKSTATION", "2"), ("TRUSTED_DOMAIN", "4"), ("BACKUP_CONTROLLER", "6")]
+
+# Flags that are offered, and those of them in 0x000041ff.
+GRANTED = [
+    ("000001ff", "000001ff"),
+    ("000041ff", "000041ff"),
+    ("000001fb", "000001fb"),
+    ("ffffffff", "000041ff"),
+    ("00000000", "00000000"),
+    ("01004004", "00004004"),
+    ("40020000", "00000000"),
 ]
 
 # Flags without the strong key's 0x4000, and with it: MS-NRPC 3.1.4.3.
@@ -38,13 +53,21 @@ def cases():
                 challenge = channel[f"{side}_challenge"]
                 credential = channel[f"{side}_credential_{name}_key"]
                 out.append((line("channel.cred", key, challenge), credential))
+                out.append((line("channel.cred_key", key, challenge), f"{key};{credential}"))
                 out.append((line("channel.cred_back", key, credential), challenge))
     for case in netlogon["credentials"]:
         key, text, credential = case["key"], case["input"], case["credential"]
         out.append((line("channel.cred", key, text), credential))
+        out.append((line("channel.cred_key", key, text), f"{key};{credential}"))
         out.append((line("channel.cred_back", key, credential), text))
         out.append((line("channel.cred_back", key, text), case["credential_back_of_input"]))
         out.append((line("channel.cred", key, case["credential_back_of_input"]), text))
     for name, answer in FLAGS:
         out.append((line("channel.flag", name), answer))
+    for offered, answer in GRANTED:
+        out.append((line("channel.granted", "000041ff", offered), answer))
+        out.append((line("channel.granted", offered, "000041ff"), answer))
+        out.append((line("channel.granted", offered, "ffffffff"), offered))
+    for name, number in TYPES:
+        out.append((line("channel.type", name), number))
     return out

@@ -1,4 +1,8 @@
-"""Cases of des_cipher: `des.block8 KEY BLOCK`, `des.block KEY BLOCK`, `des.back KEY BLOCK`, `des.spread KEY`."""
+"""Cases of des_cipher.
+
+`des.block8 KEY BLOCK`, `des.block KEY BLOCK`, `des.back KEY BLOCK`, `des.spread KEY`; the same with `plain_` before, which are the bodies
+on bits; `des.schedule KEY BLOCK` and `des.schedule_back KEY BLOCK` (what a kept schedule makes of the block, and back again).
+"""
 
 from forms import line, values
 
@@ -9,19 +13,31 @@ KEYS_OF_8_BYTES = [
 ]
 
 
+def both(operation, words, answer):
+    """A line of an operation on words of the machine, and one of the same on bits."""
+    return [
+        (line(f"des.{operation}", *words), answer),
+        (line(f"des.plain_{operation}", *words), answer),
+    ]
+
+
 def cases():
     """Each line and its answer."""
     des = values("des")
     out = []
     for case in des["keys_of_8_bytes"]:
-        out.append((line("des.block8", case["key"], case["block"]), case["result"]))
+        out += both("block8", [case["key"], case["block"]], case["result"])
     for key, block, result in KEYS_OF_8_BYTES:
-        out.append((line("des.block8", key, block), result))
+        out += both("block8", [key, block], result)
     for case in des["keys_of_7_bytes"]:
-        key, block, result = case["key"], case["block"], case["result"]
-        out.append((line("des.spread", key), case["spread_key"]))
-        out.append((line("des.block", key, block), result))
-        out.append((line("des.block8", case["spread_key"], block), result))
-        out.append((line("des.back", key, block), case["decrypted_block"]))
-        out.append((line("des.back", key, result), block))
+        key, block, result, back = case["key"], case["block"], case["result"], case["decrypted_block"]
+        out += both("spread", [key], case["spread_key"])
+        out += both("block", [key, block], result)
+        out += both("block8", [case["spread_key"], block], result)
+        out += both("back", [key, block], back)
+        out += both("back", [key, result], block)
+        out.append((line("des.schedule", key, block), f"{result};{block}"))
+        out.append((line("des.schedule", key, back), f"{block};{back}"))
+        out.append((line("des.schedule_back", key, block), f"{back};{block}"))
+        out.append((line("des.schedule_back", key, result), f"{block};{result}"))
     return out

@@ -7,9 +7,11 @@
 `responses.exported_key EXCHANGE FLAGS KEY` (the key, or `none`).
 """
 
+import hashlib
 import hmac
 
 from forms import line, utf16, values
+from md4 import md4
 
 # Flags of MS-NLMP 2.2.2.5.
 KEY_EXCH = 0x40000000
@@ -150,6 +152,47 @@ def of_lengths(case):
     return out
 
 
+def of_message(case):
+    """The responses and keys of another client's message (MS-NLMP 3.3 and 3.4.5.1): the base and exchange keys by Python's HMAC-MD5."""
+    fields, nt_hash = case["fields"], case["nt_hash"]
+    # Names are UTF-16LE under flag NTLMSSP_NEGOTIATE_UNICODE, and ASCII else.
+    is_unicode = int(fields["flags"], 16) & 1
+    user, domain = [
+        bytes.fromhex(fields[name]).decode("utf-16-le" if is_unicode else "ascii")
+        for name in ["user", "domain"]
+    ]
+    who = nt_hash, utf16(user), utf16(domain)
+    challenge, flags = case["checks"][0]["challenge"], fields["flags"]
+    lm, nt = fields["lm"], fields["nt"]
+    is_ess = int(flags, 16) & EXTENDED_SESSIONSECURITY and len(lm) == 48 and len(nt) == 48
+    out = []
+    if is_ess:
+        answered = hashlib.md5(bytes.fromhex(challenge + lm[:16])).hexdigest()[:16]
+    else:
+        answered = challenge
+    if len(nt) == 48:
+        base = md4(bytes.fromhex(nt_hash)).hex()
+        out.append((line("responses.respond_v1", nt_hash, answered), nt))
+    else:
+        key = hmac_md5(nt_hash, utf16(user.upper()), who[2])
+        out.append((line("responses.nt_key_v2", *who), key))
+        base = hmac_md5(key, nt[:32])
+    exchange = hmac_md5(base, challenge, lm[:16]) if is_ess else base
+    out += [
+        (line("responses.challenge_for", flags, challenge, lm, nt), answered),
+        (line("responses.verify", *who, answered, nt), base),
+        (line("responses.exchange_key", base, flags, challenge, lm, nt), exchange),
+        (line("responses.exported_key", exchange, flags, fields["key"]), case["exported_key"]),
+    ]
+    for check in case["checks"]:
+        if not check["accepted"]:
+            wrong = check["challenge"]
+            if is_ess:
+                wrong = hashlib.md5(bytes.fromhex(wrong + lm[:16])).hexdigest()[:16]
+            out.append((line("responses.verify", *who, wrong, nt), "none"))
+    return out
+
+
 def cases():
     """Each line and its answer."""
     settings = values("ntlm")["settings"]
@@ -157,4 +200,6 @@ def cases():
     for case in settings:
         out += of_hashes(case) + of_v1(case) + of_v1_ess(case) + of_v2(case)
         out += of_lengths(case)
+    for case in values("messages")["authenticate"]:
+        out += of_message(case)
     return out

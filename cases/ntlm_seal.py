@@ -113,6 +113,27 @@ def of_refusals(session):
     return out
 
 
+def of_message(case):
+    """The units that another client sealed after its message, whole: as it sealed them, and as the server opens them."""
+    units = [
+        {
+            "unit": each["plain"],
+            "from": 0,
+            "to": len(each["plain"]) // 2,
+            "sealed_unit": each["sealed"],
+            "signature": each["signature"],
+        }
+        for each in case["sealed_by_client"] or []
+    ]
+    if not units:
+        return []
+    session = {"exported_key": case["exported_key"], "flags": case["agreed_flags"]}
+    return [
+        scenario(session, "client", [seal_step(unit) for unit in units]),
+        scenario(session, "server", [open_step(unit) for unit in units]),
+    ]
+
+
 def cases():
     """Each line and its answer."""
     out = []
@@ -123,4 +144,6 @@ def cases():
     # The refusals under every strength, with keys exchanged and without.
     for session in settings[0]["v2"]["sessions"]:
         out += of_refusals(session)
+    for case in values("messages")["authenticate"]:
+        out += of_message(case)
     return out

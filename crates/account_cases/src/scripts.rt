@@ -7,11 +7,11 @@ ghost use Rattle.outside.specs.PortScript.{is_scripted};
 use crate::words::{add_answer, bytes, eight, long_number, no_case, number, text, word};
 use hex::FromHex;
 use outside::{
-    Chances, Clock, CounterChances, Event, Events, Files, ListChances, ListClock, MapFiles, Port,
-    ScriptPort, Sink, SureSink, VecSink,
+    Chances, Clock, CounterChances, Draws, Event, Events, Files, ListChances, ListClock, MapFiles,
+    Moments, Port, ScriptPort, Sink, SureSink, Texts, VecSink,
 };
 use std::alloc::Global;
-use wire_base::{Blob, Calls, Draws, Moments, Texts};
+use wire_base::{Blob, Calls};
 
 /// Bytes as a `Blob`.
 fn blob(alloc: Global, word: &str) -> anyhow::Result<Blob> {

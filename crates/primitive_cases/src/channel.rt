@@ -2,7 +2,8 @@
 
 use crate::words::{eight, flags, no_case, sixteen, text, word};
 use channel_keys::{
-    AES, RC4, SECURE_RPC, STRONG_KEY, SUPPORTED_FLAGS, cred, cred_back, des_key, has_flag,
+    AES, BACKUP_CONTROLLER_CHANNEL, CredKey, RC4, SECURE_RPC, STRONG_KEY, SUPPORTED_FLAGS,
+    TRUSTED_DOMAIN_CHANNEL, WORKSTATION_CHANNEL, cred, cred_back, des_key, granted_flags, has_flag,
     session_key, strong_key,
 };
 use std::alloc::Global;
@@ -39,6 +40,15 @@ fn cred_of(alloc: Global, words: &[&str]) -> anyhow::Result<String> {
     text(alloc, &cred(key, input))
 }
 
+/// `cred_key KEY INPUT`: the kept key, and the credential under it.
+fn cred_key_of(alloc: Global, words: &[&str]) -> anyhow::Result<String> {
+    let kept = CredKey::new(sixteen(word(words, 1))?);
+    let input = eight(word(words, 2))?;
+    let credential = text(alloc, &kept.cred(input))?;
+    let key = text(alloc, &kept.key())?;
+    Ok(format!(in alloc; "{key};{credential}")?)
+}
+
 /// `cred_back KEY OUTPUT`: the input of which the bytes are the credential.
 fn cred_back_of(alloc: Global, words: &[&str]) -> anyhow::Result<String> {
     let key = sixteen(word(words, 1))?;
@@ -65,6 +75,30 @@ fn flag(alloc: Global, words: &[&str]) -> anyhow::Result<String> {
     Ok(format!(in alloc; "{flag:08x} {offered}")?)
 }
 
+/// `granted SUPPORTED OFFERED`: the flags that are granted.
+fn granted(alloc: Global, words: &[&str]) -> anyhow::Result<String> {
+    let supported = flags(word(words, 1))?;
+    let offered = flags(word(words, 2))?;
+    let granted = granted_flags(supported, offered);
+    Ok(format!(in alloc; "{granted:08x}")?)
+}
+
+/// The number of a type of channel.
+fn type_of(name: &str) -> u16 {
+    match name {
+        "WORKSTATION" => WORKSTATION_CHANNEL,
+        "TRUSTED_DOMAIN" => TRUSTED_DOMAIN_CHANNEL,
+        "BACKUP_CONTROLLER" => BACKUP_CONTROLLER_CHANNEL,
+        _ => 0,
+    }
+}
+
+/// `type NAME`: its number.
+fn channel_type(alloc: Global, words: &[&str]) -> anyhow::Result<String> {
+    let number = type_of(word(words, 1));
+    Ok(format!(in alloc; "{number}")?)
+}
+
 /// What an operation gives.
 pub(crate) fn answer(alloc: Global, operation: &str, words: &[&str]) -> anyhow::Result<String> {
     match operation {
@@ -73,7 +107,10 @@ pub(crate) fn answer(alloc: Global, operation: &str, words: &[&str]) -> anyhow::
         "des_key" => des_key_of(alloc, words),
         "cred" => cred_of(alloc, words),
         "cred_back" => cred_back_of(alloc, words),
+        "cred_key" => cred_key_of(alloc, words),
         "flag" => flag(alloc, words),
+        "granted" => granted(alloc, words),
+        "type" => channel_type(alloc, words),
         _ => no_case(alloc),
     }
 }

@@ -25,7 +25,7 @@ fn answer(alloc: Global, words: &[&str]) -> anyhow::Result<String> {
         "digest" => digests::answer(alloc, operation, words),
         "rc4" => rc4::answer(alloc, operation, words),
         "channel" => channel::answer(alloc, operation, words),
-        "sequence" => sequence::run(alloc, words),
+        "sequence" => sequence::answer(alloc, operation, words),
         "responses" => responses::answer(alloc, operation, words),
         "seal" => seal::run(alloc, words),
         _ => no_case(alloc),

@@ -2,8 +2,8 @@
 
 ghost use Rattle.std.specs.Prelude.{◌≡◌};
 
-use crate::words::{add_answer, eight, no_case, number, sixteen, word};
-use authenticators::Sequence;
+use crate::words::{add_answer, eight, long_number, no_case, number, sixteen, text, word};
+use authenticators::{Sequence, timestamp_at};
 use std::alloc::Global;
 use wire_base::Authenticator;
 
@@ -49,12 +49,13 @@ fn step(alloc: Global, sequence: &mut Sequence, step: &str) -> anyhow::Result<St
         "judge" => judge(alloc, sequence, value),
         "return" => take_return(alloc, sequence, value),
         "awaits" => awaits(alloc, sequence),
+        "key" => text(alloc, &sequence.key()),
         _ => no_case(alloc),
     }
 }
 
-/// `sequence.run KEY SEED STEP..`: what each step gives.
-pub(crate) fn run(alloc: Global, words: &[&str]) -> anyhow::Result<String> {
+/// `run KEY SEED STEP..`: what each step gives. A step `key` is answered with the session key.
+fn run(alloc: Global, words: &[&str]) -> anyhow::Result<String> {
     let key = sixteen(word(words, 1))?;
     let seed = eight(word(words, 2))?;
     let mut sequence = Sequence::new(key, seed);
@@ -64,4 +65,19 @@ pub(crate) fn run(alloc: Global, words: &[&str]) -> anyhow::Result<String> {
         add_answer(&mut answers, &answer)?;
     }
     Ok(answers)
+}
+
+/// `timestamp NOW`: the timestamp of a moment.
+fn timestamp(alloc: Global, words: &[&str]) -> anyhow::Result<String> {
+    let timestamp = timestamp_at(long_number(word(words, 1))?);
+    Ok(format!(in alloc; "{timestamp}")?)
+}
+
+/// What an operation gives.
+pub(crate) fn answer(alloc: Global, operation: &str, words: &[&str]) -> anyhow::Result<String> {
+    match operation {
+        "run" => run(alloc, words),
+        "timestamp" => timestamp(alloc, words),
+        _ => no_case(alloc),
+    }
 }

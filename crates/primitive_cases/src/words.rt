@@ -51,6 +51,11 @@ pub(crate) fn number(word: &str) -> anyhow::Result<u32> {
     Ok(word.parse::<u32>()?)
 }
 
+/// A number of 64 bits, in decimal digits.
+pub(crate) fn long_number(word: &str) -> anyhow::Result<u64> {
+    Ok(word.parse::<u64>()?)
+}
+
 /// A size or a place, in decimal digits.
 pub(crate) fn size(word: &str) -> anyhow::Result<usize> {
     Ok(number(word)? as usize)
