@@ -4,7 +4,7 @@
 told; `-` is an empty word), `top.narrow ROLE FAILING WORD..` (the same over a sink that takes at most three bytes of a piece),
 `top.exit NAME NUMBER` (the exit, its status and its line). FAILING are the numbers of the sink's calls that fail.
 
-The commands, exits and lines are this project's own choice (README.md, "Commands"); whether a response stands is a published value.
+The commands, exits and lines are this project's own choice (docs/FORMATS.md, "Commands, exits and what is printed"); whether a response stands is a published value.
 """
 
 import struct
@@ -196,7 +196,7 @@ def of_shows():
     of_samba = values("messages")["challenge"][0]["message"]
     # The target information without the four bytes that end it (MS-NLMP 2.2.2.1): its length stands at byte 40.
     assert of_samba[80:88] == "2e002e00" and of_samba.endswith("00000000")
-    without_end = of_samba[:80] + "2a002a00" + of_samba[88:-8]
+    without_end = of_samba[:80] + "2a002a00" + of_samba[88:]
     for message in [
         "",
         "4e5",
@@ -208,6 +208,7 @@ def of_shows():
         no_names[:-2],
         MESSAGE[:-2],
         without_end,
+        without_end[:-8],
         "zz",
         no_names + "0",
     ]:
