@@ -134,6 +134,26 @@ def of_message(case):
     ]
 
 
+def of_link(link):
+    """A recorded link: each end sends its units and takes the other's, in the order in which they went."""
+    is_sealed = link["name"] == "level privacy"
+    ends = {"client": [], "server": []}
+    for each in link["units"]:
+        if "plain_unit_before_value" not in each:
+            continue
+        unit = {
+            "unit": each["plain_unit_before_value"],
+            "from": each["sealed_from"],
+            "to": each["sealed_to"],
+            "sealed_unit": each["unit"][:-32],
+            "signature": each["unit"][-32:],
+        }
+        sender = each["sender"]
+        ends[sender].append(seal_step(unit) if is_sealed else sign_step(unit))
+        ends[OTHER[sender]].append(open_step(unit) if is_sealed else check_step(unit))
+    return [scenario(link, end, steps) for end, steps in ends.items()]
+
+
 def cases():
     """Each line and its answer."""
     out = []
@@ -146,4 +166,6 @@ def cases():
         out += of_refusals(session)
     for case in values("messages")["authenticate"]:
         out += of_message(case)
+    for link in values("units")["sessions"]:
+        out += of_link(link)
     return out
