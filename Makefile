@@ -5,7 +5,7 @@ PROGRAMS = nt_member nt_logon
 # The sample: the NT hash of `Password`, a challenge, and the AUTHENTICATE message that answers it.
 SAMPLE = $(shell cat crates/nt_member/args)
 
-.PHONY: demo bench programs $(PROGRAMS)
+.PHONY: demo bench cases programs $(PROGRAMS)
 
 demo: programs
 	@bin/nt_member $(SAMPLE)
@@ -15,6 +15,10 @@ bench:
 	@cd crates/nt_bench && rt run -- measure ours
 
 programs: $(PROGRAMS)
+
+# The lines and answers of the case programs, from the published values.
+cases:
+	@python3 cases/make.py
 
 # A program is proved, built and run on its stored arguments before it is copied.
 $(PROGRAMS):

@@ -4,7 +4,8 @@
 told; `-` is an empty word), `top.narrow ROLE FAILING WORD..` (the same over a sink that takes at most three bytes of a piece),
 `top.exit NAME NUMBER` (the exit, its status and its line). FAILING are the numbers of the sink's calls that fail.
 
-The commands, exits and lines are this project's own choice (docs/FORMATS.md, "Commands, exits and what is printed"); whether a response stands is a published value.
+The commands, exits and lines are this project's own choice (docs/FORMATS.md, "Commands, exits and what is printed"); whether a response
+stands is a published value.
 """
 
 import struct
