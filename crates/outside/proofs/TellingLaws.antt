@@ -1,7 +1,8 @@
 -- How what is told in two calls, one after the other, comes together.
-use Rattle.std.proofs.Common.{◌≡◌, List, [], ◌++◌, length, Option, Some, None, refl, sym, ap, ◌∙◌, arith, append-nil, append_assoc, length-append}
-use Rattle.std.proofs.Math.Seq.{take-append_seam}
-use Rattle.outside.specs.Telling.{Appends, AppendsFront}
+use Rattle.std.proofs.Common.{◌≡◌, ◌≤◌, ◌+◌, ◌-◌, ℕ, List, [], ◌++◌, length, take, drop, Option, Some, None, refl, sym, ap, ◌∙◌, arith, append-nil, append_assoc, length-append}
+use Rattle.std.proofs.Math.Seq.{take-append_seam, take-append-add}
+use Rattle.std.proofs.lemmas.List.{take-append-drop}
+use Rattle.outside.specs.Telling.{Appends, AppendsFront, AppendsPart, FrontsAreParts}
 
 pub Appends-trans : {X : Type 0} (first second third : Option (List X)) (xs ys : List X) →
     Appends first second xs → Appends second third ys → Appends first third (xs ++ ys)
@@ -23,3 +24,20 @@ AppendsFront-append (Some a) (Some b) front rest p =
 pub Appends-nothing : {X : Type 0} (told : Option (List X)) → Appends told told []
 Appends-nothing None = refl
 Appends-nothing (Some a) = sym (append-nil a)
+
+-- a front by value
+pub AppendsFront-part : {X : Type 0} (old new : Option (List X)) (items : List X) → AppendsFront old new items → AppendsPart old new items
+AppendsFront-part None new items is = record { part = []; more = items; all = refl; told = is }
+AppendsFront-part (Some a) None items is = record { part = []; more = items; all = refl; told = tt }
+AppendsFront-part (Some a) (Some b) items is =
+    let count : ℕ = length b - length a in
+    let whole : length b ≡ length a + count = omega (arith, is.0) in
+    record {
+      part = take count items;
+      more = drop count items;
+      all = take-append-drop count items;
+      told = is.1 ∙ ap (λ n. take n (a ++ items)) whole ∙ take-append-add a items count;
+    }
+
+pub fronts_are_parts : FrontsAreParts
+fronts_are_parts = AppendsFront-part

@@ -3,6 +3,8 @@ pub mod Telling
 pub mod Contents
 pub mod Counter
 pub mod Links
+pub mod Stories
 pub mod Drawing
+pub mod Machine
 pub mod Scripts
 pub mod PortScript

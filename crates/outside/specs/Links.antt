@@ -5,12 +5,15 @@ use Rattle.outside.specs.declared.event.Event.TheVariants as event
 use Rattle.outside.specs.declared.event.Happening.{Happening}
 use Rattle.outside.specs.declared.event.Happening.TheVariants as happening
 use Rattle.outside.specs.declared.port.PortRefused.{PortRefused}
-use Rattle.outside.specs.declared.port.TheConstants.{MOST_EVENT_BYTES}
+
+-- the most bytes of a `Bytes` event
+abbrev pub most_event_bytes : ℕ
+most_event_bytes = 65536
 
 -- an event that a port may give: the others are the answers to a dial
 abbrev pub is_given : Event → Bool
 is_given (event.Opened link) = true
-is_given (event.Bytes link bytes) = nat_le (length bytes) MOST_EVENT_BYTES
+is_given (event.Bytes link bytes) = nat_le (length bytes) most_event_bytes
 is_given (event.Closed link) = true
 is_given (event.Dialled link) = false
 is_given event.DialFailed = false

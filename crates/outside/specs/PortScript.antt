@@ -1,14 +1,16 @@
 -- The scripted port in memory, as its callers see it (this project's own choice).
 use Rattle.std.specs.Prelude.{◌≡◌, ℕ, ◌≤◌, Bool, true, false, nat_le, nat_lt, List, [], ◌∷◌, ◌++◌, length, Option, Some, None, Result, Ok, Err, if◌then◌else◌}
 use Rattle.outside.specs.Causes.{raised}
-use Rattle.outside.specs.Links.{is_linked}
+use Rattle.outside.specs.Links.{is_linked, most_event_bytes}
 use Rattle.wire_base.specs.declared.memory.NoMemory.{NoMemory}
 use Rattle.outside.specs.declared.event.Event.{Event}
 use Rattle.outside.specs.declared.event.Event.TheVariants as event
 use Rattle.outside.specs.declared.event.Happening.{Happening}
 use Rattle.outside.specs.declared.event.Happening.TheVariants as happening
-use Rattle.outside.specs.declared.port.TheConstants.{MOST_EVENT_BYTES}
-use Rattle.outside.specs.declared.script_port.TheConstants.{FIRST_DIALLED}
+
+-- the link that the first dial gives
+abbrev pub first_dialled : ℕ
+first_dialled = 1000
 
 pub record PortScript : Type 0 where
   -- the events that come next; then there is `Stop`
@@ -32,8 +34,8 @@ port_story port = if port.tells then Some port.story else None
 
 -- an event that may be listed: links below 1000 are opened, so that dials give others
 abbrev pub is_scripted : Event → Bool
-is_scripted (event.Opened link) = nat_lt link FIRST_DIALLED
-is_scripted (event.Bytes link bytes) = nat_le (length bytes) MOST_EVENT_BYTES
+is_scripted (event.Opened link) = nat_lt link first_dialled
+is_scripted (event.Bytes link bytes) = nat_le (length bytes) most_event_bytes
 is_scripted (event.Closed link) = true
 is_scripted (event.Dialled link) = false
 is_scripted event.DialFailed = false
@@ -74,3 +76,15 @@ AfterCall old new fault link_fault =
       story = new.story;
       tells = new.tells;
     }
+
+-- a scripted port of which no call fails, but for a dial where no number of a link is left
+pub record SurePortScript : Type 0 where
+  pub events : List Event
+  pub next_link : ℕ
+  pub link_faults : ℕ
+  pub sent : List (ℕ × List ℕ)
+  pub story : List Happening
+  pub tells : Bool
+
+abbrev pub sure_story : SurePortScript → Option (List Happening)
+sure_story port = if port.tells then Some port.story else None

@@ -2,10 +2,9 @@
 use Rattle.std.specs.Prelude.{◌≡◌, ℕ, Bool, ◌==◌, nat_lt, List, [], ◌∷◌, length, Option, Some, None, Result, Ok, Err, if◌then◌else◌}
 use Rattle.std.specs.List.{list_any}
 use Rattle.outside.specs.Causes.{raised}
-use Rattle.outside.specs.Contents.{content_of}
+use Rattle.outside.specs.Contents.{content_of, most_file_bytes}
 use Rattle.outside.specs.declared.files.FileRefused.{FileRefused}
 use Rattle.outside.specs.declared.files.FileRefused.TheVariants.{Failed, TooLong, Memory}
-use Rattle.outside.specs.declared.files.TheConstants.{MOST_FILE_BYTES}
 
 -- whether the call of that number is among those that are to fail
 abbrev pub call_fails : List ℕ → ℕ → Bool
@@ -63,7 +62,7 @@ file_reads script = if script.tells then Some script.reads else None
 -- what is answered for a content, or where there is none
 abbrev pub copy_answer : Option (List ℕ) → Result (List ℕ) FileRefused
 copy_answer None = Err Failed
-copy_answer (Some content) = if nat_lt MOST_FILE_BYTES (length content) then Err TooLong else Ok content
+copy_answer (Some content) = if nat_lt most_file_bytes (length content) then Err TooLong else Ok content
 
 -- what a read of the name answers, unless memory runs out
 abbrev pub read_answer : FilesScript → List ℕ → Result (List ℕ) FileRefused

@@ -3,11 +3,11 @@
 ghost use Rattle.std.specs.Prelude.{◌≡◌, ◌≤◌, ℕ, List, [], ◌∷◌, Bool, Option, IfSome, IfOk, length};
 ghost use Rattle.outside.specs.Causes.{Rose};
 ghost use Rattle.outside.specs.Telling.{Appends};
-ghost use Rattle.outside.specs.Contents.{AnswersFrom, reading};
+ghost use Rattle.outside.specs.Contents.{AnswersFrom, most_file_bytes, reading};
 
 use std::alloc::Global;
 use thiserror::Error;
-use wire_base::Blob;
+use wire_base::{Blob, NoMemory};
 
 /// The most bytes of a file.
 pub const MOST_FILE_BYTES: usize = 16777216;
@@ -26,6 +26,17 @@ pub enum FileRefused {
     Memory,
 }
 
+impl From<NoMemory> for FileRefused {
+    ghost use Rattle.std.specs.Prelude.{◌≡◌};
+    ghost use Rattle.outside.specs.declared.files.FileRefused.TheVariants.{Memory};
+
+    ghost from_gives = { λ _ refused. refused ≡ Memory };
+
+    fn from(_error: NoMemory) -> FileRefused {
+        FileRefused::Memory
+    }
+}
+
 /// Files by name (this project's own choice). `faults` counts the failures and never falls. `contents` is, where it is told, what
 /// the files hold, and `reads` the names that were read, in order, each with whether that failed.
 pub trait Files {
@@ -39,7 +50,7 @@ pub trait Files {
     fn read(&mut self, alloc: Global, name: &[u8]) -> Result<Blob, FileRefused>
         ensures cause { result ≡ Err FileRefused.Failed → Rose (faults self.old) (faults self.new) }
         ensures faults { faults self.old ≤ faults self.new }
-        ensures limit { IfOk result (λ content. length content ≤ MOST_FILE_BYTES) }
+        ensures limit { IfOk result (λ content. length content ≤ most_file_bytes) }
         ensures content { IfSome (contents self.old) (λ files. AnswersFrom files name.now result) }
         ensures contents { contents self.new ≡ contents self.old }
         ensures told { Appends (reads self.old) (reads self.new) (reading name.now result) };

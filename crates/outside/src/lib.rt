@@ -5,11 +5,13 @@
 //! its content is optional: the real ones tell nothing.
 #![tactic(auto)]
 
+mod action;
 mod chances;
 mod clock;
 mod counter_chances;
 mod event;
 mod files;
+mod laws;
 mod list_chances;
 mod list_clock;
 mod lists;
@@ -19,14 +21,17 @@ mod port;
 mod script;
 mod script_port;
 mod sink;
+mod sure_port;
 mod sure_sink;
 mod vec_sink;
 
+pub use action::{Action, Actions, CloseCause, DropCause, Judged, Outcome, StepRefused};
 pub use chances::{Chances, Spent};
 pub use clock::Clock;
 pub use counter_chances::CounterChances;
 pub use event::{Event, Events, Happening};
 pub use files::{FileRefused, Files, MOST_FILE_BYTES};
+pub use laws::{draws_add_up, faults_add_up, fronts_are_parts, refusals_pass, stories_add_up};
 pub use list_chances::ListChances;
 pub use list_clock::ListClock;
 pub use lists::{Draws, Moments, Sends, Texts};
@@ -35,8 +40,6 @@ pub use out_sink::OutSink;
 pub use port::{Failed, MOST_EVENT_BYTES, Port, PortRefused};
 pub use script_port::{FIRST_DIALLED, ScriptPort};
 pub use sink::Sink;
+pub use sure_port::SurePort;
 pub use sure_sink::SureSink;
 pub use vec_sink::VecSink;
-
-#[cfg(test)]
-mod tests;

@@ -7,7 +7,6 @@ use crate::chances::{Chances, Spent};
 use crate::lists::Draws;
 use std::marker::Model;
 
-
 /// Listed challenges, of which each is drawn once. `start` empties the list drawn and leaves what is left.
 #[derive(Debug, Drop)]
 pub struct ListChances {

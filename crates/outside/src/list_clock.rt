@@ -9,7 +9,6 @@ use std::alloc::Global;
 use std::marker::Model;
 use std::vec::IntoIter;
 
-
 /// A clock that gives the listed moments, of which the last repeats. Where it finds no memory to keep the moment, it gives it all the
 /// same and tells it no longer.
 #[derive(Debug, Drop)]
@@ -40,6 +39,13 @@ impl ListClock {
             given: Vec::new(alloc),
             tells: true,
         }
+    }
+
+    /// Whether it still tells its moments: none was lost for want of memory.
+    pub fn tells(&self) -> bool
+        ensures { result ≡ self.now.tells }
+    {
+        self.tells
     }
 }
 

@@ -3,7 +3,7 @@
 ghost use Rattle.std.specs.Prelude.{◌≡◌, ◌≤◌, [], ◌∷◌, true, IfOk, IfSome, length};
 ghost use Rattle.std.specs.Option.{option_copied};
 ghost use Rattle.outside.specs.Causes.{Rose};
-ghost use Rattle.outside.specs.Contents.{AnswersFrom, content_of, reading};
+ghost use Rattle.outside.specs.Contents.{AnswersFrom, content_of, most_file_bytes, reading};
 ghost use Rattle.outside.specs.Telling.{Appends};
 ghost use Rattle.outside.specs.Scripts.{read_answer, copy_answer, ReadsFile, file_reads};
 ghost use Rattle.wire_base.specs.Memory.{UpToMemory};
@@ -53,6 +53,13 @@ impl MapFiles {
         }
     }
 
+    /// Whether it still tells its reads: no name was lost for want of memory.
+    pub fn tells(&self) -> bool
+        ensures { result ≡ self.now.tells }
+    {
+        self.tells
+    }
+
     /// Keeps the name of a read, or tells the reads no longer.
     fn keep(&mut self, name: &[u8], failed: bool)
         ensures kept { Appends (file_reads self.old) (file_reads self.new) ((name.now, failed) ∷ []) }
@@ -73,7 +80,7 @@ fn content<'a>(files: &'a [(Blob, Blob)], name: &[u8]) -> Option<&'a [u8]>
     ensures { option_copied result ≡ content_of files.now name.now }
 {
     for (known, content) in files {
-        if known.bytes() == name {
+        if name == known.bytes() {
             return Some(content.bytes());
         }
     }
@@ -87,7 +94,7 @@ fn copy_of(alloc: Global, files: &[(Blob, Blob)], name: &[u8]) -> Result<Blob, F
     match content(files, name) {
         None => Err(FileRefused::Failed),
         Some(content) if content.len() > MOST_FILE_BYTES => Err(FileRefused::TooLong),
-        Some(content) => Blob::copy(alloc, content).map_err(|_| FileRefused::Memory),
+        Some(content) => Ok(Blob::copy(alloc, content)?),
     }
 }
 
@@ -104,7 +111,7 @@ impl Files for MapFiles {
     fn read(&mut self, alloc: Global, name: &[u8]) -> Result<Blob, FileRefused>
         ensures cause { result ≡ Err FileRefused.Failed → Rose self.old.faults self.new.faults }
         ensures faults { self.old.faults ≤ self.new.faults }
-        ensures limit { IfOk result (λ content. length content ≤ MOST_FILE_BYTES) }
+        ensures limit { IfOk result (λ content. length content ≤ most_file_bytes) }
         ensures content { IfSome (Some self.old.files) (λ files. AnswersFrom files name.now result) }
         ensures contents { Some self.new.files ≡ Some self.old.files }
         ensures told { Appends (file_reads self.old) (file_reads self.new) (reading name.now result) }

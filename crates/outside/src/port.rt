@@ -9,6 +9,7 @@ ghost use Rattle.outside.specs.Links.{is_linked, IsGiven, given};
 
 use crate::event::Event;
 use thiserror::Error;
+use wire_base::NoMemory;
 
 /// The most bytes of one `Bytes` event.
 pub const MOST_EVENT_BYTES: usize = 65536;
@@ -27,6 +28,17 @@ pub enum PortRefused {
     /// No memory was found for the event.
     #[error("no memory")]
     Memory,
+}
+
+impl From<NoMemory> for PortRefused {
+    ghost use Rattle.std.specs.Prelude.{◌≡◌};
+    ghost use Rattle.outside.specs.declared.port.PortRefused.TheVariants.{Memory};
+
+    ghost from_gives = { λ _ refused. refused ≡ Memory };
+
+    fn from(_error: NoMemory) -> PortRefused {
+        PortRefused::Memory
+    }
 }
 
 /// Links to peers (this project's own choice). `faults` counts the failures of `listen` and `next`, `link_faults` those of

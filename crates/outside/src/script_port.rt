@@ -1,17 +1,17 @@
 //! A port in memory.
 
-ghost use Rattle.std.specs.Prelude.{◌≡◌, ◌≢◌, ◌⊎◌, ◌≤◌, ◌<◌, ◌+◌, ◌||◌, ◌==◌, [], ◌∷◌, ◌++◌, true, false, OnErr, OnOk, IfOk, IfSome, IsTrue, MatchResult, None, is_ok, is_err, if◌then◌else◌};
+ghost use Rattle.std.specs.Prelude.{◌≡◌, ◌≢◌, ◌⊎◌, ◌≤◌, ◌<◌, ◌+◌, ◌||◌, ◌==◌, [], ◌∷◌, ◌++◌, true, false, OnErr, IsOk, IfOk, IfSome, IsTrue, MatchResult, None, is_ok, is_err, if◌then◌else◌};
 ghost use Rattle.std.specs.List.{list_all};
 ghost use Rattle.std.specs.Result.{result_ok};
 ghost use Rattle.outside.specs.Causes.{Rose, raised};
 ghost use Rattle.outside.specs.Links.{is_linked, IsGiven, given};
 ghost use Rattle.outside.specs.Telling.{Appends};
-ghost use Rattle.outside.specs.PortScript.{is_scripted, port_story, next_event, later_events, is_kept_below, AfterCall, Stores};
+ghost use Rattle.outside.specs.PortScript.{first_dialled, is_scripted, port_story, next_event, later_events, is_kept_below, AfterCall, Stores};
 ghost use Rattle.outside.specs.Scripts.{call_fails};
 
 use crate::event::{Event, Events, Happening};
 use crate::lists::Sends;
-use crate::port::{Failed, Port, PortRefused};
+use crate::port::{Failed, MOST_EVENT_BYTES, Port, PortRefused};
 use crate::script::is_listed;
 use std::alloc::Global;
 use std::marker::Model;
@@ -43,21 +43,20 @@ impl Model for ScriptPort {
     ghost use Rattle.std.specs.Prelude.{◌≤◌, IsTrue};
     ghost use Rattle.std.specs.List.{list_all};
     ghost use Rattle.std.specs.Vec.Iter.{into_iter_items};
-    ghost use Rattle.outside.specs.PortScript.{PortScript, is_scripted, HasLinksBelow};
-    ghost use Rattle.outside.specs.declared.script_port.TheConstants.{FIRST_DIALLED};
+    ghost use Rattle.outside.specs.PortScript.{PortScript, first_dialled, is_scripted, HasLinksBelow};
 
     ghost Value = { PortScript };
 
     ghost view = { λ p. record { events = into_iter_items p.events; failing = p.failing; calls = p.calls; next_link = p.next_link; faults = p.faults; link_faults = p.link_faults; sent = p.sent; story = p.story.items; tells = p.tells } };
 
-    ghost invariant = { λ p. IsTrue (list_all is_scripted (into_iter_items p.events)) × (FIRST_DIALLED ≤ p.next_link) × HasLinksBelow p.next_link p.story.items };
+    ghost invariant = { λ p. IsTrue (list_all is_scripted (into_iter_items p.events)) × (first_dialled ≤ p.next_link) × HasLinksBelow p.next_link p.story.items };
 }
 
 impl ScriptPort {
     /// It will give these events, no call was made, and these calls will fail.
     pub fn new(alloc: Global, events: Events, failing: Calls) -> ScriptPort
         requires { IsTrue (list_all is_scripted events) }
-        ensures { result ≡ record { events = events; failing = failing; calls = 0; next_link = FIRST_DIALLED; faults = 0; link_faults = 0; sent = []; story = []; tells = true } }
+        ensures { result ≡ record { events = events; failing = failing; calls = 0; next_link = first_dialled; faults = 0; link_faults = 0; sent = []; story = []; tells = true } }
     {
         ScriptPort {
             alloc,
@@ -73,11 +72,25 @@ impl ScriptPort {
         }
     }
 
+    /// Whether it may list the events: each is `Opened` of a link below 1000, `Bytes` of at most 65,536 bytes, `Closed` or `Stop`.
+    pub fn may_list(events: &[Event]) -> bool
+        ensures { result ≡ list_all is_scripted events.now }
+    {
+        events.iter().all(|event| is_scripted(event))
+    }
+
     /// The sends that didn't fail and that it kept, in order.
     pub fn sent(&self) -> &Sends
         ensures { result.now ≡ self.now.sent }
     {
         &self.sent
+    }
+
+    /// Whether it still tells its story: nothing that happened was lost for want of memory.
+    pub fn tells(&self) -> bool
+        ensures { result ≡ self.now.tells }
+    {
+        self.tells
     }
 
     /// Counts a call, and says whether it is to fail.
@@ -124,6 +137,18 @@ impl ScriptPort {
         if !kept {
             self.tells = false;
         }
+    }
+}
+
+/// Whether the event may be listed.
+fn is_scripted(event: &Event) -> bool
+    ensures { result ≡ is_scripted event.now }
+{
+    match event {
+        Event::Opened(link) => *link < FIRST_DIALLED,
+        Event::Bytes(_, bytes) => bytes.bytes().len() <= MOST_EVENT_BYTES,
+        Event::Closed(_) | Event::Stop => true,
+        Event::Dialled(_) | Event::DialFailed => false,
     }
 }
 
@@ -219,7 +244,7 @@ impl Port for ScriptPort {
         // Exactly the listed calls fail.
         ensures fails { is_err result ≡ call_fails self.old.failing self.old.calls }
         ensures sent { IsTrue self.new.tells → self.new.sent ≡ (if is_ok result then self.old.sent ++ (link, bytes.now) ∷ [] else self.old.sent) }
-        ensures kept { (self.new.sent ≡ self.old.sent) ⊎ (self.new.sent ≡ self.old.sent ++ (link, bytes.now) ∷ []) }
+        ensures kept { (self.new.sent ≡ self.old.sent) ⊎ (IsOk result × (self.new.sent ≡ self.old.sent ++ (link, bytes.now) ∷ [])) }
         ensures after { AfterCall self.old (record self.new { sent = self.old.sent }) false (is_err result) }
     {
         let failed = self.count_call();

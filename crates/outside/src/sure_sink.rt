@@ -45,6 +45,13 @@ impl SureSink {
     {
         self.kept.bytes()
     }
+
+    /// Whether it still tells what it took: no bytes were lost for want of memory.
+    pub fn tells(&self) -> bool
+        ensures { result ≡ self.now.tells }
+    {
+        self.kept.tells()
+    }
 }
 
 impl Sink for SureSink {

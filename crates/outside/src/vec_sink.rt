@@ -1,6 +1,6 @@
 //! Sinks in memory.
 
-ghost use Rattle.std.specs.Prelude.{◌≡◌, ◌⊎◌, ◌+◌, ◌-◌, ◌^◌, ◌≤◌, ◌<◌, ◌++◌, [], length, take, min, true, IfOk, OnErr, OnOk, is_ok, is_err, if◌then◌else◌};
+ghost use Rattle.std.specs.Prelude.{◌≡◌, ◌⊎◌, ◌+◌, ◌-◌, ◌^◌, ◌≤◌, ◌<◌, ◌++◌, [], length, take, min, true, IfOk, IsOk, OnErr, is_ok, is_err, if◌then◌else◌};
 ghost use Rattle.std.specs.List.{list_any};
 ghost use Rattle.std.specs.Result.{result_unwrap_or};
 ghost use Rattle.outside.specs.Causes.{Rose, raised};
@@ -53,6 +53,13 @@ impl VecSink {
     {
         self.bytes.as_slice()
     }
+
+    /// Whether it still tells what it took: no bytes were lost for want of memory.
+    pub fn tells(&self) -> bool
+        ensures { result ≡ self.now.tells }
+    {
+        self.tells
+    }
 }
 
 impl Sink for VecSink {
@@ -71,7 +78,7 @@ impl Sink for VecSink {
         // Exactly the listed calls fail, and the others take all the bytes.
         ensures fails { is_err result ≡ call_fails self.old.failing self.old.calls }
         ensures all { IfOk result (λ count. count ≡ length bytes.now) }
-        ensures kept { (self.new.bytes ≡ self.old.bytes) ⊎ (OnOk result (self.new.bytes ≡ self.old.bytes ++ bytes.now)) }
+        ensures kept { (self.new.bytes ≡ self.old.bytes) ⊎ (IsOk result × (self.new.bytes ≡ self.old.bytes ++ bytes.now)) }
         ensures counts { self.new.faults ≡ (if is_err result then raised self.old.faults else self.old.faults) }
         ensures calls { self.new.calls ≡ raised self.old.calls }
         ensures failing { self.new.failing ≡ self.old.failing }

@@ -1,0 +1,34 @@
+-- What a story says where more happened after it.
+use Rattle.std.proofs.Common.{◌≡◌, ℕ, Bool, true, false, ◌||◌, List, [], ◌∷◌, ◌++◌, Option, None, if◌then◌else◌, refl, sym, ap, ◌∙◌, append_assoc}
+use Rattle.std.specs.List.{flat_map, list_any}
+use Rattle.std.proofs.lemmas.Grind.{flat_map-append}
+use Rattle.std.proofs.lemmas.List.Folds.{list_any-append}
+use Rattle.outside.specs.declared.event.Happening.{Happening}
+use Rattle.outside.specs.Stories.{address_after, address_from, event_of, dial_of, close_of, send_of, send_on, sends_on, until_failure, has_failed, is_link_failure, bytes_after, StoriesAddUp}
+
+address_from-append : (known : Option (List ℕ)) (before later : List Happening) → address_from known (before ++ later) ≡ address_from (address_from known before) later
+address_from-append known [] later = refl
+address_from-append known (happened ∷ before) later = address_from-append (address_after happened known) before later
+
+-- the bytes of sends, where more were made after them
+until_failure-append : (before later : List (List ℕ × Bool)) →
+    until_failure (before ++ later) ≡ bytes_after (list_any has_failed before) (until_failure before) (until_failure later)
+until_failure-append [] later = refl
+until_failure-append (send ∷ before) later = one_more send.0 send.1 (list_any has_failed before) (until_failure before) (until_failure later) _ (until_failure-append before later)
+  where
+    one_more : (bytes : List ℕ) (failed : Bool) (others : Bool) (now next all : List ℕ) → all ≡ bytes_after others now next →
+        (if failed then [] else bytes ++ all) ≡ bytes_after (failed || others) (if failed then [] else bytes ++ now) next
+    one_more bytes true others now next all is = refl
+    one_more bytes false true now next all is = ap (λ z. bytes ++ z) is
+    one_more bytes false false now next all is = ap (λ z. bytes ++ z) is ∙ sym (append_assoc bytes now next)
+
+pub stories_add_up : StoriesAddUp
+stories_add_up = record {
+  address = address_from-append None;
+  events = flat_map-append event_of;
+  dials = flat_map-append dial_of;
+  closes = flat_map-append close_of;
+  sends = flat_map-append send_of;
+  bytes = λ link before later. ap until_failure (flat_map-append (send_on link) before later) ∙ until_failure-append (sends_on link before) (sends_on link later);
+  failures = list_any-append is_link_failure;
+}
