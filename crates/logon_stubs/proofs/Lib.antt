@@ -1,4 +1,4 @@
 pub mod CallLaws
-pub mod LayoutLaws
+pub mod GivenLaws
 pub mod ListLaws
-pub mod PuttingLaws
+pub mod WrittenLaws

@@ -1,6 +1,9 @@
 pub mod Calls
 pub mod Layout
+pub mod Ranges
 pub mod Refusals
+pub mod Status
 pub mod Structures
 pub mod Writing
+pub use Rattle.ndr_codec.specs.Parts
 pub use Rattle.wire_base.specs.Memory

@@ -7,6 +7,7 @@ mod reading;
 mod reading_info;
 mod reading_parts;
 mod refused;
+mod status;
 mod writing;
 mod writing_info;
 mod writing_parts;
@@ -18,11 +19,13 @@ pub use calls::{
 pub use info::{NetworkInfo, SamInfo, Verdict};
 pub use reading::{read_call, read_reply};
 pub use refused::StubRefused;
-pub use writing::{write_call, write_reply};
-
-#[cfg(test)]
-mod peer_calls;
-#[cfg(test)]
-mod peer_replies;
-#[cfg(test)]
-mod tests;
+pub use status::{
+    NETLOGON_UUID, NETLOGON_VERSION, STATUS_ACCESS_DENIED, STATUS_ACCOUNT_DISABLED,
+    STATUS_ACCOUNT_EXPIRED, STATUS_ACCOUNT_LOCKED_OUT, STATUS_DOWNGRADE_DETECTED,
+    STATUS_INVALID_INFO_CLASS, STATUS_INVALID_WORKSTATION, STATUS_NO_LOGON_SERVERS,
+    STATUS_NO_SUCH_DOMAIN, STATUS_NO_SUCH_USER, STATUS_NO_TRUST_SAM_ACCOUNT,
+    STATUS_NOLOGON_INTERDOMAIN_TRUST_ACCOUNT, STATUS_NOLOGON_SERVER_TRUST_ACCOUNT,
+    STATUS_NOLOGON_WORKSTATION_TRUST_ACCOUNT, STATUS_PASSWORD_EXPIRED, STATUS_PASSWORD_MUST_CHANGE,
+    STATUS_WRONG_PASSWORD, what_constants_are,
+};
+pub use writing::{what_is_written_is_read, write_call, write_reply};

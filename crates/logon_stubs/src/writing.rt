@@ -1,10 +1,13 @@
 //! Calls and replies to stubs.
 
-ghost use Rattle.std.specs.Prelude.{◌≡◌, ◌+◌, ◌<◌, ◌≤◌, IfOk, OnOk, Ok, length};
+ghost use Rattle.std.specs.Prelude.{ℕ, List, ◌≡◌, ◌+◌, ◌^◌, ◌<◌, ◌≤◌, IfOk, OnOk, Ok, length};
 ghost use Rattle.wire_base.specs.Numbers.{AreBytes};
-ghost use Rattle.logon_stubs.specs.Layout.{Puts};
-ghost use Rattle.logon_stubs.specs.Calls.{challenge_call, challenge_reply, auth_call, auth_reply, request_arm, leveled_info, logoff_call, logoff_reply, logon_call, logon_reply, validation_arm, call_of, reply_of, opnum_of_call, opnum_of_reply, IsCall, IsReply, PutsCall, PutsReply};
-ghost use Rattle.logon_stubs.specs.Writing.{FitsText, FitsOption, CanWriteNetworkInfo, CanWriteLogonCall, CanWriteLogoffCall, CanWriteArm, CanWriteCall, CanWriteReply, put_challenge_call, put_challenge_reply, put_auth_call, put_auth_reply, put_leveled_info, put_logoff_call, put_logoff_reply, put_logon_call, put_logon_reply, put_unique, put_sam_info, put_call, put_reply, written_call, written_reply};
+ghost use Rattle.ndr_codec.specs.Parts.{FitsText, IfThere, put_unique};
+ghost use Rattle.logon_stubs.specs.declared.calls.Call.{Call as Asked};
+ghost use Rattle.logon_stubs.specs.declared.calls.Reply.{Reply as Answered};
+ghost use Rattle.logon_stubs.specs.Calls.{call_of, reply_of, opnum_of_call, opnum_of_reply, IsCall, IsReply};
+ghost use Rattle.logon_stubs.specs.Writing.{CanWriteNetworkInfo, CanWriteLogonCall, CanWriteLogoffCall, CanWriteArm, CanWriteCall, CanWriteReply, put_challenge_call, put_challenge_reply, put_auth_call, put_auth_reply, put_leveled_info, logoff_of, put_logoff_call, put_logoff_reply, put_logon_call, put_logon_reply, put_sam_info, put_call, put_reply, written_call, written_reply};
+ghost use Rattle.logon_stubs.specs.Ranges.{InRangeNetworkInfo, InRangeSamInfo, InRangeChallengeCall, InRangeAuthCall, InRangeLogoffCall, InRangeLogonCall, InRangeCall, InRangeChallengeReply, InRangeAuthReply, InRangeLogoffReply, InRangeLogonReply, InRangeReply, call_content, IsShortReply};
 
 use crate::calls::{
     AuthCall, AuthReply, Call, ChallengeCall, ChallengeReply, LogoffCall, LogoffReply, LogonCall,
@@ -12,84 +15,73 @@ use crate::calls::{
 };
 use crate::info::{NetworkInfo, SamInfo};
 use crate::writing_info::{write_network_info, write_sam_info};
-use crate::writing_parts::{
-    write_eight, write_pointer, write_some_pointer, write_text, write_unique_authenticator,
-    write_unique_text,
-};
-use ndr_codec::Writer;
+use crate::writing_parts::{write_eight, write_unique_authenticator};
+use ndr_codec::{Writer, write_unique_text};
 use std::alloc::Global;
 use wire_base::{Authenticator, Blob, NoMemory, Units};
 
-#[tactic(auto, unfolding(crate::specs::Calls::challenge_call, crate::specs::Writing::put_challenge_call), using(crate::proofs::PuttingLaws::puts))]
+#[tactic(auto, unfolding(crate::specs::Writing::put_challenge_call))]
 fn write_challenge_call(writer: &mut Writer, value: &ChallengeCall) -> Result<(), NoMemory>
-    requires room { writer.old.pointers < 100 }
-    requires primary { FitsOption value.now.primary }
+    requires primary { IfThere FitsText value.now.primary }
     requires computer { FitsText value.now.computer }
     ensures exact { OnOk result (writer.new ≡ put_challenge_call value.now writer.old) }
-    ensures layout { OnOk result (Puts challenge_call value.now writer.old writer.new) }
+    ensures range { OnOk result (InRangeChallengeCall value.now) }
 {
     write_unique_text(writer, &value.primary)?;
-    write_text(writer, &value.computer)?;
-    write_eight(writer, value.challenge)?;
-    Ok(())
+    writer.text(&value.computer)?;
+    write_eight(writer, value.challenge)
 }
 
-#[tactic(auto, unfolding(crate::specs::Calls::challenge_reply, crate::specs::Writing::put_challenge_reply), using(crate::proofs::PuttingLaws::puts))]
+#[tactic(auto, unfolding(crate::specs::Writing::put_challenge_reply))]
 fn write_challenge_reply(writer: &mut Writer, value: &ChallengeReply) -> Result<(), NoMemory>
     ensures exact { OnOk result (writer.new ≡ put_challenge_reply value.now writer.old) }
-    ensures layout { OnOk result (Puts challenge_reply value.now writer.old writer.new) }
+    ensures range { OnOk result (InRangeChallengeReply value.now) }
 {
     write_eight(writer, value.challenge)?;
-    writer.long(value.status)?;
-    Ok(())
+    writer.long(value.status)
 }
 
-#[tactic(auto, unfolding(crate::specs::Calls::auth_call, crate::specs::Writing::put_auth_call), using(crate::proofs::PuttingLaws::puts))]
+#[tactic(auto, unfolding(crate::specs::Writing::put_auth_call))]
 fn write_auth_call(writer: &mut Writer, value: &AuthCall) -> Result<(), NoMemory>
-    requires room { writer.old.pointers < 100 }
-    requires primary { FitsOption value.now.primary }
+    requires primary { IfThere FitsText value.now.primary }
     requires account { FitsText value.now.account }
     requires computer { FitsText value.now.computer }
     ensures exact { OnOk result (writer.new ≡ put_auth_call value.now writer.old) }
-    ensures layout { OnOk result (Puts auth_call value.now writer.old writer.new) }
+    ensures range { OnOk result (InRangeAuthCall value.now) }
 {
     write_unique_text(writer, &value.primary)?;
-    write_text(writer, &value.account)?;
+    writer.text(&value.account)?;
     writer.short(value.channel)?;
-    write_text(writer, &value.computer)?;
+    writer.text(&value.computer)?;
     write_eight(writer, value.credential)?;
-    writer.long(value.flags)?;
-    Ok(())
+    writer.long(value.flags)
 }
 
-#[tactic(auto, unfolding(crate::specs::Calls::auth_reply, crate::specs::Writing::put_auth_reply), using(crate::proofs::PuttingLaws::puts))]
+#[tactic(auto, unfolding(crate::specs::Writing::put_auth_reply))]
 fn write_auth_reply(writer: &mut Writer, value: &AuthReply) -> Result<(), NoMemory>
     ensures exact { OnOk result (writer.new ≡ put_auth_reply value.now writer.old) }
-    ensures layout { OnOk result (Puts auth_reply value.now writer.old writer.new) }
+    ensures range { OnOk result (InRangeAuthReply value.now) }
 {
     write_eight(writer, value.credential)?;
     writer.long(value.flags)?;
-    writer.long(value.status)?;
-    Ok(())
+    writer.long(value.status)
 }
 
 /// A logon's information, behind its level and the same as the union's tag.
-#[tactic(auto, unfolding(crate::specs::Calls::leveled_info, crate::specs::Calls::request_arm, crate::specs::Writing::put_leveled_info), using(crate::proofs::PuttingLaws::puts))]
+#[tactic(auto, unfolding(crate::specs::Writing::put_leveled_info))]
 fn write_leveled_info(writer: &mut Writer, info: &NetworkInfo) -> Result<(), NoMemory>
-    requires room { writer.old.pointers < 200 }
     requires fits { CanWriteNetworkInfo info.now }
     ensures exact { OnOk result (writer.new ≡ put_leveled_info info.now writer.old) }
-    ensures layout { OnOk result (Puts leveled_info info.now writer.old writer.new) }
+    ensures range { OnOk result (InRangeNetworkInfo info.now) }
 {
     writer.short(2)?;
     writer.short(2)?;
-    write_some_pointer(writer)?;
-    write_network_info(writer, info)?;
-    Ok(())
+    writer.pointer(true)?;
+    write_network_info(writer, info)
 }
 
 /// The parameters that a logon and a logoff have in common: all of a logoff's.
-#[tactic(auto, unfolding(crate::specs::Calls::logoff_call, crate::specs::Writing::put_logoff_call), using(crate::proofs::PuttingLaws::puts))]
+#[tactic(auto, unfolding(crate::specs::Writing::put_logoff_call))]
 fn write_logoff_parameters(
     writer: &mut Writer,
     server: &Option<Units>,
@@ -98,26 +90,27 @@ fn write_logoff_parameters(
     returned: &Option<Authenticator>,
     info: &NetworkInfo,
 ) -> Result<(), NoMemory>
-    requires room { writer.old.pointers < 100 }
-    requires server { FitsOption server.now }
-    requires computer { FitsOption computer.now }
+    requires server { IfThere FitsText server.now }
+    requires computer { IfThere FitsText computer.now }
     requires info { CanWriteNetworkInfo info.now }
-    ensures exact { OnOk result (writer.new ≡ put_logoff_call (record { server = server.now; computer = computer.now; authenticator = authenticator.now; returned = returned.now; info = info.now }) writer.old) }
-    ensures layout { OnOk result (Puts logoff_call (record { server = server.now; computer = computer.now; authenticator = authenticator.now; returned = returned.now; info = info.now }) writer.old writer.new) }
+    ensures exact { OnOk result (
+        let call = logoff_of server.now computer.now authenticator.now returned.now info.now in
+        writer.new ≡ put_logoff_call call writer.old) }
+    ensures range { OnOk result (
+        let call = logoff_of server.now computer.now authenticator.now returned.now info.now in
+        InRangeLogoffCall call) }
 {
     write_unique_text(writer, server)?;
     write_unique_text(writer, computer)?;
     write_unique_authenticator(writer, authenticator)?;
     write_unique_authenticator(writer, returned)?;
-    write_leveled_info(writer, info)?;
-    Ok(())
+    write_leveled_info(writer, info)
 }
 
 fn write_logoff_call(writer: &mut Writer, value: &LogoffCall) -> Result<(), NoMemory>
-    requires room { writer.old.pointers < 100 }
     requires fits { CanWriteLogoffCall value.now }
     ensures exact { OnOk result (writer.new ≡ put_logoff_call value.now writer.old) }
-    ensures layout { OnOk result (Puts logoff_call value.now writer.old writer.new) }
+    ensures range { OnOk result (InRangeLogoffCall value.now) }
 {
     write_logoff_parameters(
         writer,
@@ -126,27 +119,23 @@ fn write_logoff_call(writer: &mut Writer, value: &LogoffCall) -> Result<(), NoMe
         &value.authenticator,
         &value.returned,
         &value.info,
-    )?;
-    Ok(())
+    )
 }
 
-#[tactic(auto, unfolding(crate::specs::Calls::logoff_reply, crate::specs::Writing::put_logoff_reply), using(crate::proofs::PuttingLaws::puts))]
+#[tactic(auto, unfolding(crate::specs::Writing::put_logoff_reply))]
 fn write_logoff_reply(writer: &mut Writer, value: &LogoffReply) -> Result<(), NoMemory>
-    requires { writer.old.pointers < 100 }
     ensures exact { OnOk result (writer.new ≡ put_logoff_reply value.now writer.old) }
-    ensures layout { OnOk result (Puts logoff_reply value.now writer.old writer.new) }
+    ensures range { OnOk result (InRangeLogoffReply value.now) }
 {
     write_unique_authenticator(writer, &value.returned)?;
-    writer.long(value.status)?;
-    Ok(())
+    writer.long(value.status)
 }
 
-#[tactic(auto, unfolding(crate::specs::Calls::logon_call, crate::specs::Writing::put_logon_call), using(crate::proofs::PuttingLaws::puts))]
+#[tactic(auto, unfolding(crate::specs::Writing::put_logon_call))]
 fn write_logon_call(writer: &mut Writer, value: &LogonCall) -> Result<(), NoMemory>
-    requires room { writer.old.pointers < 100 }
     requires fits { CanWriteLogonCall value.now }
     ensures exact { OnOk result (writer.new ≡ put_logon_call value.now writer.old) }
-    ensures layout { OnOk result (Puts logon_call value.now writer.old writer.new) }
+    ensures range { OnOk result (InRangeLogonCall value.now) }
 {
     write_logoff_parameters(
         writer,
@@ -156,68 +145,46 @@ fn write_logon_call(writer: &mut Writer, value: &LogonCall) -> Result<(), NoMemo
         &value.returned,
         &value.info,
     )?;
-    writer.short(value.validation)?;
-    Ok(())
+    writer.short(value.validation)
 }
 
 /// The arm of a validation level: a pointer, and the information that it points to.
-#[tactic(auto, unfolding(crate::specs::Calls::validation_arm), using(crate::proofs::PuttingLaws::puts))]
 fn write_validation_arm(
     writer: &mut Writer,
     level: u16,
     info: &Option<SamInfo>,
 ) -> Result<(), NoMemory>
-    requires room { writer.old.pointers < 100 }
     requires fits { CanWriteArm level info.now }
     ensures exact { OnOk result (writer.new ≡ put_unique put_sam_info info.now writer.old) }
-    ensures layout { OnOk result (Puts (validation_arm level) info.now writer.old writer.new) }
+    ensures range { OnOk result (IfThere InRangeSamInfo info.now) }
 {
     match info {
         Some(info) => {
-            write_pointer(writer, true)?;
-            write_sam_info(writer, info)?;
+            writer.pointer(true)?;
+            write_sam_info(writer, info)
         }
-        None => write_pointer(writer, false)?,
+        None => writer.pointer(false),
     }
-    Ok(())
 }
 
-#[tactic(auto, unfolding(crate::specs::Calls::logon_reply, crate::specs::Writing::put_logon_reply), using(crate::proofs::PuttingLaws::puts))]
+#[tactic(auto, unfolding(crate::specs::Writing::put_logon_reply))]
 fn write_logon_reply(writer: &mut Writer, value: &LogonReply) -> Result<(), NoMemory>
-    requires room { writer.old.pointers < 50 }
     requires fits { CanWriteArm value.now.level value.now.info }
     ensures exact { OnOk result (writer.new ≡ put_logon_reply value.now writer.old) }
-    ensures layout { OnOk result (Puts logon_reply value.now writer.old writer.new) }
+    ensures range { OnOk result (InRangeLogonReply value.now) }
 {
     write_unique_authenticator(writer, &value.returned)?;
     writer.short(value.level)?;
     write_validation_arm(writer, value.level, &value.info)?;
     writer.byte(value.authoritative)?;
-    writer.long(value.status)?;
-    Ok(())
-}
-
-/// Each item of a slice of bytes is a byte, which callers learn so.
-fn are_bytes(bytes: &[u8])
-    ensures { AreBytes bytes.now }
-{}
-
-/// The bytes that were written.
-fn finish(writer: Writer) -> Blob
-    ensures value { result ≡ writer.bytes }
-    ensures bytes { AreBytes result }
-{
-    let stub = writer.finish();
-    are_bytes(stub.bytes());
-    stub
+    writer.long(value.status)
 }
 
 /// The parameters of a request.
 fn write_call_parameters(writer: &mut Writer, call: &Call) -> Result<(), NoMemory>
-    requires room { writer.old.pointers < 50 }
     requires fits { CanWriteCall call.now }
     ensures exact { OnOk result (writer.new ≡ put_call call.now writer.old) }
-    ensures layout { OnOk result (PutsCall call.now writer.old writer.new) }
+    ensures range { OnOk result (InRangeCall call.now) }
 {
     match call {
         Call::Logon(value) => write_logon_call(writer, value),
@@ -229,10 +196,9 @@ fn write_call_parameters(writer: &mut Writer, call: &Call) -> Result<(), NoMemor
 
 /// The parameters of a reply.
 fn write_reply_parameters(writer: &mut Writer, reply: &Reply) -> Result<(), NoMemory>
-    requires room { writer.old.pointers < 50 }
     requires fits { CanWriteReply reply.now }
     ensures exact { OnOk result (writer.new ≡ put_reply reply.now writer.old) }
-    ensures layout { OnOk result (PutsReply reply.now writer.old writer.new) }
+    ensures range { OnOk result (InRangeReply reply.now) }
 {
     match reply {
         Reply::Logon(value) => write_logon_reply(writer, value),
@@ -243,7 +209,7 @@ fn write_reply_parameters(writer: &mut Writer, reply: &Reply) -> Result<(), NoMe
 }
 
 /// The stub of a request, in the one form of docs/FORMATS.md. `NoMemory` where no memory was found.
-#[tactic(auto, unfolding(crate::specs::Writing::written_call), using(crate::proofs::CallLaws::written))]
+#[tactic(auto, unfolding(crate::specs::Writing::written_call), using(crate::proofs::WrittenLaws::written))]
 pub fn write_call(alloc: Global, call: &Call) -> Result<Blob, NoMemory>
     requires { CanWriteCall call.now }
     // The bytes of the written form.
@@ -254,11 +220,11 @@ pub fn write_call(alloc: Global, call: &Call) -> Result<Blob, NoMemory>
 {
     let mut writer = Writer::new(alloc);
     write_call_parameters(&mut writer, call)?;
-    Ok(finish(writer))
+    Ok(writer.finish())
 }
 
 /// The stub of a reply, in the one form of docs/FORMATS.md. `NoMemory` where no memory was found.
-#[tactic(auto, unfolding(crate::specs::Writing::written_reply), using(crate::proofs::CallLaws::written))]
+#[tactic(auto, unfolding(crate::specs::Writing::written_reply), using(crate::proofs::WrittenLaws::written))]
 pub fn write_reply(alloc: Global, reply: &Reply) -> Result<Blob, NoMemory>
     requires { CanWriteReply reply.now }
     // The bytes of the written form.
@@ -269,5 +235,31 @@ pub fn write_reply(alloc: Global, reply: &Reply) -> Result<Blob, NoMemory>
 {
     let mut writer = Writer::new(alloc);
     write_reply_parameters(&mut writer, reply)?;
-    Ok(finish(writer))
+    Ok(writer.finish())
 }
+
+/// What is written is read, of calls and replies whose numbers, units and bytes have their ranges; and what is read of bytes has them. A stub
+/// is bytes, fewer than 2^20. A call has at most 400 bytes more than its texts and responses. A reply whose texts have at most 64 units
+/// each has at most 65,536, the most that are joined from fragments (this project's own choice).
+pub fn what_is_written_is_read()
+    ensures calls { (value : Asked) → CanWriteCall value → InRangeCall value →
+        call_of (opnum_of_call value) (written_call value) ≡ Ok value }
+    ensures replies { (value : Answered) → CanWriteReply value → InRangeReply value →
+        reply_of (opnum_of_reply value) (written_reply value) ≡ Ok value }
+    ensures call_bytes { (value : Asked) → CanWriteCall value → InRangeCall value →
+        AreBytes (written_call value) }
+    ensures reply_bytes { (value : Answered) → CanWriteReply value → InRangeReply value →
+        AreBytes (written_reply value) }
+    ensures call_limit { (value : Asked) → CanWriteCall value → InRangeCall value →
+        length (written_call value) < 2 ^ 20 }
+    ensures reply_limit { (value : Answered) → CanWriteReply value → InRangeReply value →
+        length (written_reply value) < 2 ^ 20 }
+    ensures call_short { (value : Asked) → CanWriteCall value → InRangeCall value →
+        length (written_call value) ≤ 400 + call_content value }
+    ensures reply_joins { (value : Answered) → CanWriteReply value → InRangeReply value →
+        IsShortReply value → length (written_reply value) ≤ 65536 }
+    ensures call_ranges { (opnum : ℕ) (stub : List ℕ) (value : Asked) →
+        AreBytes stub → call_of opnum stub ≡ Ok value → InRangeCall value }
+    ensures reply_ranges { (opnum : ℕ) (stub : List ℕ) (value : Answered) →
+        AreBytes stub → reply_of opnum stub ≡ Ok value → InRangeReply value }
+{}

@@ -1,7 +1,12 @@
 pub mod Agreeing
 pub mod Appending
 pub mod ArrayItems
+pub mod GivenLaws
+pub mod PartLaws
 pub mod PlainItems
 pub mod PuttingLaws
 pub mod SidItems
 pub mod Standing
+pub mod StubLaws
+pub mod TimesLaws
+pub mod WritesLaws

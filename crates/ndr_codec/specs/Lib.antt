@@ -1,5 +1,7 @@
 pub mod Cursor
 pub mod Items
 pub mod Layout
+pub mod Parts
 pub mod Reading
+pub mod Stub
 pub mod Writing

@@ -3,10 +3,11 @@
 ghost use Rattle.std.specs.Prelude.{◌≡◌, ◌+◌, ◌*◌, ◌^◌, ◌<◌, ◌≤◌, ◌++◌, [], ◌∷◌, length, OnOk, OnErr, IfOk};
 ghost use Rattle.std.specs.List.{flat_map, AllByRecursion};
 ghost use Rattle.std.specs.Int.{w32, to_le_bytes};
+ghost use Rattle.wire_base.specs.Numbers.{AreBytes};
 ghost use Rattle.wire_base.specs.Sid.{IsSid};
 ghost use Rattle.wire_base.specs.Units.{AreUnits, utf16_of};
 ghost use Rattle.ndr_codec.specs.Layout.{IsNdr, array_head, sid_bytes, byte, short, long, raw, pointer, text, counted, counted_bytes, sid as sid_shape};
-ghost use Rattle.ndr_codec.specs.Writing.{Written, nothing, put, aligned, HasReferent, Appends};
+ghost use Rattle.ndr_codec.specs.Writing.{Written, nothing, put, aligned, Appends};
 
 use crate::items::padding_at;
 use std::alloc::{AllocError, Global};
@@ -19,7 +20,7 @@ use wire_base::{Blob, NoMemory, Sid, Units};
 pub struct Writer {
     alloc: Global,
     bytes: Vec<u8>,
-    pointers: u32,
+    pointers: usize,
 }
 
 impl Model for Writer {
@@ -76,7 +77,8 @@ impl Writer {
     /// Puts bytes, without alignment.
     pub fn raw(&mut self, bytes: &[u8]) -> Result<(), NoMemory>
         ensures exact { OnOk result (self.new ≡ put (raw (length bytes.now)) bytes.now self.old) }
-        ensures layout { OnOk result (Appends (IsNdr (raw (length bytes.now))) bytes.now self.old self.new) }
+        ensures layout { OnOk result (
+            Appends (IsNdr (raw (length bytes.now))) bytes.now self.old self.new) }
         ensures unchanged { OnErr result (self.new ≡ self.old) }
     {
         self.bytes.extend_from_slice(bytes)?;
@@ -86,7 +88,6 @@ impl Writer {
     /// Puts a unique pointer's referent: 0 where nothing is pointed to, else 0x00020000 and 4 more for each pointer before that points to
     /// something.
     pub fn pointer(&mut self, there: bool) -> Result<(), NoMemory>
-        requires { HasReferent there self.old }
         ensures exact { OnOk result (self.new ≡ put pointer there self.old) }
         ensures layout { OnOk result (Appends (IsNdr pointer) there self.old self.new) }
         ensures unchanged { OnErr result (self.new ≡ self.old) }
@@ -94,7 +95,7 @@ impl Writer {
         if !there {
             return self.long(0);
         }
-        self.long(0x20000 + 4 * self.pointers)?;
+        self.long(0x20000 + 4 * (self.pointers % (1 << 29)) as u32)?;
         self.pointers += 1;
         Ok(())
     }
@@ -113,8 +114,10 @@ impl Writer {
     /// Puts the target of a counted string, with the maximum the actual count.
     pub fn counted(&mut self, units: &Units) -> Result<(), NoMemory>
         requires { length units.now ≤ 32767 }
-        ensures exact { OnOk result (self.new ≡ put (counted (2 * length units.now)) units.now self.old) }
-        ensures layout { OnOk result (Appends (IsNdr (counted (2 * length units.now))) units.now self.old self.new) }
+        ensures exact { OnOk result (self.new ≡
+            put (counted (2 * length units.now)) units.now self.old) }
+        ensures layout { OnOk result (
+            Appends (IsNdr (counted (2 * length units.now))) units.now self.old self.new) }
         ensures unchanged { OnErr result (self.new ≡ self.old) }
     {
         let item = counted_bytes_of(self.alloc, units.units())?;
@@ -124,11 +127,15 @@ impl Writer {
     /// Puts the target of counted bytes, with the maximum the actual count.
     pub fn counted_bytes(&mut self, bytes: &Blob) -> Result<(), NoMemory>
         requires { length bytes.now ≤ 65535 }
-        ensures exact { OnOk result (self.new ≡ put (counted_bytes (length bytes.now)) bytes.now self.old) }
-        ensures layout { OnOk result (Appends (IsNdr (counted_bytes (length bytes.now))) bytes.now self.old self.new) }
+        ensures exact { OnOk result (self.new ≡
+            put (counted_bytes (length bytes.now)) bytes.now self.old) }
+        ensures layout { OnOk result (
+            Appends (IsNdr (counted_bytes (length bytes.now))) bytes.now self.old self.new) }
+        ensures bytes { OnOk result (AreBytes bytes.now) }
         ensures unchanged { OnErr result (self.new ≡ self.old) }
     {
         let bytes = bytes.bytes();
+        are_bytes(bytes);
         let mut item = array_front(self.alloc, bytes.len() as u32)?;
         item.extend_from_slice(bytes)?;
         append(&mut self.bytes, 4, &item)
@@ -146,19 +153,27 @@ impl Writer {
 
     /// The bytes written. It takes no memory.
     pub fn finish(self) -> Blob
-        ensures { result ≡ self.bytes }
+        ensures value { result ≡ self.bytes }
+        ensures bytes { AreBytes result }
     {
         let Writer { bytes, .. } = self;
+        are_bytes(&bytes);
         Blob::from_vec(bytes)
     }
 }
+
+/// Each item of a slice of bytes is a byte, which callers learn so.
+pub(crate) fn are_bytes(bytes: &[u8])
+    ensures { AreBytes bytes.now }
+{}
 
 /// Appends padding up to a multiple of the alignment and then the item, or nothing.
 #[tactic(auto, using(crate::proofs::PuttingLaws::aligned_behind))]
 fn append(bytes: &mut Vec<u8>, alignment: usize, item: &[u8]) -> Result<(), NoMemory>
     requires least { 1 ≤ alignment }
     requires most { alignment ≤ 4 }
-    ensures appended { OnOk result (bytes.new.items ≡ bytes.old.items ++ aligned alignment item.now (length bytes.old.items)) }
+    ensures appended { OnOk result (bytes.new.items ≡ bytes.old.items
+        ++ aligned alignment item.now (length bytes.old.items)) }
     ensures unchanged { OnErr result (bytes.new.items ≡ bytes.old.items) }
 {
     let len = bytes.len();
@@ -186,7 +201,8 @@ fn array_front(alloc: Global, count: u32) -> Result<Vec<u8>, AllocError>
 #[tactic(auto, using(crate::proofs::PuttingLaws::ended))]
 fn text_bytes(alloc: Global, units: &[u16]) -> Result<Vec<u8>, AllocError>
     requires { length units.now + 1 < 2 ^ 32 }
-    ensures item { IfOk result (λ item. item.items ≡ array_head (length units.now + 1) 0 (length units.now + 1) ++ utf16_of (units.now ++ 0 ∷ [])) }
+    ensures item { IfOk result (λ item. let count = length units.now + 1 in
+        item.items ≡ array_head count 0 count ++ utf16_of (units.now ++ 0 ∷ [])) }
     ensures units { AreUnits units.now }
 {
     let mut item = array_front(alloc, units.len() as u32 + 1)?;
@@ -198,7 +214,8 @@ fn text_bytes(alloc: Global, units: &[u16]) -> Result<Vec<u8>, AllocError>
 /// The bytes of the target of a counted string, from its head on.
 fn counted_bytes_of(alloc: Global, units: &[u16]) -> Result<Vec<u8>, AllocError>
     requires { length units.now ≤ 32767 }
-    ensures item { IfOk result (λ item. item.items ≡ array_head (length units.now) 0 (length units.now) ++ utf16_of units.now) }
+    ensures item { IfOk result (λ item.
+        item.items ≡ array_head (length units.now) 0 (length units.now) ++ utf16_of units.now) }
     ensures units { AreUnits units.now }
 {
     let mut item = array_front(alloc, units.len() as u32)?;
@@ -237,7 +254,8 @@ fn sid_item(alloc: Global, sid: &Sid) -> Result<Vec<u8>, AllocError>
 /// Four bytes for each number, the low byte first.
 #[tactic(auto, using(crate::proofs::PuttingLaws::lists))]
 fn push_longs(bytes: &mut Vec<u8>, numbers: &[u32]) -> Result<(), AllocError>
-    ensures { OnOk result (bytes.new.items ≡ bytes.old.items ++ flat_map (to_le_bytes w32) numbers.now) }
+    ensures { OnOk result (bytes.new.items ≡ bytes.old.items
+        ++ flat_map (to_le_bytes w32) numbers.now) }
 {
     for number in numbers {
         bytes.extend_from_slice(&number.to_le_bytes())?;

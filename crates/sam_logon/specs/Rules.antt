@@ -8,7 +8,7 @@ use Rattle.account_table.specs.declared.account.Kind.{Kind}
 use Rattle.account_table.specs.declared.account.Kind.TheVariants.{User, Workstation, Backup, Trust}
 use Rattle.logon_stubs.specs.declared.info.NetworkInfo.{NetworkInfo}
 use Rattle.ntlm_responses.specs.Verification.{verifies}
-use Rattle.sam_logon.specs.Status.{wrong_password, invalid_workstation, password_expired, account_disabled, account_expired, nologon_interdomain_trust_account, nologon_workstation_trust_account, nologon_server_trust_account, password_must_change, account_locked_out}
+use Rattle.logon_stubs.specs.Status.{wrong_password, invalid_workstation, password_expired, account_disabled, account_expired, nologon_interdomain_trust_account, nologon_workstation_trust_account, nologon_server_trust_account, password_must_change, account_locked_out}
 
 -- ---- what the rules test
 

@@ -11,7 +11,7 @@ use Rattle.logon_stubs.specs.declared.info.SamInfo.{SamInfo}
 use Rattle.logon_stubs.specs.declared.info.Verdict.{Verdict}
 use Rattle.logon_stubs.specs.declared.info.Verdict.TheVariants.{Granted, Status}
 use Rattle.ntlm_responses.specs.Verification.{base_key_of}
-use Rattle.sam_logon.specs.Status.{no_such_user, no_such_domain}
+use Rattle.logon_stubs.specs.Status.{no_such_user, no_such_domain}
 use Rattle.sam_logon.specs.Granted.{sam_info_of}
 use Rattle.sam_logon.specs.Rules.{first_refusal, rules_of}
 

@@ -8,9 +8,8 @@ ghost use Rattle.sam_logon.specs.Verdict.{IfGranted, is_granted, verdict_of};
 
 use crate::granting::sam_info;
 use crate::rules::judge_account;
-use crate::status::{STATUS_NO_SUCH_DOMAIN, STATUS_NO_SUCH_USER};
 use account_table::{Account, Route, Table};
-use logon_stubs::{NetworkInfo, Verdict};
+use logon_stubs::{NetworkInfo, STATUS_NO_SUCH_DOMAIN, STATUS_NO_SUCH_USER, Verdict};
 use std::alloc::Global;
 use wire_base::{Name, NoMemory};
 

@@ -4,14 +4,13 @@ ghost use Rattle.std.specs.Prelude.{◌≡◌};
 ghost use Rattle.sam_logon.specs.Rules.{allows, answer_by, first_refusal, has_come, kind_rules, lists, rules_of};
 ghost use Rattle.ntlm_responses.specs.Verification.{base_key_of};
 
-use crate::status::{
-    STATUS_ACCOUNT_DISABLED, STATUS_ACCOUNT_EXPIRED, STATUS_ACCOUNT_LOCKED_OUT,
+use account_table::{Account, Kind};
+use logon_stubs::{
+    NetworkInfo, STATUS_ACCOUNT_DISABLED, STATUS_ACCOUNT_EXPIRED, STATUS_ACCOUNT_LOCKED_OUT,
     STATUS_INVALID_WORKSTATION, STATUS_NOLOGON_INTERDOMAIN_TRUST_ACCOUNT,
     STATUS_NOLOGON_SERVER_TRUST_ACCOUNT, STATUS_NOLOGON_WORKSTATION_TRUST_ACCOUNT,
     STATUS_PASSWORD_EXPIRED, STATUS_PASSWORD_MUST_CHANGE, STATUS_WRONG_PASSWORD,
 };
-use account_table::{Account, Kind};
-use logon_stubs::NetworkInfo;
 use ntlm_responses::verify;
 use wire_base::Name;
 

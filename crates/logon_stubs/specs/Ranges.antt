@@ -1,0 +1,167 @@
+-- The ranges of what calls and replies hold: numbers of their width, texts of units, strings of bytes.
+use Rattle.std.specs.Prelude.{ℕ, ◌≡◌, ◌+◌, ◌*◌, ◌^◌, ◌<◌, ◌≤◌, List, length, Option, Some, None}
+use Rattle.std.specs.List.{AllByRecursion}
+use Rattle.wire_base.specs.Numbers.{AreBytes}
+use Rattle.wire_base.specs.Units.{AreUnits}
+use Rattle.wire_base.specs.Sid.{IsSid}
+use Rattle.ndr_codec.specs.Parts.{IfThere, size_if_there}
+use Rattle.wire_base.specs.declared.authenticator.Authenticator.{Authenticator}
+use Rattle.logon_stubs.specs.declared.info.NetworkInfo.{NetworkInfo}
+use Rattle.logon_stubs.specs.declared.info.SamInfo.{SamInfo}
+use Rattle.logon_stubs.specs.declared.calls.ChallengeCall.{ChallengeCall}
+use Rattle.logon_stubs.specs.declared.calls.ChallengeReply.{ChallengeReply}
+use Rattle.logon_stubs.specs.declared.calls.AuthCall.{AuthCall}
+use Rattle.logon_stubs.specs.declared.calls.AuthReply.{AuthReply}
+use Rattle.logon_stubs.specs.declared.calls.LogonCall.{LogonCall}
+use Rattle.logon_stubs.specs.declared.calls.LogonReply.{LogonReply}
+use Rattle.logon_stubs.specs.declared.calls.LogoffCall.{LogoffCall}
+use Rattle.logon_stubs.specs.declared.calls.LogoffReply.{LogoffReply}
+use Rattle.logon_stubs.specs.declared.calls.Call.{Call}
+use Rattle.logon_stubs.specs.declared.calls.Call.TheVariants as call
+use Rattle.logon_stubs.specs.declared.calls.Reply.{Reply}
+use Rattle.logon_stubs.specs.declared.calls.Reply.TheVariants as reply
+use Rattle.logon_stubs.specs.Writing.{front_of}
+
+-- that many bytes
+abbrev pub IsBlock : ℕ → List ℕ → Type 0
+IsBlock count bytes = (length bytes ≡ count) × AreBytes bytes
+
+pub record IsAuthenticator (value : Authenticator) : Type 0 where
+  pub credential : IsBlock 8 value.credential
+  pub timestamp : value.timestamp < 2 ^ 32
+
+pub record InRangeNetworkInfo (info : NetworkInfo) : Type 0 where
+  pub domain : AreUnits info.domain
+  pub control : info.control < 2 ^ 32
+  pub logon_id : info.logon_id < 2 ^ 64
+  pub user : AreUnits info.user
+  pub workstation : AreUnits info.workstation
+  pub challenge : IsBlock 8 info.challenge
+  pub nt : AreBytes info.nt
+  pub lm : AreBytes info.lm
+
+pub record InRangeChallengeCall (value : ChallengeCall) : Type 0 where
+  pub primary : IfThere AreUnits value.primary
+  pub computer : AreUnits value.computer
+  pub challenge : IsBlock 8 value.challenge
+
+pub record InRangeAuthCall (value : AuthCall) : Type 0 where
+  pub primary : IfThere AreUnits value.primary
+  pub account : AreUnits value.account
+  pub channel : value.channel < 2 ^ 16
+  pub computer : AreUnits value.computer
+  pub credential : IsBlock 8 value.credential
+  pub flags : value.flags < 2 ^ 32
+
+pub record InRangeLogoffCall (value : LogoffCall) : Type 0 where
+  pub server : IfThere AreUnits value.server
+  pub computer : IfThere AreUnits value.computer
+  pub authenticator : IfThere IsAuthenticator value.authenticator
+  pub returned : IfThere IsAuthenticator value.returned
+  pub info : InRangeNetworkInfo value.info
+
+pub record InRangeLogonCall (value : LogonCall) : Type 0 where
+  pub front : InRangeLogoffCall (front_of value)
+  pub validation : value.validation < 2 ^ 16
+
+abbrev pub InRangeCall : Call → Type 0
+InRangeCall (call.Logon value) = InRangeLogonCall value
+InRangeCall (call.Logoff value) = InRangeLogoffCall value
+InRangeCall (call.Challenge value) = InRangeChallengeCall value
+InRangeCall (call.Authenticate value) = InRangeAuthCall value
+
+abbrev pub InRangeGroup : ℕ × ℕ → Type 0
+InRangeGroup group = (group.0 < 2 ^ 32) × (group.1 < 2 ^ 32)
+
+pub record InRangeTimes (info : SamInfo) : Type 0 where
+  pub logon_time : info.logon_time < 2 ^ 64
+  pub logoff_time : info.logoff_time < 2 ^ 64
+  pub kickoff_time : info.kickoff_time < 2 ^ 64
+  pub password_set : info.password_set < 2 ^ 64
+  pub password_can_change : info.password_can_change < 2 ^ 64
+  pub password_must_change : info.password_must_change < 2 ^ 64
+
+pub record InRangeTexts (info : SamInfo) : Type 0 where
+  pub effective_name : AreUnits info.effective_name
+  pub full_name : AreUnits info.full_name
+  pub script : AreUnits info.script
+  pub profile : AreUnits info.profile
+  pub home : AreUnits info.home
+  pub home_drive : AreUnits info.home_drive
+
+pub record InRangeNumbers (info : SamInfo) : Type 0 where
+  pub logon_count : info.logon_count < 2 ^ 16
+  pub bad_count : info.bad_count < 2 ^ 16
+  pub user_id : info.user_id < 2 ^ 32
+  pub group_id : info.group_id < 2 ^ 32
+
+pub record InRangeSamInfo (info : SamInfo) : Type 0 where
+  pub times : InRangeTimes info
+  pub texts : InRangeTexts info
+  pub numbers : InRangeNumbers info
+  pub groups : AllByRecursion InRangeGroup info.groups
+  pub user_flags : info.user_flags < 2 ^ 32
+  pub key : IsBlock 16 info.key
+  pub server : AreUnits info.server
+  pub domain : AreUnits info.domain
+  pub sid : IsSid info.sid × AllByRecursion (λ n. n < 2 ^ 32) info.sid.numbers
+
+pub record InRangeLogonReply (value : LogonReply) : Type 0 where
+  pub returned : IfThere IsAuthenticator value.returned
+  pub level : value.level < 2 ^ 16
+  pub info : IfThere InRangeSamInfo value.info
+  pub authoritative : value.authoritative < 2 ^ 8
+  pub status : value.status < 2 ^ 32
+
+pub record InRangeLogoffReply (value : LogoffReply) : Type 0 where
+  pub returned : IfThere IsAuthenticator value.returned
+  pub status : value.status < 2 ^ 32
+
+pub record InRangeChallengeReply (value : ChallengeReply) : Type 0 where
+  pub challenge : IsBlock 8 value.challenge
+  pub status : value.status < 2 ^ 32
+
+pub record InRangeAuthReply (value : AuthReply) : Type 0 where
+  pub credential : IsBlock 8 value.credential
+  pub flags : value.flags < 2 ^ 32
+  pub status : value.status < 2 ^ 32
+
+abbrev pub InRangeReply : Reply → Type 0
+InRangeReply (reply.Logon value) = InRangeLogonReply value
+InRangeReply (reply.Logoff value) = InRangeLogoffReply value
+InRangeReply (reply.Challenge value) = InRangeChallengeReply value
+InRangeReply (reply.Authenticate value) = InRangeAuthReply value
+
+-- ---- what the number of bytes of a stub depends on
+
+-- the bytes of the units of a text
+abbrev pub bytes_of_text : List ℕ → ℕ
+bytes_of_text text = 2 * length text
+
+-- the bytes of the texts and of the responses of a logon
+abbrev pub logon_content : NetworkInfo → ℕ
+logon_content info = bytes_of_text info.domain + bytes_of_text info.user + bytes_of_text info.workstation + length info.nt + length info.lm
+
+-- the same of a call
+abbrev pub call_content : Call → ℕ
+call_content (call.Logon value) = size_if_there bytes_of_text value.server + size_if_there bytes_of_text value.computer + logon_content value.info
+call_content (call.Logoff value) = size_if_there bytes_of_text value.server + size_if_there bytes_of_text value.computer + logon_content value.info
+call_content (call.Challenge value) = size_if_there bytes_of_text value.primary + bytes_of_text value.computer
+call_content (call.Authenticate value) = size_if_there bytes_of_text value.primary + bytes_of_text value.account + bytes_of_text value.computer
+
+-- texts of at most 64 units
+pub record HasShortTexts (info : SamInfo) : Type 0 where
+  pub effective_name : length info.effective_name ≤ 64
+  pub full_name : length info.full_name ≤ 64
+  pub script : length info.script ≤ 64
+  pub profile : length info.profile ≤ 64
+  pub home : length info.home ≤ 64
+  pub home_drive : length info.home_drive ≤ 64
+  pub server : length info.server ≤ 64
+  pub domain : length info.domain ≤ 64
+
+abbrev pub IsShortReply : Reply → Type 0
+IsShortReply (reply.Logon value) = IfThere HasShortTexts value.info
+IsShortReply (reply.Logoff value) = Unit {0}
+IsShortReply (reply.Challenge value) = Unit {0}
+IsShortReply (reply.Authenticate value) = Unit {0}

@@ -1,0 +1,67 @@
+-- The NTSTATUS values that replies to Netlogon's calls carry (MS-ERREF 2.3.1), and the interface that the calls belong to.
+use Rattle.std.specs.Prelude.{ℕ, List, [], ◌∷◌}
+
+abbrev pub access_denied : ℕ
+access_denied = 0xC000_0022
+
+abbrev pub invalid_info_class : ℕ
+invalid_info_class = 0xC000_0003
+
+abbrev pub no_logon_servers : ℕ
+no_logon_servers = 0xC000_005E
+
+abbrev pub no_such_user : ℕ
+no_such_user = 0xC000_0064
+
+abbrev pub wrong_password : ℕ
+wrong_password = 0xC000_006A
+
+abbrev pub invalid_workstation : ℕ
+invalid_workstation = 0xC000_0070
+
+abbrev pub password_expired : ℕ
+password_expired = 0xC000_0071
+
+abbrev pub account_disabled : ℕ
+account_disabled = 0xC000_0072
+
+abbrev pub no_such_domain : ℕ
+no_such_domain = 0xC000_00DF
+
+abbrev pub no_trust_sam_account : ℕ
+no_trust_sam_account = 0xC000_018B
+
+abbrev pub account_expired : ℕ
+account_expired = 0xC000_0193
+
+abbrev pub nologon_interdomain_trust_account : ℕ
+nologon_interdomain_trust_account = 0xC000_0198
+
+abbrev pub nologon_workstation_trust_account : ℕ
+nologon_workstation_trust_account = 0xC000_0199
+
+abbrev pub nologon_server_trust_account : ℕ
+nologon_server_trust_account = 0xC000_019A
+
+abbrev pub password_must_change : ℕ
+password_must_change = 0xC000_0224
+
+abbrev pub account_locked_out : ℕ
+account_locked_out = 0xC000_0234
+
+abbrev pub downgrade_detected : ℕ
+downgrade_detected = 0xC000_0388
+
+-- all of them
+abbrev pub statuses : List ℕ
+statuses = access_denied ∷ invalid_info_class ∷ no_logon_servers ∷ no_such_user ∷ wrong_password ∷ invalid_workstation
+    ∷ password_expired ∷ account_disabled ∷ no_such_domain ∷ no_trust_sam_account ∷ account_expired
+    ∷ nologon_interdomain_trust_account ∷ nologon_workstation_trust_account ∷ nologon_server_trust_account
+    ∷ password_must_change ∷ account_locked_out ∷ downgrade_detected ∷ []
+
+-- the UUID of the interface, 12345678-1234-ABCD-EF00-01234567CFFB, as its bytes stand in a bind (MS-NRPC 2.1; C706 14.1), and its version
+abbrev pub netlogon_uuid : List ℕ
+netlogon_uuid = 0x78 ∷ 0x56 ∷ 0x34 ∷ 0x12 ∷ 0x34 ∷ 0x12 ∷ 0xCD ∷ 0xAB ∷ 0xEF ∷ 0x00 ∷ 0x01 ∷ 0x23 ∷ 0x45 ∷ 0x67 ∷ 0xCF ∷ 0xFB ∷ []
+
+abbrev pub netlogon_version : ℕ
+netlogon_version = 1
