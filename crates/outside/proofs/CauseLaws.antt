@@ -1,6 +1,6 @@
 -- How the causes of several calls in a row come together.
-use Rattle.std.proofs.Common.{◌≡◌, ◌≤◌, ◌+◌, ◌-◌, ◌^◌, ℕ, min, Bool, true, false, ◌||◌, IsTrue, Result, Ok, Err, OnErr, is_err, refl, arith}
-use Rattle.outside.specs.Causes.{raised, Rose, RisesWhere, RisesAddUp}
+use Rattle.std.proofs.Common.{◌≤◌, ℕ, Bool, true, false, ◌||◌, Result, Ok, Err, OnErr, is_err, refl, arith}
+use Rattle.outside.specs.Causes.{Rose, RisesWhere, RisesAddUp}
 
 -- what rose before or after didn't fall
 pub Rose-then : (first second third : ℕ) → Rose first second → second ≤ third → Rose first third

@@ -1,9 +1,9 @@
 -- What follows in a step where one of its parts is refused.
-use Rattle.std.proofs.Common.{◌≡◌, ℕ, List, [], ◌++◌, Result, Ok, Err, refl, sym, ap, ◌∙◌, append_assoc, append-nil}
+use Rattle.std.proofs.Common.{◌≡◌, ℕ, List, ◌++◌, Result, Ok, Err, refl, sym, ap, ◌∙◌, append_assoc, append-nil}
 use Rattle.outside.specs.declared.action.Action.{Action}
 use Rattle.outside.specs.declared.action.StepRefused.{StepRefused}
 use Rattle.outside.specs.declared.action.StepRefused.TheVariants.{Spent, Memory, Stopped}
-use Rattle.outside.specs.Drawing.{Drawing, DrawsSome, IsRest, draws_between}
+use Rattle.outside.specs.Drawing.{Drawing, DrawsSome, IsRest}
 use Rattle.outside.specs.Machine.{Stepped, Part, GivesUp, StepsBy, AnswersBy, LeavesRest, RefusalsPass, left_by, then_part, step_by, spent_step}
 use Rattle.outside.proofs.DrawLaws.{between_front, DrawsSome-spent, IsRest-nothing, IsRest-trans}
 

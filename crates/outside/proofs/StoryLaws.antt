@@ -1,10 +1,13 @@
 -- What a story says where more happened after it.
-use Rattle.std.proofs.Common.{◌≡◌, ℕ, Bool, true, false, ◌||◌, List, [], ◌∷◌, ◌++◌, Option, None, if◌then◌else◌, refl, sym, ap, ◌∙◌, append_assoc}
-use Rattle.std.specs.List.{flat_map, list_any}
+use Rattle.std.proofs.Common.{◌≡◌, ℕ, Bool, true, false, ◌||◌, List, [], ◌∷◌, ◌++◌, Option, Some, None, if◌then◌else◌, refl, sym, ap, ◌∙◌, append_assoc}
+use Rattle.std.specs.List.{list_any}
 use Rattle.std.proofs.lemmas.Grind.{flat_map-append}
 use Rattle.std.proofs.lemmas.List.Folds.{list_any-append}
+use Rattle.outside.specs.Causes.{RisesWhere}
 use Rattle.outside.specs.declared.event.Happening.{Happening}
-use Rattle.outside.specs.Stories.{address_after, address_from, event_of, dial_of, close_of, send_of, send_on, sends_on, until_failure, has_failed, is_link_failure, bytes_after, StoriesAddUp}
+use Rattle.outside.specs.declared.event.Happening.TheVariants as happening
+use Rattle.std.specs.Option.{is_none}
+use Rattle.outside.specs.Stories.{address_after, address_from, event_of, dial_of, close_of, send_of, send_on, sends_on, until_failure, has_failed, is_link_failure, bytes_after, fails_at_links, StoriesAddUp, FaultsFollow}
 
 address_from-append : (known : Option (List ℕ)) (before later : List Happening) → address_from known (before ++ later) ≡ address_from (address_from known before) later
 address_from-append known [] later = refl
@@ -32,3 +35,16 @@ stories_add_up = record {
   bytes = λ link before later. ap until_failure (flat_map-append (send_on link) before later) ∙ until_failure-append (sends_on link before) (sends_on link later);
   failures = list_any-append is_link_failure;
 }
+
+pub RisesWhere-sent : (link : ℕ) (bytes : List ℕ) (failed : Bool) (before now : ℕ) → RisesWhere failed before now →
+    RisesWhere (fails_at_links (happening.Sent link bytes failed ∷ [])) before now
+RisesWhere-sent link bytes true before now rises = rises
+RisesWhere-sent link bytes false before now rises = rises
+
+pub RisesWhere-dialled : (peer : List ℕ) (link : Option ℕ) (before now : ℕ) → RisesWhere (is_none link) before now →
+    RisesWhere (fails_at_links (happening.Dialled peer link ∷ [])) before now
+RisesWhere-dialled peer (Some link) before now rises = rises
+RisesWhere-dialled peer None before now rises = rises
+
+pub faults_follow : FaultsFollow
+faults_follow = record { sent = RisesWhere-sent; dialled = RisesWhere-dialled }

@@ -1,5 +1,5 @@
 -- The contents of named files, where they are told: an association list, of which the first entry of a name counts.
-use Rattle.std.specs.Prelude.{◌≡◌, ℕ, Bool, true, false, ◌<◌, ◌≤◌, length, List, [], ◌∷◌, Option, Some, None, Result, Ok, Err, IsSomeAnd}
+use Rattle.std.specs.Prelude.{◌≡◌, ℕ, Bool, true, false, ◌<◌, ◌≤◌, length, List, [], ◌∷◌, Option, Some, Result, Ok, Err, IsSomeAnd}
 use Rattle.std.specs.Str.{bytes_eq}
 use Rattle.wire_base.specs.Maps.{lookup}
 use Rattle.outside.specs.declared.files.FileRefused.{FileRefused}

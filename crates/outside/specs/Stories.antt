@@ -2,6 +2,8 @@
 -- is a number below 2^32, an address or a peer a list of bytes.
 use Rattle.std.specs.Prelude.{◌≡◌, ℕ, Bool, true, false, ◌||◌, ◌==◌, List, [], ◌∷◌, ◌++◌, Option, Some, None, if◌then◌else◌}
 use Rattle.std.specs.List.{flat_map, list_any}
+use Rattle.std.specs.Option.{is_none}
+use Rattle.outside.specs.Causes.{RisesWhere}
 use Rattle.outside.specs.declared.event.Event.{Event}
 use Rattle.outside.specs.declared.event.Happening.{Happening}
 use Rattle.outside.specs.declared.event.Happening.TheVariants as happening
@@ -107,3 +109,10 @@ pub record StoriesAddUp : Type 0 where
   pub bytes : (link : ℕ) (before later : List Happening) →
       bytes_on link (before ++ later) ≡ bytes_after (fails_on link before) (bytes_on link before) (bytes_on link later)
   pub failures : (before later : List Happening) → fails_at_links (before ++ later) ≡ (fails_at_links before || fails_at_links later)
+
+-- A send and a dial after which the count of link faults rose where they failed are so in a story's terms.
+pub record FaultsFollow : Type 0 where
+  pub sent : (link : ℕ) (bytes : List ℕ) (failed : Bool) (before now : ℕ) →
+      RisesWhere failed before now → RisesWhere (fails_at_links (happening.Sent link bytes failed ∷ [])) before now
+  pub dialled : (peer : List ℕ) (link : Option ℕ) (before now : ℕ) →
+      RisesWhere (is_none link) before now → RisesWhere (fails_at_links (happening.Dialled peer link ∷ [])) before now

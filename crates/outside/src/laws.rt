@@ -3,7 +3,7 @@
 ghost use Rattle.outside.specs.Causes.{RisesAddUp};
 ghost use Rattle.outside.specs.Drawing.{DrawsAddUp};
 ghost use Rattle.outside.specs.Machine.{RefusalsPass};
-ghost use Rattle.outside.specs.Stories.{StoriesAddUp};
+ghost use Rattle.outside.specs.Stories.{FaultsFollow, StoriesAddUp};
 ghost use Rattle.outside.specs.Telling.{FrontsAreParts};
 
 /// What is drawn in a row is drawn in that order, and is known by what was left before and after.
@@ -19,6 +19,11 @@ pub fn faults_add_up()
 /// What a story says of its calls, where more happened after it.
 pub fn stories_add_up()
     ensures { StoriesAddUp }
+{}
+
+/// The count of link faults follows the story: it rises where a send or a dial in it failed.
+pub fn faults_follow_the_story()
+    ensures { FaultsFollow }
 {}
 
 /// A front of bytes that was taken is a part of them by value.

@@ -31,7 +31,10 @@ pub use clock::Clock;
 pub use counter_chances::CounterChances;
 pub use event::{Event, Events, Happening};
 pub use files::{FileRefused, Files, MOST_FILE_BYTES};
-pub use laws::{draws_add_up, faults_add_up, fronts_are_parts, refusals_pass, stories_add_up};
+pub use laws::{
+    draws_add_up, faults_add_up, faults_follow_the_story, fronts_are_parts, refusals_pass,
+    stories_add_up,
+};
 pub use list_chances::ListChances;
 pub use list_clock::ListClock;
 pub use lists::{Draws, Moments, Sends, Texts};
