@@ -72,14 +72,17 @@ impl Chances for CounterChances {
         ensures drawn { IfOk result (Draws self.old self.new) }
         ensures spent { OnErr result (self.old.left ≡ []) }
         ensures unchanged { OnErr result (self.new ≡ self.old) }
-        ensures value { IfOk result (λ challenge. challenge ≡ challenge_of self.old.seed self.old.boot (length self.old.drawn)) }
+        ensures value { IfOk result (λ challenge. challenge ≡
+            challenge_of self.old.seed self.old.boot (length self.old.drawn)) }
         ensures at_the_end { IsErr result ↔ (length self.old.drawn ≡ most_draws) }
 
         // Between two starts no two draws are alike.
         ensures distinct { AllPairs (λ one other. one ≢ other) self.new.drawn }
 
         // None is a draw of the same seed under another number of the boot.
-        ensures apart { IfOk result (λ challenge. (boot count : ℕ) → boot < 2 ^ 32 → count < 2 ^ 32 → boot ≢ self.old.boot → challenge ≢ challenge_of self.old.seed boot count) }
+        ensures apart { IfOk result (λ challenge. (boot count : ℕ) → boot < 2 ^ 32 →
+            count < 2 ^ 32 → boot ≢ self.old.boot →
+            challenge ≢ challenge_of self.old.seed boot count) }
     {
         if self.count == u32::MAX {
             return Err(Spent);

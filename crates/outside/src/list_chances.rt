@@ -23,7 +23,12 @@ impl Model for ListChances {
 
     ghost Value = { Drawing };
 
-    ghost view = { λ c. record { seed = c.seed; boot = c.boot; drawn = take (c.used - c.begun) (drop c.begun c.draws); left = drop c.used c.draws } };
+    ghost view = { λ c. record {
+      seed = c.seed;
+      boot = c.boot;
+      drawn = take (c.used - c.begun) (drop c.begun c.draws);
+      left = drop c.used c.draws;
+    } };
 
     ghost invariant = { λ c. (c.begun ≤ c.used) × (c.used ≤ length c.draws) };
 }

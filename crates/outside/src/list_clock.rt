@@ -25,7 +25,12 @@ impl Model for ListClock {
 
     ghost Value = { ClockScript };
 
-    ghost view = { λ c. record { next = c.next; later = into_iter_items c.later; given = c.given.items; tells = c.tells } };
+    ghost view = { λ c. record {
+      next = c.next;
+      later = into_iter_items c.later;
+      given = c.given.items;
+      tells = c.tells;
+    } };
 }
 
 impl ListClock {

@@ -34,13 +34,27 @@ impl Model for MapFiles {
 
     ghost Value = { FilesScript };
 
-    ghost view = { λ f. record { files = f.files; failing = f.failing; calls = f.calls; faults = f.faults; reads = f.reads.items; tells = f.tells } };
+    ghost view = { λ f. record {
+      files = f.files;
+      failing = f.failing;
+      calls = f.calls;
+      faults = f.faults;
+      reads = f.reads.items;
+      tells = f.tells;
+    } };
 }
 
 impl MapFiles {
     /// It has these files, no call was made, and these calls will fail.
     pub fn new(alloc: Global, files: Texts, failing: Calls) -> MapFiles
-        ensures { result ≡ record { files = files; failing = failing; calls = 0; faults = 0; reads = []; tells = true } }
+        ensures { result ≡ record {
+          files = files;
+          failing = failing;
+          calls = 0;
+          faults = 0;
+          reads = [];
+          tells = true;
+        } }
     {
         MapFiles {
             alloc,
@@ -62,8 +76,10 @@ impl MapFiles {
 
     /// Keeps the name of a read, or tells the reads no longer.
     fn keep(&mut self, name: &[u8], failed: bool)
-        ensures kept { Appends (file_reads self.old) (file_reads self.new) ((name.now, failed) ∷ []) }
-        ensures others { self.new ≡ record self.old { reads = self.new.reads; tells = self.new.tells } }
+        ensures kept { Appends (file_reads self.old) (file_reads self.new)
+            ((name.now, failed) ∷ []) }
+        ensures others { self.new ≡
+            record self.old { reads = self.new.reads; tells = self.new.tells } }
     {
         let kept = match Blob::copy(self.alloc, name) {
             Ok(name) => self.reads.push((name, failed)).is_ok(),
@@ -112,9 +128,11 @@ impl Files for MapFiles {
         ensures cause { result ≡ Err FileRefused.Failed → Rose self.old.faults self.new.faults }
         ensures faults { self.old.faults ≤ self.new.faults }
         ensures limit { IfOk result (λ content. length content ≤ most_file_bytes) }
-        ensures content { IfSome (Some self.old.files) (λ files. AnswersFrom files name.now result) }
+        ensures content { IfSome (Some self.old.files)
+            (λ files. AnswersFrom files name.now result) }
         ensures contents { Some self.new.files ≡ Some self.old.files }
-        ensures told { Appends (file_reads self.old) (file_reads self.new) (reading name.now result) }
+        ensures told { Appends (file_reads self.old) (file_reads self.new)
+            (reading name.now result) }
         // Exactly the listed calls and those of an unknown name fail.
         ensures exact { UpToMemory FileRefused.Memory result (read_answer self.old name.now) }
         ensures after { ReadsFile self.old self.new result }

@@ -71,7 +71,8 @@ pub trait Port {
         ensures cause { OnErr result (Rose (link_faults self.old) (link_faults self.new)) }
         ensures link_faults { link_faults self.old ≤ link_faults self.new }
         ensures faults { faults self.new ≡ faults self.old }
-        ensures fresh { IfOk result (λ link. IfSome (story self.old) (λ before. is_linked before link ≡ false)) }
+        ensures fresh { IfOk result
+            (λ link. IfSome (story self.old) (λ before. is_linked before link ≡ false)) }
         ensures told { Appends (story self.old) (story self.new)
             (Happening.Dialled peer.now (result_ok result) ∷ []) };
 

@@ -47,16 +47,37 @@ impl Model for ScriptPort {
 
     ghost Value = { PortScript };
 
-    ghost view = { λ p. record { events = into_iter_items p.events; failing = p.failing; calls = p.calls; next_link = p.next_link; faults = p.faults; link_faults = p.link_faults; sent = p.sent; story = p.story.items; tells = p.tells } };
+    ghost view = { λ p. record {
+      events = into_iter_items p.events;
+      failing = p.failing;
+      calls = p.calls;
+      next_link = p.next_link;
+      faults = p.faults;
+      link_faults = p.link_faults;
+      sent = p.sent;
+      story = p.story.items;
+      tells = p.tells;
+    } };
 
-    ghost invariant = { λ p. IsTrue (list_all is_scripted (into_iter_items p.events)) × (first_dialled ≤ p.next_link) × HasLinksBelow p.next_link p.story.items };
+    ghost invariant = { λ p. IsTrue (list_all is_scripted (into_iter_items p.events)) ×
+        (first_dialled ≤ p.next_link) × HasLinksBelow p.next_link p.story.items };
 }
 
 impl ScriptPort {
     /// It will give these events, no call was made, and these calls will fail.
     pub fn new(alloc: Global, events: Events, failing: Calls) -> ScriptPort
         requires { IsTrue (list_all is_scripted events) }
-        ensures { result ≡ record { events = events; failing = failing; calls = 0; next_link = first_dialled; faults = 0; link_faults = 0; sent = []; story = []; tells = true } }
+        ensures { result ≡ record {
+          events = events;
+          failing = failing;
+          calls = 0;
+          next_link = first_dialled;
+          faults = 0;
+          link_faults = 0;
+          sent = [];
+          story = [];
+          tells = true;
+        } }
     {
         ScriptPort {
             alloc,
@@ -106,8 +127,11 @@ impl ScriptPort {
     /// Keeps what happened, or, where memory for it wasn't found, tells the story no longer.
     fn keep(&mut self, happened: Result<Happening, NoMemory>)
         requires { IfOk happened (λ h. IsTrue (is_kept_below self.old.next_link h)) }
-        ensures told { MatchResult happened (λ h. Appends (port_story self.old) (port_story self.new) (h ∷ [])) (λ _. port_story self.new ≡ None) }
-        ensures after { self.new ≡ record self.old { story = self.new.story; tells = self.new.tells } }
+        ensures told { MatchResult happened
+            (λ h. Appends (port_story self.old) (port_story self.new) (h ∷ []))
+            (λ _. port_story self.new ≡ None) }
+        ensures after { self.new ≡
+            record self.old { story = self.new.story; tells = self.new.tells } }
     {
         if !store(&mut self.story, happened) {
             self.tells = false;
@@ -125,10 +149,13 @@ impl ScriptPort {
 
     /// Keeps a send that didn't fail, or, where memory for it wasn't found, tells the story no longer.
     fn keep_send(&mut self, link: u32, bytes: &[u8])
-        ensures sent { IsTrue self.new.tells → self.new.sent ≡ self.old.sent ++ (link, bytes.now) ∷ [] }
-        ensures kept { (self.new.sent ≡ self.old.sent) ⊎ (self.new.sent ≡ self.old.sent ++ (link, bytes.now) ∷ []) }
+        ensures sent { IsTrue self.new.tells → self.new.sent ≡
+            self.old.sent ++ (link, bytes.now) ∷ [] }
+        ensures kept { (self.new.sent ≡ self.old.sent) ⊎
+            (self.new.sent ≡ self.old.sent ++ (link, bytes.now) ∷ []) }
         ensures told { IsTrue self.new.tells → IsTrue self.old.tells }
-        ensures after { self.new ≡ record self.old { sent = self.new.sent; tells = self.new.tells } }
+        ensures after { self.new ≡
+            record self.old { sent = self.new.sent; tells = self.new.tells } }
     {
         let kept = match Blob::copy(self.alloc, bytes) {
             Ok(bytes) => self.sent.push((link, bytes)).is_ok(),
@@ -199,8 +226,10 @@ impl Port for ScriptPort {
         ensures fails { is_err result ≡ call_fails self.old.failing self.old.calls }
         ensures no_memory { result ≢ Err PortRefused.Memory }
         ensures event { IfOk result (λ event. event ≡ next_event self.old.events) }
-        ensures events { self.new.events ≡ (if is_ok result then later_events self.old.events else self.old.events) }
-        ensures after { AfterCall self.old (record self.new { events = self.old.events }) (is_err result) false }
+        ensures events { self.new.events ≡
+            (if is_ok result then later_events self.old.events else self.old.events) }
+        ensures after { AfterCall self.old (record self.new { events = self.old.events })
+            (is_err result) false }
     {
         if self.count_call() {
             self.faults = self.faults.saturating_add(1);
@@ -215,14 +244,18 @@ impl Port for ScriptPort {
         ensures cause { OnErr result (Rose self.old.link_faults self.new.link_faults) }
         ensures link_faults { self.old.link_faults ≤ self.new.link_faults }
         ensures faults { self.new.faults ≡ self.old.faults }
-        ensures fresh { IfOk result (λ link. IfSome (port_story self.old) (λ before. is_linked before link ≡ false)) }
+        ensures fresh { IfOk result
+            (λ link. IfSome (port_story self.old) (λ before. is_linked before link ≡ false)) }
         ensures told { Appends (port_story self.old) (port_story self.new)
             (Happening.Dialled peer.now (result_ok result) ∷ []) }
         // Exactly the listed calls fail, and those made when no number of a link is left.
-        ensures fails { is_err result ≡ (call_fails self.old.failing self.old.calls || (self.old.next_link == u32.MAX)) }
-        ensures link { IfOk result (λ link. (link ≡ self.old.next_link) × (self.new.next_link ≡ link + 1)) }
+        ensures fails { is_err result ≡
+            (call_fails self.old.failing self.old.calls || (self.old.next_link == u32.MAX)) }
+        ensures link { IfOk result (λ link. (link ≡ self.old.next_link) ×
+            (self.new.next_link ≡ link + 1)) }
         ensures no_link { OnErr result (self.new.next_link ≡ self.old.next_link) }
-        ensures after { AfterCall self.old (record self.new { next_link = self.old.next_link }) false (is_err result) }
+        ensures after { AfterCall self.old
+            (record self.new { next_link = self.old.next_link }) false (is_err result) }
     {
         if self.count_call() || self.next_link == u32::MAX {
             self.link_faults = self.link_faults.saturating_add(1);
@@ -243,9 +276,12 @@ impl Port for ScriptPort {
             (Happening.Sent link bytes.now (is_err result) ∷ []) }
         // Exactly the listed calls fail.
         ensures fails { is_err result ≡ call_fails self.old.failing self.old.calls }
-        ensures sent { IsTrue self.new.tells → self.new.sent ≡ (if is_ok result then self.old.sent ++ (link, bytes.now) ∷ [] else self.old.sent) }
-        ensures kept { (self.new.sent ≡ self.old.sent) ⊎ (IsOk result × (self.new.sent ≡ self.old.sent ++ (link, bytes.now) ∷ [])) }
-        ensures after { AfterCall self.old (record self.new { sent = self.old.sent }) false (is_err result) }
+        ensures sent { IsTrue self.new.tells → self.new.sent ≡
+            (if is_ok result then self.old.sent ++ (link, bytes.now) ∷ [] else self.old.sent) }
+        ensures kept { (self.new.sent ≡ self.old.sent) ⊎
+            (IsOk result × (self.new.sent ≡ self.old.sent ++ (link, bytes.now) ∷ [])) }
+        ensures after { AfterCall self.old (record self.new { sent = self.old.sent }) false
+            (is_err result) }
     {
         let failed = self.count_call();
         self.keep(sent(self.alloc, link, bytes, failed));
@@ -260,8 +296,10 @@ impl Port for ScriptPort {
     fn close(&mut self, link: u32)
         ensures faults { self.new.faults ≡ self.old.faults }
         ensures link_faults { self.new.link_faults ≡ self.old.link_faults }
-        ensures told { Appends (port_story self.old) (port_story self.new) (Happening.Shut link ∷ []) }
-        ensures after { self.new ≡ record self.old { story = self.new.story; tells = self.new.tells } }
+        ensures told { Appends (port_story self.old) (port_story self.new)
+            (Happening.Shut link ∷ []) }
+        ensures after { self.new ≡
+            record self.old { story = self.new.story; tells = self.new.tells } }
     {
         self.keep(Ok(Happening::Shut(link)));
     }

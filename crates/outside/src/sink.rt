@@ -20,5 +20,6 @@ pub trait Sink {
         ensures least { IfOk result (λ count. 0 < length bytes.now → 0 < count) }
         ensures cause { OnErr result (Rose (faults self.old) (faults self.new)) }
         ensures faults { faults self.old ≤ faults self.new }
-        ensures told { Appends (taken self.old) (taken self.new) (take (result_unwrap_or result 0) bytes.now) };
+        ensures told { Appends (taken self.old) (taken self.new)
+            (take (result_unwrap_or result 0) bytes.now) };
 }

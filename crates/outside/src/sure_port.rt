@@ -29,7 +29,14 @@ impl Model for SurePort {
 
     ghost Value = { SurePortScript };
 
-    ghost view = { λ p. record { events = p.script.events; next_link = p.script.next_link; link_faults = p.script.link_faults; sent = p.script.sent; story = p.script.story; tells = p.script.tells } };
+    ghost view = { λ p. record {
+      events = p.script.events;
+      next_link = p.script.next_link;
+      link_faults = p.script.link_faults;
+      sent = p.script.sent;
+      story = p.script.story;
+      tells = p.script.tells;
+    } };
 
     ghost invariant = { λ p. (p.script.failing ≡ []) × (p.script.faults ≡ 0) };
 }
@@ -38,7 +45,14 @@ impl SurePort {
     /// It will give these events.
     pub fn new(alloc: Global, events: Events) -> SurePort
         requires { IsTrue (list_all is_scripted events) }
-        ensures { result ≡ record { events = events; next_link = first_dialled; link_faults = 0; sent = []; story = []; tells = true } }
+        ensures { result ≡ record {
+          events = events;
+          next_link = first_dialled;
+          link_faults = 0;
+          sent = [];
+          story = [];
+          tells = true;
+        } }
     {
         SurePort {
             script: ScriptPort::new(alloc, events, List::new(alloc)),
@@ -71,8 +85,10 @@ impl Port for SurePort {
 
     fn listen(&mut self, address: &[u8]) -> Result<(), Failed>
         ensures sure { IsTrue (is_ok result) }
-        ensures told { Appends (sure_story self.old) (sure_story self.new) (Happening.Listened address.now ∷ []) }
-        ensures after { self.new ≡ record self.old { story = self.new.story; tells = self.new.tells } }
+        ensures told { Appends (sure_story self.old) (sure_story self.new)
+            (Happening.Listened address.now ∷ []) }
+        ensures after { self.new ≡
+            record self.old { story = self.new.story; tells = self.new.tells } }
     {
         self.script.listen(address)
     }
@@ -81,7 +97,12 @@ impl Port for SurePort {
         ensures kind { IfOk result IsGiven }
         ensures told { Appends (sure_story self.old) (sure_story self.new) (given result want) }
         ensures event { result ≡ Ok (next_event self.old.events) }
-        ensures after { self.new ≡ record self.old { events = later_events self.old.events; story = self.new.story; tells = self.new.tells } }
+        ensures after { self.new ≡
+            record self.old {
+              events = later_events self.old.events;
+              story = self.new.story;
+              tells = self.new.tells;
+            } }
     {
         self.script.next(want)
     }
@@ -89,22 +110,39 @@ impl Port for SurePort {
     fn dial(&mut self, peer: &[u8]) -> Result<u32, Failed>
         ensures cause { OnErr result (Rose self.old.link_faults self.new.link_faults) }
         ensures link_faults { self.old.link_faults ≤ self.new.link_faults }
-        ensures fresh { IfOk result (λ link. IfSome (sure_story self.old) (λ before. is_linked before link ≡ false)) }
-        ensures told { Appends (sure_story self.old) (sure_story self.new) (Happening.Dialled peer.now (result_ok result) ∷ []) }
+        ensures fresh { IfOk result
+            (λ link. IfSome (sure_story self.old) (λ before. is_linked before link ≡ false)) }
+        ensures told { Appends (sure_story self.old) (sure_story self.new)
+            (Happening.Dialled peer.now (result_ok result) ∷ []) }
         ensures fails { is_err result ≡ (self.old.next_link == u32.MAX) }
-        ensures link { IfOk result (λ link. (link ≡ self.old.next_link) × (self.new.next_link ≡ link + 1)) }
+        ensures link { IfOk result (λ link. (link ≡ self.old.next_link) ×
+            (self.new.next_link ≡ link + 1)) }
         ensures no_link { OnErr result (self.new.next_link ≡ self.old.next_link) }
-        ensures after { self.new ≡ record self.old { next_link = self.new.next_link; link_faults = self.new.link_faults; story = self.new.story; tells = self.new.tells } }
+        ensures after { self.new ≡
+            record self.old {
+              next_link = self.new.next_link;
+              link_faults = self.new.link_faults;
+              story = self.new.story;
+              tells = self.new.tells;
+            } }
     {
         self.script.dial(peer)
     }
 
     fn send(&mut self, link: u32, bytes: &[u8]) -> Result<(), Failed>
         ensures sure { IsTrue (is_ok result) }
-        ensures told { Appends (sure_story self.old) (sure_story self.new) (Happening.Sent link bytes.now false ∷ []) }
-        ensures sent { IsTrue self.new.tells → self.new.sent ≡ self.old.sent ++ (link, bytes.now) ∷ [] }
-        ensures kept { (self.new.sent ≡ self.old.sent) ⊎ (self.new.sent ≡ self.old.sent ++ (link, bytes.now) ∷ []) }
-        ensures after { self.new ≡ record self.old { sent = self.new.sent; story = self.new.story; tells = self.new.tells } }
+        ensures told { Appends (sure_story self.old) (sure_story self.new)
+            (Happening.Sent link bytes.now false ∷ []) }
+        ensures sent { IsTrue self.new.tells → self.new.sent ≡
+            self.old.sent ++ (link, bytes.now) ∷ [] }
+        ensures kept { (self.new.sent ≡ self.old.sent) ⊎
+            (self.new.sent ≡ self.old.sent ++ (link, bytes.now) ∷ []) }
+        ensures after { self.new ≡
+            record self.old {
+              sent = self.new.sent;
+              story = self.new.story;
+              tells = self.new.tells;
+            } }
     {
         self.script.send(link, bytes)
     }

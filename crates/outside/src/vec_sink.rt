@@ -30,13 +30,20 @@ impl Model for VecSink {
 
     ghost Value = { SinkScript };
 
-    ghost view = { λ s. record { bytes = s.bytes.items; failing = s.failing; calls = s.calls; faults = s.faults; tells = s.tells } };
+    ghost view = { λ s. record {
+      bytes = s.bytes.items;
+      failing = s.failing;
+      calls = s.calls;
+      faults = s.faults;
+      tells = s.tells;
+    } };
 }
 
 impl VecSink {
     /// Nothing is kept yet, no call was made, and these calls will fail.
     pub fn new(alloc: Global, failing: Calls) -> VecSink
-        ensures { result ≡ record { bytes = []; failing = failing; calls = 0; faults = 0; tells = true } }
+        ensures { result ≡
+            record { bytes = []; failing = failing; calls = 0; faults = 0; tells = true } }
     {
         VecSink {
             bytes: Vec::new(alloc),
@@ -74,12 +81,15 @@ impl Sink for VecSink {
         ensures least { IfOk result (λ count. 0 < length bytes.now → 0 < count) }
         ensures cause { OnErr result (Rose self.old.faults self.new.faults) }
         ensures faults { self.old.faults ≤ self.new.faults }
-        ensures told { Appends (sink_taken self.old) (sink_taken self.new) (take (result_unwrap_or result 0) bytes.now) }
+        ensures told { Appends (sink_taken self.old) (sink_taken self.new)
+            (take (result_unwrap_or result 0) bytes.now) }
         // Exactly the listed calls fail, and the others take all the bytes.
         ensures fails { is_err result ≡ call_fails self.old.failing self.old.calls }
         ensures all { IfOk result (λ count. count ≡ length bytes.now) }
-        ensures kept { (self.new.bytes ≡ self.old.bytes) ⊎ (IsOk result × (self.new.bytes ≡ self.old.bytes ++ bytes.now)) }
-        ensures counts { self.new.faults ≡ (if is_err result then raised self.old.faults else self.old.faults) }
+        ensures kept { (self.new.bytes ≡ self.old.bytes) ⊎
+            (IsOk result × (self.new.bytes ≡ self.old.bytes ++ bytes.now)) }
+        ensures counts { self.new.faults ≡
+            (if is_err result then raised self.old.faults else self.old.faults) }
         ensures calls { self.new.calls ≡ raised self.old.calls }
         ensures failing { self.new.failing ≡ self.old.failing }
     {
