@@ -1,27 +1,22 @@
 -- What is read of a stub of bytes has its ranges.
-use Rattle.std.proofs.Common.{◌≡◌, ℕ, zero, suc, ◌+◌, ◌*◌, ◌^◌, ◌<◌, ◌≤◌, Bool, true, false, IsTrue, List, [], length, Option, Some, None, Result, Ok, refl, sym, subst, arith}
+use Rattle.std.proofs.Common.{◌≡◌, ℕ, ◌^◌, ◌<◌, Bool, true, false, List, Ok}
 use Rattle.std.specs.List.{AllByRecursion}
 use Rattle.wire_base.specs.Numbers.{AreBytes}
 use Rattle.wire_base.specs.Units.{AreUnits}
-use Rattle.wire_base.specs.declared.authenticator.Authenticator.{Authenticator}
 use Rattle.ndr_codec.specs.declared.refused.NdrRefused.{NdrRefused}
 use Rattle.ndr_codec.specs.Layout.{text}
 use Rattle.ndr_codec.proofs.GivenLaws.{Gives, begins_given, gives_more}
-use Rattle.logon_stubs.specs.declared.refused.StubRefused.{StubRefused}
-use Rattle.logon_stubs.specs.declared.info.NetworkInfo.{NetworkInfo}
 use Rattle.logon_stubs.specs.declared.calls.Reply.{Reply}
 use Rattle.logon_stubs.specs.declared.calls.Reply.TheVariants as reply
-use Rattle.logon_stubs.specs.declared.calls.LogoffCall.{LogoffCall}
 use Rattle.logon_stubs.specs.declared.calls.Call.{Call}
 use Rattle.logon_stubs.specs.declared.calls.Call.TheVariants as call
-use Rattle.logon_stubs.specs.Layout.{Layout, item, part, HasLayout}
+use Rattle.logon_stubs.specs.Layout.{Layout, item, part}
 use Rattle.ndr_codec.specs.declared.parts.Head.{Head}
-use Rattle.ndr_codec.specs.Stub.{Begins}
-use Rattle.ndr_codec.specs.Parts.{unique, unique_text, some_pointer, halves, head, units, bytes, IfThere}
+use Rattle.ndr_codec.specs.Parts.{halves, head, units, bytes, IfThere}
 use Rattle.ndr_codec.proofs.PartLaws.{gives_unique, gives_text, gives_halves, gives_some_pointer, gives_reserved, gives_head, gives_target, gives_units, gives_bytes, gives_times}
 use Rattle.logon_stubs.specs.Structures.{authenticator, network_info, Six, six, six_texts, sam_numbers, groups_head, groups_pointer, group, group_array, groups_target, sam_info}
 use Rattle.logon_stubs.specs.Calls.{challenge_call, auth_call, leveled_info, request_arm, logoff_call, logon_call, challenge_reply, auth_reply, logoff_reply, reply_arm, validation_arm, logon_reply, IsCall, IsReply, call_of, reply_of}
-use Rattle.logon_stubs.specs.Ranges.{IsBlock, IsAuthenticator, InRangeNetworkInfo, InRangeChallengeCall, InRangeAuthCall, InRangeLogoffCall, InRangeLogonCall, InRangeCall, InRangeGroup, InRangeTimes, InRangeTexts, InRangeNumbers, InRangeSamInfo, InRangeLogonReply, InRangeLogoffReply, InRangeChallengeReply, InRangeAuthReply, InRangeReply}
+use Rattle.logon_stubs.specs.Ranges.{IsAuthenticator, InRangeNetworkInfo, InRangeChallengeCall, InRangeAuthCall, InRangeLogoffCall, InRangeLogonCall, InRangeCall, InRangeGroup, InRangeSamInfo, InRangeLogonReply, InRangeLogoffReply, InRangeChallengeReply, InRangeAuthReply, InRangeReply}
 use Rattle.logon_stubs.proofs.CallLaws.{call_of-IsCall, reply_of-IsReply}
 
 gives_authenticator : Gives authenticator IsAuthenticator

@@ -1,14 +1,11 @@
 -- What is put of each structure is of its layout, by its ranges alone: of bytes, and at most so many.
-use Rattle.std.proofs.Common.{◌≡◌, ℕ, zero, suc, ◌+◌, ◌*◌, ◌/◌, ◌%◌, ◌^◌, ◌<◌, ◌≤◌, eqb, not, Bool, true, false, IsTrue, List, [], ◌∷◌, ◌++◌, length, Option, Some, None, Ok, refl, sym, ap, subst, ◌∙◌, arith}
+use Rattle.std.proofs.Common.{◌≡◌, ℕ, ◌+◌, ◌*◌, ◌^◌, ◌<◌, ◌≤◌, eqb, not, true, false, List, [], ◌∷◌, length, Option, Some, None, Ok, refl, sym, ap, subst, ◌∙◌, arith}
 use Rattle.wire_base.specs.Numbers.{AreBytes}
-use Rattle.wire_base.specs.Units.{AreUnits}
-use Rattle.ndr_codec.specs.Layout.{Shape, ValueOf, IsNdr, byte, short, long, raw, pointer, text, counted, counted_bytes, sid}
-use Rattle.ndr_codec.specs.Writing.{Written, nothing, put, CanPut, OfBytes, size_of, Writes}
-use Rattle.std.proofs.lemmas.List.{append-nil}
+use Rattle.ndr_codec.specs.Layout.{byte, short, long, raw, pointer, sid}
+use Rattle.ndr_codec.specs.Writing.{Written, nothing, put}
 use Rattle.std.specs.List.{AllByRecursion}
-use Rattle.std.proofs.lemmas.Bool.{eq-eqb, ne_eqb, le-leb}
+use Rattle.std.proofs.lemmas.Bool.{eq-eqb, le-leb}
 use Rattle.wire_base.specs.declared.authenticator.Authenticator.{Authenticator}
-use Rattle.logon_stubs.specs.declared.refused.StubRefused.{StubRefused}
 use Rattle.logon_stubs.specs.declared.info.NetworkInfo.{NetworkInfo}
 use Rattle.logon_stubs.specs.declared.info.SamInfo.{SamInfo}
 use Rattle.logon_stubs.specs.declared.calls.ChallengeCall.{ChallengeCall}
@@ -23,16 +20,16 @@ use Rattle.logon_stubs.specs.declared.calls.Call.{Call}
 use Rattle.logon_stubs.specs.declared.calls.Call.TheVariants as call
 use Rattle.logon_stubs.specs.declared.calls.Reply.{Reply}
 use Rattle.logon_stubs.specs.declared.calls.Reply.TheVariants as reply
-use Rattle.logon_stubs.specs.Layout.{Layout, item, part, done, only, placed, WritesLayout}
+use Rattle.logon_stubs.specs.Layout.{item, part, WritesLayout}
 use Rattle.ndr_codec.specs.declared.parts.Head.{Head}
-use Rattle.ndr_codec.specs.Stub.{Begins, size_of_all}
-use Rattle.ndr_codec.specs.Parts.{unique, unique_text, some_pointer, halves, reserved, head, units, bytes, FitsText, FitsBytes, IfThere, text_size, size_if_there, put_unique, put_halves, put_reserved, put_head, units_head, bytes_head, put_units, put_bytes}
+use Rattle.ndr_codec.specs.Stub.{size_of_all}
+use Rattle.ndr_codec.specs.Parts.{unique, halves, head, FitsText, IfThere, text_size, size_if_there, put_unique, units_head}
 use Rattle.ndr_codec.proofs.TimesLaws.{writes_times}
 use Rattle.ndr_codec.proofs.PartLaws.{it, of_part, then, end, where_true, from_place, within, text_law, unique_law, unique_text_law, some_pointer_law, halves_law, reserved_law, units_head_law, bytes_head_law, target_law, some, either, IsStub, stub_of, units_law, bytes_law}
 use Rattle.logon_stubs.specs.Structures.{authenticator, network_info, Six, six, six_texts, sam_numbers, groups_head, groups_pointer, group, groups, group_array, groups_target, sam_info}
 use Rattle.logon_stubs.specs.Calls.{challenge_call, challenge_reply, auth_call, auth_reply, leveled_info, request_arm, logoff_call, logoff_reply, logon_call, validation_arm, logon_reply, IsCall, IsReply, call_of, reply_of, opnum_of_call, opnum_of_reply}
 use Rattle.logon_stubs.specs.Writing.{CanWriteNetworkInfo, CanWriteSamInfo, CanWriteLogoffCall, CanWriteLogonCall, CanWriteArm, CanWriteCall, CanWriteReply, put_authenticator, put_network_info, put_times, put_text_heads, put_sam_numbers, put_groups_head, put_texts, put_group, put_groups, put_group_array, put_sam_info, put_challenge_call, put_challenge_reply, put_auth_call, put_auth_reply, put_leveled_info, put_logoff_call, put_logoff_reply, front_of, put_logon_call, put_logon_reply, put_call, put_reply, written_call, written_reply}
-use Rattle.logon_stubs.specs.Ranges.{IsBlock, IsAuthenticator, InRangeNetworkInfo, InRangeChallengeCall, InRangeAuthCall, InRangeLogoffCall, InRangeLogonCall, InRangeCall, InRangeGroup, InRangeTimes, InRangeTexts, InRangeNumbers, InRangeSamInfo, InRangeLogonReply, InRangeLogoffReply, InRangeChallengeReply, InRangeAuthReply, InRangeReply, bytes_of_text, logon_content, call_content, HasShortTexts, IsShortReply}
+use Rattle.logon_stubs.specs.Ranges.{IsBlock, IsAuthenticator, InRangeNetworkInfo, InRangeChallengeCall, InRangeAuthCall, InRangeLogoffCall, InRangeLogonCall, InRangeCall, InRangeGroup, InRangeTimes, InRangeTexts, InRangeNumbers, InRangeSamInfo, InRangeLogonReply, InRangeLogoffReply, InRangeChallengeReply, InRangeAuthReply, InRangeReply, bytes_of_text, call_content, HasShortTexts, IsShortReply}
 use Rattle.logon_stubs.proofs.CallLaws.{IsCall-call_of, IsReply-reply_of}
 
 -- ---- at most so many bytes

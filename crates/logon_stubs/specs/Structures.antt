@@ -1,10 +1,9 @@
 -- The structures in Netlogon's calls, each as a layout (MS-NRPC 2.2.1; C706 14.3). Padding, nonzero referents and maximum lengths are free. Each structure
 -- stands behind a referent, and each head behind parts of whole 4 bytes, so at a multiple of 4, as C706 14.3.2 aligns them: no padding comes before one.
-use Rattle.std.specs.Prelude.{ℕ, zero, suc, ◌+◌, ◌*◌, ◌%◌, ◌^◌, ◌==◌, ◌&&◌, ◌||◌, Bool, true, false, List, [], ◌∷◌, Option, Some, None, nat_le}
+use Rattle.std.specs.Prelude.{ℕ, ◌==◌, ◌||◌, Bool, List, nat_le}
 use Rattle.ndr_codec.specs.Layout.{start_of, short, long, raw, pointer, sid}
-use Rattle.ndr_codec.specs.Parts.{unique, some_pointer, halves, reserved, head, target, units, bytes}
+use Rattle.ndr_codec.specs.Parts.{some_pointer, halves, reserved, head, target, units, bytes}
 use Rattle.ndr_codec.specs.declared.parts.Head.{Head}
-use Rattle.wire_base.specs.Sid.{SidParts}
 use Rattle.wire_base.specs.declared.authenticator.Authenticator.{Authenticator}
 use Rattle.logon_stubs.specs.declared.refused.StubRefused.TheVariants.{BadStub}
 use Rattle.logon_stubs.specs.declared.info.NetworkInfo.{NetworkInfo}

@@ -1,6 +1,5 @@
 -- What a layout gives of a stub of bytes has its ranges.
-use Rattle.std.proofs.Common.{◌≡◌, ℕ, ◌+◌, ◌^◌, ◌<◌, ◌≤◌, Bool, true, false, IsTrue, List, [], ◌∷◌, ◌++◌, length, take, drop, refl, sym, ap, subst, ◌∙◌, arith}
-use Rattle.std.specs.Int.{w32, to_le_bytes}
+use Rattle.std.proofs.Common.{ℕ, ◌+◌, IsTrue, List, ◌++◌, length, refl, sym, subst, arith}
 use Rattle.std.proofs.lemmas.List.{drop_at, take_at}
 use Rattle.wire_base.specs.Numbers.{AreBytes}
 use Rattle.wire_base.proofs.NumberLaws.{AreBytes-drop, AreBytes-take}

@@ -1,5 +1,5 @@
 -- What is put of each part is of its layout, of bytes, and at most so many; and what a part gives of a stub of bytes has its ranges.
-use Rattle.std.proofs.Common.{◌≡◌, ℕ, zero, suc, ◌+◌, ◌*◌, ◌/◌, ◌%◌, ◌^◌, ◌<◌, ◌≤◌, eqb, not, ◌||◌, Bool, true, false, IsTrue, List, [], ◌∷◌, length, Option, Some, None, ◌++◌, refl, sym, ap, subst, ◌∙◌, arith}
+use Rattle.std.proofs.Common.{◌≡◌, ℕ, zero, suc, ◌+◌, ◌*◌, ◌/◌, ◌%◌, ◌^◌, ◌<◌, ◌≤◌, eqb, not, ◌||◌, Bool, true, false, IsTrue, List, [], ◌∷◌, length, Option, Some, None, refl, sym, ap, subst, ◌∙◌, arith}
 use Rattle.std.specs.Prelude.{replicate}
 use Rattle.std.specs.List.{AllByRecursion}
 use Rattle.std.proofs.lemmas.List.{append-nil, length-replicate}
@@ -8,7 +8,7 @@ use Rattle.std.proofs.lemmas.Bool.{eq-eqb, ne_eqb, and_from, le-leb}
 use Rattle.wire_base.specs.Numbers.{AreBytes}
 use Rattle.wire_base.specs.Units.{AreUnits}
 use Rattle.ndr_codec.specs.declared.parts.Head.{Head}
-use Rattle.ndr_codec.specs.Layout.{Shape, ValueOf, short, long, raw, pointer, text, counted, counted_bytes}
+use Rattle.ndr_codec.specs.Layout.{Shape, ValueOf, short, long, pointer, text, counted, counted_bytes}
 use Rattle.ndr_codec.specs.Writing.{Written, nothing, put, CanPut, OfBytes, size_of}
 use Rattle.ndr_codec.specs.Stub.{LayoutOf, item, part, after, done, only, placed, times, put_all, size_of_all, Begins, WritesBy}
 use Rattle.ndr_codec.specs.Parts.{Part, unique, some_pointer, halves, reserved, put_reserved, is_head, head, target, units, bytes, FitsText, FitsBytes, IfThere, text_size, size_if_there, Putting, put_unique, put_halves, head_of, put_head, units_head, bytes_head, put_units, put_bytes}

@@ -1,12 +1,10 @@
 -- The parts that stand in many stubs, each as a layout, and how they are put. Padding, nonzero referents and maximum lengths are free; of these a part is
 -- put with a maximum that is its length, and an empty counted string with a null pointer (this project's own choice).
-use Rattle.std.specs.Prelude.{ℕ, ◌≡◌, ◌+◌, ◌*◌, ◌/◌, ◌%◌, ◌^◌, ◌≤◌, ◌==◌, ◌&&◌, ◌||◌, Bool, true, false, not, List, [], ◌∷◌, length, Option, Some, None, nat_le, replicate}
-use Rattle.wire_base.specs.Numbers.{AreBytes}
-use Rattle.wire_base.specs.Units.{AreUnits}
+use Rattle.std.specs.Prelude.{ℕ, ◌+◌, ◌*◌, ◌/◌, ◌%◌, ◌^◌, ◌≤◌, ◌==◌, ◌&&◌, ◌||◌, Bool, true, false, not, List, [], ◌∷◌, length, Option, Some, None, nat_le, replicate}
 use Rattle.ndr_codec.specs.declared.refused.NdrRefused.{NdrRefused}
 use Rattle.ndr_codec.specs.declared.refused.NdrRefused.TheVariants.{BadPart}
 use Rattle.ndr_codec.specs.declared.parts.Head.{Head}
-use Rattle.ndr_codec.specs.Layout.{start_of, short, long, raw, pointer, text, counted, counted_bytes}
+use Rattle.ndr_codec.specs.Layout.{start_of, short, long, pointer, text, counted, counted_bytes}
 use Rattle.ndr_codec.specs.Stub.{LayoutOf, item, done, only, placed, times, put_all, ◌>>=◌}
 use Rattle.ndr_codec.specs.Writing.{Written, put}
 
