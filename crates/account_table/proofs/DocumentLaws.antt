@@ -13,6 +13,7 @@ use Rattle.account_table.specs.declared.refused.TableRefused.TheVariants.{BadTom
 use Rattle.account_table.specs.declared.key.Key.{Key}
 use Rattle.account_table.specs.Document.{document_of, accounts_of, optional, formed, formed_or, value_at}
 use Rattle.account_table.specs.Forms.{only_if, at_most, rids, a_list, a_rid}
+use Rattle.account_table.specs.Limits.{group_limit, domain_users}
 use Rattle.account_table.specs.Listing.{entries_of}
 
 -- ---- the document of a text
@@ -47,23 +48,23 @@ module _ (account_of : ℕ → List Account → Members → Result Account Table
 
 -- ---- groups
 
-formed-Ok : {T : Type 0} (key : Key) (o : Option T) (x : T) → formed key o ≡ Ok x → o ≡ Some x
+pub formed-Ok : {T : Type 0} (key : Key) (o : Option T) (x : T) → formed key o ≡ Ok x → o ≡ Some x
 formed-Ok key None x e = absurd cc
 formed-Ok key (Some y) x e = cc
 
-few_from_only_if : (o : Option (List ℕ)) (xs : List ℕ) → only_if (at_most 256) o ≡ Some xs → length xs ≤ 256
+few_from_only_if : (o : Option (List ℕ)) (xs : List ℕ) → only_if (at_most group_limit) o ≡ Some xs → length xs ≤ group_limit
 few_from_only_if None xs e = absurd cc
 few_from_only_if (Some ys) xs e =
-    elim (cases_Bool (leb (length ys) 256)) [
-      | inl few ↦ let here : only_if (at_most 256) (Some ys) ≡ Some ys = rw few refl in let same : ys ≡ xs = cc in rw (← same) (leb-true _ _ few)
-      | inr many ↦ absurd (let none : only_if (at_most 256) (Some ys) ≡ None = rw many refl in cc)
+    elim (cases_Bool (leb (length ys) group_limit)) [
+      | inl few ↦ let here : only_if (at_most group_limit) (Some ys) ≡ Some ys = rw few refl in let same : ys ≡ xs = cc in rw (← same) (leb-true _ _ few)
+      | inr many ↦ absurd (let none : only_if (at_most group_limit) (Some ys) ≡ None = rw many refl in cc)
     ]
 
-few_by : (key : Key) (found : Option Data) (xs : List ℕ) → formed_or (513 ∷ []) rids key found ≡ Ok xs → length xs ≤ 256
-few_by key None xs e = let one : 513 ∷ [] ≡ xs = cc in rw (← one) (lit≤ tt)
+few_by : (key : Key) (found : Option Data) (xs : List ℕ) → formed_or (domain_users ∷ []) rids key found ≡ Ok xs → length xs ≤ group_limit
+few_by key None xs e = let one : domain_users ∷ [] ≡ xs = cc in rw (← one) (lit≤ tt)
 few_by key (Some value) xs e = few_from_only_if (a_list a_rid value) xs (formed-Ok key (rids value) xs e)
 
 -- an account that is read has at most 256 groups
-pub few_groups : (key : Key) (entry : Members) (xs : List ℕ) → optional (513 ∷ []) rids key entry ≡ Ok xs → length xs ≤ 256
+pub few_groups : (key : Key) (entry : Members) (xs : List ℕ) → optional (domain_users ∷ []) rids key entry ≡ Ok xs → length xs ≤ group_limit
 unfolding optional
 few_groups key entry xs e = few_by key (value_at key entry) xs e

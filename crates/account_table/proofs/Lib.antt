@@ -1,3 +1,4 @@
 pub mod DocumentLaws
 pub mod IndexLaws
 pub mod ListLaws
+pub mod TableLaws

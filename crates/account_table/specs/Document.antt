@@ -7,14 +7,19 @@ use Rattle.toml.specs.Parse.{parse_document}
 use Rattle.wire_base.specs.Maps.{place_of}
 use Rattle.wire_base.specs.Names.{same_name}
 use Rattle.account_table.specs.declared.account.Account.{Account}
+use Rattle.account_table.specs.declared.account.Kind.{Kind as KindOf}
 use Rattle.account_table.specs.declared.account.Kind.TheVariants as kind
 use Rattle.account_table.specs.declared.key.Key.{Key}
 use Rattle.account_table.specs.declared.key.Word.TheVariants.{Domain, Sid, User, Machine, Name, Rid, Hash, FullName, Group, Groups, Disabled, Locked, MustChange, Expires, PasswordSet, PasswordExpires, Workstations, Kind}
 use Rattle.account_table.specs.declared.refused.TableRefused.{TableRefused}
 use Rattle.account_table.specs.declared.refused.TableRefused.TheVariants.{BadToml, TooMany, Missing, BadValue, Twice}
+use Rattle.account_table.specs.declared.reading.Restrictions.{Restrictions}
+use Rattle.account_table.specs.declared.reading.Identity.{Identity}
+use Rattle.account_table.specs.declared.reading.Moments.{Moments}
 use Rattle.account_table.specs.AccountTable.{AccountTable}
 use Rattle.account_table.specs.Forms.{a_name, a_user_name, a_machine_name, a_full_name, a_rid, a_moment, a_truth, a_hash, a_domain_sid, a_kind, rids, computers, tables}
 use Rattle.account_table.specs.Keys.{word_text, top, of_user, of_machine}
+use Rattle.account_table.specs.Limits.{account_limit, domain_users}
 
 -- a step after a step that wasn't refused
 infixl 10 ◌>>=◌
@@ -62,41 +67,82 @@ unless false refused = Ok tt
 unfoldable pub new_name : List ℕ → List Account → Result (Unit {0}) TableRefused
 new_name name before = unless (is_some (place_of (has_name name) before)) (Twice name)
 
+-- who the user is
+unfoldable pub identity_of : ℕ → Members → Result Identity TableRefused
+identity_of number entry = do
+  rid ← needed a_rid (of_user number Rid) entry
+  hash ← needed a_hash (of_user number Hash) entry
+  full_name ← optional [] a_full_name (of_user number FullName) entry
+  group ← optional domain_users a_rid (of_user number Group) entry
+  groups ← optional (domain_users ∷ []) rids (of_user number Groups) entry
+  Ok (record { rid = rid; hash = hash; full_name = full_name; group = group; groups = groups })
+
+-- what keeps the user from logging on
+unfoldable pub restrictions_of : ℕ → Members → Result Restrictions TableRefused
+restrictions_of number entry = do
+  disabled ← optional false a_truth (of_user number Disabled) entry
+  locked ← optional false a_truth (of_user number Locked) entry
+  must_change ← optional false a_truth (of_user number MustChange) entry
+  Ok (record { disabled = disabled; locked = locked; must_change = must_change })
+
+-- the user's moments
+unfoldable pub moments_of : ℕ → Members → Result Moments TableRefused
+moments_of number entry = do
+  expires ← optional 0 a_moment (of_user number Expires) entry
+  password_set ← optional 0 a_moment (of_user number PasswordSet) entry
+  password_expires ← optional 0 a_moment (of_user number PasswordExpires) entry
+  Ok (record { expires = expires; password_set = password_set; password_expires = password_expires })
+
+-- the account of a user of these parts
+abbrev pub user_account : List ℕ → Identity → Restrictions → Moments → List (List ℕ) → Account
+user_account name identity restrictions moments workstations = record {
+  name = name;
+  rid = identity.rid;
+  hash = identity.hash;
+  full_name = identity.full_name;
+  group = identity.group;
+  groups = identity.groups;
+  disabled = restrictions.disabled;
+  locked = restrictions.locked;
+  must_change = restrictions.must_change;
+  expires = moments.expires;
+  password_set = moments.password_set;
+  password_expires = moments.password_expires;
+  workstations = workstations;
+  kind = kind.User;
+}
+
 -- the user of that entry, after these accounts
 unfoldable pub user_of : ℕ → List Account → Members → Result Account TableRefused
 user_of number before entry = do
   name ← needed a_user_name (of_user number Name) entry
   fresh ← new_name name before
-  rid ← needed a_rid (of_user number Rid) entry
-  hash ← needed a_hash (of_user number Hash) entry
-  full_name ← optional [] a_full_name (of_user number FullName) entry
-  group ← optional 513 a_rid (of_user number Group) entry
-  groups ← optional (513 ∷ []) rids (of_user number Groups) entry
-  disabled ← optional false a_truth (of_user number Disabled) entry
-  locked ← optional false a_truth (of_user number Locked) entry
-  must_change ← optional false a_truth (of_user number MustChange) entry
-  expires ← optional 0 a_moment (of_user number Expires) entry
-  password_set ← optional 0 a_moment (of_user number PasswordSet) entry
-  password_expires ← optional 0 a_moment (of_user number PasswordExpires) entry
+  identity ← identity_of number entry
+  restrictions ← restrictions_of number entry
+  moments ← moments_of number entry
   workstations ← optional [] computers (of_user number Workstations) entry
-  Ok (record {
-    name = name;
-    rid = rid;
-    hash = hash;
-    full_name = full_name;
-    group = group;
-    groups = groups;
-    disabled = disabled;
-    locked = locked;
-    must_change = must_change;
-    expires = expires;
-    password_set = password_set;
-    password_expires = password_expires;
-    workstations = workstations;
-    kind = kind.User;
-  })
+  Ok (user_account name identity restrictions moments workstations)
 
--- the machine of that entry, after these accounts; what its entry doesn't say is as a user's default
+-- the account of a machine; what its entry doesn't say is as a user's default
+abbrev pub machine_account : List ℕ → KindOf → List ℕ → Bool → Account
+machine_account name kind hash disabled = record {
+  name = name;
+  rid = 0;
+  hash = hash;
+  full_name = [];
+  group = domain_users;
+  groups = domain_users ∷ [];
+  disabled = disabled;
+  locked = false;
+  must_change = false;
+  expires = 0;
+  password_set = 0;
+  password_expires = 0;
+  workstations = [];
+  kind = kind;
+}
+
+-- the machine of that entry, after these accounts
 unfoldable pub machine_of : ℕ → List Account → Members → Result Account TableRefused
 machine_of number before entry = do
   name ← needed a_machine_name (of_machine number Name) entry
@@ -104,22 +150,7 @@ machine_of number before entry = do
   kind ← needed a_kind (of_machine number Kind) entry
   hash ← needed a_hash (of_machine number Hash) entry
   disabled ← optional false a_truth (of_machine number Disabled) entry
-  Ok (record {
-    name = name;
-    rid = 0;
-    hash = hash;
-    full_name = [];
-    group = 513;
-    groups = 513 ∷ [];
-    disabled = disabled;
-    locked = false;
-    must_change = false;
-    expires = 0;
-    password_set = 0;
-    password_expires = 0;
-    workstations = [];
-    kind = kind;
-  })
+  Ok (machine_account name kind hash disabled)
 
 -- each entry in order, from that number on, after these accounts
 abbrev pub accounts_of : (ℕ → List Account → Members → Result Account TableRefused) → ℕ → List Account → List Members → Result (List Account) TableRefused
@@ -130,8 +161,9 @@ accounts_of account_of number before (entry ∷ entries) = do
 
 -- ---- the document
 
+-- more accounts than a table has
 abbrev pub too_many : ℕ → Bool
-too_many count = nat_lt 10000 count
+too_many count = nat_lt account_limit count
 
 -- the table of a TOML document
 unfoldable pub table_in : Members → Result AccountTable TableRefused

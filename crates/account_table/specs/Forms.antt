@@ -9,6 +9,7 @@ use Rattle.hex.specs.Hex.{decode_sized}
 use Rattle.toml.specs.Data.{Data, Items, no_items, item, Members, as_str, as_integer, as_bool, as_array, as_table}
 use Rattle.wire_base.specs.Names.{name_of}
 use Rattle.wire_base.specs.Sid.{SidParts, sid_of}
+use Rattle.account_table.specs.Limits.{group_limit, workstation_limit, domain_sid_limit, last_rid, last_moment}
 use Rattle.account_table.specs.declared.account.Kind.{Kind}
 use Rattle.account_table.specs.declared.account.Kind.TheVariants.{Workstation, Backup}
 
@@ -59,11 +60,11 @@ an_integer least most value = option_and_then (in_range least most) (as_integer 
 
 -- a relative identifier: 1 to 4,294,967,295
 abbrev pub a_rid : Data → Option ℕ
-a_rid value = an_integer 1 4294967295 value
+a_rid value = an_integer 1 last_rid value
 
 -- a moment: 0 to 2^63 - 1, in units of 100 ns since 1601
 abbrev pub a_moment : Data → Option ℕ
-a_moment value = an_integer 0 9223372036854775807 value
+a_moment value = an_integer 0 last_moment value
 
 -- ---- words, bytes and identifiers
 
@@ -76,7 +77,7 @@ a_hash value = option_and_then (λ text. result_ok (decode_sized text 16)) (as_s
 
 -- a domain's identifier: at most 14 numbers, since an account's identifier has one more, and at most 15
 abbrev pub is_domain_sid : SidParts → Bool
-is_domain_sid sid = nat_le (length sid.numbers) 14
+is_domain_sid sid = nat_le (length sid.numbers) domain_sid_limit
 
 abbrev pub a_domain_sid : Data → Option SidParts
 a_domain_sid value = only_if is_domain_sid (option_and_then (λ text. result_ok (sid_of text)) (as_str value))
@@ -111,11 +112,11 @@ at_most limit items = nat_le (length items) limit
 
 -- at most 256 relative identifiers
 abbrev pub rids : Data → Option (List ℕ)
-rids value = only_if (at_most 256) (a_list a_rid value)
+rids value = only_if (at_most group_limit) (a_list a_rid value)
 
 -- at most 8 names of 1 to 64 bytes
 abbrev pub computers : Data → Option (List (List ℕ))
-computers value = only_if (at_most 8) (a_list a_name value)
+computers value = only_if (at_most workstation_limit) (a_list a_name value)
 
 -- a list of tables
 abbrev pub tables : Data → Option (List Members)

@@ -1,9 +1,14 @@
 -- The index by name that an account table keeps (this project's own choice): the accounts in order, each under its name in upper case.
-use Rattle.std.specs.Prelude.{ℕ, ◌&&◌, Bool, List, map, length, nat_le, Vec}
+use Rattle.std.specs.Prelude.{ℕ, ◌&&◌, Bool, false, List, map, length, nat_le, slice_get, Option, Vec}
+use Rattle.std.specs.Bool.{then_some}
 use Rattle.std.specs.List.{list_all}
+use Rattle.std.specs.Option.{option_map_or, option_and_then}
 use Rattle.std.specs.Str.{bytes_eq}
 use Rattle.std.specs.declared.alloc.Global.{Global}
 use Rattle.wire_base.specs.Names.{upper_case}
+use Rattle.account_table.specs.AccountTable.{has_distinct_names}
+use Rattle.account_table.specs.Limits.{account_limit, group_limit, name_limit}
+use Rattle.account_table.specs.LookUps.{place_in, account_in, machine_name, is_machine, is_machine_for}
 use Rattle.account_table.specs.declared.account.Account.{Account}
 
 abbrev pub Entry : Type 0
@@ -11,11 +16,24 @@ Entry = Vec ℕ Global × Account
 
 -- the key is the name in upper case; a name has at most 64 bytes, and an account at most 256 groups
 abbrev pub is_entry : Entry → Bool
-is_entry entry = bytes_eq entry.0.items (upper_case entry.1.name) && nat_le (length entry.1.name) 64 && nat_le (length entry.1.groups) 256
-
--- at most 10,000 such entries
-abbrev pub is_index : List Entry → Bool
-is_index entries = nat_le (length entries) 10000 && list_all is_entry entries
+is_entry entry = bytes_eq entry.0.items (upper_case entry.1.name) && nat_le (length entry.1.name) name_limit && nat_le (length entry.1.groups) group_limit
 
 abbrev pub accounts_in : List Entry → List Account
 accounts_in entries = map (λ entry. entry.1) entries
+
+-- at most 10,000 such entries, of accounts with different names
+abbrev pub is_index : List Entry → Bool
+is_index entries =
+    nat_le (length entries) account_limit && list_all is_entry entries && has_distinct_names (accounts_in entries)
+
+-- ---- what the account tells that a name finds
+
+-- its place, where it opens that channel for that computer
+unfoldable pub machine_found : List Account → List ℕ → ℕ → List ℕ → Option ℕ
+machine_found accounts name channel computer =
+    option_and_then (λ place. then_some (option_map_or (is_machine_for channel computer) (slice_get accounts place) false) place) (place_in accounts name)
+
+-- it is a computer's
+unfoldable pub computer_found : List Account → List ℕ → Bool
+computer_found accounts computer =
+    option_map_or (λ account. is_machine account.kind) (account_in accounts (machine_name computer)) false

@@ -2,9 +2,12 @@ pub mod AccountTable
 pub mod Document
 pub mod Forms
 pub mod Index
+pub mod IsTable
 pub mod Keys
+pub mod Limits
 pub mod Listing
 pub mod LookUps
+pub use Rattle.channel_keys.specs.ChannelTypes
 pub use Rattle.wire_base.specs.Memory
 pub use Rattle.wire_base.specs.Names
 pub use Rattle.wire_base.specs.Sid

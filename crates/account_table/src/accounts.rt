@@ -1,7 +1,9 @@
 //! Accounts in their order, with an index by name.
 
-ghost use Rattle.std.specs.Prelude.{◌≡◌, [], ◌∷◌, ◌++◌, ◌+◌, ◌<◌, ◌≤◌, None, length, is_some, option_copied, slice_get, IfSome, OnOk, OnErr};
+ghost use Rattle.std.specs.Prelude.{◌≡◌, [], ◌∷◌, ◌++◌, ◌+◌, ◌<◌, ◌≤◌, None, length, is_some, option_copied, slice_get, IfSome, IsTrue, OnOk, OnErr};
 ghost use Rattle.wire_base.specs.Names.{upper_case};
+ghost use Rattle.account_table.specs.AccountTable.{has_distinct_names};
+ghost use Rattle.account_table.specs.Limits.{account_limit, group_limit, name_limit};
 ghost use Rattle.account_table.specs.LookUps.{machine_name, place_in};
 
 use crate::account::Account;
@@ -45,7 +47,7 @@ impl Accounts {
     /// The number of accounts.
     pub(crate) fn len(&self) -> usize
         ensures value { result ≡ length self.now }
-        ensures limit { result ≤ 10000 }
+        ensures limit { result ≤ account_limit }
     {
         self.index.len()
     }
@@ -53,7 +55,7 @@ impl Accounts {
     /// The account at a place, counted from 0. None exactly past the end.
     pub(crate) fn get(&self, place: usize) -> Option<&Account>
         ensures value { option_copied result ≡ slice_get self.now place }
-        ensures groups { IfSome result (λ account. length account.now.groups ≤ 256) }
+        ensures groups { IfSome result (λ account. length account.now.groups ≤ group_limit) }
     {
         match self.index.get_index(place) {
             Some((_, account)) => Some(account),
@@ -65,6 +67,7 @@ impl Accounts {
     pub(crate) fn place(&self, name: &[u16]) -> Option<u32>
         ensures value { result ≡ place_in self.now name.now }
         ensures within { IfSome result (λ place. place < length self.now) }
+        ensures different { IsTrue (has_distinct_names self.now) }
     {
         let index = &self.index;
         if NAME_LIMIT < name.len() {
@@ -78,7 +81,8 @@ impl Accounts {
 
     /// The place of the account of the computer's name and `$`. It takes no memory.
     pub(crate) fn machine_place(&self, computer: &[u16]) -> Option<u32>
-        ensures { result ≡ place_in self.now (machine_name computer.now) }
+        ensures value { result ≡ place_in self.now (machine_name computer.now) }
+        ensures different { IsTrue (has_distinct_names self.now) }
     {
         let index = &self.index;
         if NAME_LIMIT <= computer.len() {
@@ -102,9 +106,9 @@ impl Accounts {
 
     /// Appends an account of a new name. Without memory the accounts stay as they were.
     pub(crate) fn push(&mut self, alloc: Global, account: Account) -> Result<(), NoMemory>
-        requires room { length self.old < 10000 }
+        requires room { length self.old < account_limit }
         requires fresh { place_in self.old account.name ≡ None }
-        requires groups { length account.groups ≤ 256 }
+        requires groups { length account.groups ≤ group_limit }
         ensures appended { OnOk result (self.new ≡ self.old ++ account ∷ []) }
         ensures unchanged { OnErr result (self.new ≡ self.old) }
     {
@@ -116,7 +120,7 @@ impl Accounts {
 
 /// The units in upper case.
 fn upper(units: &[u16]) -> ArrayVec<u16, 64>
-    requires { length units.now ≤ 64 }
+    requires { length units.now ≤ name_limit }
     ensures { result.items ≡ upper_case units.now }
 {
     let mut upper = ArrayVec::new();
@@ -129,7 +133,7 @@ fn upper(units: &[u16]) -> ArrayVec<u16, 64>
 /// The name in upper case.
 fn upper_name(name: &Name) -> ArrayVec<u16, 64>
     ensures value { result.items ≡ upper_case name.now }
-    ensures short { length name.now ≤ 64 }
+    ensures short { length name.now ≤ name_limit }
 {
     let mut upper = ArrayVec::new();
     for byte in name.bytes() {
@@ -140,7 +144,7 @@ fn upper_name(name: &Name) -> ArrayVec<u16, 64>
 
 /// The name of a computer's account: the computer's and `$` (MS-NRPC 3.5.4.4.3).
 pub(crate) fn machine_name(computer: &[u16]) -> ArrayVec<u16, 64>
-    requires { length computer.now < 64 }
+    requires { length computer.now < name_limit }
     ensures { result.items ≡ machine_name computer.now }
 {
     let mut name = ArrayVec::new();

@@ -6,6 +6,7 @@ ghost use Rattle.wire_base.specs.Memory.{UpToMemory};
 ghost use Rattle.toml.specs.View.{view, table_view};
 ghost use Rattle.account_table.specs.Document.{value_at, formed, formed_by, formed_or, needed, optional};
 ghost use Rattle.account_table.specs.Forms.{a_name, a_user_name, a_machine_name, a_full_name, a_rid, a_moment, a_truth, a_hash, a_domain_sid, a_kind, rids, computers, tables};
+ghost use Rattle.account_table.specs.Limits.{domain_users};
 ghost use Rattle.account_table.specs.Listing.{IsListing};
 
 use crate::account::Kind;
@@ -35,7 +36,10 @@ fn formed<T: Drop>(key: Key, value: Option<T>) -> Result<T, TableRefused>
 
 /// What stands at a key that has to be there.
 fn present<'a>(key: Key, entry: &'a Table) -> Result<&'a Value, TableRefused>
-    ensures { MatchResult result (λ value. value_at key (table_view entry.now) ≡ Some (view value.now)) (λ refused. (value_at key (table_view entry.now) ≡ None) × (refused ≡ TableRefused.Missing key)) }
+    ensures { MatchResult result
+        (λ value. value_at key (table_view entry.now) ≡ Some (view value.now))
+        (λ refused. (value_at key (table_view entry.now) ≡ None)
+        × (refused ≡ TableRefused.Missing key)) }
 {
     match value_at(key, entry) {
         Some(value) => Ok(value),
@@ -52,7 +56,8 @@ pub(crate) fn needed_name(alloc: Global, key: Key, entry: &Table) -> Result<Name
 
 /// A user's name.
 pub(crate) fn needed_user_name(alloc: Global, key: Key, entry: &Table) -> Result<Name, TableRefused>
-    ensures { UpToMemory TableRefused.Memory result (needed a_user_name key (table_view entry.now)) }
+    ensures { UpToMemory TableRefused.Memory result
+        (needed a_user_name key (table_view entry.now)) }
 {
     formed(key, user_name(alloc, present(key, entry)?)?)
 }
@@ -63,14 +68,16 @@ pub(crate) fn needed_machine_name(
     key: Key,
     entry: &Table,
 ) -> Result<Name, TableRefused>
-    ensures { UpToMemory TableRefused.Memory result (needed a_machine_name key (table_view entry.now)) }
+    ensures { UpToMemory TableRefused.Memory result
+        (needed a_machine_name key (table_view entry.now)) }
 {
     formed(key, machine_name(alloc, present(key, entry)?)?)
 }
 
 /// A domain's identifier.
 pub(crate) fn needed_sid(alloc: Global, key: Key, entry: &Table) -> Result<Sid, TableRefused>
-    ensures { UpToMemory TableRefused.Memory result (needed a_domain_sid key (table_view entry.now)) }
+    ensures { UpToMemory TableRefused.Memory result
+        (needed a_domain_sid key (table_view entry.now)) }
 {
     formed(key, domain_sid(alloc, present(key, entry)?)?)
 }
@@ -102,7 +109,8 @@ pub(crate) fn full_name_or_empty(
     key: Key,
     entry: &Table,
 ) -> Result<Name, TableRefused>
-    ensures { UpToMemory TableRefused.Memory result (optional [] a_full_name key (table_view entry.now)) }
+    ensures { UpToMemory TableRefused.Memory result
+        (optional [] a_full_name key (table_view entry.now)) }
 {
     match value_at(key, entry) {
         Some(value) => formed(key, full_name(alloc, value)?),
@@ -112,7 +120,7 @@ pub(crate) fn full_name_or_empty(
 
 /// A relative identifier, or that of all users of a domain (MS-DTYP 2.4.2.4).
 pub(crate) fn rid_or_users(key: Key, entry: &Table) -> Result<u32, TableRefused>
-    ensures { result ≡ optional 513 a_rid key (table_view entry.now) }
+    ensures { result ≡ optional domain_users a_rid key (table_view entry.now) }
 {
     match value_at(key, entry) {
         Some(value) => formed(key, rid(value)),
@@ -122,7 +130,8 @@ pub(crate) fn rid_or_users(key: Key, entry: &Table) -> Result<u32, TableRefused>
 
 /// Relative identifiers, or that of all users of a domain alone.
 pub(crate) fn rids_or_users(alloc: Global, key: Key, entry: &Table) -> Result<Numbers, TableRefused>
-    ensures { UpToMemory TableRefused.Memory result (optional (513 ∷ []) rids key (table_view entry.now)) }
+    ensures { UpToMemory TableRefused.Memory result
+        (optional (domain_users ∷ []) rids key (table_view entry.now)) }
 {
     match value_at(key, entry) {
         Some(value) => formed(key, rids(alloc, value)?),
@@ -136,7 +145,8 @@ pub(crate) fn computers_or_none(
     key: Key,
     entry: &Table,
 ) -> Result<Names, TableRefused>
-    ensures { UpToMemory TableRefused.Memory result (optional [] computers key (table_view entry.now)) }
+    ensures { UpToMemory TableRefused.Memory result
+        (optional [] computers key (table_view entry.now)) }
 {
     match value_at(key, entry) {
         Some(value) => formed(key, computers(alloc, value)?),
@@ -166,7 +176,9 @@ pub(crate) fn moment_or_none(key: Key, entry: &Table) -> Result<u64, TableRefuse
 
 /// The values of a list of tables, or none where it isn't there.
 pub(crate) fn tables_or_none<'a>(key: Key, entry: &'a Table) -> Result<&'a [Value], TableRefused>
-    ensures { MatchResult result (λ values. IsListing key (table_view entry.now) values.now) (λ refused. optional [] tables key (table_view entry.now) ≡ Err refused) }
+    ensures { MatchResult result
+        (λ values. IsListing key (table_view entry.now) values.now)
+        (λ refused. optional [] tables key (table_view entry.now) ≡ Err refused) }
 {
     match value_at(key, entry) {
         Some(value) => formed(key, tables(value)),

@@ -15,4 +15,3 @@ pub use account::{Account, Kind};
 pub use key::{Key, Part, Word};
 pub use refused::TableRefused;
 pub use table::{Route, Table};
-

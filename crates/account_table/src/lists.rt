@@ -14,6 +14,12 @@ use wire_base::{Name, Names, NoMemory, Numbers};
 /// The relative identifier of the group of all users of a domain (MS-DTYP 2.4.2.4).
 pub(crate) const DOMAIN_USERS: u32 = 513;
 
+/// The most groups of an account.
+const GROUP_LIMIT: usize = 256;
+
+/// The most workstations of an account.
+const WORKSTATION_LIMIT: usize = 8;
+
 /// A name of no bytes.
 pub(crate) fn empty_name(alloc: Global) -> Result<Name, NoMemory>
     ensures { IfOk result (λ name. name ≡ []) }
@@ -30,11 +36,12 @@ pub(crate) fn rids(alloc: Global, value: &Value) -> Result<Option<Numbers>, NoMe
     ensures { IfOk result (λ numbers. numbers ≡ rids (view value.now)) }
 {
     match value.as_array() {
-        Some(values) if values.len() <= 256 => each_rid(alloc, values.as_slice()),
+        Some(values) if values.len() <= GROUP_LIMIT => each_rid(alloc, values.as_slice()),
         _ => Ok(None),
     }
 }
 
+/// The relative identifiers, where each value is one.
 #[tactic(auto, using(crate::proofs::ListLaws::listing))]
 fn each_rid(alloc: Global, values: &[Value]) -> Result<Option<Numbers>, NoMemory>
     ensures { IfOk result (λ numbers. numbers ≡ each a_rid (items_view values.now)) }
@@ -57,11 +64,12 @@ pub(crate) fn computers(alloc: Global, value: &Value) -> Result<Option<Names>, N
     ensures { IfOk result (λ names. names ≡ computers (view value.now)) }
 {
     match value.as_array() {
-        Some(values) if values.len() <= 8 => each_name(alloc, values.as_slice()),
+        Some(values) if values.len() <= WORKSTATION_LIMIT => each_name(alloc, values.as_slice()),
         _ => Ok(None),
     }
 }
 
+/// The names, where each value is one.
 #[tactic(auto, using(crate::proofs::ListLaws::listing))]
 fn each_name(alloc: Global, values: &[Value]) -> Result<Option<Names>, NoMemory>
     ensures { IfOk result (λ names. names ≡ each a_name (items_view values.now)) }
@@ -81,7 +89,9 @@ fn each_name(alloc: Global, values: &[Value]) -> Result<Option<Names>, NoMemory>
 /// The values of a list of tables.
 #[tactic(auto, using(crate::proofs::ListLaws::listing))]
 pub(crate) fn tables(value: &Value) -> Option<&[Value]>
-    ensures { MatchOption result (tables (view value.now) ≡ None) (λ values. (tables (view value.now) ≡ Some (entries_of values.now)) × (length (entries_of values.now) ≡ length values.now)) }
+    ensures { MatchOption result (tables (view value.now) ≡ None)
+        (λ values. (tables (view value.now) ≡ Some (entries_of values.now))
+        × (length (entries_of values.now) ≡ length values.now)) }
 {
     match value.as_array() {
         Some(values) if are_tables(values.as_slice()) => Some(values.as_slice()),

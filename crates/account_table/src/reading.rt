@@ -4,9 +4,10 @@ ghost use Rattle.std.specs.Prelude.{◌≡◌, ◌⊎◌, ◌≤◌, ◌+◌, []
 ghost use Rattle.wire_base.specs.Memory.{UpToMemory};
 ghost use Rattle.toml.specs.View.{table_view};
 ghost use Rattle.account_table.specs.AccountTable.{has_distinct_names};
-ghost use Rattle.account_table.specs.Document.{user_of, machine_of, accounts_of, document_of, new_name};
+ghost use Rattle.account_table.specs.Document.{identity_of, restrictions_of, moments_of, user_of, machine_of, accounts_of, document_of, new_name};
 ghost use Rattle.account_table.specs.Listing.{entries_of};
 ghost use Rattle.account_table.specs.Keys.{of_user, of_machine};
+ghost use Rattle.account_table.specs.Limits.{account_limit, group_limit};
 ghost use Rattle.account_table.specs.LookUps.{place_in};
 
 use crate::account::{Account, Kind};
@@ -24,7 +25,9 @@ use wire_base::{Name, Names, Numbers};
 
 /// The document that a text is.
 pub(crate) fn read_document(alloc: Global, text: &[u8]) -> Result<Table, TableRefused>
-    ensures { MatchResult result (λ document. document_of text.now ≡ Ok (table_view document)) (λ refused. (refused ≡ TableRefused.Memory) ⊎ (document_of text.now ≡ Err refused)) }
+    ensures { MatchResult result
+        (λ document. document_of text.now ≡ Ok (table_view document))
+        (λ refused. (refused ≡ TableRefused.Memory) ⊎ (document_of text.now ≡ Err refused)) }
 {
     let Ok(text) = str::from_utf8(text) else {
         return Err(TableRefused::BadToml);
@@ -44,7 +47,10 @@ pub(crate) fn read_document(alloc: Global, text: &[u8]) -> Result<Table, TableRe
 /// The name, where no account has it.
 #[tactic(auto, unfolding(crate::specs::Document::new_name, crate::specs::LookUps::place_in))]
 fn new_name(name: Name, before: &Accounts) -> Result<Name, TableRefused>
-    ensures { MatchResult result (λ fresh. (fresh ≡ name) × (place_in before.now name ≡ None) × (new_name name before.now ≡ Ok tt)) (λ refused. new_name name before.now ≡ Err refused) }
+    ensures { MatchResult result
+        (λ fresh. (fresh ≡ name) × (place_in before.now name ≡ None)
+        × (new_name name before.now ≡ Ok tt))
+        (λ refused. new_name name before.now ≡ Err refused) }
 {
     if before.has(&name) {
         Err(TableRefused::Twice(name))
@@ -53,6 +59,7 @@ fn new_name(name: Name, before: &Accounts) -> Result<Name, TableRefused>
     }
 }
 
+/// The key of a user's entry.
 fn user_key(entry: u32, word: Word) -> Key
     ensures { result ≡ of_user entry word }
 {
@@ -63,6 +70,7 @@ fn user_key(entry: u32, word: Word) -> Key
     }
 }
 
+/// The key of a machine's entry.
 fn machine_key(entry: u32, word: Word) -> Key
     ensures { result ≡ of_machine entry word }
 {
@@ -73,6 +81,72 @@ fn machine_key(entry: u32, word: Word) -> Key
     }
 }
 
+/// Who a user is, beside the name.
+#[derive(Drop)]
+struct Identity {
+    rid: u32,
+    hash: [u8; 16],
+    full_name: Name,
+    group: u32,
+    groups: Numbers,
+}
+
+/// What keeps a user from logging on.
+#[derive(Clone, Copy)]
+struct Restrictions {
+    disabled: bool,
+    locked: bool,
+    must_change: bool,
+}
+
+/// A user's moments.
+#[derive(Clone, Copy)]
+struct Moments {
+    expires: u64,
+    password_set: u64,
+    password_expires: u64,
+}
+
+/// Who the user of that entry is.
+#[tactic(auto, unfolding(crate::specs::Document::identity_of))]
+fn read_identity(alloc: Global, number: u32, entry: &Table) -> Result<Identity, TableRefused>
+    ensures exact { UpToMemory TableRefused.Memory result
+        (identity_of number (table_view entry.now)) }
+    ensures groups { IfOk result (λ identity. length identity.groups ≤ group_limit) }
+{
+    Ok(Identity {
+        rid: needed_rid(user_key(number, Word::Rid), entry)?,
+        hash: needed_hash(user_key(number, Word::Hash), entry)?,
+        full_name: full_name_or_empty(alloc, user_key(number, Word::FullName), entry)?,
+        group: rid_or_users(user_key(number, Word::Group), entry)?,
+        groups: rids_or_users(alloc, user_key(number, Word::Groups), entry)?,
+    })
+}
+
+/// What keeps the user of that entry from logging on.
+#[tactic(auto, unfolding(crate::specs::Document::restrictions_of))]
+fn read_restrictions(number: u32, entry: &Table) -> Result<Restrictions, TableRefused>
+    ensures { result ≡ restrictions_of number (table_view entry.now) }
+{
+    Ok(Restrictions {
+        disabled: truth_or_false(user_key(number, Word::Disabled), entry)?,
+        locked: truth_or_false(user_key(number, Word::Locked), entry)?,
+        must_change: truth_or_false(user_key(number, Word::MustChange), entry)?,
+    })
+}
+
+/// The moments of the user of that entry.
+#[tactic(auto, unfolding(crate::specs::Document::moments_of))]
+fn read_moments(number: u32, entry: &Table) -> Result<Moments, TableRefused>
+    ensures { result ≡ moments_of number (table_view entry.now) }
+{
+    Ok(Moments {
+        expires: moment_or_none(user_key(number, Word::Expires), entry)?,
+        password_set: moment_or_none(user_key(number, Word::PasswordSet), entry)?,
+        password_expires: moment_or_none(user_key(number, Word::PasswordExpires), entry)?,
+    })
+}
+
 /// The user of that entry, after these accounts.
 #[tactic(auto, unfolding(crate::specs::Document::user_of))]
 fn read_user(
@@ -81,26 +155,32 @@ fn read_user(
     entry: &Table,
     before: &Accounts,
 ) -> Result<Account, TableRefused>
-    ensures exact { UpToMemory TableRefused.Memory result (user_of number before.now (table_view entry.now)) }
+    ensures exact { UpToMemory TableRefused.Memory result
+        (user_of number before.now (table_view entry.now)) }
     ensures fresh { IfOk result (λ account. place_in before.now account.name ≡ None) }
-    ensures groups { IfOk result (λ account. length account.groups ≤ 256) }
+    ensures groups { IfOk result (λ account. length account.groups ≤ group_limit) }
 {
     let name = needed_user_name(alloc, user_key(number, Word::Name), entry)?;
     let name = new_name(name, before)?;
+    let identity = read_identity(alloc, number, entry)?;
+    let restrictions = read_restrictions(number, entry)?;
+    let moments = read_moments(number, entry)?;
+    let workstations = computers_or_none(alloc, user_key(number, Word::Workstations), entry)?;
+    let hash = identity.hash;
     Ok(Account {
         name,
-        rid: needed_rid(user_key(number, Word::Rid), entry)?,
-        hash: needed_hash(user_key(number, Word::Hash), entry)?,
-        full_name: full_name_or_empty(alloc, user_key(number, Word::FullName), entry)?,
-        group: rid_or_users(user_key(number, Word::Group), entry)?,
-        groups: rids_or_users(alloc, user_key(number, Word::Groups), entry)?,
-        disabled: truth_or_false(user_key(number, Word::Disabled), entry)?,
-        locked: truth_or_false(user_key(number, Word::Locked), entry)?,
-        must_change: truth_or_false(user_key(number, Word::MustChange), entry)?,
-        expires: moment_or_none(user_key(number, Word::Expires), entry)?,
-        password_set: moment_or_none(user_key(number, Word::PasswordSet), entry)?,
-        password_expires: moment_or_none(user_key(number, Word::PasswordExpires), entry)?,
-        workstations: computers_or_none(alloc, user_key(number, Word::Workstations), entry)?,
+        rid: identity.rid,
+        hash,
+        full_name: identity.full_name,
+        group: identity.group,
+        groups: identity.groups,
+        disabled: restrictions.disabled,
+        locked: restrictions.locked,
+        must_change: restrictions.must_change,
+        expires: moments.expires,
+        password_set: moments.password_set,
+        password_expires: moments.password_expires,
+        workstations,
         kind: Kind::User,
     })
 }
@@ -113,9 +193,10 @@ fn read_machine(
     entry: &Table,
     before: &Accounts,
 ) -> Result<Account, TableRefused>
-    ensures exact { UpToMemory TableRefused.Memory result (machine_of number before.now (table_view entry.now)) }
+    ensures exact { UpToMemory TableRefused.Memory result
+        (machine_of number before.now (table_view entry.now)) }
     ensures fresh { IfOk result (λ account. place_in before.now account.name ≡ None) }
-    ensures groups { IfOk result (λ account. length account.groups ≤ 256) }
+    ensures groups { IfOk result (λ account. length account.groups ≤ group_limit) }
 {
     let name = needed_machine_name(alloc, machine_key(number, Word::Name), entry)?;
     let name = new_name(name, before)?;
@@ -142,8 +223,9 @@ fn read_machine(
 
 /// The users, in order.
 pub(crate) fn read_users(alloc: Global, entries: &[Value]) -> Result<Accounts, TableRefused>
-    requires { length entries.now ≤ 10000 }
-    ensures exact { UpToMemory TableRefused.Memory result (accounts_of user_of 0 [] (entries_of entries.now)) }
+    requires { length entries.now ≤ account_limit }
+    ensures exact { UpToMemory TableRefused.Memory result
+        (accounts_of user_of 0 [] (entries_of entries.now)) }
     ensures each { IfOk result (λ accounts. length accounts ≤ length entries.now) }
     ensures different { IfOk result (λ accounts. IsTrue (has_distinct_names accounts)) }
 {
@@ -167,9 +249,10 @@ pub(crate) fn read_machines(
     before: Accounts,
     entries: &[Value],
 ) -> Result<Accounts, TableRefused>
-    requires room { length before + length entries.now ≤ 10000 }
+    requires room { length before + length entries.now ≤ account_limit }
     requires different { IsTrue (has_distinct_names before) }
-    ensures exact { UpToMemory TableRefused.Memory result (accounts_of machine_of 0 before (entries_of entries.now)) }
+    ensures exact { UpToMemory TableRefused.Memory result
+        (accounts_of machine_of 0 before (entries_of entries.now)) }
     ensures different { IfOk result (λ accounts. IsTrue (has_distinct_names accounts)) }
 {
     let mut accounts = before;

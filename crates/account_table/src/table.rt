@@ -1,12 +1,15 @@
 //! The account table of a domain.
 
-ghost use Rattle.std.specs.Prelude.{◌≡◌, ◌<◌, ◌≤◌, length, IfOk, IfSome, IsTrue, option_copied, slice_get};
+ghost use Rattle.std.specs.Prelude.{◌≡◌, ◌<◌, ◌≤◌, length, Ok, IfOk, IfSome, IsTrue, option_copied, slice_get};
 ghost use Rattle.wire_base.specs.Memory.{UpToMemory};
 ghost use Rattle.toml.specs.View.{table_view};
-ghost use Rattle.account_table.specs.AccountTable.{has_distinct_names};
+ghost use Rattle.account_table.specs.AccountTable.{AccountTable, has_distinct_names};
 ghost use Rattle.account_table.specs.Document.{table_of, table_in};
 ghost use Rattle.wire_base.specs.Names.{same_name};
 ghost use Rattle.account_table.specs.Keys.{top};
+ghost use Rattle.account_table.specs.Index.{machine_found, computer_found};
+ghost use Rattle.account_table.specs.IsTable.{IsTableText};
+ghost use Rattle.account_table.specs.Limits.{group_limit};
 ghost use Rattle.account_table.specs.LookUps.{place_in, machine_in, knows_in, route_in, is_machine, opens, is_machine_for, machine_name};
 
 use crate::account::{Account, Kind};
@@ -15,6 +18,7 @@ use crate::forms::{needed_name, needed_sid, tables_or_none};
 use crate::key::{Key, Part, Word};
 use crate::reading::{read_document, read_machines, read_users};
 use crate::refused::TableRefused;
+use channel_keys::{BACKUP_CONTROLLER_CHANNEL, WORKSTATION_CHANNEL};
 use std::alloc::Global;
 use std::marker::Model;
 use wire_base::{Name, Sid};
@@ -53,15 +57,18 @@ impl Table {
     /// list of users, then of the machines, that isn't a list of tables; `TooMany` above 10,000 users and machines together; then of each
     /// key in its order `Missing` where it has no default and isn't there, and `BadValue` where it has another form; and `Twice`, right
     /// after an entry's name, where an account before has it.
-    #[tactic(auto, unfolding(crate::specs::Document::table_of))]
     pub fn read(alloc: Global, text: &[u8]) -> Result<Table, TableRefused>
         // The table or the first refusal.
         ensures exact { UpToMemory TableRefused.Memory result (table_of text.now) }
+        // A table that is read is the one that the text is,
+        ensures found { IfOk result (IsTableText text.now) }
+        // and a text that is a table is read as that one.
+        ensures only { (table : AccountTable) → IsTableText text.now table
+            → UpToMemory TableRefused.Memory result (Ok table) }
         // No two accounts have the same name.
         ensures different { IfOk result (λ table. IsTrue (has_distinct_names table.accounts)) }
     {
-        let document = read_document(alloc, text)?;
-        read_table(alloc, &document)
+        read_text(alloc, text)
     }
 
     /// The domain's name. It takes no memory.
@@ -81,7 +88,7 @@ impl Table {
     /// The account at a place, counted from 0, with at most 256 groups. None exactly past the end. It takes no memory.
     pub fn account(&self, at: u32) -> Option<&Account>
         ensures value { option_copied result ≡ slice_get self.now.accounts at }
-        ensures groups { IfSome result (λ account. length account.now.groups ≤ 256) }
+        ensures groups { IfSome result (λ account. length account.now.groups ≤ group_limit) }
     {
         self.listed.get(at as usize)
     }
@@ -95,23 +102,39 @@ impl Table {
         self.listed.place(user)
     }
 
-    /// The place of the account of that name where it isn't disabled, opens that channel (a workstation 2, a backup controller 6: MS-NRPC
-    /// 2.2.1.3.13) and has the computer's name and `$`. Else None. It takes no memory.
-    #[tactic(auto, unfolding(crate::specs::LookUps::machine_in))]
+    /// The place of an account that has that name, isn't disabled, opens that channel (a workstation 2, a backup controller 6: MS-NRPC
+    /// 2.2.1.3.13) and has the computer's name and `$`. None exactly where no account is such. It takes no memory.
     pub fn machine(&self, account: &[u16], channel: u16, computer: &[u16]) -> Option<u32>
         ensures { result ≡ machine_in self.now.accounts account.now channel computer.now }
     {
-        let place = self.find(account)?;
+        self.machine_found(account, channel, computer)
+    }
+
+    /// The same, of the account that the name finds.
+    #[tactic(auto, unfolding(crate::specs::Index::machine_found))]
+    fn machine_found(&self, account: &[u16], channel: u16, computer: &[u16]) -> Option<u32>
+        ensures value { result ≡ machine_found self.now.accounts account.now channel computer.now }
+        ensures different { IsTrue (has_distinct_names self.now.accounts) }
+    {
+        let place = self.listed.place(account)?;
         match self.account(place) {
             Some(found) if is_machine_for(channel, computer, found) => Some(place),
             _ => None,
         }
     }
 
-    /// Whether a computer's account has the computer's name and `$`. It takes no memory.
-    #[tactic(auto, unfolding(crate::specs::LookUps::knows_in))]
+    /// Whether some account is a workstation's or a backup controller's and has the computer's name and `$`. It takes no memory.
     pub fn knows(&self, computer: &[u16]) -> bool
         ensures { result ≡ knows_in self.now.accounts computer.now }
+    {
+        self.computer_found(computer)
+    }
+
+    /// The same, of the account that the name finds.
+    #[tactic(auto, unfolding(crate::specs::Index::computer_found))]
+    fn computer_found(&self, computer: &[u16]) -> bool
+        ensures value { result ≡ computer_found self.now.accounts computer.now }
+        ensures different { IsTrue (has_distinct_names self.now.accounts) }
     {
         let Some(place) = self.listed.machine_place(computer) else {
             return false;
@@ -147,8 +170,8 @@ fn opens(kind: Kind, channel: u16) -> bool
     ensures { result ≡ opens kind channel }
 {
     match kind {
-        Kind::Workstation => channel == 2,
-        Kind::Backup => channel == 6,
+        Kind::Workstation => channel == WORKSTATION_CHANNEL,
+        Kind::Backup => channel == BACKUP_CONTROLLER_CHANNEL,
         Kind::User | Kind::Trust => false,
     }
 }
@@ -170,6 +193,7 @@ fn is_name_of(name: &Name, computer: &[u16]) -> bool
     name.same_units(machine_name(computer).as_slice())
 }
 
+/// The key of the document itself.
 fn top_key(word: Word) -> Key
     ensures { result ≡ top word }
 {
@@ -178,6 +202,16 @@ fn top_key(word: Word) -> Key
         entry: 0,
         word,
     }
+}
+
+/// The table of a text.
+#[tactic(auto, unfolding(crate::specs::Document::table_of))]
+fn read_text(alloc: Global, text: &[u8]) -> Result<Table, TableRefused>
+    ensures exact { UpToMemory TableRefused.Memory result (table_of text.now) }
+    ensures different { IfOk result (λ table. IsTrue (has_distinct_names table.accounts)) }
+{
+    let document = read_document(alloc, text)?;
+    read_table(alloc, &document)
 }
 
 /// The table of a document.

@@ -10,6 +10,15 @@ use std::alloc::Global;
 use toml::Value;
 use wire_base::{Name, NameRefused, NoMemory, Sid, SidRefused};
 
+/// The last relative identifier.
+const LAST_RID: u64 = 4_294_967_295;
+
+/// The last moment, in units of 100 ns since 1601.
+const LAST_MOMENT: u64 = 9_223_372_036_854_775_807;
+
+/// The most numbers of a domain's identifier: an account's has one more, and at most 15.
+const DOMAIN_SID_LIMIT: usize = 14;
+
 /// A name of 0 to 64 bytes.
 pub(crate) fn full_name(alloc: Global, value: &Value) -> Result<Option<Name>, NoMemory>
     ensures { IfOk result (λ name. name ≡ a_full_name (view value.now)) }
@@ -44,6 +53,7 @@ pub(crate) fn user_name(alloc: Global, value: &Value) -> Result<Option<Name>, No
     }
 }
 
+/// At least 1 byte, the last another than `$`.
 fn is_user_name(name: &[u8]) -> bool
     ensures { result ≡ is_user_name name.now }
 {
@@ -60,6 +70,7 @@ pub(crate) fn machine_name(alloc: Global, value: &Value) -> Result<Option<Name>,
     }
 }
 
+/// At least 2 bytes, the last `$`.
 fn is_machine_name(name: &[u8]) -> bool
     ensures { result ≡ is_machine_name name.now }
 {
@@ -87,7 +98,7 @@ pub(crate) fn rid(value: &Value) -> Option<u32>
     ensures { result ≡ a_rid (view value.now) }
 {
     match value.as_integer() {
-        Some(integer) => match in_range(integer, 1, 4_294_967_295) {
+        Some(integer) => match in_range(integer, 1, LAST_RID) {
             Some(n) => Some(n as u32),
             None => None,
         },
@@ -100,7 +111,7 @@ pub(crate) fn moment(value: &Value) -> Option<u64>
     ensures { result ≡ a_moment (view value.now) }
 {
     match value.as_integer() {
-        Some(integer) => in_range(integer, 0, 9_223_372_036_854_775_807),
+        Some(integer) => in_range(integer, 0, LAST_MOMENT),
         None => None,
     }
 }
@@ -130,7 +141,7 @@ pub(crate) fn domain_sid(alloc: Global, value: &Value) -> Result<Option<Sid>, No
         return Ok(None);
     };
     match Sid::read(alloc, text.as_bytes()) {
-        Ok(sid) if sid.numbers().len() <= 14 => Ok(Some(sid)),
+        Ok(sid) if sid.numbers().len() <= DOMAIN_SID_LIMIT => Ok(Some(sid)),
         Err(SidRefused::Memory) => Err(NoMemory),
         _ => Ok(None),
     }
@@ -146,6 +157,7 @@ pub(crate) fn kind(value: &Value) -> Option<Kind>
     }
 }
 
+/// The kind that the text names.
 fn kind_from(text: &str) -> Option<Kind>
     ensures { result ≡ kind_of text.now }
 {

@@ -1,5 +1,5 @@
 use Rattle.std.proofs.Common.{sym, ◌∙◌}
-use Rattle.account_table.proofs.IndexLaws.{found_place, long_place}
+use Rattle.account_table.proofs.IndexLaws.{different_names, found_place, long_place}
 use Rattle.account_table.proofs.accounts.Accounts.place.Goals as goal
 
 pub returns-then-name-gt-NAME_LIMIT-clause-value : goal.returns-then-name-gt-NAME_LIMIT-clause-value
@@ -10,3 +10,12 @@ returns-in-Some-clause-value c = sym c.in-Some.is ∙ found_place c.args.name.no
 
 pub returns-in-None-clause-value : goal.returns-in-None-clause-value
 returns-in-None-clause-value c = sym c.in-None.is ∙ found_place c.args.name.now c.as_slice.result.now c.self.inside.index.entries _ _ c.self.view_is c.self.invariant (c.as_slice.ensures.value ∙ c.upper.ensures) c.get_index_of.ensures.index
+
+pub returns-then-name-gt-NAME_LIMIT-clause-different : goal.returns-then-name-gt-NAME_LIMIT-clause-different
+returns-then-name-gt-NAME_LIMIT-clause-different c = different_names c.self.inside.index.entries _ c.self.view_is c.self.invariant
+
+pub returns-in-Some-clause-different : goal.returns-in-Some-clause-different
+returns-in-Some-clause-different c = different_names c.self.inside.index.entries _ c.self.view_is c.self.invariant
+
+pub returns-in-None-clause-different : goal.returns-in-None-clause-different
+returns-in-None-clause-different c = different_names c.self.inside.index.entries _ c.self.view_is c.self.invariant
