@@ -3,7 +3,9 @@ pub mod MayLogOn
 pub mod Rules
 pub mod Verdict
 pub use Rattle.account_table.specs.AccountTable
+pub use Rattle.account_table.specs.Limits
 pub use Rattle.account_table.specs.LookUps
+pub use Rattle.logon_stubs.specs.Ranges
 pub use Rattle.logon_stubs.specs.Status
 pub use Rattle.logon_stubs.specs.Writing
 pub use Rattle.ntlm_responses.specs.Verification

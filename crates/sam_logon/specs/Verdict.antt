@@ -38,6 +38,15 @@ verdict_at Elsewhere table controller info now = Status no_such_domain
 unfoldable pub verdict_of : AccountTable → List ℕ → NetworkInfo → ℕ → Verdict
 verdict_of table controller info now = verdict_at (route_in table.domain info.domain) table controller info now
 
+-- what a controller makes of a logon: the verdict, and the account table afterwards
+pub record Judgement : Type 0 where
+  pub verdict : Verdict
+  pub table : AccountTable
+
+-- no rule changes the table yet
+unfoldable pub judgement_of : AccountTable → List ℕ → NetworkInfo → ℕ → Judgement
+judgement_of table controller info now = record { verdict = verdict_of table controller info now; table = table }
+
 -- ---- granted
 
 abbrev pub is_granted : Verdict → Bool

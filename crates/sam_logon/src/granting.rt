@@ -1,6 +1,8 @@
 //! What is granted to a user.
 
 ghost use Rattle.std.specs.Prelude.{◌≡◌, ◌≤◌, [], length, IfOk};
+ghost use Rattle.account_table.specs.Limits.{group_limit};
+ghost use Rattle.logon_stubs.specs.Ranges.{HasShortTexts};
 ghost use Rattle.logon_stubs.specs.Writing.{CanWriteSamInfo};
 ghost use Rattle.sam_logon.specs.Granted.{groups_of, or_never, sam_info_of};
 
@@ -26,9 +28,11 @@ pub(crate) fn sam_info(
     key: [u8; 16],
     now: u64,
 ) -> Result<SamInfo, NoMemory>
-    requires groups { length account.now.groups ≤ 256 }
-    ensures value { IfOk result (λ info. info ≡ sam_info_of table.now controller.now account.now key now) }
+    requires { length account.now.groups ≤ group_limit }
+    ensures value { IfOk result (λ info.
+        info ≡ sam_info_of table.now controller.now account.now key now) }
     ensures writable { IfOk result CanWriteSamInfo }
+    ensures short { IfOk result HasShortTexts }
 {
     Ok(SamInfo {
         logon_time: now,

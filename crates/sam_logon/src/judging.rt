@@ -1,10 +1,12 @@
 //! How a controller judges a network logon.
 
-ghost use Rattle.std.specs.Prelude.{◌≡◌, ◌≤◌, ◌↔◌, length, option_copied, IfOk, IfSome, IsTrue};
+ghost use Rattle.std.specs.Prelude.{◌≡◌, ◌≤◌, ◌↔◌, length, option_copied, IfOk, IfSome, IsTrue, OnOk, OnErr};
 ghost use Rattle.account_table.specs.LookUps.{account_in};
+ghost use Rattle.account_table.specs.Limits.{group_limit};
+ghost use Rattle.logon_stubs.specs.Ranges.{HasShortTexts};
 ghost use Rattle.logon_stubs.specs.Writing.{CanWriteSamInfo};
 ghost use Rattle.sam_logon.specs.MayLogOn.{MayLogOn, ResponseVerifies};
-ghost use Rattle.sam_logon.specs.Verdict.{IfGranted, is_granted, verdict_of};
+ghost use Rattle.sam_logon.specs.Verdict.{IfGranted, is_granted, judgement_of, verdict_of};
 
 use crate::granting::sam_info;
 use crate::rules::judge_account;
@@ -29,8 +31,8 @@ use wire_base::{Name, NoMemory};
 /// 10. Its password has expired: `STATUS_PASSWORD_EXPIRED`.
 /// 11. Granted, with the plain session base key.
 ///
-/// The table stays as it was.
-#[tactic(auto, using(crate::proofs::VerdictLaws::granted))]
+/// No rule changes the table yet.
+#[tactic(auto, using(crate::proofs::VerdictLaws::granted), unfolding(crate::specs::Verdict::judgement_of))]
 pub fn judge_logon(
     alloc: Global,
     table: &mut Table,
@@ -38,14 +40,20 @@ pub fn judge_logon(
     info: &NetworkInfo,
     now: u64,
 ) -> Result<Verdict, NoMemory>
-    // The verdict is that of the rules in their order.
-    ensures exact { IfOk result (λ verdict. verdict ≡ verdict_of table.old controller.now info.now now) }
+    // The verdict is that of the rules in their order, and so is the table afterwards,
+    ensures exact { IfOk result (λ verdict.
+        verdict ≡ (judgement_of table.old controller.now info.now now).verdict) }
+    ensures table { OnOk result (
+        table.new ≡ (judgement_of table.old controller.now info.now now).table) }
+    // which is as it was; also without memory.
+    ensures stays { (judgement_of table.old controller.now info.now now).table ≡ table.old }
+    ensures unchanged { OnErr result (table.new ≡ table.old) }
     // Granted exactly where the account may log on now from there, and the response verifies.
-    ensures granted { IfOk result (λ verdict. IsTrue (is_granted verdict) ↔ (MayLogOn table.old info.now now × ResponseVerifies table.old info.now)) }
-    // A stub can carry what is granted.
+    ensures granted { IfOk result (λ verdict. IsTrue (is_granted verdict)
+        ↔ (MayLogOn table.old info.now now × ResponseVerifies table.old info.now)) }
+    // A stub can carry what is granted: at most 256 groups, and texts of at most 64 units.
     ensures writable { IfOk result (λ verdict. IfGranted verdict CanWriteSamInfo) }
-    // Also without memory.
-    ensures table { table.new ≡ table.old }
+    ensures short { IfOk result (λ verdict. IfGranted verdict HasShortTexts) }
 {
     judge(alloc, table, controller, info, now)
 }
@@ -59,8 +67,10 @@ fn judge(
     info: &NetworkInfo,
     now: u64,
 ) -> Result<Verdict, NoMemory>
-    ensures exact { IfOk result (λ verdict. verdict ≡ verdict_of table.now controller.now info.now now) }
+    ensures exact { IfOk result (λ verdict.
+        verdict ≡ verdict_of table.now controller.now info.now now) }
     ensures writable { IfOk result (λ verdict. IfGranted verdict CanWriteSamInfo) }
+    ensures short { IfOk result (λ verdict. IfGranted verdict HasShortTexts) }
 {
     if !matches!(table.route(info.domain.units()), Route::Own) {
         return Ok(Verdict::Status(STATUS_NO_SUCH_DOMAIN));
@@ -77,7 +87,7 @@ fn judge(
 /// The account of that name.
 fn find_account<'a>(table: &'a Table, user: &[u16]) -> Option<&'a Account>
     ensures value { option_copied result ≡ account_in table.now.accounts user.now }
-    ensures groups { IfSome result (λ account. length account.now.groups ≤ 256) }
+    ensures groups { IfSome result (λ account. length account.now.groups ≤ group_limit) }
 {
     table.account(table.find(user)?)
 }

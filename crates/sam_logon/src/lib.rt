@@ -6,4 +6,3 @@ mod judging;
 mod rules;
 
 pub use judging::judge_logon;
-

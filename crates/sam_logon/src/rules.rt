@@ -20,7 +20,8 @@ pub(crate) fn judge_account(
     info: &NetworkInfo,
     now: u64,
 ) -> Result<[u8; 16], u32>
-    ensures { result ≡ answer_by (first_refusal (rules_of account.now info.now now)) (base_key_of account.now.hash info.now.user info.now.domain info.now.nt) }
+    ensures { result ≡ answer_by (first_refusal (rules_of account.now info.now now))
+        (base_key_of account.now.hash info.now.user info.now.domain info.now.nt) }
 {
     judge_kind(account.kind)?;
     if account.locked {
