@@ -6,8 +6,9 @@ use crate::stream::{PIECE, RunningStream};
 use account_table::Table;
 use anyhow::bail;
 use arrayvec::ArrayVec;
+use authenticators::Sequence;
 use channel_keys::cred;
-use des_cipher::des_block;
+use des_cipher::{Schedule, des_block};
 use digest_parts::{hmac_md5, md4};
 use hex::FromHex;
 use ntlm_messages::read_authenticate;
@@ -15,7 +16,7 @@ use ntlm_responses::verify;
 use rc4_stream::Rc4;
 use rpc_units::{Body, read_unit};
 use std::alloc::{AllocError, Global};
-use wire_base::Units;
+use wire_base::{Authenticator, Units};
 
 /// The bytes 0 to 15: a key, and a short message.
 pub const KEY: [u8; 16] = [0, 1, 2, 3, 4, 5, 6, 7, 8, 9, 10, 11, 12, 13, 14, 15];
@@ -26,6 +27,10 @@ const HASH: [u8; 16] = [
 ];
 
 const CHALLENGE: [u8; 8] = [0x01, 0x23, 0x45, 0x67, 0x89, 0xab, 0xcd, 0xef];
+
+/// The credential of the authenticator at the seed `CHALLENGE` with the last timestamp, under the fixed key. That timestamp and one are 2^32,
+/// so the seed comes back to itself, and the authenticator passes at each turn.
+const CREDENTIAL: [u8; 8] = [0x53, 0x24, 0xb4, 0x5a, 0x6c, 0x1e, 0xb4, 0xcb];
 
 /// The NTLMv1 response of the hash to the challenge.
 const RESPONSE_V1: &str = "67c43011f30298a2ad35ece64f16331c44bdbed927841f94";
@@ -48,6 +53,9 @@ pub type Outcome = ArrayVec<u8, 16>;
 pub struct Bench {
     long: Box<[u8; PIECE]>,
     stream: RunningStream,
+    schedule: Schedule,
+    block: [u8; 8],
+    sequence: Sequence,
     user: Units,
     domain: Units,
     response_v1: [u8; 24],
@@ -75,6 +83,9 @@ impl Bench {
             sought: units(alloc, b"USER19999")?,
             long: Box::new(alloc, ramp())?,
             stream: RunningStream::new(),
+            schedule: Schedule::new(ramp()),
+            block: CHALLENGE,
+            sequence: Sequence::new(KEY, CHALLENGE),
             user: units(alloc, b"Administrator")?,
             domain: units(alloc, b"CORP1")?,
             response_v1: <[u8; 24]>::from_hex(RESPONSE_V1)?,
@@ -90,12 +101,14 @@ impl Bench {
         Ok(match operation {
             Operation::Md4Short => end_of(&md4(&KEY)),
             Operation::Md4Long => end_of(&md4(self.long.as_slice())),
+            Operation::DesBlock => end_of(&self.next_block()),
             Operation::DesKeyBlock => end_of(&des_block(ramp(), ramp())),
             Operation::Rc4Key => end_of(&key_stream()),
             Operation::Rc4Long => end_of(self.stream.next_piece()),
             Operation::HmacShort => end_of(&hmac_md5(&KEY, &ramp::<40>())),
             Operation::HmacLong => end_of(&hmac_md5(&KEY, self.long.as_slice())),
             Operation::Credential => end_of(&cred(KEY, ramp())),
+            Operation::JudgeAuthenticator => self.judge()?,
             Operation::VerifyV1 => self.verify(&self.response_v1)?,
             Operation::VerifyV2 => self.verify(&self.response_v2)?,
             Operation::ReadAuthenticate => end_of(
@@ -106,6 +119,24 @@ impl Bench {
             Operation::ReadTable => last_account(&read_table(alloc, &self.text)?),
             Operation::FindAccount => end_of(&self.find().to_be_bytes()),
         })
+    }
+
+    /// The next block of the chain.
+    fn next_block(&mut self) -> [u8; 8] {
+        self.block = self.schedule.block(self.block);
+        self.block
+    }
+
+    /// The return credential of the authenticator.
+    fn judge(&mut self) -> anyhow::Result<Outcome> {
+        let authenticator = Authenticator {
+            credential: CREDENTIAL,
+            timestamp: u32::MAX,
+        };
+        match self.sequence.judge(&authenticator) {
+            Ok(returned) => Ok(end_of(&returned)),
+            Err(_) => bail!("an authenticator was refused"),
+        }
     }
 
     /// The session base key that the check of a response gives.

@@ -7,6 +7,8 @@ pub enum Operation {
     Md4Short,
     /// MD4 of 16,384 bytes.
     Md4Long,
+    /// One block of DES under a kept schedule, each the block that the one before gave.
+    DesBlock,
     /// The key schedule of a DES key of 7 bytes, and one block.
     DesKeyBlock,
     /// The key schedule of an RC4 key of 16 bytes, and 16 bytes of its stream.
@@ -19,6 +21,8 @@ pub enum Operation {
     HmacLong,
     /// The credential of 8 bytes under a session key.
     Credential,
+    /// The judgement on a right authenticator: two credentials under a kept key.
+    JudgeAuthenticator,
     /// The check of an NTLMv1 response of 24 bytes.
     VerifyV1,
     /// The check of an NTLMv2 response of 292 bytes, with names of 36 bytes.
@@ -36,15 +40,17 @@ pub enum Operation {
 }
 
 /// All of them, in the order in which they are printed.
-pub const OPERATIONS: [Operation; 15] = [
+pub const OPERATIONS: [Operation; 17] = [
     Operation::Md4Short,
     Operation::Md4Long,
+    Operation::DesBlock,
     Operation::DesKeyBlock,
     Operation::Rc4Key,
     Operation::Rc4Long,
     Operation::HmacShort,
     Operation::HmacLong,
     Operation::Credential,
+    Operation::JudgeAuthenticator,
     Operation::VerifyV1,
     Operation::VerifyV2,
     Operation::ReadAuthenticate,
@@ -60,12 +66,14 @@ impl Operation {
         match self {
             Operation::Md4Short => "md4-16",
             Operation::Md4Long => "md4-16k",
+            Operation::DesBlock => "des-block",
             Operation::DesKeyBlock => "des-key-block",
             Operation::Rc4Key => "rc4-key-16",
             Operation::Rc4Long => "rc4-16k",
             Operation::HmacShort => "hmac-40",
             Operation::HmacLong => "hmac-16k",
             Operation::Credential => "cred",
+            Operation::JudgeAuthenticator => "judge-authenticator",
             Operation::VerifyV1 => "verify-v1",
             Operation::VerifyV2 => "verify-v2",
             Operation::ReadAuthenticate => "read-authenticate",
