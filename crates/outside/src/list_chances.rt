@@ -8,7 +8,7 @@ use crate::lists::Draws;
 use std::marker::Model;
 
 /// Listed challenges, of which each is drawn once. `start` empties the list drawn and leaves what is left.
-#[derive(Debug, Drop)]
+#[derive(Drop)]
 pub struct ListChances {
     seed: [u8; 32],
     boot: u32,

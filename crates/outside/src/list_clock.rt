@@ -11,7 +11,7 @@ use std::vec::IntoIter;
 
 /// A clock that gives the listed moments, of which the last repeats. Where it finds no memory to keep the moment, it gives it all the
 /// same and tells it no longer.
-#[derive(Debug, Drop)]
+#[derive(Drop)]
 pub struct ListClock {
     next: u64,
     later: IntoIter<u64>,

@@ -18,7 +18,7 @@ use wire_base::{Blob, Calls};
 /// Names with contents, of which the first of a name counts. Its calls are counted from 0, and those that are listed fail and raise
 /// its count of faults; so does one of a name that it doesn't have. A call that finds no memory for the content changes nothing and
 /// isn't counted. Where it finds no memory to keep the name that was read, it reads all the same and tells the reads no longer.
-#[derive(Debug, Drop)]
+#[derive(Drop)]
 pub struct MapFiles {
     alloc: Global,
     files: Texts,

@@ -25,7 +25,7 @@ pub const FIRST_DIALLED: u32 = 1000;
 /// those that are listed fail and raise the count that the trait names for them. Dials are answered with links 1000, 1001 and so
 /// on; a dial also fails where no number of 32 bits is left. Where it finds no memory to keep what a call was given, it does the call
 /// all the same and tells its story no longer.
-#[derive(Debug, Drop)]
+#[derive(Drop)]
 pub struct ScriptPort {
     alloc: Global,
     events: IntoIter<Event>,

@@ -18,7 +18,7 @@ use std::marker::Model;
 use wire_base::List;
 
 /// A scripted port of which no call fails, but for a dial where no number of 32 bits is left for a link.
-#[derive(Debug, Drop)]
+#[derive(Drop)]
 pub struct SurePort {
     script: ScriptPort,
 }

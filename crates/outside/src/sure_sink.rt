@@ -13,7 +13,7 @@ use std::marker::Model;
 use wire_base::List;
 
 /// A sink that keeps what it takes and never fails.
-#[derive(Debug, Drop)]
+#[derive(Drop)]
 pub struct SureSink {
     kept: VecSink,
 }

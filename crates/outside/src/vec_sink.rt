@@ -16,7 +16,7 @@ use wire_base::Calls;
 
 /// A sink that keeps what it takes. Its calls are counted from 0, and those that are listed fail and raise its count of faults.
 /// Where it finds no memory to keep the bytes, it takes them all the same and tells them no longer.
-#[derive(Debug, Drop)]
+#[derive(Drop)]
 pub struct VecSink {
     bytes: Vec<u8>,
     failing: Calls,
