@@ -1,16 +1,15 @@
 -- What is put of each stub is of its layout, and what is written is read.
-use Rattle.std.proofs.Common.{◌≡◌, ℕ, ◌+◌, ◌*◌, ◌^◌, ◌<◌, ◌≤◌, List, length, Ok, refl, arith}
+use Rattle.std.proofs.Common.{◌≡◌, ℕ, ◌+◌, ◌*◌, ◌≤◌, List, length, Ok, refl, arith}
 use Rattle.std.proofs.lemmas.Bool.{le-leb}
 use Rattle.wire_base.specs.Numbers.{AreBytes}
 use Rattle.wire_base.specs.Units.{AreUnits}
-use Rattle.ndr_codec.specs.Layout.{long, raw, text}
+use Rattle.ndr_codec.specs.Layout.{long, raw}
 use Rattle.ndr_codec.specs.Parts.{FitsText}
 use Rattle.ndr_codec.specs.Stub.{Begins, WritesBy}
 use Rattle.ndr_codec.specs.Writing.{Written, nothing, put}
 use Rattle.ndr_codec.proofs.PartLaws.{it, then, end, where_true, from_place, within, text_law, IsStub, stub_of}
 use Rattle.ndr_codec.proofs.StubLaws.{parsed-Is, parsed_again}
-use Rattle.memo_stubs.specs.declared.refused.MemoRefused.{MemoRefused}
-use Rattle.memo_stubs.specs.Memo.{Layout, memo_refused, status_zero, who_reply, echo_request, echo_reply, who_of, echo_request_of, echo_reply_of, FitsEcho, put_who_reply, put_echo_request, put_echo_reply, written_who_reply, written_echo_request, written_echo_reply}
+use Rattle.memo_stubs.specs.Memo.{memo_refused, status_zero, who_reply, echo_request, echo_reply, who_of, echo_request_of, echo_reply_of, FitsEcho, put_who_reply, put_echo_request, put_echo_reply, written_who_reply, written_echo_request, written_echo_reply}
 
 -- ---- what is read is what the stub begins with, and the other way round
 

@@ -1,12 +1,12 @@
 -- The stubs of the memo interface (this project's own interface; C706 14): the reply of WhoAmI, operation 0, whose request's stub is passed over, and the
 -- request and the reply of Echo, operation 1.
-use Rattle.std.specs.Prelude.{ℕ, ◌≡◌, ◌+◌, ◌*◌, ◌≤◌, ◌==◌, List, length, Result, nat_le}
+use Rattle.std.specs.Prelude.{ℕ, ◌≤◌, ◌==◌, List, length, Result, nat_le}
 use Rattle.ndr_codec.specs.declared.refused.NdrRefused.{NdrRefused}
 use Rattle.ndr_codec.specs.declared.refused.NdrRefused.TheVariants as ndr
 use Rattle.ndr_codec.specs.Layout.{start_of, long, raw, text}
 use Rattle.ndr_codec.specs.Parts.{Putting, ◌>>◌}
 use Rattle.ndr_codec.specs.Stub.{LayoutOf, item, done, only, placed, ◌>>=◌, parsed_by}
-use Rattle.ndr_codec.specs.Writing.{Written, nothing, put}
+use Rattle.ndr_codec.specs.Writing.{nothing, put}
 use Rattle.memo_stubs.specs.declared.refused.MemoRefused.{MemoRefused}
 use Rattle.memo_stubs.specs.declared.refused.MemoRefused.TheVariants.{BadStub, Memory}
 

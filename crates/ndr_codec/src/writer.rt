@@ -1,13 +1,13 @@
 //! Items written to a stub, one after the other.
 
-ghost use Rattle.std.specs.Prelude.{◌≡◌, ◌+◌, ◌*◌, ◌^◌, ◌<◌, ◌≤◌, ◌++◌, [], ◌∷◌, length, OnOk, OnErr, IfOk};
+ghost use Rattle.std.specs.Prelude.{List, ℕ, ◌≡◌, ◌+◌, ◌*◌, ◌^◌, ◌<◌, ◌≤◌, ◌++◌, [], ◌∷◌, length, OnOk, OnErr, IfOk};
 ghost use Rattle.std.specs.List.{flat_map, AllByRecursion};
 ghost use Rattle.std.specs.Int.{w32, to_le_bytes};
 ghost use Rattle.wire_base.specs.Numbers.{AreBytes};
 ghost use Rattle.wire_base.specs.Sid.{IsSid};
 ghost use Rattle.wire_base.specs.Units.{AreUnits, utf16_of};
-ghost use Rattle.ndr_codec.specs.Layout.{IsNdr, array_head, sid_bytes, byte, short, long, raw, pointer, text, counted, counted_bytes, sid as sid_shape};
-ghost use Rattle.ndr_codec.specs.Writing.{Written, nothing, put, aligned, Appends};
+ghost use Rattle.ndr_codec.specs.Layout.{Shape, ValueOf, IsNdr, array_head, sid_bytes, byte, short, long, raw, pointer, text, counted, counted_bytes, sid as sid_shape};
+ghost use Rattle.ndr_codec.specs.Writing.{Written, nothing, put, aligned, CanPut, Appends, ReadsBack};
 
 use crate::items::padding_at;
 use std::alloc::{AllocError, Global};
@@ -161,6 +161,12 @@ impl Writer {
         Blob::from_vec(bytes)
     }
 }
+
+/// What was put of an item is read as its value where it was put, whatever bytes follow it.
+pub fn what_is_put_is_read()
+    ensures { (s : Shape) (value : ValueOf s) (old : Written) (rest : List ℕ) → CanPut s value →
+        AreBytes ((put s value old).bytes ++ rest) → ReadsBack s value old (put s value old) rest }
+{}
 
 /// Each item of a slice of bytes is a byte, which callers learn so.
 pub(crate) fn are_bytes(bytes: &[u8])
