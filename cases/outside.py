@@ -3,8 +3,8 @@
 `outside.sink FAILING PIECE..`, `outside.sure_sink PIECE..` (each answer, then the bytes kept), `outside.clock FIRST LATER COUNT` (so many
 moments), `outside.list_chances DRAWS STEP..` and `outside.counter_chances STEP..` (`next` or `start,SEED,BOOT`),
 `outside.files FILES FAILING NAME..` (files as `NAME:CONTENT`), `outside.port EVENTS FAILING STEP..` (steps
-`listen,ADDRESS`, `next`, `next,WANT`, `dial,PEER`, `send,LINK,BYTES`, `close,LINK`; then the sends kept), `outside.event EVENT` (its
-copy). FAILING are the numbers of the calls that fail, lists stand between commas. The last answer of each scenario says that what was
+`listen,ADDRESS`, `next`, `next,WANT`, `dial,PEER`, `send,LINK,BYTES`, `close,LINK`; then the sends kept), `outside.sure_port EVENTS
+STEP..`, `outside.event EVENT` (its copy). FAILING are the numbers of the calls that fail, lists stand between commas. The last answer of each scenario says that what was
 kept is still told.
 
 What each does is this project's own choice (the crate's own text); the challenge maker's draws are published values.
@@ -164,6 +164,22 @@ def of_ports():
         ("", "", [], [none]),
     ]:
         out.append((line("outside.port", listed, failing, *steps), answers(*told, TOLD)))
+        if not failing:
+            out.append((line("outside.sure_port", listed, *steps), answers(*told, TOLD)))
+    for listed, steps, told in [
+        (
+            events,
+            ["listen,68657265", "dial,70", "next", "send,1000,6f6e65", "next,1", "dial,70", "close,1000", "next"],
+            [unit, ok(1000), ok("Opened(1)"), unit, ok(hi), ok(1001), closed, stop, one],
+        ),
+        ("closed:3", ["send,1000,6f6e65", "send,7,-", "next"], [unit, unit, ok("Closed(3)"), two]),
+    ]:
+        out.append((line("outside.port", listed, "", *steps), answers(*told, TOLD)))
+        out.append((line("outside.sure_port", listed, *steps), answers(*told, TOLD)))
+    # Events that a script doesn't have: links from 1000 on are those that dials give, and dials are answered where they are made.
+    for listed in ["opened:1000", "opened:1,opened:4294967295", "dialled:7", "dial_failed", "stop,dialled:1000"]:
+        out.append((line("outside.port", listed, "", "next"), "not to be listed"))
+        out.append((line("outside.sure_port", listed, "next"), "not to be listed"))
     return out
 
 
@@ -174,6 +190,8 @@ def of_events():
         (line("outside.event", "bytes:7:6869"), ok(f"Bytes(7, {blob('6869')})")),
         (line("outside.event", "bytes:4294967295:-"), ok(f"Bytes(4294967295, {blob('')})")),
         (line("outside.event", "closed:1000"), ok("Closed(1000)")),
+        (line("outside.event", "dialled:1000"), ok("Dialled(1000)")),
+        (line("outside.event", "dial_failed"), ok("DialFailed")),
         (line("outside.event", "stop"), ok("Stop")),
     ]
 

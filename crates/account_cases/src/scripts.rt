@@ -1,14 +1,10 @@
 //! Cases of `outside`: what each step of a line is answered in memory, and at its end what was kept and whether it is still told.
 
-ghost use Rattle.std.specs.Prelude.{◌≡◌, IfOk, IsTrue};
-ghost use Rattle.std.specs.List.{list_all};
-ghost use Rattle.outside.specs.PortScript.{is_scripted};
-
 use crate::words::{add_answer, bytes, eight, long_number, no_case, number, text, word};
 use hex::FromHex;
 use outside::{
     Chances, Clock, CounterChances, Draws, Event, Events, Files, ListChances, ListClock, MapFiles,
-    Moments, Port, ScriptPort, Sink, SureSink, Texts, VecSink,
+    Moments, Port, ScriptPort, Sends, Sink, SurePort, SureSink, Texts, VecSink,
 };
 use std::alloc::Global;
 use wire_base::{Blob, Calls};
@@ -35,31 +31,43 @@ fn add_told(answers: &mut String, tells: bool) -> anyhow::Result<()> {
     add_answer(answers, if tells { "told" } else { "not told" })
 }
 
+/// How much is taken of each piece, from a place of the words on.
+fn puts<S: Sink>(
+    alloc: Global,
+    sink: &mut S,
+    words: &[&str],
+    from: usize,
+) -> anyhow::Result<String> {
+    let mut answers = String::new(alloc);
+    for piece in words.iter().skip(from) {
+        let piece = bytes(alloc, piece)?;
+        let answer = sink.put(&piece);
+        let answer = format!(in alloc; "{answer:?}")?;
+        add_answer(&mut answers, &answer)?;
+    }
+    Ok(answers)
+}
+
+/// The bytes that were kept, and whether all is told, behind the answers.
+fn add_kept(alloc: Global, answers: &mut String, kept: &[u8], tells: bool) -> anyhow::Result<()> {
+    let kept = text(alloc, kept)?;
+    add_answer(answers, &kept)?;
+    add_told(answers, tells)
+}
+
 /// `sink FAILING PIECE..`: how much was taken of each piece, and the bytes kept.
 fn sink(alloc: Global, words: &[&str]) -> anyhow::Result<String> {
     let mut sink = VecSink::new(alloc, calls(alloc, word(words, 1))?);
-    let mut answers = String::new(alloc);
-    for piece in words.iter().skip(2) {
-        let piece = bytes(alloc, piece)?;
-        let answer = sink.put(&piece);
-        add_answer(&mut answers, &format!(in alloc; "{answer:?}")?)?;
-    }
-    add_answer(&mut answers, &text(alloc, sink.bytes())?)?;
-    add_told(&mut answers, sink.tells())?;
+    let mut answers = puts(alloc, &mut sink, words, 2)?;
+    add_kept(alloc, &mut answers, sink.bytes(), sink.tells())?;
     Ok(answers)
 }
 
 /// `sure_sink PIECE..`: the same of a sink that never fails.
 fn sure_sink(alloc: Global, words: &[&str]) -> anyhow::Result<String> {
     let mut sink = SureSink::new(alloc);
-    let mut answers = String::new(alloc);
-    for piece in words.iter().skip(1) {
-        let piece = bytes(alloc, piece)?;
-        let answer = sink.put(&piece);
-        add_answer(&mut answers, &format!(in alloc; "{answer:?}")?)?;
-    }
-    add_answer(&mut answers, &text(alloc, sink.bytes())?)?;
-    add_told(&mut answers, sink.tells())?;
+    let mut answers = puts(alloc, &mut sink, words, 1)?;
+    add_kept(alloc, &mut answers, sink.bytes(), sink.tells())?;
     Ok(answers)
 }
 
@@ -82,8 +90,8 @@ fn clock(alloc: Global, words: &[&str]) -> anyhow::Result<String> {
     let mut clock = ListClock::new(alloc, first, later);
     let mut answers = String::new(alloc);
     for _ in 0..count {
-        let moment = clock.now();
-        add_answer(&mut answers, &format!(in alloc; "{moment}")?)?;
+        let moment = format!(in alloc; "{}", clock.now())?;
+        add_answer(&mut answers, &moment)?;
     }
     add_told(&mut answers, clock.tells())?;
     Ok(answers)
@@ -170,25 +178,23 @@ fn files(alloc: Global, words: &[&str]) -> anyhow::Result<String> {
     Ok(answers)
 }
 
-/// An event that a port in memory may give: a link that is opened is below 1000, and the bytes are at most 65,536.
-fn event(alloc: Global, word_of_event: &str) -> anyhow::Result<Event>
-    ensures { IfOk result (λ event. IsTrue (is_scripted event)) }
-{
+/// An event: `opened:LINK`, `bytes:LINK:BYTES`, `closed:LINK`, `dialled:LINK`, `dial_failed`, else `Stop`.
+fn event(alloc: Global, word_of_event: &str) -> anyhow::Result<Event> {
     let parts: Vec<&str> = word_of_event.split(':').collect(alloc)?;
     let link = number(word(&parts, 1)).unwrap_or(0);
-    let bytes = bytes(alloc, word(&parts, 2))?;
+    let bytes = blob(alloc, word(&parts, 2))?;
     Ok(match word(&parts, 0) {
-        "opened" if link < 1000 => Event::Opened(link),
-        "bytes" if bytes.len() <= 65536 => Event::Bytes(link, Blob::from_vec(bytes)),
+        "opened" => Event::Opened(link),
+        "bytes" => Event::Bytes(link, bytes),
         "closed" => Event::Closed(link),
+        "dialled" => Event::Dialled(link),
+        "dial_failed" => Event::DialFailed,
         _ => Event::Stop,
     })
 }
 
 /// Events between commas, or `-` for none.
-fn events(alloc: Global, word: &str) -> anyhow::Result<Events>
-    ensures { IfOk result (λ events. IsTrue (list_all is_scripted events)) }
-{
+fn events(alloc: Global, word: &str) -> anyhow::Result<Events> {
     let mut events = Events::new(alloc);
     if word != "-" {
         for part in word.split(',') {
@@ -199,7 +205,7 @@ fn events(alloc: Global, word: &str) -> anyhow::Result<Events>
 }
 
 /// A step of a port: `listen,ADDRESS`, `next` or `next,WANT`, `dial,PEER`, `send,LINK,BYTES`, `close,LINK`.
-fn call(alloc: Global, port: &mut ScriptPort, step: &str) -> anyhow::Result<String> {
+fn call<P: Port>(alloc: Global, port: &mut P, step: &str) -> anyhow::Result<String> {
     let parts: Vec<&str> = step.split(',').collect(alloc)?;
     match word(&parts, 0) {
         "listen" => listen(alloc, port, &parts),
@@ -211,53 +217,85 @@ fn call(alloc: Global, port: &mut ScriptPort, step: &str) -> anyhow::Result<Stri
     }
 }
 
-fn listen(alloc: Global, port: &mut ScriptPort, parts: &[&str]) -> anyhow::Result<String> {
+/// `listen,ADDRESS`.
+fn listen<P: Port>(alloc: Global, port: &mut P, parts: &[&str]) -> anyhow::Result<String> {
     let address = bytes(alloc, word(parts, 1))?;
     let answer = port.listen(&address);
     Ok(format!(in alloc; "{answer:?}")?)
 }
 
-fn next(alloc: Global, port: &mut ScriptPort, parts: &[&str]) -> anyhow::Result<String> {
+/// `next` or `next,WANT`.
+fn next<P: Port>(alloc: Global, port: &mut P, parts: &[&str]) -> anyhow::Result<String> {
     let event = port.next(number(word(parts, 1)).ok());
     Ok(format!(in alloc; "{event:?}")?)
 }
 
-fn dial(alloc: Global, port: &mut ScriptPort, parts: &[&str]) -> anyhow::Result<String> {
+/// `dial,PEER`.
+fn dial<P: Port>(alloc: Global, port: &mut P, parts: &[&str]) -> anyhow::Result<String> {
     let peer = bytes(alloc, word(parts, 1))?;
     let link = port.dial(&peer);
     Ok(format!(in alloc; "{link:?}")?)
 }
 
-fn send(alloc: Global, port: &mut ScriptPort, parts: &[&str]) -> anyhow::Result<String> {
+/// `send,LINK,BYTES`.
+fn send<P: Port>(alloc: Global, port: &mut P, parts: &[&str]) -> anyhow::Result<String> {
     let link = number(word(parts, 1))?;
     let bytes = bytes(alloc, word(parts, 2))?;
     let answer = port.send(link, &bytes);
     Ok(format!(in alloc; "{answer:?}")?)
 }
 
-fn close(alloc: Global, port: &mut ScriptPort, parts: &[&str]) -> anyhow::Result<String> {
-    port.close(number(word(parts, 1))?);
+/// `close,LINK`.
+fn close<P: Port>(alloc: Global, port: &mut P, parts: &[&str]) -> anyhow::Result<String> {
+    let link = number(word(parts, 1))?;
+    port.close(link);
     Ok("closed".to_string(alloc)?)
 }
 
-/// The sends that were kept.
-fn text_of_sends(alloc: Global, port: &ScriptPort) -> anyhow::Result<String> {
-    let sent = port.sent();
-    Ok(format!(in alloc; "{sent:?}")?)
+/// What each step gives, from a place of the words on.
+fn calls_of<P: Port>(
+    alloc: Global,
+    port: &mut P,
+    words: &[&str],
+    from: usize,
+) -> anyhow::Result<String> {
+    let mut answers = String::new(alloc);
+    for step in words.iter().skip(from) {
+        let answer = call(alloc, port, step)?;
+        add_answer(&mut answers, &answer)?;
+    }
+    Ok(answers)
+}
+
+/// The sends that were kept, and whether all is told, behind the answers.
+fn add_sends(alloc: Global, answers: &mut String, sent: &Sends, tells: bool) -> anyhow::Result<()> {
+    let sends = format!(in alloc; "{sent:?}")?;
+    add_answer(answers, &sends)?;
+    add_told(answers, tells)
 }
 
 /// `port EVENTS FAILING STEP..`: what each step gives, and the sends.
 fn port(alloc: Global, words: &[&str]) -> anyhow::Result<String> {
     let events = events(alloc, word(words, 1))?;
     let failing = calls(alloc, word(words, 2))?;
-    let mut port = ScriptPort::new(alloc, events, failing);
-    let mut answers = String::new(alloc);
-    for step in words.iter().skip(3) {
-        let answer = call(alloc, &mut port, step)?;
-        add_answer(&mut answers, &answer)?;
+    if !ScriptPort::may_list(events.items()) {
+        return Ok("not to be listed".to_string(alloc)?);
     }
-    add_answer(&mut answers, &text_of_sends(alloc, &port)?)?;
-    add_told(&mut answers, port.tells())?;
+    let mut port = ScriptPort::new(alloc, events, failing);
+    let mut answers = calls_of(alloc, &mut port, words, 3)?;
+    add_sends(alloc, &mut answers, port.sent(), port.tells())?;
+    Ok(answers)
+}
+
+/// `sure_port EVENTS STEP..`: the same of a port that never fails.
+fn sure_port(alloc: Global, words: &[&str]) -> anyhow::Result<String> {
+    let events = events(alloc, word(words, 1))?;
+    if !ScriptPort::may_list(events.items()) {
+        return Ok("not to be listed".to_string(alloc)?);
+    }
+    let mut port = SurePort::new(alloc, events);
+    let mut answers = calls_of(alloc, &mut port, words, 2)?;
+    add_sends(alloc, &mut answers, port.sent(), port.tells())?;
     Ok(answers)
 }
 
@@ -278,6 +316,7 @@ pub(crate) fn answer(alloc: Global, operation: &str, words: &[&str]) -> anyhow::
         "counter_chances" => counter_chances(alloc, words),
         "files" => files(alloc, words),
         "port" => port(alloc, words),
+        "sure_port" => sure_port(alloc, words),
         "event" => copy_event(alloc, words),
         _ => no_case(alloc),
     }
