@@ -1,12 +1,13 @@
 """Cases of authenticators.
 
 `sequence.run KEY SEED STEP..`, whose steps are `make=TIMESTAMP`, `judge=TIMESTAMP:CREDENTIAL`, `return=CREDENTIAL`, `awaits` and `key`.
-The answers stand with `;` between them. `sequence.timestamp NOW`: the timestamp of a moment in units of 100 ns since 1601.
+The answers stand with `;` between them. `sequence.channel SECRET CLIENT SERVER FLAGS STEP..` is the same on a new channel, whose seed is the
+client's credential. `sequence.timestamp NOW`: the timestamp of a moment in units of 100 ns since 1601.
 """
 
 import datetime
 
-from forms import array, line, ok, option, struct, values
+from forms import LIVE_SECRET, array, line, live_calls, ok, option, struct, values
 
 
 def not_next(awaited):
@@ -78,6 +79,26 @@ def of_moments():
     return out
 
 
+def of_live_link():
+    """The three logons of a recorded link between Samba's client and its controller, as each end makes and judges them."""
+    asked, answered, offered, _, *logons = [case["fields"] for case in live_calls()]
+    steps = [
+        call["authenticator"] | {"awaited_return": reply["returned"]["credential"]}
+        for call, reply in zip(logons[::2], logons[1::2])
+    ]
+    assert len(steps) == 3
+    of_channel = LIVE_SECRET, asked["challenge"], answered["challenge"], f"{offered['flags']:08x}"
+    of_maker = [part for step in steps for part in made(step)]
+    of_judge = [judged(step) for step in steps]
+    return [
+        (
+            line("sequence.channel", *of_channel, *[step for step, _ in each]),
+            ";".join(answer for _, answer in each),
+        )
+        for each in [of_maker, of_judge]
+    ]
+
+
 def cases():
     """Each line and its answer."""
     sequences = values("netlogon")["sequences"]
@@ -114,4 +135,4 @@ def cases():
             + [refused(0, none["credential"], none["awaited_return"])],
         )
     )
-    return out + of_moments()
+    return out + of_live_link() + of_moments()

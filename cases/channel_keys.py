@@ -2,10 +2,10 @@
 
 `channel.session_key SECRET CLIENT SERVER FLAGS`, `channel.strong_key SECRET CLIENT SERVER`, `channel.des_key SECRET CLIENT SERVER`,
 `channel.cred KEY INPUT`, `channel.cred_key KEY INPUT` (the kept key, and the credential), `channel.cred_back KEY OUTPUT`,
-`channel.flag NAME` (the number, and whether this project offers it), `channel.granted SUPPORTED OFFERED`, `channel.type NAME`.
+`channel.credentials SECRET CLIENT SERVER FLAGS` (the client's and the server's), `channel.flag NAME` (the number, and whether this project offers it), `channel.granted SUPPORTED OFFERED`, `channel.type NAME`.
 """
 
-from forms import line, values
+from forms import LIVE_SECRET, line, live_calls, values
 
 # MS-NRPC 3.1.4.2 (C, O, W and Y of the table of options); what is offered is this project's own choice.
 FLAGS = [
@@ -35,6 +35,14 @@ WITHOUT_STRONG_KEY = ["000001ff", "ffffbfff", "00000000"]
 WITH_STRONG_KEY = ["40004004", "000041ff", "00004000"]
 
 
+def of_live_link():
+    """Both credentials of a recorded link, under the flags that the client offered."""
+    asked, answered, offered, granted = [case["fields"] for case in live_calls()[:4]]
+    flags = f"{offered['flags']:08x}"
+    line_of = line("channel.credentials", LIVE_SECRET, asked["challenge"], answered["challenge"], flags)
+    return [(line_of, f"{offered['credential']};{granted['credential']}")]
+
+
 def cases():
     """Each line and its answer."""
     netlogon = values("netlogon")
@@ -44,10 +52,11 @@ def cases():
         strong, des = channel["strong_key"], channel["des_key"]
         out.append((line("channel.strong_key", *of_channel), strong))
         out.append((line("channel.des_key", *of_channel), des))
-        for flags in WITHOUT_STRONG_KEY:
-            out.append((line("channel.session_key", *of_channel, flags), des))
-        for flags in WITH_STRONG_KEY:
-            out.append((line("channel.session_key", *of_channel, flags), strong))
+        for all_flags, key, name in [(WITHOUT_STRONG_KEY, des, "des"), (WITH_STRONG_KEY, strong, "strong")]:
+            both = ";".join(channel[f"{side}_credential_{name}_key"] for side in ["client", "server"])
+            for flags in all_flags:
+                out.append((line("channel.session_key", *of_channel, flags), key))
+                out.append((line("channel.credentials", *of_channel, flags), both))
         for key, name in [(strong, "strong"), (des, "des")]:
             for side in ["client", "server"]:
                 challenge = channel[f"{side}_challenge"]
@@ -70,4 +79,4 @@ def cases():
         out.append((line("channel.granted", offered, "ffffffff"), offered))
     for name, number in TYPES:
         out.append((line("channel.type", name), number))
-    return out
+    return out + of_live_link()

@@ -11,6 +11,15 @@ def values(name):
     return json.loads((VALUES / f"{name}.json").read_text(encoding="utf-8"))
 
 
+def live_calls():
+    """The calls and replies of the recorded link between Samba's client and its controller, in their order (`live call, ..`)."""
+    return [case for case in values("stubs")["stubs"] if case["name"].startswith("live call")]
+
+
+# The machine account's secret on that link.
+LIVE_SECRET = "41" * 16
+
+
 def line(operation, *words):
     """A line of cases: the operation and its values. Bytes are written in hex, numbers as they stand, and `-` for what is empty."""
     return " ".join([operation] + [word_of(word) for word in words])

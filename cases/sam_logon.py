@@ -8,7 +8,8 @@ import hmac
 import itertools
 
 from documents import ANN, BOB, FILE1, HEAD, PDC2, USER_DEFAULTS, document, sid
-from forms import array, items, line, ok, struct, units, utf16, values
+from forms import array, items, line, live_calls, ok, struct, units, utf16, values
+from md4 import md4
 
 CONTROLLER = "PDC1"
 NOW = 133_000_000_000_000_000
@@ -241,8 +242,32 @@ def of_settings():
     return out
 
 
+def of_live_link():
+    """The three logons of a recorded link, with the statuses of Samba's controller: ann is granted, bob's password is wrong, and there is
+    no user of the third name. The session base key of NTLMv1 is MD4 of the hash (MS-NLMP 3.3.1)."""
+    text = document([ANN, BOB])
+    out = []
+    logons = live_calls()[4:]
+    for call, reply in zip(logons[::2], logons[1::2]):
+        info, status = call["fields"]["info"], reply["fields"]["status"]
+        if status == 0:
+            answer = granted(ANN, md4(bytes.fromhex(ANN["hash"])).hex())
+        else:
+            answer = ok(f"Status({status})")
+        names = info["domain"], info["workstation"], info["challenge"]
+        out.append((judge(text, info["user"], info["nt"], *names), answer))
+    assert len(out) == 3
+    return out
+
+
 def cases():
     """Each line and its answer."""
     return (
-        of_rules() + of_names() + of_moments() + of_workstations() + of_grants() + of_settings()
+        of_live_link()
+        + of_rules()
+        + of_names()
+        + of_moments()
+        + of_workstations()
+        + of_grants()
+        + of_settings()
     )

@@ -56,6 +56,19 @@ fn cred_back_of(alloc: Global, words: &[&str]) -> anyhow::Result<String> {
     text(alloc, &cred_back(key, output))
 }
 
+/// `credentials SECRET CLIENT SERVER FLAGS`: the client's and the server's credential, each of its own challenge, under the session key of a
+/// channel with these flags.
+fn credentials(alloc: Global, words: &[&str]) -> anyhow::Result<String> {
+    let secret = sixteen(word(words, 1))?;
+    let client = eight(word(words, 2))?;
+    let server = eight(word(words, 3))?;
+    let flags = flags(word(words, 4))?;
+    let key = CredKey::new(session_key(secret, client, server, flags));
+    let of_client = text(alloc, &key.cred(client))?;
+    let of_server = text(alloc, &key.cred(server))?;
+    Ok(format!(in alloc; "{of_client};{of_server}")?)
+}
+
 /// The flag of a name.
 fn flag_of(name: &str) -> u32 {
     match name {
@@ -108,6 +121,7 @@ pub(crate) fn answer(alloc: Global, operation: &str, words: &[&str]) -> anyhow::
         "cred" => cred_of(alloc, words),
         "cred_back" => cred_back_of(alloc, words),
         "cred_key" => cred_key_of(alloc, words),
+        "credentials" => credentials(alloc, words),
         "flag" => flag(alloc, words),
         "granted" => granted(alloc, words),
         "type" => channel_type(alloc, words),

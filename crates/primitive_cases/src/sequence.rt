@@ -2,8 +2,9 @@
 
 ghost use Rattle.std.specs.Prelude.{◌≡◌};
 
-use crate::words::{add_answer, eight, long_number, no_case, number, sixteen, text, word};
+use crate::words::{add_answer, eight, flags, long_number, no_case, number, sixteen, text, word};
 use authenticators::{Sequence, timestamp_at};
+use channel_keys::{cred, session_key};
 use std::alloc::Global;
 use wire_base::Authenticator;
 
@@ -54,17 +55,37 @@ fn step(alloc: Global, sequence: &mut Sequence, step: &str) -> anyhow::Result<St
     }
 }
 
+/// What each step gives, from a place of the words on.
+fn steps(
+    alloc: Global,
+    sequence: &mut Sequence,
+    words: &[&str],
+    from: usize,
+) -> anyhow::Result<String> {
+    let mut answers = String::new(alloc);
+    for each in words.iter().skip(from) {
+        let answer = step(alloc, sequence, each)?;
+        add_answer(&mut answers, &answer)?;
+    }
+    Ok(answers)
+}
+
 /// `run KEY SEED STEP..`: what each step gives. A step `key` is answered with the session key.
 fn run(alloc: Global, words: &[&str]) -> anyhow::Result<String> {
     let key = sixteen(word(words, 1))?;
     let seed = eight(word(words, 2))?;
-    let mut sequence = Sequence::new(key, seed);
-    let mut answers = String::new(alloc);
-    for each in words.iter().skip(3) {
-        let answer = step(alloc, &mut sequence, each)?;
-        add_answer(&mut answers, &answer)?;
-    }
-    Ok(answers)
+    steps(alloc, &mut Sequence::new(key, seed), words, 3)
+}
+
+/// `channel SECRET CLIENT SERVER FLAGS STEP..`: the same on a new channel of this secret, these challenges and these flags, whose seed is
+/// the client's credential.
+fn channel(alloc: Global, words: &[&str]) -> anyhow::Result<String> {
+    let secret = sixteen(word(words, 1))?;
+    let client = eight(word(words, 2))?;
+    let server = eight(word(words, 3))?;
+    let flags = flags(word(words, 4))?;
+    let key = session_key(secret, client, server, flags);
+    steps(alloc, &mut Sequence::new(key, cred(key, client)), words, 5)
 }
 
 /// `timestamp NOW`: the timestamp of a moment.
@@ -77,6 +98,7 @@ fn timestamp(alloc: Global, words: &[&str]) -> anyhow::Result<String> {
 pub(crate) fn answer(alloc: Global, operation: &str, words: &[&str]) -> anyhow::Result<String> {
     match operation {
         "run" => run(alloc, words),
+        "channel" => channel(alloc, words),
         "timestamp" => timestamp(alloc, words),
         _ => no_case(alloc),
     }
