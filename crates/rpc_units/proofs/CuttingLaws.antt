@@ -8,7 +8,7 @@ use Rattle.rpc_units.specs.declared.unit.Body.TheVariants.{Bind, BindAck, BindNa
 use Rattle.std.specs.List.{AllByRecursion}
 use Rattle.std.specs.Int.{w32, to_le_bytes}
 use Rattle.rpc_units.specs.declared.unit.Trailer.{Trailer}
-use Rattle.rpc_units.specs.Writing.{zeros, pad_for, value_len, written_body, written_tail, written}
+use Rattle.rpc_units.specs.Writing.{zeros, pad_for, value_len, written_body, written_tail, written, HasPieces, HasCounts, HasValue, IsWritable}
 use Rattle.rpc_units.proofs.JoiningLaws.{with_stub-own, stub_short}
 use Rattle.rpc_units.proofs.WritingLaws.{length_written, length_zeros}
 use Rattle.rpc_units.specs.Joining.{stub_of, with_stub, key_of, same_key, same_call, stubs_of, Continue, IsJoined, fragment, fragments_of, stub_size, cut_of, HasStub, IsWholeCall}
@@ -165,36 +165,69 @@ body_size (BindNak reason) s h = absurd h
 body_size Auth3 s h = absurd h
 body_size (Fault hint context status) s h = absurd h
 
-tail_size : (count k : ℕ) (trailer : Option Trailer) → count ≤ 4 * k → value_len trailer ≤ 16 → count + length (written_tail count trailer) ≤ 4 * k + 24
-tail_size count k None short value = omega arith
-tail_size count k (Some trailer) short value =
+tail_size : (count k : ℕ) (trailer : Option Trailer) → count ≤ 4 * k → count + length (written_tail count trailer) ≤ 4 * k + 8 + value_len trailer
+tail_size count k None short = omega arith
+tail_size count k (Some trailer) short =
     let up = pad_up count k short in
     omega (arith, length-append (zeros (pad_for count)) ((trailer.kind ∷ trailer.level ∷ pad_for count ∷ 0 ∷ []) ++ (to_le_bytes w32 trailer.context ++ trailer.value)), length_zeros (pad_for count))
 
-fragment_short : (unit : RpcUnit) (limit : ℕ) (first last : Bool) (stub : List ℕ) → HasStub unit.body → value_len unit.trailer ≤ 16 → 48 ≤ limit → length stub ≤ stub_size limit → length (written (fragment unit first last stub)) ≤ limit
-fragment_short unit limit first last stub h value least short =
+fragment_short : (unit : RpcUnit) (limit : ℕ) (first last : Bool) (stub : List ℕ) → HasStub unit.body → 48 ≤ limit → length stub ≤ stub_size limit → length (written (fragment unit first last stub)) + 16 ≤ limit + value_len unit.trailer
+fragment_short unit limit first last stub h least short =
     let body = written_body (with_stub unit.body stub) in
     let size = body_size unit.body stub h in
     let whole = length_written (fragment unit first last stub) in
     let sum = length-append body (written_tail (length body) unit.trailer) in
     let most : length body ≤ 4 * (2 + 2 * ((limit - 48) / 8)) = omega arith in
-    let all = tail_size (length body) (2 + 2 * ((limit - 48) / 8)) unit.trailer most value in
+    let all = tail_size (length body) (2 + 2 * ((limit - 48) / 8)) unit.trailer most in
     omega arith
 
-fragments_short : (most : ℕ) (unit : RpcUnit) (limit : ℕ) (first : Bool) (rest : List ℕ) → HasStub unit.body → value_len unit.trailer ≤ 16 → 56 ≤ limit → length rest ≤ most → AllByRecursion (λ u. length (written u) ≤ limit) (fragments_of most unit (stub_size limit) first rest)
-fragments_short zero unit limit first rest h value least enough = (fragment_short unit limit first true rest h value (omega arith) (omega arith), tt)
-fragments_short (suc most) unit limit first rest h value least enough =
+fragments_short : (most : ℕ) (unit : RpcUnit) (limit : ℕ) (first : Bool) (rest : List ℕ) → HasStub unit.body → 56 ≤ limit → length rest ≤ most → AllByRecursion (λ u. length (written u) + 16 ≤ limit + value_len unit.trailer) (fragments_of most unit (stub_size limit) first rest)
+fragments_short zero unit limit first rest h least enough = (fragment_short unit limit first true rest h (omega arith) (omega arith), tt)
+fragments_short (suc most) unit limit first rest h least enough =
     elim (cases_lt (stub_size limit) (length rest)) [
       | inl long ↦
           rw (fragments_more most unit (stub_size limit) first rest long) (
-            fragment_short unit limit first false (take (stub_size limit) rest) h value (omega arith) (omega (arith, length-take (stub_size limit) rest)),
-            fragments_short most unit limit false (drop (stub_size limit) rest) h value least (omega (arith, length-drop (stub_size limit) rest)),
+            fragment_short unit limit first false (take (stub_size limit) rest) h (omega arith) (omega (arith, length-take (stub_size limit) rest)),
+            fragments_short most unit limit false (drop (stub_size limit) rest) h least (omega (arith, length-drop (stub_size limit) rest)),
           )
       | inr short ↦
-          rw (fragments_end (suc most) unit (stub_size limit) first rest short) (fragment_short unit limit first true rest h value (omega arith) short, tt)
+          rw (fragments_end (suc most) unit (stub_size limit) first rest short) (fragment_short unit limit first true rest h (omega arith) short, tt)
     ]
 
 -- each fragment of a call is written with at most so many bytes
-pub cut_short : (unit : RpcUnit) (limit : ℕ) → HasStub unit.body → value_len unit.trailer ≤ 16 → 56 ≤ limit → AllByRecursion (λ u. length (written u) ≤ limit) (cut_of unit limit)
+pub cut_short : (unit : RpcUnit) (limit : ℕ) → HasStub unit.body → 56 ≤ limit → AllByRecursion (λ u. length (written u) + 16 ≤ limit + value_len unit.trailer) (cut_of unit limit)
 unfolding cut_of
-cut_short unit limit h value least = fragments_short (length (stub_of unit.body)) unit limit true (stub_of unit.body) h value least (omega arith)
+cut_short unit limit h least = fragments_short (length (stub_of unit.body)) unit limit true (stub_of unit.body) h least (omega arith)
+
+-- ---- the fragments can be written
+
+writable_parts : (body : Body) (stub : List ℕ) (first last : Bool) → HasStub body → HasPieces (with_stub body stub) first last × HasCounts (with_stub body stub)
+writable_parts (Request hint context opnum stub) s first last h = (tt, tt)
+writable_parts (Response hint context stub) s first last h = (tt, tt)
+writable_parts (Bind send receive group contexts) s first last h = absurd h
+writable_parts (BindAck send receive group results) s first last h = absurd h
+writable_parts (BindNak reason) s first last h = absurd h
+writable_parts Auth3 s first last h = absurd h
+writable_parts (Fault hint context status) s first last h = absurd h
+
+fragment_writable : (unit : RpcUnit) (first last : Bool) (stub : List ℕ) → HasStub unit.body → HasValue unit.trailer → IsWritable (fragment unit first last stub)
+fragment_writable unit first last stub h value =
+    let parts = writable_parts unit.body stub first last h in
+    record { pieces = parts.0; counts = parts.1; value = value }
+
+fragments_writable : (most : ℕ) (unit : RpcUnit) (size : ℕ) (first : Bool) (rest : List ℕ) → HasStub unit.body → HasValue unit.trailer → AllByRecursion IsWritable (fragments_of most unit size first rest)
+fragments_writable zero unit size first rest h value = (fragment_writable unit first true rest h value, tt)
+fragments_writable (suc most) unit size first rest h value =
+    elim (cases_lt size (length rest)) [
+      | inl long ↦
+          rw (fragments_more most unit size first rest long) (
+            fragment_writable unit first false (take size rest) h value,
+            fragments_writable most unit size false (drop size rest) h value,
+          )
+      | inr short ↦
+          rw (fragments_end (suc most) unit size first rest short) (fragment_writable unit first true rest h value, tt)
+    ]
+
+pub cut_writable : (unit : RpcUnit) (limit : ℕ) → HasStub unit.body → HasValue unit.trailer → AllByRecursion IsWritable (cut_of unit limit)
+unfolding cut_of
+cut_writable unit limit h value = fragments_writable (length (stub_of unit.body)) unit (stub_size limit) true (stub_of unit.body) h value

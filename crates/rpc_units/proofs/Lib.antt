@@ -1,8 +1,15 @@
+pub mod ComingLaws
 pub mod CuttingLaws
 pub mod GrammarLaws
 pub mod ItemLaws
 pub mod JoiningLaws
+pub mod LendingLaws
 pub mod PlaceLaws
+pub mod SealedLaws
 pub mod SealingLaws
 pub mod StreamLaws
+pub mod ViewLaws
 pub mod WritingLaws
+pub mod CutStreamLaws
+pub mod ShortLaws
+pub mod FitLaws

@@ -1,7 +1,12 @@
 pub mod Grammar
+pub mod Incoming
+pub mod Incomings
 pub mod Joining
 pub mod Layout
+pub mod Lending
 pub mod Reading
+pub mod Sealed
 pub mod Sealing
 pub mod Stream
+pub mod Views
 pub mod Writing

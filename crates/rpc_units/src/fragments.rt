@@ -1,10 +1,10 @@
 //! A call cut into fragments.
 
-ghost use Rattle.std.specs.Prelude.{◌≡◌, ◌≤◌, List, length, IfOk};
+ghost use Rattle.std.specs.Prelude.{◌≡◌, ◌≤◌, ◌+◌, List, length, IfOk};
 ghost use Rattle.std.specs.List.{AllByRecursion};
 ghost use Rattle.rpc_units.specs.declared.unit.Unit.{Unit as RpcUnit};
 ghost use Rattle.rpc_units.specs.Joining.{stub_of, with_stub, stub_size, fragment, HasStub, IsWholeCall, IsJoined, cut_of};
-ghost use Rattle.rpc_units.specs.Writing.{value_len, written};
+ghost use Rattle.rpc_units.specs.Writing.{value_len, written, HasValue, IsWritable};
 
 use crate::joiner::stub;
 use crate::unit::{Body, Trailer, Unit, UnitList};
@@ -22,7 +22,8 @@ pub fn cut_call(alloc: Global, unit: &Unit, limit: u16) -> Result<UnitList, NoMe
     ensures joined { IfOk result (λ units. IsJoined units unit.now) }
     ensures fewest { IfOk result (λ units. (others : List RpcUnit) → IsJoined others unit.now →
         AllByRecursion (λ u. length (stub_of u.body) ≤ stub_size limit) others → length units ≤ length others) }
-    ensures short { value_len unit.now.trailer ≤ 16 → IfOk result (λ units. AllByRecursion (λ u. length (written u) ≤ limit) units) }
+    ensures short { IfOk result (λ units. AllByRecursion (λ u. length (written u) + 16 ≤ limit + value_len unit.now.trailer) units) }
+    ensures writable { HasValue unit.now.trailer → IfOk result (λ units. AllByRecursion IsWritable units) }
 {
     pieces(alloc, unit, limit)
 }
