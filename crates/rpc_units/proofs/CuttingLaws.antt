@@ -1,5 +1,5 @@
 -- What was cut is joined again, and no fewer fragments of that size would be.
-use Rattle.std.proofs.Common.{◌≡◌, ℕ, zero, suc, ◌+◌, ◌-◌, ◌*◌, ◌/◌, ◌<◌, ◌≤◌, eqb, Bool, true, false, List, [], ◌∷◌, ◌++◌, length, take, drop, Option, Some, None, refl, sym, ap, ◌∙◌, arith, inl, inr, append_assoc}
+use Rattle.std.proofs.Common.{◌≡◌, ℕ, zero, suc, ◌+◌, ◌-◌, ◌*◌, ◌/◌, ◌<◌, ◌≤◌, eqb, Bool, true, false, List, [], ◌∷◌, ◌++◌, length, take, drop, map, Option, Some, None, Ok, refl, sym, ap, subst, ◌∙◌, arith, inl, inr, append_assoc}
 use Rattle.std.proofs.lemmas.Bool.{cases_lt, le-leb, lt-leb, eq-eqb, and_from}
 use Rattle.std.proofs.lemmas.List.{append-nil, take-append-drop, length-drop, length-take, length-append}
 use Rattle.rpc_units.specs.declared.unit.Unit.{Unit as RpcUnit}
@@ -8,9 +8,12 @@ use Rattle.rpc_units.specs.declared.unit.Body.TheVariants.{Bind, BindAck, BindNa
 use Rattle.std.specs.List.{AllByRecursion}
 use Rattle.std.specs.Int.{w32, to_le_bytes}
 use Rattle.rpc_units.specs.declared.unit.Trailer.{Trailer}
-use Rattle.rpc_units.specs.Writing.{zeros, pad_for, value_len, written_body, written_tail, written, HasPieces, HasCounts, HasValue, IsWritable}
-use Rattle.rpc_units.proofs.JoiningLaws.{with_stub-own, stub_short}
-use Rattle.rpc_units.proofs.WritingLaws.{length_written, length_zeros}
+use Rattle.rpc_units.specs.Writing.{zeros, pad_for, value_len, written_body, written_tail, written, HasPieces, HasCounts, HasValue, IsWritable, HasNumbers, IsInRange, IsSendable}
+use Rattle.rpc_units.specs.Calls.{bytes_of_call, CanBeSent, IsHeard}
+use Rattle.rpc_units.specs.Reading.{unit_of}
+use Rattle.rpc_units.proofs.CutStreamLaws.{cut_written}
+use Rattle.rpc_units.proofs.JoiningLaws.{with_stub-own, stub_short, AddsTo-IsJoined}
+use Rattle.rpc_units.proofs.WritingLaws.{length_written, length_zeros, unit_of-written}
 use Rattle.rpc_units.specs.Joining.{stub_of, with_stub, key_of, same_key, same_call, stubs_of, Continue, IsJoined, fragment, fragments_of, stub_size, cut_of, HasStub, IsWholeCall}
 
 -- the rest is the last fragment
@@ -181,23 +184,27 @@ fragment_short unit limit first last stub h least short =
     let all = tail_size (length body) (2 + 2 * ((limit - 48) / 8)) unit.trailer most in
     omega arith
 
-fragments_short : (most : ℕ) (unit : RpcUnit) (limit : ℕ) (first : Bool) (rest : List ℕ) → HasStub unit.body → 56 ≤ limit → length rest ≤ most → AllByRecursion (λ u. length (written u) + 16 ≤ limit + value_len unit.trailer) (fragments_of most unit (stub_size limit) first rest)
-fragments_short zero unit limit first rest h least enough = (fragment_short unit limit first true rest h (omega arith) (omega arith), tt)
-fragments_short (suc most) unit limit first rest h least enough =
-    elim (cases_lt (stub_size limit) (length rest)) [
+-- what holds of a fragment with a stub that is short enough holds of each
+fragments_each : (P : RpcUnit → Type 0) (unit : RpcUnit) (size : ℕ) (one : (first last : Bool) (stub : List ℕ) → length stub ≤ size → P (fragment unit first last stub)) (most : ℕ) (first : Bool) (rest : List ℕ) → length rest ≤ most → 1 ≤ size → AllByRecursion P (fragments_of most unit size first rest)
+fragments_each P unit size one zero first rest enough some = (one first true rest (omega arith), tt)
+fragments_each P unit size one (suc most) first rest enough some =
+    elim (cases_lt size (length rest)) [
       | inl long ↦
-          rw (fragments_more most unit (stub_size limit) first rest long) (
-            fragment_short unit limit first false (take (stub_size limit) rest) h (omega arith) (omega (arith, length-take (stub_size limit) rest)),
-            fragments_short most unit limit false (drop (stub_size limit) rest) h least (omega (arith, length-drop (stub_size limit) rest)),
+          rw (fragments_more most unit size first rest long) (
+            one first false (take size rest) (omega (arith, length-take size rest)),
+            fragments_each P unit size one most false (drop size rest) (omega (arith, length-drop size rest)) some,
           )
-      | inr short ↦
-          rw (fragments_end (suc most) unit (stub_size limit) first rest short) (fragment_short unit limit first true rest h (omega arith) short, tt)
+      | inr short ↦ rw (fragments_end (suc most) unit size first rest short) (one first true rest short, tt)
     ]
+
+pub cut_each : (P : RpcUnit → Type 0) (unit : RpcUnit) (limit : ℕ) → 56 ≤ limit → ((first last : Bool) (stub : List ℕ) → length stub ≤ stub_size limit → P (fragment unit first last stub)) → AllByRecursion P (cut_of unit limit)
+unfolding cut_of
+cut_each P unit limit least one = fragments_each P unit (stub_size limit) one (length (stub_of unit.body)) true (stub_of unit.body) (omega arith) (omega arith)
 
 -- each fragment of a call is written with at most so many bytes
 pub cut_short : (unit : RpcUnit) (limit : ℕ) → HasStub unit.body → 56 ≤ limit → AllByRecursion (λ u. length (written u) + 16 ≤ limit + value_len unit.trailer) (cut_of unit limit)
-unfolding cut_of
-cut_short unit limit h least = fragments_short (length (stub_of unit.body)) unit limit true (stub_of unit.body) h least (omega arith)
+cut_short unit limit h least =
+    cut_each (λ u. length (written u) + 16 ≤ limit + value_len unit.trailer) unit limit least (λ first last stub short. fragment_short unit limit first last stub h (omega arith) short)
 
 -- ---- the fragments can be written
 
@@ -215,19 +222,77 @@ fragment_writable unit first last stub h value =
     let parts = writable_parts unit.body stub first last h in
     record { pieces = parts.0; counts = parts.1; value = value }
 
-fragments_writable : (most : ℕ) (unit : RpcUnit) (size : ℕ) (first : Bool) (rest : List ℕ) → HasStub unit.body → HasValue unit.trailer → AllByRecursion IsWritable (fragments_of most unit size first rest)
-fragments_writable zero unit size first rest h value = (fragment_writable unit first true rest h value, tt)
-fragments_writable (suc most) unit size first rest h value =
-    elim (cases_lt size (length rest)) [
-      | inl long ↦
-          rw (fragments_more most unit size first rest long) (
-            fragment_writable unit first false (take size rest) h value,
-            fragments_writable most unit size false (drop size rest) h value,
-          )
-      | inr short ↦
-          rw (fragments_end (suc most) unit size first rest short) (fragment_writable unit first true rest h value, tt)
-    ]
+pub cut_writable : (unit : RpcUnit) (limit : ℕ) → HasStub unit.body → HasValue unit.trailer → 56 ≤ limit → AllByRecursion IsWritable (cut_of unit limit)
+cut_writable unit limit h value least = cut_each IsWritable unit limit least (λ first last stub short. fragment_writable unit first last stub h value)
 
-pub cut_writable : (unit : RpcUnit) (limit : ℕ) → HasStub unit.body → HasValue unit.trailer → AllByRecursion IsWritable (cut_of unit limit)
-unfolding cut_of
-cut_writable unit limit h value = fragments_writable (length (stub_of unit.body)) unit (stub_size limit) true (stub_of unit.body) h value
+-- ---- the fragments are in range
+
+numbers_same : (body : Body) (stub : List ℕ) → HasNumbers body → HasNumbers (with_stub body stub)
+numbers_same (Request hint context opnum stub) s h = h
+numbers_same (Response hint context stub) s h = h
+numbers_same (Bind send receive group contexts) s h = h
+numbers_same (BindAck send receive group results) s h = h
+numbers_same (BindNak reason) s h = h
+numbers_same Auth3 s h = h
+numbers_same (Fault hint context status) s h = h
+
+fragment_range : (unit : RpcUnit) (first last : Bool) (stub : List ℕ) → IsInRange unit → IsInRange (fragment unit first last stub)
+fragment_range unit first last stub h = record { call = h.call; body = numbers_same unit.body stub h.body; trailer = h.trailer }
+
+pub cut_range : (unit : RpcUnit) (limit : ℕ) → IsInRange unit → 56 ≤ limit → AllByRecursion IsInRange (cut_of unit limit)
+cut_range unit limit h least = cut_each IsInRange unit limit least (λ first last stub short. fragment_range unit first last stub h)
+
+-- ---- a call on the wire
+
+fragment_sendable : (call : RpcUnit) (limit : ℕ) (first last : Bool) (stub : List ℕ) → CanBeSent call limit → length stub ≤ stub_size limit → IsSendable (fragment call first last stub)
+fragment_sendable call limit first last stub h short =
+    let least : 1432 ≤ limit = h.least in
+    let room : limit + value_len call.trailer ≤ 5856 = h.room in
+    let size = fragment_short call limit first last stub h.whole.stub (omega arith) short in
+    record {
+      writable = fragment_writable call first last stub h.whole.stub h.value;
+      range = fragment_range call first last stub h.range;
+      short = omega arith;
+    }
+
+pub cut_sendable : (call : RpcUnit) (limit : ℕ) → CanBeSent call limit → AllByRecursion IsSendable (cut_of call limit)
+cut_sendable call limit h =
+    let least : 1432 ≤ limit = h.least in
+    cut_each IsSendable call limit (omega arith) (λ first last stub short. fragment_sendable call limit first last stub h short)
+
+-- the stub of a whole is those of its fragments
+has_stub-with : (body : Body) (s : List ℕ) → HasStub (with_stub body s) → HasStub body
+has_stub-with (Request hint context opnum stub) s h = tt
+has_stub-with (Response hint context stub) s h = tt
+has_stub-with (Bind send receive group contexts) s h = absurd h
+has_stub-with (BindAck send receive group results) s h = absurd h
+has_stub-with (BindNak reason) s h = absurd h
+has_stub-with Auth3 s h = absurd h
+has_stub-with (Fault hint context status) s h = absurd h
+
+joined_stubs : (units : List RpcUnit) (whole : RpcUnit) → IsJoined units whole → HasStub whole.body → stub_of whole.body ≡ stubs_of units
+joined_stubs [] whole is h = absurd is
+joined_stubs (first ∷ others) whole is h =
+    let body-is : whole.body ≡ with_stub first.body (stub_of first.body ++ stubs_of others) = ap (λ (u : RpcUnit). u.body) is.2 in
+    let has : HasStub first.body = has_stub-with first.body (stub_of first.body ++ stubs_of others) (subst HasStub body-is h) in
+    ap stub_of body-is ∙ stub_of-with_stub first.body (stub_of first.body ++ stubs_of others) has
+
+read_again : (units : List RpcUnit) → AllByRecursion IsSendable units → map unit_of (map written units) ≡ map (λ unit. Ok unit) units
+read_again [] each = refl
+read_again (unit ∷ units) each =
+    let s : IsSendable unit = each.0 in
+    let one = unit_of-written unit s.writable s.range s.short in
+    let more = read_again units each.1 in
+    (λ i. one i ∷ more i)
+
+pub call_heard : (call : RpcUnit) (limit : ℕ) → CanBeSent call limit → length (stub_of call.body) ≤ 65536 → IsHeard (bytes_of_call call limit) (cut_of call limit) call
+call_heard call limit h short =
+    let each = cut_sendable call limit h in
+    let least : 1432 ≤ limit = h.least in
+    let joined = IsJoined-cut_of call limit h.whole (omega arith) in
+    let stubs = joined_stubs (cut_of call limit) call joined h.whole.stub in
+    record {
+      stream = cut_written (cut_of call limit) each;
+      read = read_again (cut_of call limit) each;
+      joined = AddsTo-IsJoined (cut_of call limit) call joined (subst (λ (s : List ℕ). length s ≤ 65536) stubs short);
+    }

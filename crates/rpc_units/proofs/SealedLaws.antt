@@ -1,8 +1,8 @@
 -- What becomes of a unit whose sealed range, or whose authentication value, is replaced.
-use Rattle.std.proofs.Common.{◌≡◌, ◌≢◌, ℕ, ◌+◌, ◌-◌, ◌<◌, ◌≤◌, eqb, Bool, true, not, List, [], ◌∷◌, ◌++◌, length, take, drop, Option, Some, None, Result, Ok, Err, refl, sym, ap, subst, ◌∙◌, arith, append_assoc}
+use Rattle.std.proofs.Common.{◌≡◌, ◌≢◌, ℕ, ◌+◌, ◌-◌, ◌<◌, ◌≤◌, eqb, not, List, [], ◌∷◌, ◌++◌, length, take, drop, Option, Some, None, Result, Ok, Err, refl, sym, ap, subst, ◌∙◌, arith, append_assoc}
 use Rattle.std.specs.Int.{Width, w16, w32, byte_len, from_le_bytes, to_le_bytes}
 use Rattle.std.specs.Prelude.{bit_and, option_map, IfSome}
-use Rattle.std.proofs.lemmas.List.{length-append, length-take, length-drop, take-append-drop, take_at, take-append-le, drop-append-le, drop_at, drop-drop, get_or_append_left, get_or-append-add, get_or-drop, take-take, drop-take, drop_all, append-nil}
+use Rattle.std.proofs.lemmas.List.{length-append, length-take, length-drop, take-append-drop, take_at, take-append-le, drop-append-le, drop_at, drop-drop, get_or_append_left, get_or-drop, take-take, drop-take, drop_all, append-nil}
 use borrow.Rule.Slice.PartMut.{put_mid}
 use Rattle.std.proofs.Math.Seq.{take-append-add}
 use Rattle.rpc_units.specs.declared.kind.Kind.{Kind}
@@ -12,10 +12,10 @@ use Rattle.rpc_units.specs.declared.unit.Unit.{Unit as RpcUnit}
 use Rattle.rpc_units.specs.declared.unit.Body.{Body}
 use Rattle.rpc_units.specs.declared.unit.Body.TheVariants.{Bind, BindAck, BindNak, Auth3, Request, Response, Fault}
 use Rattle.rpc_units.specs.declared.refused.UnitRefused.{UnitRefused}
-use Rattle.rpc_units.specs.Layout.{value_at, byte, has_flags, kind_of, fragment_of, authentication_of, call_of, is_first, is_last, shortest, trailer_place, body_bytes}
+use Rattle.rpc_units.specs.Layout.{value_at, byte, has_flags, kind_of, authentication_of, shortest, trailer_place, body_bytes}
 use Rattle.rpc_units.specs.Reading.{unit_of}
 use Rattle.rpc_units.specs.Grammar.{IsBody, IsTrailer, IsEnd, IsUnit}
-use Rattle.rpc_units.specs.Writing.{zeros, pad_for, written_body, written_tail, written_start, written_header, written_rest, written, IsWritable, IsInRange}
+use Rattle.rpc_units.specs.Writing.{zeros, pad_for, written_body, written_start, written_header, written_rest, written, IsWritable, IsInRange}
 use Rattle.rpc_units.specs.Joining.{HasStub, stub_of, with_stub}
 use Rattle.rpc_units.specs.Sealing.{range_in, range_by, sealed_of}
 use Rattle.rpc_units.specs.Sealed.{range_replaced, value_replaced, unit_with_stub, trailer_with_value, unit_with_value, IsSealedRange}

@@ -1,9 +1,11 @@
+pub mod Calls
 pub mod Grammar
 pub mod Incoming
-pub mod Incomings
 pub mod Joining
 pub mod Layout
 pub mod Lending
+pub mod LendingIncoming
+pub mod Numbers
 pub mod Reading
 pub mod Sealed
 pub mod Sealing

@@ -1,6 +1,6 @@
 -- What becomes of a unit whose sealed range, or whose authentication value, is replaced by as many other bytes; and what a sealed range is, in terms of the unit
 -- (MS-RPCE 2.2.2.11).
-use Rattle.std.specs.Prelude.{ℕ, ◌≡◌, ◌+◌, ◌-◌, ◌≤◌, ◌++◌, List, take, drop, length, Option, Some, None, option_map, Result, Ok, Err}
+use Rattle.std.specs.Prelude.{ℕ, ◌≡◌, ◌+◌, ◌-◌, ◌≤◌, ◌++◌, List, take, drop, length, Some, option_map, Ok}
 use Rattle.rpc_units.specs.declared.unit.Unit.{Unit as RpcUnit}
 use Rattle.rpc_units.specs.declared.unit.Trailer.{Trailer}
 use Rattle.rpc_units.specs.Reading.{unit_of}

@@ -1,10 +1,10 @@
 use Rattle.std.proofs.Common.{◌≤◌, ◌+◌, List, length, arith}
 use Rattle.std.proofs.lemmas.Result.{IfOk-weaker}
 use Rattle.std.specs.List.{AllByRecursion}
-use Rattle.rpc_units.specs.Writing.{written, value_len, IsWritable}
+use Rattle.rpc_units.specs.Writing.{written, value_len, IsWritable, IsInRange}
 use Rattle.rpc_units.specs.declared.unit.Unit.{Unit as RpcUnit}
 use Rattle.rpc_units.specs.Joining.{stub_of, IsJoined, stub_size}
-use Rattle.rpc_units.proofs.CuttingLaws.{IsJoined-cut_of, cut_short, cut_fewest, cut_writable}
+use Rattle.rpc_units.proofs.CuttingLaws.{IsJoined-cut_of, cut_short, cut_fewest, cut_writable, cut_range}
 use Rattle.rpc_units.proofs.fragments.cut_call.Goals as goal
 
 pub returns-clause-joined : goal.returns-clause-joined
@@ -22,4 +22,8 @@ returns-clause-short c =
 
 pub returns-clause-writable : goal.returns-clause-writable
 returns-clause-writable c value =
-    IfOk-weaker c.pieces.result _ (λ units. AllByRecursion IsWritable units) (λ units e. rw e (cut_writable c.args.unit.now c.args.limit c.requires.whole.stub value)) c.pieces.ensures
+    IfOk-weaker c.pieces.result _ (λ units. AllByRecursion IsWritable units) (λ units e. rw e (cut_writable c.args.unit.now c.args.limit c.requires.whole.stub value (omega (arith, c.requires.least)))) c.pieces.ensures
+
+pub returns-clause-range : goal.returns-clause-range
+returns-clause-range c =
+    IfOk-weaker c.pieces.result _ (λ units. AllByRecursion IsInRange units) (λ units e. rw e (cut_range c.args.unit.now c.args.limit c.read_numbers.ensures (omega (arith, c.requires.least)))) c.pieces.ensures
