@@ -1,6 +1,7 @@
 //! The fixed input of all operations, and one turn of each.
 
 use crate::operation::Operation;
+use crate::plain::view_plain;
 use crate::sealing::Sides;
 use crate::stream::{PIECE, RunningStream};
 use account_table::Table;
@@ -14,7 +15,7 @@ use hex::FromHex;
 use ntlm_messages::read_authenticate;
 use ntlm_responses::verify;
 use rc4_stream::Rc4;
-use rpc_units::{Body, read_unit};
+use rpc_units::{Body, BodyView, read_unit, view_unit};
 use std::alloc::{AllocError, Global};
 use wire_base::{Authenticator, Units};
 
@@ -115,6 +116,8 @@ impl Bench {
                 read_authenticate(alloc, &self.message)?.nt.bytes(),
             ),
             Operation::ReadUnit => self.read_request(alloc)?,
+            Operation::ViewUnit => self.view_request()?,
+            Operation::ViewPlain => self.view_request_plainly()?,
             Operation::Seal => end_of(&self.sides.carry()?),
             Operation::ReadTable => last_account(&read_table(alloc, &self.text)?),
             Operation::FindAccount => end_of(&self.find().to_be_bytes()),
@@ -164,6 +167,21 @@ impl Bench {
         match &unit.body {
             Body::Request { stub, .. } => Ok(end_of(stub.bytes())),
             _ => bail!("a request was read as another unit"),
+        }
+    }
+
+    /// The same stub, lent.
+    fn view_request(&self) -> anyhow::Result<Outcome> {
+        match view_unit(&self.request)?.body {
+            BodyView::Request { stub, .. } => Ok(end_of(stub)),
+            _ => bail!("a request was read as another unit"),
+        }
+    }
+
+    fn view_request_plainly(&self) -> anyhow::Result<Outcome> {
+        match view_plain(&self.request) {
+            Some(unit) => Ok(end_of(unit.stub)),
+            None => bail!("a request was refused"),
         }
     }
 }

@@ -4,6 +4,7 @@
 mod bench;
 mod measure;
 mod operation;
+mod plain;
 mod sealing;
 mod stream;
 

@@ -31,6 +31,10 @@ pub enum Operation {
     ReadAuthenticate,
     /// Reading a request of RPC with 1,024 stub bytes.
     ReadUnit,
+    /// The same request, lent.
+    ViewUnit,
+    /// The same without contracts, for comparison.
+    ViewPlain,
     /// Sealing a range of 1,024 bytes at one side, and opening it at the other.
     Seal,
     /// Reading a table of 10,000 accounts.
@@ -55,6 +59,8 @@ pub const OPERATIONS: [Operation; 17] = [
     Operation::VerifyV2,
     Operation::ReadAuthenticate,
     Operation::ReadUnit,
+    Operation::ViewUnit,
+    Operation::ViewPlain,
     Operation::Seal,
     Operation::ReadTable,
     Operation::FindAccount,
@@ -78,6 +84,8 @@ impl Operation {
             Operation::VerifyV2 => "verify-v2",
             Operation::ReadAuthenticate => "read-authenticate",
             Operation::ReadUnit => "read-unit",
+            Operation::ViewUnit => "view-unit",
+            Operation::ViewPlain => "view-plain",
             Operation::Seal => "seal-1k",
             Operation::ReadTable => "table-10k",
             Operation::FindAccount => "find-10k",

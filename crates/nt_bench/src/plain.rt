@@ -1,0 +1,73 @@
+//! A view of a unit without contracts, to compare the library's with.
+
+/// A request or response that lends its stub, and its authentication value.
+#[derive(Clone, Copy, Debug)]
+pub struct PlainUnit<'a> {
+    pub first: bool,
+    pub last: bool,
+    pub call: u32,
+    pub hint: u32,
+    pub context: u16,
+    pub opnum: u16,
+    pub stub: &'a [u8],
+    pub value: &'a [u8],
+}
+
+/// The request or response that the bytes are, by the tests of `view_unit`; None of all other bytes.
+pub fn view_plain(bytes: &[u8]) -> Option<PlainUnit<'_>> {
+    if bytes.len() < 16 || bytes[0] != 5 || bytes[1] > 1 || bytes[4] != 0x10 {
+        return None;
+    }
+    let fragment = usize::from(u16_from(bytes, 8));
+    if fragment < 16 || fragment > 5840 || fragment != bytes.len() {
+        return None;
+    }
+    let kind = bytes[2];
+    if kind != 0 && kind != 2 {
+        return None;
+    }
+    let authentication = usize::from(u16_from(bytes, 10));
+    let mut end = bytes.len();
+    let mut value: &[u8] = &[];
+    if authentication != 0 {
+        if bytes.len() < 32 + authentication {
+            return None;
+        }
+        let place = bytes.len() - authentication - 8;
+        let padding = usize::from(bytes[place + 2]);
+        if place < 24 + padding {
+            return None;
+        }
+        end = place - padding;
+        value = &bytes[place + 8..];
+    }
+    if kind == 0 && bytes[3] & 0x80 != 0 || end < 24 {
+        return None;
+    }
+    Some(PlainUnit {
+        first: bytes[3] & 1 != 0,
+        last: bytes[3] & 2 != 0,
+        call: u32_from(bytes, 12),
+        hint: u32_from(bytes, 16),
+        context: u16_from(bytes, 20),
+        opnum: if kind == 0 { u16_from(bytes, 22) } else { 0 },
+        stub: &bytes[24..end],
+        value,
+    })
+}
+
+/// Two bytes, low first; 0 where there are fewer.
+fn u16_from(bytes: &[u8], place: usize) -> u16 {
+    match bytes.get(place..) {
+        Some([low, high, ..]) => u16::from_le_bytes([*low, *high]),
+        _ => 0,
+    }
+}
+
+/// Four bytes, low first; 0 where there are fewer.
+fn u32_from(bytes: &[u8], place: usize) -> u32 {
+    match bytes.get(place..) {
+        Some([a, b, c, d, ..]) => u32::from_le_bytes([*a, *b, *c, *d]),
+        _ => 0,
+    }
+}
