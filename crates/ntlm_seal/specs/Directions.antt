@@ -6,8 +6,7 @@ use Rattle.std.specs.Int.{w32, from_le_bytes, to_le_bytes}
 use Rattle.digest_parts.specs.Hmac.{hmac_of}
 use Rattle.rc4_stream.specs.Rc4.{applied}
 use Rattle.ntlm_seal.specs.declared.side.Side.{Side}
-use Rattle.ntlm_flags.specs.declared.TheConstants.{NTLMSSP_NEGOTIATE_KEY_EXCH}
-use Rattle.ntlm_flags.specs.Flags.{has_flag}
+use Rattle.ntlm_flags.specs.Flags.{has_flag, negotiate_key_exch}
 use Rattle.ntlm_seal.specs.Keys.{signing_key_of, sealing_key_of}
 
 -- A direction: its keys, of 16 bytes each; whether checksums pass through the key stream (NTLMSSP_NEGOTIATE_KEY_EXCH); the number of
@@ -24,7 +23,7 @@ abbrev pub direction_of : List ℕ → ℕ → Side → Direction
 direction_of exported flags side = record {
   signing_key = signing_key_of exported side;
   sealing_key = sealing_key_of exported flags side;
-  key_exchange = has_flag flags NTLMSSP_NEGOTIATE_KEY_EXCH;
+  key_exchange = has_flag flags negotiate_key_exch;
   number = 0;
   used = 0;
 }

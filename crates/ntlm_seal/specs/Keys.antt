@@ -4,8 +4,7 @@ use Rattle.std.specs.Prelude.{ℕ, Bool, true, false, List, [], ◌∷◌, ◌++
 use Rattle.md5.specs.Md5.{md5}
 use Rattle.ntlm_seal.specs.declared.side.Side.{Side}
 use Rattle.ntlm_seal.specs.declared.side.Side.TheVariants.{Client, Server}
-use Rattle.ntlm_flags.specs.declared.TheConstants.{NTLMSSP_NEGOTIATE_128, NTLMSSP_NEGOTIATE_56}
-use Rattle.ntlm_flags.specs.Flags.{has_flag}
+use Rattle.ntlm_flags.specs.Flags.{has_flag, negotiate_128, negotiate_56}
 
 -- ---- SIGNKEY (3.4.5.2)
 
@@ -34,7 +33,7 @@ sealing_length_by false false = 5
 
 abbrev pub sealing_length : ℕ → ℕ
 sealing_length flags =
-    sealing_length_by (has_flag flags NTLMSSP_NEGOTIATE_128) (has_flag flags NTLMSSP_NEGOTIATE_56)
+    sealing_length_by (has_flag flags negotiate_128) (has_flag flags negotiate_56)
 
 -- MD5 of the front of the exported session key and the text
 unfoldable pub sealing_key_of : List ℕ → ℕ → Side → List ℕ

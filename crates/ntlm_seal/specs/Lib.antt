@@ -3,6 +3,7 @@ pub mod Keys
 pub mod Runs
 pub mod Sessions
 pub mod Sides
+pub mod Turns
 pub use Rattle.digest_parts.specs.Hmac
 pub use Rattle.ntlm_flags.specs.Flags
 pub use Rattle.rc4_stream.specs.Rc4

@@ -1,4 +1,4 @@
-// One direction of a session.
+//! One direction of a session.
 
 ghost use Rattle.std.specs.Prelude.{◌≡◌, ℕ, ◌+◌, ◌-◌, ◌^◌, ◌<◌, ◌≤◌, ◌==◌, List, ◌++◌, length, take, drop, replicate, slice_range, bytes_eq, Ok, Err, OnOk};
 ghost use Rattle.std.specs.Bool.{OnFalse};
@@ -64,7 +64,7 @@ impl OneWay {
     {
         let number = self.number;
         let checksum = checksum(&self.signing_key, number, unit);
-        let sent = sent(&mut self.stream, self.key_exchange, checksum);
+        let sent = pass_checksum(&mut self.stream, self.key_exchange, checksum);
         self.number += 1;
         signature(number, sent)
     }
@@ -83,7 +83,7 @@ impl OneWay {
         let checksum = checksum(&self.signing_key, number, unit);
         let range = &mut unit[from..to];
         self.stream.apply(range);
-        let sealed = sent(&mut self.stream, self.key_exchange, checksum);
+        let sealed = pass_checksum(&mut self.stream, self.key_exchange, checksum);
         self.number += 1;
         signature(number, sealed)
     }
@@ -95,7 +95,7 @@ impl OneWay {
     {
         self.expects(signature)?;
         let checksum = checksum(&self.signing_key, self.number, unit);
-        let sent = sent(&mut self.stream, self.key_exchange, checksum);
+        let sent = pass_checksum(&mut self.stream, self.key_exchange, checksum);
         self.number += 1;
         if !has_checksum(signature, &sent) {
             return Err(SealRefused::BadChecksum);
@@ -114,14 +114,16 @@ impl OneWay {
         requires range { from ≤ to }
         requires within { to ≤ length unit.old }
         requires size { length unit.old ≤ 65536 }
-        ensures answer { result ≡ judged self.old (combined self.old unit.old from to) from to signature.now }
-        ensures unit { unit.new ≡ unit_left result unit.old (combined self.old unit.old from to) from to }
+        ensures answer { result
+            ≡ judged self.old (combined self.old unit.old from to) from to signature.now }
+        ensures unit { unit.new
+            ≡ unit_left result unit.old (combined self.old unit.old from to) from to }
         ensures direction { self.new ≡ direction_left result self.old from to }
     {
         self.expects(signature)?;
         self.stream.apply(&mut unit[from..to]);
         let checksum = checksum(&self.signing_key, self.number, unit);
-        let wanted = sent(&mut self.stream, self.key_exchange, checksum);
+        let wanted = pass_checksum(&mut self.stream, self.key_exchange, checksum);
         self.number += 1;
         if !has_checksum(signature, &wanted) {
             clear(unit, from, to);
@@ -130,7 +132,7 @@ impl OneWay {
         Ok(())
     }
 
-    // Refuses, in this order, where the numbers are used up, and a signature whose version or number isn't the next unit's.
+    /// Refuses, in this order, where the numbers are used up, and a signature whose version or number isn't the next unit's.
     fn expects(&self, signature: &[u8; 16]) -> Result<(), SealRefused>
         ensures answer { result ≡ expected self.now signature.now }
         ensures room { OnOk result (self.now.number < 2 ^ 32 - 1) }
@@ -152,10 +154,10 @@ impl OneWay {
     }
 }
 
-// The version of a signature.
+/// The version of a signature.
 const VERSION: u32 = 1;
 
-// The number that begins at a place of a signature, low byte first.
+/// The number that begins at a place of a signature, low byte first.
 fn u32_at(signature: &[u8; 16], at: usize) -> u32
     requires { at ≤ 12 }
     ensures { result ≡ from_le_bytes w32 (slice_range signature.now at (at + 4)) }
@@ -168,7 +170,7 @@ fn u32_at(signature: &[u8; 16], at: usize) -> u32
     ])
 }
 
-// The checksum of a plain unit, before it is sent.
+/// The checksum of a plain unit, before it is sent.
 #[tactic(auto, unfolding(crate::specs::Directions::checksum_of))]
 fn checksum(signing_key: &[u8; 16], number: u32, plain: &[u8]) -> [u8; 8]
     ensures { result ≡ checksum_of signing_key.now number plain.now }
@@ -179,7 +181,7 @@ fn checksum(signing_key: &[u8; 16], number: u32, plain: &[u8]) -> [u8; 8]
     first_half(&hmac.finish())
 }
 
-// The first half of a digest.
+/// The first half of a digest.
 fn first_half(digest: &[u8; 16]) -> [u8; 8]
     ensures { result ≡ take 8 digest.now }
 {
@@ -188,11 +190,12 @@ fn first_half(digest: &[u8; 16]) -> [u8; 8]
     half
 }
 
-// A checksum as it is sent: with a key exchange it passes through the key stream.
-fn sent(stream: &mut Rc4, key_exchange: bool, mut checksum: [u8; 8]) -> [u8; 8]
+/// The checksum as it is sent: with a key exchange it passes through the key stream.
+fn pass_checksum(stream: &mut Rc4, key_exchange: bool, mut checksum: [u8; 8]) -> [u8; 8]
     requires { stream.old.used < 2 ^ 62 }
     ensures checksum { result ≡ sent_by key_exchange stream.old.key stream.old.used checksum }
-    ensures stream { stream.new ≡ record stream.old { used = stream.old.used + checksum_bytes key_exchange } }
+    ensures stream { stream.new
+        ≡ record stream.old { used = stream.old.used + checksum_bytes key_exchange } }
     ensures few { stream.new.used ≤ stream.old.used + 8 }
 {
     if key_exchange {
@@ -201,14 +204,14 @@ fn sent(stream: &mut Rc4, key_exchange: bool, mut checksum: [u8; 8]) -> [u8; 8]
     checksum
 }
 
-// Whether a signature has this checksum.
+/// Whether a signature has this checksum.
 fn has_checksum(signature: &[u8; 16], checksum: &[u8; 8]) -> bool
     ensures { result ≡ bytes_eq (checksum_in signature.now) checksum.now }
 {
     &signature[4..12] == checksum.as_slice()
 }
 
-// Leaves zeros in a range of a unit.
+/// Leaves zeros in a range of a unit.
 fn clear(unit: &mut [u8], from: usize, to: usize)
     requires range { from ≤ to }
     requires within { to ≤ length unit.old }
@@ -217,7 +220,7 @@ fn clear(unit: &mut [u8], from: usize, to: usize)
     unit[from..to].fill(0);
 }
 
-// A signature of its parts.
+/// A signature of its parts.
 fn signature(number: u32, checksum: [u8; 8]) -> [u8; 16]
     ensures { result ≡ to_le_bytes w32 1 ++ checksum ++ to_le_bytes w32 number }
 {

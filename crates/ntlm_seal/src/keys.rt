@@ -1,4 +1,4 @@
-// The keys of a direction (MS-NLMP 3.4.5.2 and 3.4.5.3).
+//! The keys of a direction (MS-NLMP 3.4.5.2 and 3.4.5.3).
 
 ghost use Rattle.std.specs.Prelude.{◌≡◌};
 ghost use Rattle.ntlm_seal.specs.Keys.{signing_text, sealing_text, signing_key_of, sealing_length, sealing_key_of};
@@ -30,14 +30,14 @@ pub fn sealing_key(exported: &[u8; 16], flags: u32, side: Side) -> [u8; 16]
     digest.finalize()
 }
 
-// How many bytes of the exported session key make a sealing key, by the strength that is agreed.
+/// How many bytes of the exported session key make a sealing key, by the strength that is agreed.
 const OF_128_BITS: usize = 16;
 
 const OF_56_BITS: usize = 7;
 
 const OF_40_BITS: usize = 5;
 
-// How many bytes of the exported session key make the sealing key of a session.
+/// How many bytes of the exported session key make the sealing key of a session.
 fn sealing_length(flags: u32) -> usize
     ensures { result ≡ sealing_length flags }
 {
@@ -50,7 +50,7 @@ fn sealing_length(flags: u32) -> usize
     }
 }
 
-// The text of the direction from a side, for its signing key.
+/// The text of the direction from a side, for its signing key.
 fn signing_text(side: Side) -> &'static [u8]
     ensures { result.now ≡ signing_text side }
 {
@@ -60,7 +60,7 @@ fn signing_text(side: Side) -> &'static [u8]
     }
 }
 
-// The text of the direction from a side, for its sealing key.
+/// The text of the direction from a side, for its sealing key.
 fn sealing_text(side: Side) -> &'static [u8]
     ensures { result.now ≡ sealing_text side }
 {

@@ -9,9 +9,7 @@ mod keys;
 mod refusal;
 mod session;
 mod side;
-#[cfg(test)]
-mod tests;
 
 pub use refusal::SealRefused;
-pub use session::{Session, what_is_sealed_opens};
+pub use session::{Session, what_is_sealed_opens, what_is_sent_is_taken};
 pub use side::Side;

@@ -1,4 +1,4 @@
-// Why a session refuses.
+//! Why a session refuses.
 
 use thiserror::Error;
 

@@ -1,11 +1,12 @@
-// A session as its owner sees it.
+//! A session as its owner sees it.
 
-ghost use Rattle.std.specs.Prelude.{◌≡◌, ℕ, ◌+◌, ◌-◌, ◌^◌, ◌<◌, ◌≤◌, ◌↔◌, List, length, map, false, IsTrue, Ok, Err, OnOk};
+ghost use Rattle.std.specs.Prelude.{◌≡◌, ℕ, ◌+◌, ◌-◌, ◌^◌, ◌<◌, ◌≤◌, ◌↔◌, ◌++◌, List, length, take, drop, map, false, IsTrue, Ok, Err, OnOk};
 ghost use Rattle.std.specs.List.{AllByRecursion};
-ghost use Rattle.ntlm_flags.specs.declared.TheConstants.{NTLMSSP_NEGOTIATE_EXTENDED_SESSIONSECURITY};
-ghost use Rattle.ntlm_flags.specs.Flags.{has_flag};
-ghost use Rattle.ntlm_seal.specs.Directions.{combined, signature_of};
+ghost use Rattle.ntlm_flags.specs.Flags.{has_flag, negotiate_extended_sessionsecurity};
+ghost use Rattle.ntlm_seal.specs.Directions.{Direction, combined, signature_of};
 ghost use Rattle.ntlm_seal.specs.Sessions.{SessionState, session_of, seal_of, sendable, judge_of, open_of, unit_left};
+ghost use Rattle.ntlm_seal.specs.Sides.{other_side};
+ghost use Rattle.ntlm_seal.specs.Turns.{Paired, OpensAgain, IsAccepted};
 ghost use Rattle.ntlm_seal.specs.Runs.{Follows, PlainUnit, HasRange, sent_all, opened_all, opened_whole};
 
 use crate::direction::OneWay;
@@ -34,7 +35,7 @@ impl Session {
     /// The session of a side after the exported session key and the flags are agreed, before its first unit. Flag
     /// `NTLMSSP_NEGOTIATE_EXTENDED_SESSIONSECURITY` is among them.
     pub fn new(exported: [u8; 16], flags: u32, side: Side) -> Session
-        requires { IsTrue (has_flag flags NTLMSSP_NEGOTIATE_EXTENDED_SESSIONSECURITY) }
+        requires { IsTrue (has_flag flags negotiate_extended_sessionsecurity) }
         ensures { result ≡ session_of exported flags side }
     {
         Session {
@@ -105,7 +106,8 @@ impl Session {
         requires within { to ≤ length unit.old }
         requires size { length unit.old ≤ 65536 }
         ensures answer { result ≡ (open_of self.old unit.old from to signature.now).answer }
-        ensures unit { unit.new ≡ unit_left result unit.old (combined self.old.receiving unit.old from to) from to }
+        ensures unit { unit.new
+            ≡ unit_left result unit.old (combined self.old.receiving unit.old from to) from to }
         ensures session { self.new ≡ (open_of self.old unit.old from to signature.now).session }
         ensures accepts { let plain = combined self.old.receiving unit.old from to in
             self.old.broken ≡ false → self.old.receiving.number < 2 ^ 32 - 1
@@ -119,20 +121,20 @@ impl Session {
         opened
     }
 
-    // Refuses to send where the session is broken or the numbers of the direction are used up, which breaks it.
+    /// Refuses to send where the session is broken or the numbers of the direction are used up, which breaks it.
     fn may_send(&mut self) -> Result<(), SealRefused>
         ensures answer { result ≡ (sendable self.old).answer }
         ensures session { self.new ≡ (sendable self.old).session }
         ensures room { OnOk result (self.new.sending.number < 2 ^ 32 - 1) }
     {
-        if self.broken {
-            return Err(SealRefused::Broken);
+        match (self.broken, self.sending.is_spent()) {
+            (true, _) => Err(SealRefused::Broken),
+            (false, true) => {
+                self.broken = true;
+                Err(SealRefused::Spent)
+            }
+            (false, false) => Ok(()),
         }
-        if self.sending.is_spent() {
-            self.broken = true;
-            return Err(SealRefused::Spent);
-        }
-        Ok(())
     }
 }
 
@@ -144,14 +146,39 @@ impl Session {
 pub fn what_is_sealed_opens()
     ensures to_server { (exported : List ℕ) (flags : ℕ) (units : List PlainUnit)
         → AllByRecursion HasRange units → length units < 2 ^ 32
-        → opened_all (session_of exported flags Side.Server) (sent_all (session_of exported flags Side.Client) units)
+        → opened_all (session_of exported flags Side.Server)
+        (sent_all (session_of exported flags Side.Client) units)
         ≡ map opened_whole units }
     ensures to_client { (exported : List ℕ) (flags : ℕ) (units : List PlainUnit)
         → AllByRecursion HasRange units → length units < 2 ^ 32
-        → opened_all (session_of exported flags Side.Client) (sent_all (session_of exported flags Side.Server) units)
+        → opened_all (session_of exported flags Side.Client)
+        (sent_all (session_of exported flags Side.Server) units)
         ≡ map opened_whole units }
     ensures from_any { (sender receiver : SessionState) (units : List PlainUnit)
         → Follows sender receiver
         → AllByRecursion HasRange units → sender.sending.number + length units < 2 ^ 32
         → opened_all receiver (sent_all sender units) ≡ map opened_whole units }
+{}
+
+/// What one side sends the other takes, and both are in step again.
+///
+/// Two sessions are in step where neither refused and each sends in the direction in which the other receives, as the two ends
+/// of one exported session key do before their first unit. Then a unit that one of them seals, or signs, while its number is below
+/// 2^32 - 1, is opened to the same bytes, or checked, by the other; both are in step again, and the other direction is as it was.
+/// Sealing changes the bytes of the range alone, and a signature has 16 bytes.
+pub fn what_is_sent_is_taken()
+    ensures first { (exported : List ℕ) (flags : ℕ) (side : Side)
+        → Paired (session_of exported flags side) (session_of exported flags (other_side side)) }
+    ensures either { (one other : SessionState) → Paired one other → Paired other one }
+    ensures sealed { (one other : SessionState) (unit : List ℕ) (from to : ℕ)
+        → Paired one other → from ≤ to → to ≤ length unit → one.sending.number < 2 ^ 32 - 1
+        → OpensAgain one other unit from to }
+    ensures signed { (one other : SessionState) (unit : List ℕ)
+        → Paired one other → one.sending.number < 2 ^ 32 - 1
+        → IsAccepted one other unit }
+    ensures range { (d : Direction) (unit : List ℕ) (from to : ℕ) → from ≤ to → to ≤ length unit
+        → (range : List ℕ) × (length range ≡ to - from)
+        × (combined d unit from to ≡ take from unit ++ range ++ drop to unit) }
+    ensures signature { (d : Direction) (plain : List ℕ) (from to : ℕ)
+        → length (signature_of d plain from to) ≡ 16 }
 {}

@@ -1,4 +1,4 @@
-// The two ends of a session.
+//! The two ends of a session.
 
 /// An end of a session: the client, which began it, or the server.
 #[derive(Clone, Copy, Debug, PartialEq, Eq)]

@@ -15,10 +15,10 @@ returns-then-not-has_checksum-clause-answer c =
     let plain = combined d c.args.unit.now c.args.from c.args.to in
     let opened = range_combined d c.args.unit.now c.apply.new.bytes c.args.from c.args.to c.requires.range c.apply.ensures.bytes in
     let checksum = c.checksum-checksum.ensures ∙ ap (checksum_of d.signing_key d.number) opened in
-    let sends = c.sent-wanted.ensures.checksum ∙ ap (λ (s : Stream). sent_by d.key_exchange s.key s.used c.checksum-checksum.result) c.apply.ensures.stream in
-    let is = sent_is d plain range c.checksum-checksum.result c.sent-wanted.result _ checksum sends (ap (λ n. d.used + n) (length_range c.args.unit.now c.args.from c.args.to c.requires.range c.requires.within)) in
+    let sends = c.pass_checksum-wanted.ensures.checksum ∙ ap (λ (s : Stream). sent_by d.key_exchange s.key s.used c.checksum-checksum.result) c.apply.ensures.stream in
+    let is = sent_is d plain range c.checksum-checksum.result c.pass_checksum-wanted.result _ checksum sends (ap (λ n. d.used + n) (length_range c.args.unit.now c.args.from c.args.to c.requires.range c.requires.within)) in
     let numbers = c.in_ok-expects.ensures.answer ∙ ap (λ x. expected x c.args.signature.now) (sym c.self.view_is) in
-    compared_is d plain c.args.from c.args.to c.args.signature.now c.sent-wanted.result c.has_checksum.result false numbers is c.has_checksum.ensures c.if-not-has_checksum.true
+    compared_is d plain c.args.from c.args.to c.args.signature.now c.pass_checksum-wanted.result c.has_checksum.result false numbers is c.has_checksum.ensures c.if-not-has_checksum.true
     ∙ ap (λ x. judged x (combined x c.args.unit.now c.args.from c.args.to) c.args.from c.args.to c.args.signature.now) c.self.view_is
 
 pub returns-then-not-has_checksum-clause-unit : goal.returns-then-not-has_checksum-clause-unit
@@ -38,10 +38,10 @@ returns-clause-answer c =
     let plain = combined d c.args.unit.now c.args.from c.args.to in
     let opened = range_combined d c.args.unit.now c.apply.new.bytes c.args.from c.args.to c.requires.range c.apply.ensures.bytes in
     let checksum = c.checksum-checksum.ensures ∙ ap (checksum_of d.signing_key d.number) opened in
-    let sends = c.sent-wanted.ensures.checksum ∙ ap (λ (s : Stream). sent_by d.key_exchange s.key s.used c.checksum-checksum.result) c.apply.ensures.stream in
-    let is = sent_is d plain range c.checksum-checksum.result c.sent-wanted.result _ checksum sends (ap (λ n. d.used + n) (length_range c.args.unit.now c.args.from c.args.to c.requires.range c.requires.within)) in
+    let sends = c.pass_checksum-wanted.ensures.checksum ∙ ap (λ (s : Stream). sent_by d.key_exchange s.key s.used c.checksum-checksum.result) c.apply.ensures.stream in
+    let is = sent_is d plain range c.checksum-checksum.result c.pass_checksum-wanted.result _ checksum sends (ap (λ n. d.used + n) (length_range c.args.unit.now c.args.from c.args.to c.requires.range c.requires.within)) in
     let numbers = c.in_ok-expects.ensures.answer ∙ ap (λ x. expected x c.args.signature.now) (sym c.self.view_is) in
-    compared_is d plain c.args.from c.args.to c.args.signature.now c.sent-wanted.result c.has_checksum.result true numbers is c.has_checksum.ensures c.if-not-has_checksum.false
+    compared_is d plain c.args.from c.args.to c.args.signature.now c.pass_checksum-wanted.result c.has_checksum.result true numbers is c.has_checksum.ensures c.if-not-has_checksum.false
     ∙ ap (λ x. judged x (combined x c.args.unit.now c.args.from c.args.to) c.args.from c.args.to c.args.signature.now) c.self.view_is
 
 pub returns-clause-unit : goal.returns-clause-unit
