@@ -5,8 +5,7 @@ use Rattle.hex.specs.Hex.{decode_of, decode_sized}
 use Rattle.ntlm_messages.specs.Authenticate.{authenticate_of, IsAuthenticate}
 use Rattle.ntlm_messages.specs.Text.{text_units_of}
 use Rattle.ntlm_messages.specs.declared.messages.Authenticate.{Authenticate}
-use Rattle.ntlm_responses.specs.Responses.{challenge_for_of}
-use Rattle.ntlm_responses.specs.Verification.{Verifies, verifies}
+use Rattle.ntlm_responses.specs.Verification.{MessageVerifies, message_verifies}
 use Rattle.nt_top.specs.declared.answer.Answer.{Answer}
 use Rattle.nt_top.specs.declared.exit.Exit.{Exit}
 use Rattle.nt_top.specs.declared.exit.RefusedCause.TheVariants.{Response}
@@ -22,14 +21,14 @@ text_in flags text = result_unwrap_or (text_units_of flags text) []
 -- of this one (MS-NLMP 3.3.1, 3.3.2)
 abbrev pub accepts_of : List ℕ → List ℕ → Authenticate → Bool
 accepts_of hash challenge message =
-    verifies hash (text_in message.flags message.user) (text_in message.flags message.domain)
-    (challenge_for_of message.flags challenge message.lm message.nt) message.nt
+    message_verifies hash message.flags (text_in message.flags message.user)
+    (text_in message.flags message.domain) challenge message.lm message.nt
 
 -- the same in the field's own words
 abbrev pub Accepts : List ℕ → List ℕ → Authenticate → Type 0
 Accepts hash challenge message =
-    Verifies hash (text_in message.flags message.user) (text_in message.flags message.domain)
-    (challenge_for_of message.flags challenge message.lm message.nt) message.nt
+    MessageVerifies hash message.flags (text_in message.flags message.user)
+    (text_in message.flags message.domain) challenge message.lm message.nt
 
 -- what is put, and the exit, for an accepted response and for another one
 abbrev pub verdict_answer : Bool → Answer

@@ -1,15 +1,20 @@
 -- What crates above may use of hashes, responses and keys: their lengths, that they are bytes, and that what is written verifies.
-use Rattle.std.proofs.Common.{◌≡◌, ℕ, ◌+◌, ◌<◌, ◌≤◌, ◌==◌, true, false, List, ◌∷◌, ◌++◌, length, take, drop, replicate, refl, inl, inr, arith, lit<, length-append}
+use Rattle.std.proofs.Common.{sym, ap, ◌∙◌, append_assoc, ◌≡◌, ◌≢◌, ◌&&◌, ℕ, ◌+◌, ◌<◌, ◌≤◌, ◌==◌, true, false, List, ◌∷◌, ◌++◌, length, take, drop, replicate, refl, inl, inr, arith, lit<, length-append}
+use Rattle.std.proofs.lemmas.Bool.{ne_eqb}
+use Rattle.std.proofs.Math.Bool.{and-false}
 use Rattle.std.proofs.lemmas.List.{length-take-le, take_at, drop_at}
 use Rattle.std.proofs.lemmas.List.Elements.{All-append, All-from_recursion, All-replicate, All-take}
 use Rattle.std.specs.Int.{w64, to_le_bytes}
 use Rattle.std.specs.List.{All}
 use Rattle.md5.specs.Md5.{md5}
-use Rattle.des_cipher.proofs.DesLaws.{length-des_of, All-des_of}
+use Rattle.des_cipher.specs.Des.{IsBlock, des_of, des_back_of, spread_of}
+use Rattle.des_cipher.proofs.DesLaws.{length-des_of, All-des_of, des_back_of-des_of}
 use Rattle.digest_parts.proofs.Laws.{length-md4_of, All-md4_of, length-md5, All-md5, length-hmac_of, All-hmac_of}
+use Rattle.rc4_stream.proofs.Rc4Laws.{applied-applied, length-applied}
+use Rattle.ntlm_flags.specs.Flags.{has_flag, negotiate_extended_sessionsecurity}
 use Rattle.ntlm_responses.specs.Hashes.{des7_of, desl_of, nt_hash_of, lm_key_of, lm_text, lm_hash_of, key_v2_of}
 use Rattle.ntlm_responses.specs.Responses.{response_v1_of, hashed_challenge_of, response_ess_of, temp_of, proof_of, response_v2_of, is_ess_pair, challenge_for_of}
-use Rattle.ntlm_responses.specs.Verification.{Verifies, base_key_by, base_key_of}
+use Rattle.ntlm_responses.specs.Verification.{Verifies, MessageVerifies, base_key_by, base_key_of}
 use Rattle.ntlm_responses.specs.Keys.{exchange_key_of}
 
 abbrev pub IsByte : ℕ → Type 0
@@ -149,6 +154,21 @@ challenge_for_of-plain flags challenge lm nt plain = rw plain refl
 pub challenge_for_of-ess : (flags : ℕ) (challenge lm nt : List ℕ) → is_ess_pair flags lm nt ≡ true → challenge_for_of flags challenge lm nt ≡ hashed_challenge_of challenge (take 8 lm)
 challenge_for_of-ess flags challenge lm nt ess = rw ess refl
 
+-- without the flag
+is_ess_pair-flag : (flags : ℕ) (lm nt : List ℕ) → has_flag flags negotiate_extended_sessionsecurity ≡ false → is_ess_pair flags lm nt ≡ false
+unfolding is_ess_pair
+is_ess_pair-flag flags lm nt without = rw without refl
+
+-- where the NT response has another length
+is_ess_pair-length : (flags : ℕ) (lm nt : List ℕ) → length nt ≢ 24 → is_ess_pair flags lm nt ≡ false
+unfolding is_ess_pair
+is_ess_pair-length flags lm nt other =
+    rw (ne_eqb (length nt) 24 other) (and-false (has_flag flags negotiate_extended_sessionsecurity && length lm == 24))
+
+is_ess_pair-all : (flags : ℕ) (lm nt : List ℕ) → has_flag flags negotiate_extended_sessionsecurity ≡ true → length lm ≡ 24 → length nt ≡ 24 → is_ess_pair flags lm nt ≡ true
+unfolding is_ess_pair
+is_ess_pair-all flags lm nt with_flag first second = rw (with_flag, first, second) refl
+
 -- ---- keys
 
 pub length-base_key_of : (hash user domain nt : List ℕ) → length (base_key_of hash user domain nt) ≡ 16
@@ -194,5 +214,41 @@ pub Verifies-challenge_for_of : (flags : ℕ) (hash user domain challenge client
 Verifies-challenge_for_of flags hash user domain challenge client lm starts ess =
     rw (challenge_for_of-ess flags challenge lm (response_ess_of hash challenge client) ess, starts) (Verifies-response_ess_of hash user domain challenge client)
 
+-- ---- what is written for a message verifies
+
+pub message_v1 : (hash user domain challenge lm : List ℕ) (flags : ℕ) → has_flag flags negotiate_extended_sessionsecurity ≡ false → MessageVerifies hash flags user domain challenge lm (response_v1_of hash challenge)
+message_v1 hash user domain challenge lm flags without =
+    rw (challenge_for_of-plain flags challenge lm (response_v1_of hash challenge) (is_ess_pair-flag flags lm (response_v1_of hash challenge) without))
+    (Verifies-response_v1_of hash user domain challenge)
+
+pub message_ess : (hash user domain challenge client : List ℕ) (flags : ℕ) → has_flag flags negotiate_extended_sessionsecurity ≡ true → length client ≡ 8 → MessageVerifies hash flags user domain challenge (client ++ replicate 16 0) (response_ess_of hash challenge client)
+message_ess hash user domain challenge client flags with_flag eight =
+    let nt : List ℕ = response_ess_of hash challenge client in
+    let lm : List ℕ = client ++ replicate 16 0 in
+    let long : length lm ≡ 24 = omega (arith, length-append client (replicate 16 0), eight) in
+    Verifies-challenge_for_of flags hash user domain challenge client lm (take_at client (replicate 16 0) 8 eight) (is_ess_pair-all flags lm nt with_flag long (length-response_ess_of hash challenge client))
+
+pub message_v2 : (hash user domain challenge lm client pairs : List ℕ) (flags time : ℕ) → length client ≡ 8 → MessageVerifies hash flags user domain challenge lm (response_v2_of hash user domain challenge time client pairs)
+message_v2 hash user domain challenge lm client pairs flags time eight =
+    let nt : List ℕ = response_v2_of hash user domain challenge time client pairs in
+    let long : length nt ≢ 24 = λ same. omega (arith, same, length-response_v2_of hash user domain challenge time client pairs, eight) in
+    rw (challenge_for_of-plain flags challenge lm nt (is_ess_pair-length flags lm nt long))
+    (Verifies-response_v2_of hash user domain challenge time client pairs (omega (arith, eight)))
+
+-- under one hash no two challenges have one response: the first block of it is DES under one key
+pub response_v1_of-one_to_one : (hash one other : List ℕ) → IsBlock one → IsBlock other → response_v1_of hash one ≡ response_v1_of hash other → one ≡ other
+unfolding response_v1_of desl_of
+response_v1_of-one_to_one hash one other first second same =
+    let key : List ℕ = spread_of (take 7 hash) in
+    let middle : List ℕ → List ℕ = λ block. des7_of (take 7 (drop 7 hash)) block in
+    let last : List ℕ → List ℕ = λ block. des7_of (take 2 (drop 14 hash) ++ replicate 5 0) block in
+    let front : (block : List ℕ) → take 8 ((des_of key block ++ middle block) ++ last block) ≡ des_of key block =
+    λ block. ap (take 8) (append_assoc (des_of key block) (middle block) (last block)) ∙ take_at (des_of key block) (middle block ++ last block) 8 (length-des_of key block) in
+    let blocks : des_of key one ≡ des_of key other = sym (front one) ∙ ap (take 8) same ∙ front other in
+    sym (des_back_of-des_of key one first) ∙ ap (des_back_of key) blocks ∙ des_back_of-des_of key other second
+
 -- for `grind`: that what is written verifies
 pub ruleset written = (Verifies-response_v1_of, Verifies-response_ess_of, Verifies-response_v2_of)
+
+-- for `grind`: that a key field undoes itself
+pub ruleset undone = (applied-applied, length-applied)

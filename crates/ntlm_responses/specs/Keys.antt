@@ -2,8 +2,7 @@
 use Rattle.std.specs.Prelude.{ℕ, Bool, true, false, ◌==◌, List, ◌++◌, length, Option, Some, None}
 use Rattle.digest_parts.specs.Hmac.{hmac_of}
 use Rattle.rc4_stream.specs.Rc4.{applied}
-use Rattle.ntlm_flags.specs.declared.TheConstants.{NTLMSSP_NEGOTIATE_KEY_EXCH}
-use Rattle.ntlm_flags.specs.Flags.{has_flag}
+use Rattle.ntlm_flags.specs.Flags.{has_flag, negotiate_key_exch}
 use Rattle.ntlm_responses.specs.Responses.{client_challenge_of}
 
 -- ---- KXKEY, the key exchange key (3.4.5.1)
@@ -28,4 +27,4 @@ exported_key_by false _ exchange key = Some exchange
 -- the exchange key
 abbrev pub exported_key_of : List ℕ → ℕ → List ℕ → Option (List ℕ)
 exported_key_of exchange flags key =
-    exported_key_by (has_flag flags NTLMSSP_NEGOTIATE_KEY_EXCH) (length key == 16) exchange key
+    exported_key_by (has_flag flags negotiate_key_exch) (length key == 16) exchange key

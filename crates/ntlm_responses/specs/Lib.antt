@@ -3,3 +3,4 @@ pub mod Keys
 pub mod Responses
 pub mod Verification
 pub use Rattle.ntlm_flags.specs.Flags
+pub use Rattle.des_cipher.specs.Des

@@ -4,8 +4,7 @@ use Rattle.std.specs.Prelude.{ℕ, Bool, true, false, ◌&&◌, ◌==◌, List, 
 use Rattle.std.specs.Int.{w64, to_le_bytes}
 use Rattle.md5.specs.Md5.{md5}
 use Rattle.digest_parts.specs.Hmac.{hmac_of}
-use Rattle.ntlm_flags.specs.declared.TheConstants.{NTLMSSP_NEGOTIATE_EXTENDED_SESSIONSECURITY}
-use Rattle.ntlm_flags.specs.Flags.{has_flag}
+use Rattle.ntlm_flags.specs.Flags.{has_flag, negotiate_extended_sessionsecurity}
 use Rattle.ntlm_responses.specs.Hashes.{desl_of, key_v2_of}
 
 -- ---- NTLMv1 (3.3.1)
@@ -43,7 +42,7 @@ response_v2_of hash user domain challenge time client pairs =
 -- an LM and an NT response are NTLMv1 with extended session security: the flag is set and both have 24 bytes
 unfoldable pub is_ess_pair : ℕ → List ℕ → List ℕ → Bool
 is_ess_pair flags lm nt =
-    has_flag flags NTLMSSP_NEGOTIATE_EXTENDED_SESSIONSECURITY && length lm == 24 && length nt == 24
+    has_flag flags negotiate_extended_sessionsecurity && length lm == 24 && length nt == 24
 
 -- the client's challenge, with which the LM response of such a pair begins; none in another pair
 abbrev pub client_challenge_by : Bool → List ℕ → Option (List ℕ)

@@ -4,7 +4,7 @@ use Rattle.std.specs.Prelude.{◌≡◌, ℕ, ◌≤◌, ◌⊎◌, Bool, true, 
 use Rattle.digest_parts.specs.Hmac.{hmac_of}
 use Rattle.digest_parts.specs.Md4.{md4_of}
 use Rattle.ntlm_responses.specs.Hashes.{key_v2_of}
-use Rattle.ntlm_responses.specs.Responses.{response_v1_of, proof_of}
+use Rattle.ntlm_responses.specs.Responses.{response_v1_of, proof_of, challenge_for_of}
 
 -- The response verifies under the hash and the names against the challenge: it has 24 bytes and is the NTLMv1 response, or it has
 -- 44 bytes or more and begins with the proof of NTLMv2 over its rest, whatever the rest holds.
@@ -41,3 +41,17 @@ verified_by false base_key = None
 abbrev pub verify_of : List ℕ → List ℕ → List ℕ → List ℕ → List ℕ → Option (List ℕ)
 verify_of hash user domain challenge nt =
     verified_by (verifies hash user domain challenge nt) (base_key_of hash user domain nt)
+
+-- ---- the response of a message
+
+-- The response of a message verifies under the hash: its NT response, under the user's and the domain's names as the message has them,
+-- against the challenge that it answers by the flags and its LM response. The flags are the message's, or those that were agreed; names
+-- are lists of 16-bit units; the challenge is the server's.
+abbrev pub MessageVerifies : List ℕ → ℕ → List ℕ → List ℕ → List ℕ → List ℕ → List ℕ → Type 0
+MessageVerifies hash flags user domain challenge lm nt =
+    Verifies hash user domain (challenge_for_of flags challenge lm nt) nt
+
+-- the test of it
+abbrev pub message_verifies : List ℕ → ℕ → List ℕ → List ℕ → List ℕ → List ℕ → List ℕ → Bool
+message_verifies hash flags user domain challenge lm nt =
+    verifies hash user domain (challenge_for_of flags challenge lm nt) nt

@@ -1,4 +1,4 @@
-// The hashes of a password and the keys made of them.
+//! The hashes of a password and the keys made of them.
 
 ghost use Rattle.std.specs.Prelude.{◌≡◌, ℕ, List, ◌++◌};
 ghost use Rattle.digest_parts.specs.StandsFor.{StandsForUnder};
@@ -36,7 +36,7 @@ pub fn lm_hash(password: &[u8]) -> [u8; 16]
     first.copy_from_slice(&key[..7]);
     let mut second = [0; 7];
     second.copy_from_slice(&key[7..]);
-    joined_pair(des_block(first, LM_TEXT), des_block(second, LM_TEXT))
+    join_two(des_block(first, LM_TEXT), des_block(second, LM_TEXT))
 }
 
 /// The NTLMv2 key of a user (MS-NLMP 3.3.2, `NTOWFv2`): HMAC-MD5 under the NT hash of the user's name in upper case and the
@@ -63,32 +63,34 @@ pub fn desl(key: &[u8; 16], block: [u8; 8]) -> [u8; 24]
     second.copy_from_slice(&key[7..14]);
     let mut third = [0; 7];
     third[..2].copy_from_slice(&key[14..]);
-    joined(
+    join_three(
         des_block(first, block),
         des_block(second, block),
         des_block(third, block),
     )
 }
 
-// Takes a text in upper case, in UTF-16LE.
+/// Takes a text in upper case, in UTF-16LE.
 fn update_upper_case(hmac: &mut Hmac, text: &[u16])
-    ensures { (key message : List ℕ) → StandsForUnder hmac.old key message → StandsForUnder hmac.new key (message ++ utf16_of (upper_case text.now)) }
+    ensures { (key message : List ℕ) → StandsForUnder hmac.old key message
+        → StandsForUnder hmac.new key (message ++ utf16_of (upper_case text.now)) }
 {
     for unit in text {
         hmac.update(&upper_unit(*unit).to_le_bytes());
     }
 }
 
-// Takes a text as it stands, in UTF-16LE.
+/// Takes a text as it stands, in UTF-16LE.
 fn update_text(hmac: &mut Hmac, text: &[u16])
-    ensures { (key message : List ℕ) → StandsForUnder hmac.old key message → StandsForUnder hmac.new key (message ++ utf16_of text.now) }
+    ensures { (key message : List ℕ) → StandsForUnder hmac.old key message
+        → StandsForUnder hmac.new key (message ++ utf16_of text.now) }
 {
     for unit in text {
         hmac.update(&unit.to_le_bytes());
     }
 }
 
-// The password in upper case, cut to 14 bytes or filled with zeros.
+/// The password in upper case, cut to 14 bytes or filled with zeros.
 fn lm_key(password: &[u8]) -> [u8; 14]
     ensures { result ≡ lm_key_of password.now }
 {
@@ -106,8 +108,8 @@ fn upper_byte(byte: u8) -> u8
     byte.to_ascii_uppercase()
 }
 
-// Two blocks, one after the other.
-fn joined_pair(first: [u8; 8], second: [u8; 8]) -> [u8; 16]
+/// Two blocks, one after the other.
+fn join_two(first: [u8; 8], second: [u8; 8]) -> [u8; 16]
     ensures { result ≡ first ++ second }
 {
     let mut joined = [0; 16];
@@ -116,12 +118,12 @@ fn joined_pair(first: [u8; 8], second: [u8; 8]) -> [u8; 16]
     joined
 }
 
-// Three blocks, one after another.
-fn joined(first: [u8; 8], second: [u8; 8], third: [u8; 8]) -> [u8; 24]
+/// Three blocks, one after another.
+fn join_three(first: [u8; 8], second: [u8; 8], third: [u8; 8]) -> [u8; 24]
     ensures { result ≡ first ++ second ++ third }
 {
     let mut joined = [0; 24];
-    joined[..16].copy_from_slice(&joined_pair(first, second));
+    joined[..16].copy_from_slice(&join_two(first, second));
     joined[16..].copy_from_slice(&third);
     joined
 }

@@ -1,8 +1,8 @@
-// The keys of a session.
+//! The keys of a session.
 
-ghost use Rattle.std.specs.Prelude.{◌≡◌, ◌≢◌, ◌↔◌, ◌++◌, length, IsNone, IsTrue};
+ghost use Rattle.std.specs.Prelude.{◌≡◌, ◌≢◌, ◌↔◌, ◌++◌, length, IsNone, IfSome, Some, IsTrue};
 ghost use Rattle.digest_parts.specs.Hmac.{hmac_of};
-ghost use Rattle.ntlm_flags.specs.Flags.{has_flag};
+ghost use Rattle.ntlm_flags.specs.Flags.{has_flag, negotiate_key_exch};
 ghost use Rattle.ntlm_responses.specs.Keys.{exchange_key_of, exported_key_of};
 
 use crate::responses::client_challenge;
@@ -30,10 +30,15 @@ pub fn exchange_key(
 
 /// The exported session key (MS-NLMP 3.2.5.1.2) of the exchange key, the flags and the key field of AUTHENTICATE. Where keys are
 /// exchanged it is the field under RC4 with the exchange key; else it is the exchange key. None exactly where keys are exchanged and
-/// the field hasn't 16 bytes.
+/// the field hasn't 16 bytes. Where keys are exchanged this undoes itself: under the same exchange key what is given makes the field
+/// again, so by this call a client makes its key field of the key that it chose.
+#[tactic(auto, using(crate::proofs::ResponseLaws::undone))]
 pub fn exported_key(exchange: [u8; 16], flags: u32, key: &[u8]) -> Option<[u8; 16]>
     ensures value { result ≡ exported_key_of exchange flags key.now }
-    ensures none { IsNone result ↔ (IsTrue (has_flag flags NTLMSSP_NEGOTIATE_KEY_EXCH) × (length key.now ≢ 16)) }
+    ensures undone { IfSome result (λ exported. IsTrue (has_flag flags negotiate_key_exch)
+        → exported_key_of exchange flags exported ≡ Some key.now) }
+    ensures none { IsNone result
+        ↔ (IsTrue (has_flag flags negotiate_key_exch) × (length key.now ≢ 16)) }
 {
     if !has_flag(flags, NTLMSSP_NEGOTIATE_KEY_EXCH) {
         return Some(exchange);
@@ -47,7 +52,7 @@ pub fn exported_key(exchange: [u8; 16], flags: u32, key: &[u8]) -> Option<[u8; 1
     Some(exported)
 }
 
-// HMAC-MD5 of two challenges.
+/// HMAC-MD5 of two challenges.
 fn hmac_of_pair(key: &[u8; 16], challenge: [u8; 8], client: [u8; 8]) -> [u8; 16]
     ensures { result ≡ hmac_of key.now (challenge ++ client) }
 {

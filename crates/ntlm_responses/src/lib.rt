@@ -6,11 +6,12 @@
 mod hashes;
 mod keys;
 mod responses;
-#[cfg(test)]
-mod tests;
 mod verification;
 
 pub use hashes::{lm_hash, nt_hash, nt_key_v2};
 pub use keys::{exchange_key, exported_key};
-pub use responses::{challenge_for, hashed_challenge, respond_v1, respond_v1_ess, respond_v2};
-pub use verification::verify;
+pub use responses::{
+    challenge_for, hashed_challenge, one_response_answers_one_challenge, respond_v1,
+    respond_v1_ess, respond_v2,
+};
+pub use verification::{verify, what_is_written_verifies};

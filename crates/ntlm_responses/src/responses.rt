@@ -1,6 +1,7 @@
-// The responses to a challenge, and the challenge that a response answers.
+//! The responses to a challenge, and the challenge that a response answers.
 
 ghost use Rattle.std.specs.Prelude.{◌≡◌, ◌≤◌, ℕ, List, length, IfOk};
+ghost use Rattle.des_cipher.specs.Des.{IsBlock};
 ghost use Rattle.ntlm_responses.specs.Hashes.{desl_of};
 ghost use Rattle.ntlm_responses.specs.Responses.{response_v1_of, hashed_challenge_of, response_ess_of, temp_of, proof_of, response_v2_of, client_challenge_of, challenge_for_of};
 ghost use Rattle.ntlm_responses.specs.Verification.{Verifies};
@@ -9,7 +10,7 @@ use crate::hashes::{desl, nt_key_v2};
 use digest_parts::Hmac;
 use md5::{Digest, Md5};
 use ntlm_flags::{NTLMSSP_NEGOTIATE_EXTENDED_SESSIONSECURITY, has_flag};
-use std::alloc::{AllocError, Global};
+use std::alloc::Global;
 use wire_base::{Blob, NoMemory};
 
 /// The NTLMv1 response to a challenge (MS-NLMP 3.3.1): DESL of the challenge under the NT hash.
@@ -20,6 +21,12 @@ pub fn respond_v1(hash: &[u8; 16], challenge: [u8; 8]) -> [u8; 24]
 {
     desl(hash, challenge)
 }
+
+/// Under one hash no two challenges have one NTLMv1 response: its first block is the challenge under one key. It does nothing.
+pub fn one_response_answers_one_challenge()
+    ensures { (hash one other : List ℕ) → IsBlock one → IsBlock other
+        → response_v1_of hash one ≡ response_v1_of hash other → one ≡ other }
+{}
 
 /// The challenge that stands in the server's place under extended session security (MS-NLMP 3.3.1): the first 8 bytes of MD5 of the
 /// server's challenge and the client's.
@@ -39,7 +46,8 @@ pub fn hashed_challenge(challenge: [u8; 8], client: [u8; 8]) -> [u8; 8]
 #[tactic(auto, unfolding(crate::specs::Responses::response_ess_of))]
 pub fn respond_v1_ess(hash: &[u8; 16], challenge: [u8; 8], client: [u8; 8]) -> [u8; 24]
     ensures value { result ≡ response_ess_of hash.now challenge client }
-    ensures verifies { (user domain : List ℕ) → Verifies hash.now user domain (hashed_challenge_of challenge client) result }
+    ensures verifies { (user domain : List ℕ)
+        → Verifies hash.now user domain (hashed_challenge_of challenge client) result }
 {
     respond_v1(hash, hashed_challenge(challenge, client))
 }
@@ -57,7 +65,8 @@ pub fn respond_v2(
     client: [u8; 8],
     pairs: &[u8],
 ) -> Result<Blob, NoMemory>
-    ensures value { IfOk result (λ r. r ≡ response_v2_of hash.now user.now domain.now challenge time client pairs.now) }
+    ensures value { IfOk result (λ r. r
+        ≡ response_v2_of hash.now user.now domain.now challenge time client pairs.now) }
     ensures verifies { IfOk result (λ r. Verifies hash.now user.now domain.now challenge r) }
 {
     let temp = temp(alloc, time, client, pairs)?;
@@ -106,9 +115,9 @@ pub fn proof(key: &[u8; 16], challenge: [u8; 8], temp: &[u8]) -> [u8; 16]
     hmac.finish()
 }
 
-// What the proof of NTLMv2 is over.
+/// What the proof of NTLMv2 is over.
 #[tactic(auto, unfolding(crate::specs::Responses::temp_of))]
-fn temp(alloc: Global, time: u64, client: [u8; 8], pairs: &[u8]) -> Result<Vec<u8>, AllocError>
+fn temp(alloc: Global, time: u64, client: [u8; 8], pairs: &[u8]) -> Result<Vec<u8>, NoMemory>
     ensures value { IfOk result (λ v. v.items ≡ temp_of time client pairs.now) }
     ensures enough { IfOk result (λ v. 28 ≤ length v.items) }
 {

@@ -1,10 +1,11 @@
-// The check of an NT response.
+//! The check of an NT response.
 
-ghost use Rattle.std.specs.Prelude.{◌≡◌, ◌≤◌, ◌↔◌, bytes_eq, length, take, drop, IsSome, IfSome};
+ghost use Rattle.std.specs.Prelude.{◌≡◌, ◌≤◌, ◌↔◌, ℕ, List, ◌++◌, replicate, true, false, bytes_eq, length, take, drop, IsSome, IfSome};
+ghost use Rattle.ntlm_flags.specs.Flags.{has_flag, negotiate_extended_sessionsecurity};
 ghost use Rattle.digest_parts.specs.Hmac.{hmac_of};
 ghost use Rattle.digest_parts.specs.Md4.{md4_of};
-ghost use Rattle.ntlm_responses.specs.Responses.{response_v1_of, proof_of};
-ghost use Rattle.ntlm_responses.specs.Verification.{Verifies, base_key_of, verified_by, verify_of};
+ghost use Rattle.ntlm_responses.specs.Responses.{response_v1_of, response_ess_of, response_v2_of, proof_of};
+ghost use Rattle.ntlm_responses.specs.Verification.{Verifies, MessageVerifies, base_key_of, verified_by, verify_of};
 
 use crate::hashes::nt_key_v2;
 use crate::responses::{proof, respond_v1};
@@ -25,7 +26,8 @@ pub fn verify(
 ) -> Option<[u8; 16]>
     ensures value { result ≡ verify_of hash.now user.now domain.now challenge nt.now }
     ensures verifies { IsSome result ↔ Verifies hash.now user.now domain.now challenge nt.now }
-    ensures base_key { IfSome result (λ key. key ≡ base_key_of hash.now user.now domain.now nt.now) }
+    ensures base_key { IfSome result (λ key. key
+        ≡ base_key_of hash.now user.now domain.now nt.now) }
 {
     match nt.len() {
         24 => verify_v1(hash, challenge, nt),
@@ -34,9 +36,10 @@ pub fn verify(
     }
 }
 
-// The same for a response of 24 bytes.
+/// The same for a response of 24 bytes.
 fn verify_v1(hash: &[u8; 16], challenge: [u8; 8], nt: &[u8]) -> Option<[u8; 16]>
-    ensures { result ≡ verified_by (bytes_eq nt.now (response_v1_of hash.now challenge)) (md4_of hash.now) }
+    ensures { result
+        ≡ verified_by (bytes_eq nt.now (response_v1_of hash.now challenge)) (md4_of hash.now) }
 {
     if nt != respond_v1(hash, challenge).as_slice() {
         return None;
@@ -44,10 +47,12 @@ fn verify_v1(hash: &[u8; 16], challenge: [u8; 8], nt: &[u8]) -> Option<[u8; 16]>
     Some(md4(hash))
 }
 
-// The same for a response of 44 bytes or more, under the NTLMv2 key.
+/// The same for a response of 44 bytes or more, under the NTLMv2 key.
 fn verify_v2(key: &[u8; 16], challenge: [u8; 8], nt: &[u8]) -> Option<[u8; 16]>
     requires { 16 ≤ length nt.now }
-    ensures { result ≡ verified_by (bytes_eq (take 16 nt.now) (proof_of key.now challenge (drop 16 nt.now))) (hmac_of key.now (take 16 nt.now)) }
+    ensures { result ≡ verified_by
+        (bytes_eq (take 16 nt.now) (proof_of key.now challenge (drop 16 nt.now)))
+        (hmac_of key.now (take 16 nt.now)) }
 {
     let (claimed, rest) = nt.split_at(16);
     if claimed != proof(key, challenge, rest).as_slice() {
@@ -55,3 +60,19 @@ fn verify_v2(key: &[u8; 16], challenge: [u8; 8], nt: &[u8]) -> Option<[u8; 16]>
     }
     Some(hmac_md5(key, claimed))
 }
+
+/// What a client writes into a message is found right by the message's flags: an NTLMv1 response where extended session security isn't
+/// set, one with it where it is and the LM response is the client's challenge and 16 zeros, and an NTLMv2 response. It does nothing.
+pub fn what_is_written_verifies()
+    ensures v1 { (hash user domain challenge lm : List ℕ) (flags : ℕ)
+        → has_flag flags negotiate_extended_sessionsecurity ≡ false
+        → MessageVerifies hash flags user domain challenge lm (response_v1_of hash challenge) }
+    ensures ess { (hash user domain challenge client : List ℕ) (flags : ℕ)
+        → has_flag flags negotiate_extended_sessionsecurity ≡ true → length client ≡ 8
+        → MessageVerifies hash flags user domain challenge (client ++ replicate 16 0)
+        (response_ess_of hash challenge client) }
+    ensures v2 { (hash user domain challenge lm client pairs : List ℕ) (flags time : ℕ)
+        → length client ≡ 8
+        → MessageVerifies hash flags user domain challenge lm
+        (response_v2_of hash user domain challenge time client pairs) }
+{}

@@ -1,6 +1,6 @@
 use Rattle.std.proofs.Common.{◌≡◌, ℕ, List, length, replicate, refl, sym, ap, ◌∙◌}
 use Rattle.ntlm_responses.proofs.HashLaws.{put_at_end}
-use Rattle.ntlm_responses.proofs.hashes.joined_pair.Goals as goal
+use Rattle.ntlm_responses.proofs.hashes.join_two.Goals as goal
 
 pub returns : goal.returns
 returns c =
