@@ -1,9 +1,8 @@
 -- The command `check`: whether the response of an AUTHENTICATE message is that of a hash to a challenge (this project's own choice).
 use Rattle.std.specs.Prelude.{◌≡◌, ℕ, Bool, true, false, List, [], ◌∷◌, Some, None, Result, Ok, codes}
-use Rattle.std.specs.Result.{result_unwrap_or}
 use Rattle.hex.specs.Hex.{decode_of, decode_sized}
 use Rattle.ntlm_messages.specs.Authenticate.{authenticate_of, IsAuthenticate}
-use Rattle.ntlm_messages.specs.Text.{text_units_of}
+use Rattle.ntlm_messages.specs.Text.{units_of_text}
 use Rattle.ntlm_messages.specs.declared.messages.Authenticate.{Authenticate}
 use Rattle.ntlm_responses.specs.Verification.{MessageVerifies, message_verifies}
 use Rattle.nt_top.specs.declared.answer.Answer.{Answer}
@@ -13,22 +12,18 @@ use Rattle.nt_top.specs.declared.exit.Role.{Role}
 use Rattle.nt_top.specs.declared.exit.Role.TheVariants.{Member}
 use Rattle.nt_top.specs.Needs.{needs}
 
--- The units of a text field of a message that was read; none of what is no text.
-abbrev pub text_in : ℕ → List ℕ → List ℕ
-text_in flags text = result_unwrap_or (text_units_of flags text) []
-
 -- whether the NT response is the one of the hash, under the message's names, to the challenge that its flags and responses make
 -- of this one (MS-NLMP 3.3.1, 3.3.2)
 abbrev pub accepts_of : List ℕ → List ℕ → Authenticate → Bool
 accepts_of hash challenge message =
-    message_verifies hash message.flags (text_in message.flags message.user)
-    (text_in message.flags message.domain) challenge message.lm message.nt
+    message_verifies hash message.flags (units_of_text message.flags message.user)
+    (units_of_text message.flags message.domain) challenge message.lm message.nt
 
 -- the same in the field's own words
 abbrev pub Accepts : List ℕ → List ℕ → Authenticate → Type 0
 Accepts hash challenge message =
-    MessageVerifies hash message.flags (text_in message.flags message.user)
-    (text_in message.flags message.domain) challenge message.lm message.nt
+    MessageVerifies hash message.flags (units_of_text message.flags message.user)
+    (units_of_text message.flags message.domain) challenge message.lm message.nt
 
 -- what is put, and the exit, for an accepted response and for another one
 abbrev pub verdict_answer : Bool → Answer

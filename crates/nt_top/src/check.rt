@@ -3,16 +3,16 @@
 ghost use Rattle.std.specs.Prelude.{◌≡◌, IfOk};
 ghost use Rattle.wire_base.specs.Memory.{UpToMemory};
 ghost use Rattle.ntlm_messages.specs.Fields.{IsText};
-ghost use Rattle.nt_top.specs.Check.{accepts_of, text_in, check_answer, judged, verdict_answer};
+ghost use Rattle.nt_top.specs.Check.{accepts_of, check_answer, judged, verdict_answer};
 
 use crate::answer::Answer;
 use crate::exit::{Exit, RefusedCause};
 use crate::words::{bytes_from_hex, message_exit};
 use hex::FromHex;
-use ntlm_messages::{Authenticate, read_authenticate, text_units};
+use ntlm_messages::{Authenticate, read_authenticate, units_of_text};
 use ntlm_responses::{challenge_for, verify};
 use std::alloc::Global;
-use wire_base::{Blob, NoMemory, Units, UnitsRefused};
+use wire_base::{Blob, NoMemory};
 
 /// What `check` comes to for a hash, a challenge and a message in hex: word 1 has 32 hex digits, word 2 has 16, and word 3 is an
 /// AUTHENTICATE message (MS-NLMP 2.2.1.3).
@@ -67,21 +67,9 @@ fn accepts(
     requires domain { IsText message.now.flags message.now.domain }
     ensures { IfOk result (λ value. value ≡ accepts_of hash.now challenge message.now) }
 {
-    let user = text(alloc, message.flags, message.user.bytes())?;
-    let domain = text(alloc, message.flags, message.domain.bytes())?;
+    let user = units_of_text(alloc, message.flags, message.user.bytes())?;
+    let domain = units_of_text(alloc, message.flags, message.domain.bytes())?;
     let nt = message.nt.bytes();
     let answered = challenge_for(message.flags, challenge, message.lm.bytes(), nt);
     Ok(verify(hash, user.units(), domain.units(), answered, nt).is_some())
-}
-
-/// The units of a text field of a message that was read.
-fn text(alloc: Global, flags: u32, text: &[u8]) -> Result<Units, NoMemory>
-    requires { IsText flags text.now }
-    ensures { IfOk result (λ units. units ≡ text_in flags text.now) }
-{
-    match text_units(alloc, flags, text) {
-        Ok(units) => Ok(units),
-        Err(UnitsRefused::Memory) => Err(NoMemory),
-        Err(UnitsRefused::Odd) => unreachable!(),
-    }
 }

@@ -1,12 +1,13 @@
 -- An AUTHENTICATE in its written form is read back.
-use Rattle.std.proofs.Common.{◌≡◌, ℕ, ◌+◌, ◌≤◌, List, [], ◌∷◌, length, Ok, refl, ap, subst, ◌∙◌, append_assoc, arith, inl, inr, lit<}
+use Rattle.std.proofs.Common.{◌≡◌, ℕ, ◌+◌, ◌≤◌, List, [], ◌∷◌, ◌++◌, length, Ok, refl, ap, subst, ◌∙◌, append_assoc, arith, inl, inr, lit<}
 use Rattle.std.specs.List.{concat}
 use Rattle.std.specs.Int.{w16, w32, to_le_bytes}
 use Rattle.std.proofs.lemmas.Bool.{cases_eq}
 use Rattle.std.proofs.lemmas.List.{append-nil}
 use Rattle.ntlm_messages.specs.declared.messages.Authenticate.{Authenticate}
-use Rattle.ntlm_messages.specs.Fields.{signature, bytes_of}
-use Rattle.ntlm_messages.specs.Authenticate.{IsAuthenticate, authenticate_of, authenticate_places, authenticate_gap, written_authenticate, authenticate_start, CanWriteAuthenticate, FieldsFit, HasWidths}
+use Rattle.ntlm_messages.specs.Fields.{FieldsFit, signature, bytes_of}
+use Rattle.ntlm_messages.specs.Places.{type_place, authenticate_lm_place, authenticate_nt_place, authenticate_domain_place, authenticate_user_place, authenticate_workstation_place, authenticate_key_place, authenticate_flags_place, authenticate_size}
+use Rattle.ntlm_messages.specs.Authenticate.{IsAuthenticate, authenticate_of, authenticate_places, authenticate_gap, written_authenticate, authenticate_start, CanWriteAuthenticate, authenticate_fields, authenticate_table, authenticate_payload, HasWidths}
 use Rattle.ntlm_messages.proofs.AuthenticateLaws.{authenticate_only}
 use Rattle.ntlm_messages.proofs.WrittenLaws.{start_of, Stands, part_stands, Stands_ends, Stands_bytes, Stands_long, IsWrittenField, IsField-written, written_field, length-concat, gap_in, gap_from, gap_low, version_of-written, mic_of-written, size_some, size_none, size_within, size_without}
 
@@ -35,26 +36,32 @@ message_parts v =
     (field_parts v.user (user_at v) (field_parts v.workstation (workstation_at v) (field_parts v.key (key_at v)
     (to_le_bytes w32 v.flags ∷ bytes_of v.version ∷ bytes_of v.mic ∷ v.domain ∷ v.user ∷ v.workstation ∷ v.lm ∷ v.nt ∷ v.key ∷ []))))))
 
+regroup : (front version mic domain user workstation lm nt key : List ℕ) → front ++ version ++ mic ++ (domain ++ user ++ workstation ++ lm ++ nt ++ key)
+    ≡ front ++ concat (version ∷ mic ∷ domain ∷ user ∷ workstation ∷ lm ∷ nt ∷ key ∷ [])
+regroup front version mic domain user workstation lm nt key = simp (append_assoc, append-nil)
+
 written_is : (v : Authenticate) → written_authenticate v ≡ concat (message_parts v)
-unfolding written_authenticate
-written_is v = simp (append_assoc, append-nil)
+unfolding written_authenticate authenticate_table authenticate_payload
+written_is v =
+    let front : List ℕ = signature ++ to_le_bytes w32 3 ++ authenticate_table v ++ to_le_bytes w32 v.flags in
+    regroup front (bytes_of v.version) (bytes_of v.mic) v.domain v.user v.workstation v.lm v.nt v.key
 
 -- where everything stands
 record IsWritten (v : Authenticate) (bytes : List ℕ) : Type 0 where
   signed : Stands bytes 0 signature
-  typed : Stands bytes 8 (to_le_bytes w32 3)
-  lm : IsWrittenField 12 64 bytes v.lm (lm_at v)
-  nt : IsWrittenField 20 64 bytes v.nt (nt_at v)
-  domain : IsWrittenField 28 64 bytes v.domain (authenticate_start v)
-  user : IsWrittenField 36 64 bytes v.user (user_at v)
-  workstation : IsWrittenField 44 64 bytes v.workstation (workstation_at v)
-  key : IsWrittenField 52 64 bytes v.key (key_at v)
-  flags : Stands bytes 60 (to_le_bytes w32 v.flags)
-  version : Stands bytes 64 (bytes_of v.version)
-  mic : Stands bytes (64 + length (bytes_of v.version)) (bytes_of v.mic)
+  typed : Stands bytes type_place (to_le_bytes w32 3)
+  lm : IsWrittenField authenticate_lm_place authenticate_size bytes v.lm (lm_at v)
+  nt : IsWrittenField authenticate_nt_place authenticate_size bytes v.nt (nt_at v)
+  domain : IsWrittenField authenticate_domain_place authenticate_size bytes v.domain (authenticate_start v)
+  user : IsWrittenField authenticate_user_place authenticate_size bytes v.user (user_at v)
+  workstation : IsWrittenField authenticate_workstation_place authenticate_size bytes v.workstation (workstation_at v)
+  key : IsWrittenField authenticate_key_place authenticate_size bytes v.key (key_at v)
+  flags : Stands bytes authenticate_flags_place (to_le_bytes w32 v.flags)
+  version : Stands bytes authenticate_size (bytes_of v.version)
+  mic : Stands bytes (authenticate_size + length (bytes_of v.version)) (bytes_of v.mic)
   len : length bytes ≡ key_at v + length v.key
 
-is_written : (v : Authenticate) → FieldsFit v → HasWidths v → IsWritten v (concat (message_parts v))
+is_written : (v : Authenticate) → FieldsFit (authenticate_fields v) → HasWidths v → IsWritten v (concat (message_parts v))
 is_written v fit widths =
     let bytes = concat (message_parts v) in
     let s = part_stands (message_parts v) in
@@ -63,21 +70,21 @@ is_written v fit widths =
     record {
       signed = s 0 (lit< tt);
       typed = s 1 (lit< tt);
-      lm = written_field 12 64 bytes v.lm (lm_at v) (omega arith) (omega (arith, fit.domain, fit.user, fit.workstation, fit.lm, fit.nt)) fit.lm (s 2 (lit< tt)) (s 4 (lit< tt))
+      lm = written_field authenticate_lm_place authenticate_size bytes v.lm (lm_at v) (omega arith) (omega (arith, fit.1.1.0, fit.1.1.1.0, fit.1.1.1.1.0, fit.0, fit.1.0)) fit.0 (s 2 (lit< tt)) (s 4 (lit< tt))
           (let e : start_of (message_parts v) 26 ≡ (lm_at v) = omega arith in subst (λ (p : ℕ). Stands bytes p v.lm) e (s 26 (lit< tt)));
-      nt = written_field 20 64 bytes v.nt (nt_at v) (omega arith) (omega (arith, fit.domain, fit.user, fit.workstation, fit.lm, fit.nt)) fit.nt (s 5 (lit< tt)) (s 7 (lit< tt))
+      nt = written_field authenticate_nt_place authenticate_size bytes v.nt (nt_at v) (omega arith) (omega (arith, fit.1.1.0, fit.1.1.1.0, fit.1.1.1.1.0, fit.0, fit.1.0)) fit.1.0 (s 5 (lit< tt)) (s 7 (lit< tt))
           (let e : start_of (message_parts v) 27 ≡ (nt_at v) = omega arith in subst (λ (p : ℕ). Stands bytes p v.nt) e (s 27 (lit< tt)));
-      domain = written_field 28 64 bytes v.domain (authenticate_start v) (omega arith) (omega (arith, fit.domain, fit.user, fit.workstation, fit.lm, fit.nt)) fit.domain (s 8 (lit< tt)) (s 10 (lit< tt))
+      domain = written_field authenticate_domain_place authenticate_size bytes v.domain (authenticate_start v) (omega arith) (omega (arith, fit.1.1.0, fit.1.1.1.0, fit.1.1.1.1.0, fit.0, fit.1.0)) fit.1.1.0 (s 8 (lit< tt)) (s 10 (lit< tt))
           (let e : start_of (message_parts v) 23 ≡ (authenticate_start v) = omega arith in subst (λ (p : ℕ). Stands bytes p v.domain) e (s 23 (lit< tt)));
-      user = written_field 36 64 bytes v.user (user_at v) (omega arith) (omega (arith, fit.domain, fit.user, fit.workstation, fit.lm, fit.nt)) fit.user (s 11 (lit< tt)) (s 13 (lit< tt))
+      user = written_field authenticate_user_place authenticate_size bytes v.user (user_at v) (omega arith) (omega (arith, fit.1.1.0, fit.1.1.1.0, fit.1.1.1.1.0, fit.0, fit.1.0)) fit.1.1.1.0 (s 11 (lit< tt)) (s 13 (lit< tt))
           (let e : start_of (message_parts v) 24 ≡ (user_at v) = omega arith in subst (λ (p : ℕ). Stands bytes p v.user) e (s 24 (lit< tt)));
-      workstation = written_field 44 64 bytes v.workstation (workstation_at v) (omega arith) (omega (arith, fit.domain, fit.user, fit.workstation, fit.lm, fit.nt)) fit.workstation (s 14 (lit< tt)) (s 16 (lit< tt))
+      workstation = written_field authenticate_workstation_place authenticate_size bytes v.workstation (workstation_at v) (omega arith) (omega (arith, fit.1.1.0, fit.1.1.1.0, fit.1.1.1.1.0, fit.0, fit.1.0)) fit.1.1.1.1.0 (s 14 (lit< tt)) (s 16 (lit< tt))
           (let e : start_of (message_parts v) 25 ≡ (workstation_at v) = omega arith in subst (λ (p : ℕ). Stands bytes p v.workstation) e (s 25 (lit< tt)));
-      key = written_field 52 64 bytes v.key (key_at v) (omega arith) (omega (arith, fit.domain, fit.user, fit.workstation, fit.lm, fit.nt)) fit.key (s 17 (lit< tt)) (s 19 (lit< tt))
+      key = written_field authenticate_key_place authenticate_size bytes v.key (key_at v) (omega arith) (omega (arith, fit.1.1.0, fit.1.1.1.0, fit.1.1.1.1.0, fit.0, fit.1.0)) fit.1.1.1.1.1.0 (s 17 (lit< tt)) (s 19 (lit< tt))
           (let e : start_of (message_parts v) 28 ≡ (key_at v) = omega arith in subst (λ (p : ℕ). Stands bytes p v.key) e (s 28 (lit< tt)));
       flags = s 20 (lit< tt);
       version = s 21 (lit< tt);
-      mic = (let e : start_of (message_parts v) 22 ≡ 64 + length (bytes_of v.version) = omega arith in subst (λ (p : ℕ). Stands bytes p (bytes_of v.mic)) e (s 22 (lit< tt)));
+      mic = (let e : start_of (message_parts v) 22 ≡ authenticate_size + length (bytes_of v.version) = omega arith in subst (λ (p : ℕ). Stands bytes p (bytes_of v.mic)) e (s 22 (lit< tt)));
       len = length-concat (message_parts v) ∙ omega arith;
     }
 
@@ -101,17 +108,17 @@ gap_is v bytes w =
     let inside = gap_in authenticate_places bytes in
     let no_more : authenticate_gap bytes ≤ authenticate_start v =
     elim (cases_eq (length v.domain) 0) [
-      | inr some ↦ gap_low authenticate_places bytes 2 28 64 _ v.domain (lit< tt) refl w.domain some
+      | inr some ↦ gap_low authenticate_places bytes 2 authenticate_domain_place authenticate_size _ v.domain (lit< tt) refl w.domain some
       | inl domain ↦ elim (cases_eq (length v.user) 0) [
-        | inr some ↦ omega (arith, domain, gap_low authenticate_places bytes 3 36 64 _ v.user (lit< tt) refl w.user some)
+        | inr some ↦ omega (arith, domain, gap_low authenticate_places bytes 3 authenticate_user_place authenticate_size _ v.user (lit< tt) refl w.user some)
         | inl user ↦ elim (cases_eq (length v.workstation) 0) [
-          | inr some ↦ omega (arith, domain, user, gap_low authenticate_places bytes 4 44 64 _ v.workstation (lit< tt) refl w.workstation some)
+          | inr some ↦ omega (arith, domain, user, gap_low authenticate_places bytes 4 authenticate_workstation_place authenticate_size _ v.workstation (lit< tt) refl w.workstation some)
           | inl workstation ↦ elim (cases_eq (length v.lm) 0) [
-            | inr some ↦ omega (arith, domain, user, workstation, gap_low authenticate_places bytes 0 12 64 _ v.lm (lit< tt) refl w.lm some)
+            | inr some ↦ omega (arith, domain, user, workstation, gap_low authenticate_places bytes 0 authenticate_lm_place authenticate_size _ v.lm (lit< tt) refl w.lm some)
             | inl lm ↦ elim (cases_eq (length v.nt) 0) [
-              | inr some ↦ omega (arith, domain, user, workstation, lm, gap_low authenticate_places bytes 1 20 64 _ v.nt (lit< tt) refl w.nt some)
+              | inr some ↦ omega (arith, domain, user, workstation, lm, gap_low authenticate_places bytes 1 authenticate_nt_place authenticate_size _ v.nt (lit< tt) refl w.nt some)
               | inl nt ↦ elim (cases_eq (length v.key) 0) [
-                | inr some ↦ omega (arith, domain, user, workstation, lm, nt, gap_low authenticate_places bytes 5 52 64 _ v.key (lit< tt) refl w.key some)
+                | inr some ↦ omega (arith, domain, user, workstation, lm, nt, gap_low authenticate_places bytes 5 authenticate_key_place authenticate_size _ v.key (lit< tt) refl w.key some)
                 | inl key ↦ omega (arith, domain, user, workstation, lm, nt, key, inside, w.len)
               ]
             ]
@@ -125,28 +132,28 @@ is_authenticate : (v : Authenticate) (bytes : List ℕ) → CanWriteAuthenticate
 is_authenticate v bytes can widths w =
     let gap = gap_is v bytes w in
     record {
-      header = record { whole = Stands_ends bytes 60 (to_le_bytes w32 v.flags) w.flags; signed = Stands_bytes bytes 0 signature w.signed; typed = Stands_long bytes 8 3 (lit< tt) w.typed };
-      flags = Stands_long bytes 60 v.flags widths.flags w.flags;
-      lm = IsField-written 12 64 bytes v.lm _ w.lm;
-      nt = IsField-written 20 64 bytes v.nt _ w.nt;
-      domain = IsField-written 28 64 bytes v.domain _ w.domain;
-      user = IsField-written 36 64 bytes v.user _ w.user;
-      workstation = IsField-written 44 64 bytes v.workstation _ w.workstation;
-      key = IsField-written 52 64 bytes v.key _ w.key;
+      header = record { whole = Stands_ends bytes authenticate_flags_place (to_le_bytes w32 v.flags) w.flags; signed = Stands_bytes bytes 0 signature w.signed; typed = Stands_long bytes type_place 3 (lit< tt) w.typed };
+      flags = Stands_long bytes authenticate_flags_place v.flags widths.flags w.flags;
+      lm = IsField-written authenticate_lm_place authenticate_size bytes v.lm _ w.lm;
+      nt = IsField-written authenticate_nt_place authenticate_size bytes v.nt _ w.nt;
+      domain = IsField-written authenticate_domain_place authenticate_size bytes v.domain _ w.domain;
+      user = IsField-written authenticate_user_place authenticate_size bytes v.user _ w.user;
+      workstation = IsField-written authenticate_workstation_place authenticate_size bytes v.workstation _ w.workstation;
+      key = IsField-written authenticate_key_place authenticate_size bytes v.key _ w.key;
       domain_text = can.domain;
       user_text = can.user;
       workstation_text = can.workstation;
-      version = version_of-written v.flags 64 (authenticate_gap bytes) bytes v.version can.version
+      version = version_of-written v.flags authenticate_size (authenticate_gap bytes) bytes v.version can.version
           (λ some. omega (arith, gap, size_some v.version 8 some widths.version))
           (λ none. omega (arith, gap, size_none v.version none, size_without v.mic v.version can.mic none))
           widths.version w.version;
-      mic = mic_of-written v.flags 64 (authenticate_gap bytes) bytes v.mic (λ some. can.version (can.mic some))
+      mic = mic_of-written v.flags authenticate_size (authenticate_gap bytes) bytes v.mic (λ some. can.version (can.mic some))
           (λ some. omega (arith, gap, size_some v.mic 16 some widths.mic, size_some v.version 8 (can.mic some) widths.version))
           (λ none. omega (arith, gap, size_none v.mic none, size_within v.version 8 widths.version))
           widths.mic
-          (λ some. subst (λ (n : ℕ). Stands bytes (64 + n) (bytes_of v.mic)) (size_some v.version 8 (can.mic some) widths.version) w.mic);
+          (λ some. subst (λ (n : ℕ). Stands bytes (authenticate_size + n) (bytes_of v.mic)) (size_some v.version 8 (can.mic some) widths.version) w.mic);
     }
 
-pub authenticate_back : (v : Authenticate) → CanWriteAuthenticate v → FieldsFit v → HasWidths v → authenticate_of (written_authenticate v) ≡ Ok v
+pub authenticate_back : (v : Authenticate) → CanWriteAuthenticate v → FieldsFit (authenticate_fields v) → HasWidths v → authenticate_of (written_authenticate v) ≡ Ok v
 authenticate_back v can fit widths =
     ap authenticate_of (written_is v) ∙ authenticate_only (concat (message_parts v)) v (is_authenticate v (concat (message_parts v)) can widths (is_written v fit widths))

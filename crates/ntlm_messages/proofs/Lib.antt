@@ -6,4 +6,5 @@ pub mod FieldLaws
 pub mod NegotiateLaws
 pub mod NegotiateWritten
 pub mod PairsLaws
+pub mod TextLaws
 pub mod WrittenLaws

@@ -2,17 +2,17 @@
 use Rattle.std.proofs.Common.{◌≡◌, ℕ, zero, suc, ◌+◌, ◌-◌, ◌^◌, ◌<◌, ◌≤◌, true, eqb, ltb, List, [], ◌∷◌, ◌++◌, length, take, drop, Option, Some, Result, Ok, Err, refl, sym, ap, subst, ◌∙◌, append_assoc, arith, inl, inr}
 use Rattle.std.specs.Prelude.{unwrap_or}
 use Rattle.std.specs.List.{flat_map}
-use Rattle.std.specs.Int.{w16, to_le_bytes}
+use Rattle.std.specs.Int.{w16, w64, to_le_bytes, from_le_bytes}
 use Rattle.std.proofs.Math.Seq.{drop-drop}
 use Rattle.std.proofs.lemmas.Bool.{ltb-true, ltb-false, eqb-true, eqb-false, le-ltb, eq-eqb, ne_eqb, cases_Bool, cases_eq}
-use Rattle.std.proofs.lemmas.List.{take_at, drop_at, take-append-drop, length-append, length-take, length-drop, append-nil, nil_from_length}
+use Rattle.std.proofs.lemmas.List.{take_at, take_all, drop_at, take-append-drop, length-append, length-take, length-drop, append-nil, nil_from_length}
 use Rattle.std.proofs.lemmas.List.Concat.{flat_map-cons}
-use Rattle.wire_base.specs.Numbers.{AreBytes, number_at}
+use Rattle.wire_base.specs.Numbers.{AreBytes, number_at, u64_of}
 use Rattle.wire_base.proofs.NumberLaws.{AreBytes-drop, number_at-inside, number_at-lt, bytes_from-number_at}
 use Rattle.ntlm_messages.specs.declared.pairs.PairsRefused.{PairsRefused}
 use Rattle.ntlm_messages.specs.declared.pairs.PairsRefused.TheVariants.{NoEnd, CutPair, BadLength, Memory}
 use Rattle.ntlm_messages.specs.Fields.{◌>>=◌, short_at}
-use Rattle.ntlm_messages.specs.Pairs.{pair_bytes, written_pairs, IsPair, ArePairs, IsPairs, may_have_length, pair_of, pairs_within, pairs_of, StopsAt, IsPairsRefusal}
+use Rattle.ntlm_messages.specs.Pairs.{pair_bytes, written_pairs, IsPair, ArePairs, IsPairs, may_have_length, pair_of, pairs_within, pairs_of, pair_value_of, timestamp_of, StopsAt, IsPairsRefusal}
 use Rattle.ntlm_messages.proofs.FieldLaws.{bind_then, passed, not_failed, chosen, failed, refused_then}
 use Rattle.ntlm_messages.proofs.WrittenLaws.{Stands_short}
 
@@ -289,3 +289,24 @@ pairs_of_refused bytes e fits given =
 -- want of memory says nothing of the bytes
 pub no_refusal : (bytes : List ℕ) → IsPairsRefusal bytes Memory
 no_refusal bytes = record { taken = []; rest = bytes; items = tt; layout = refl; stops = tt }
+
+-- ---- a pair by its id
+
+pub timestamp_length : (pairs : List (ℕ × List ℕ)) (value : List ℕ) → ArePairs pairs → pair_value_of 7 pairs ≡ Some value → length value ≡ 8
+timestamp_length [] value are e = absurd cc
+timestamp_length (pair ∷ pairs) value are e =
+    elim (cases_Bool (eqb 7 pair.0)) [
+      | inl here ↦
+          let first : Some pair.1 ≡ Some value = rw here at e in
+          let same : pair.1 ≡ value = cc in
+          ap length (sym same) ∙ are.0.timestamp (sym (eqb-true 7 pair.0 here))
+      | inr other ↦ timestamp_length pairs value are.1 (rw other at e)
+    ]
+
+-- the number of 64 bits that eight bytes are
+pub whole_number : (value : List ℕ) → length value ≡ 8 → u64_of value 0 ≡ Some (from_le_bytes w64 value)
+whole_number value eight =
+    number_at-inside w64 value 0 (omega (arith, eight)) ∙ ap (λ (t : List ℕ). Some (from_le_bytes w64 t)) (take_all 8 value (omega (arith, eight)))
+
+pub timestamp_read : (pairs : List (ℕ × List ℕ)) (value : List ℕ) → ArePairs pairs → pair_value_of 7 pairs ≡ Some value → timestamp_of pairs ≡ u64_of value 0
+timestamp_read pairs value are e = rw e (sym (whole_number value (timestamp_length pairs value are e)))

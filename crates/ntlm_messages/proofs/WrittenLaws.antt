@@ -7,8 +7,7 @@ use Rattle.std.proofs.lemmas.Bool.{ne_eqb, le-leb, lt-leb, and_from, and_right, 
 use Rattle.std.proofs.lemmas.List.{take_at, drop_at, length-append}
 use Rattle.wire_base.specs.Numbers.{number_at, IsMessageWidth}
 use Rattle.wire_base.proofs.NumberLaws.{number_at-written}
-use Rattle.ntlm_flags.specs.Flags.{has_flag}
-use Rattle.ntlm_flags.specs.declared.TheConstants.{NTLMSSP_NEGOTIATE_VERSION}
+use Rattle.ntlm_flags.specs.Flags.{has_flag, negotiate_version}
 use Rattle.ntlm_messages.specs.Fields.{short_at, long_at, length_at, offset_at, IsField, gap_of, bytes_if, version_of, mic_of, bytes_of}
 
 -- ---- parts of a joined list
@@ -118,20 +117,20 @@ bytes_if-written : (there : Bool) (place number : ℕ) (bytes : List ℕ) (o : O
 bytes_if-written there place number bytes None present absent len s = rw (absent refl) refl
 bytes_if-written there place number bytes (Some b) present absent len s = rw (present refl) (ap (λ (x : List ℕ). Some x) (ap (λ (n : ℕ). take n (drop place bytes)) (sym len) ∙ Stands_bytes bytes place b s))
 
-pub version_of-written : (flags size gap : ℕ) (bytes : List ℕ) (version : Option (List ℕ)) → (IsSome version → IsTrue (has_flag flags NTLMSSP_NEGOTIATE_VERSION)) → (IsSome version → size + 8 ≤ gap) → (version ≡ None → gap < size + 8)
+pub version_of-written : (flags size gap : ℕ) (bytes : List ℕ) (version : Option (List ℕ)) → (IsSome version → IsTrue (has_flag flags negotiate_version)) → (IsSome version → size + 8 ≤ gap) → (version ≡ None → gap < size + 8)
     → IfSome version (λ b. length b ≡ 8) → Stands bytes size (bytes_of version) → version_of flags size gap bytes ≡ version
 version_of-written flags size gap bytes version flag room none len s =
-    bytes_if-written (has_flag flags NTLMSSP_NEGOTIATE_VERSION && leb (size + 8) gap) size 8 bytes version
+    bytes_if-written (has_flag flags negotiate_version && leb (size + 8) gap) size 8 bytes version
     (λ present. and_from _ _ (flag present) (le-leb (size + 8) gap (room present)))
-    (λ absent. and_right (has_flag flags NTLMSSP_NEGOTIATE_VERSION) _ (lt-leb (size + 8) gap (none absent)))
+    (λ absent. and_right (has_flag flags negotiate_version) _ (lt-leb (size + 8) gap (none absent)))
     len s
 
-pub mic_of-written : (flags size gap : ℕ) (bytes : List ℕ) (mic : Option (List ℕ)) → (IsSome mic → IsTrue (has_flag flags NTLMSSP_NEGOTIATE_VERSION)) → (IsSome mic → size + 24 ≤ gap) → (mic ≡ None → gap < size + 24)
+pub mic_of-written : (flags size gap : ℕ) (bytes : List ℕ) (mic : Option (List ℕ)) → (IsSome mic → IsTrue (has_flag flags negotiate_version)) → (IsSome mic → size + 24 ≤ gap) → (mic ≡ None → gap < size + 24)
     → IfSome mic (λ b. length b ≡ 16) → (IsSome mic → Stands bytes (size + 8) (bytes_of mic)) → mic_of flags size gap bytes ≡ mic
 mic_of-written flags size gap bytes None flag room none len s =
-    rw (and_right (has_flag flags NTLMSSP_NEGOTIATE_VERSION) (leb (size + 24) gap) (lt-leb (size + 24) gap (none refl))) refl
+    rw (and_right (has_flag flags negotiate_version) (leb (size + 24) gap) (lt-leb (size + 24) gap (none refl))) refl
 mic_of-written flags size gap bytes (Some b) flag room none len s =
-    bytes_if-written (has_flag flags NTLMSSP_NEGOTIATE_VERSION && leb (size + 24) gap) (size + 8) 16 bytes (Some b)
+    bytes_if-written (has_flag flags negotiate_version && leb (size + 24) gap) (size + 8) 16 bytes (Some b)
     (λ present. and_from _ _ (flag present) (le-leb (size + 24) gap (room present)))
     (λ absent. absurd cc)
     len (s refl)

@@ -4,8 +4,8 @@ use Rattle.std.specs.Prelude.{◌≡◌, ◌≢◌, ◌<◌, ◌≤◌, ◌+◌,
 use Rattle.std.specs.List.{starts_with, AllByRecursion}
 use Rattle.std.specs.Int.{w16, w32, to_le_bytes}
 use Rattle.wire_base.specs.Numbers.{u16_of, u32_of}
-use Rattle.ntlm_flags.specs.Flags.{has_flag}
-use Rattle.ntlm_flags.specs.declared.TheConstants.{NTLMSSP_NEGOTIATE_UNICODE, NTLMSSP_NEGOTIATE_VERSION}
+use Rattle.ntlm_flags.specs.Flags.{has_flag, negotiate_unicode, negotiate_version}
+use Rattle.ntlm_messages.specs.Places.{type_place}
 use Rattle.ntlm_messages.specs.declared.refused.Field.{Field}
 use Rattle.ntlm_messages.specs.declared.refused.MessageRefused.{MessageRefused}
 use Rattle.ntlm_messages.specs.declared.refused.MessageRefused.TheVariants.{ShortHeader, BadSignature, BadType, FieldOutside, OddText, Memory}
@@ -18,10 +18,10 @@ abbrev pub ◌>>=◌ : {A B E : Type 0} → Result A E → (A → Result B E) �
 (Ok x) >>= f = f x
 (Err e) >>= f = Err e
 
--- the result, seen by view, is that value or that refusal
-abbrev pub Gives : {X Y E : Type 0} → (X → Y) → Result X E → Result Y E → Type 0
-Gives view (Ok x) value = value ≡ Ok (view x)
-Gives view (Err e) value = value ≡ Err e
+-- What the result holds shows that value, or it is that refusal.
+abbrev pub Shows : {X Y E : Type 0} → (X → Y) → Result X E → Result Y E → Type 0
+Shows shown (Ok x) value = value ≡ Ok (shown x)
+Shows shown (Err e) value = value ≡ Err e
 
 -- ---- numbers of the fixed header
 
@@ -39,17 +39,17 @@ long_at bytes place = unwrap_or (u32_of bytes place) 0
 abbrev pub signature : List ℕ
 signature = codes "NTLMSSP" ++ 0 ∷ []
 
--- a message of this type, with its whole fixed header
-pub record IsHeader (kind size : ℕ) (bytes : List ℕ) : Type 0 where
-  pub whole : size ≤ length bytes
+-- a message of this type, with at least so many bytes
+pub record IsHeader (kind least : ℕ) (bytes : List ℕ) : Type 0 where
+  pub whole : least ≤ length bytes
   pub signed : take 8 bytes ≡ signature
-  pub typed : long_at bytes 8 ≡ kind
+  pub typed : long_at bytes type_place ≡ kind
 
 -- the first refusal of the first twelve bytes
 unfoldable pub header_of : ℕ → ℕ → List ℕ → Result (Unit {0}) MessageRefused
-header_of kind size bytes =
-    if nat_lt (length bytes) size then Err ShortHeader
-    else (if starts_with nat_eq bytes signature then (if long_at bytes 8 == kind then Ok tt else Err (BadType (long_at bytes 8)))
+header_of kind least bytes =
+    if nat_lt (length bytes) least then Err ShortHeader
+    else (if starts_with nat_eq bytes signature then (if long_at bytes type_place == kind then Ok tt else Err (BadType (long_at bytes type_place)))
     else Err BadSignature)
 
 -- ---- payload fields: the length (16 bits), the greatest length (16 bits, free) and the offset (32 bits)
@@ -84,10 +84,10 @@ field_of name place size bytes =
 
 -- a text of UTF-16LE has an even length
 abbrev pub IsText : ℕ → List ℕ → Type 0
-IsText flags text = IsTrue (has_flag flags NTLMSSP_NEGOTIATE_UNICODE) → length text % 2 ≡ 0
+IsText flags text = IsTrue (has_flag flags negotiate_unicode) → length text % 2 ≡ 0
 
 unfoldable pub text_of : Field → ℕ → List ℕ → Result (Unit {0}) MessageRefused
-text_of name flags text = if has_flag flags NTLMSSP_NEGOTIATE_UNICODE && length text % 2 == 1 then Err (OddText name) else Ok tt
+text_of name flags text = if has_flag flags negotiate_unicode && length text % 2 == 1 then Err (OddText name) else Ok tt
 
 -- ---- The version and the message integrity code, which are there only where the payload leaves room for them. This rule is this project's
 -- ---- own choice: MS-NLMP has them in the layout, and old clients leave them out.
@@ -103,11 +103,11 @@ bytes_if there place number bytes = if there then Some (take number (drop place 
 
 -- the version, 8 bytes behind the fixed header: with the flag, and before the payload
 abbrev pub version_of : ℕ → ℕ → ℕ → List ℕ → Option (List ℕ)
-version_of flags size gap bytes = bytes_if (has_flag flags NTLMSSP_NEGOTIATE_VERSION && nat_le (size + 8) gap) size 8 bytes
+version_of flags size gap bytes = bytes_if (has_flag flags negotiate_version && nat_le (size + 8) gap) size 8 bytes
 
 -- the message integrity code, 16 bytes behind the version: with the version, and before the payload
 abbrev pub mic_of : ℕ → ℕ → ℕ → List ℕ → Option (List ℕ)
-mic_of flags size gap bytes = bytes_if (has_flag flags NTLMSSP_NEGOTIATE_VERSION && nat_le (size + 24) gap) (size + 8) 16 bytes
+mic_of flags size gap bytes = bytes_if (has_flag flags negotiate_version && nat_le (size + 24) gap) (size + 8) 16 bytes
 
 -- ---- refusals, in the order in which they are judged
 
@@ -132,17 +132,18 @@ IsFirstOdd [] bytes name = ⊥
 IsFirstOdd (text ∷ texts) bytes name =
     ((length_at bytes text.1 % 2 ≡ 1) × (name ≡ text.0)) ⊎ ((length_at bytes text.1 % 2 ≡ 0) × IsFirstOdd texts bytes name)
 
--- The first refusal of a message of this type, header size, flags, fields in the header's order and text fields. Want of memory is free.
-abbrev pub IsRefusal : ℕ → ℕ → ℕ → List (Field × ℕ) → List (Field × ℕ) → List ℕ → MessageRefused → Type 0
-IsRefusal kind size flags fields texts bytes ShortHeader = length bytes < size
-IsRefusal kind size flags fields texts bytes BadSignature = (size ≤ length bytes) × (take 8 bytes ≢ signature)
-IsRefusal kind size flags fields texts bytes (BadType found) =
-    (size ≤ length bytes) × (take 8 bytes ≡ signature) × (long_at bytes 8 ≡ found) × (found ≢ kind)
-IsRefusal kind size flags fields texts bytes (FieldOutside name) = IsHeader kind size bytes × IsFirstOutside size fields bytes name
-IsRefusal kind size flags fields texts bytes (OddText name) =
-    IsHeader kind size bytes × AllByRecursion (λ field. IsInside field.1 size bytes) fields
-    × IsTrue (has_flag flags NTLMSSP_NEGOTIATE_UNICODE) × IsFirstOdd texts bytes name
-IsRefusal kind size flags fields texts bytes Memory = Unit {0}
+-- The first refusal of a message of this type, least length, header size, flags, fields in the header's order and text fields. Want of memory
+-- is none.
+abbrev pub IsRefusal : ℕ → ℕ → ℕ → ℕ → List (Field × ℕ) → List (Field × ℕ) → List ℕ → MessageRefused → Type 0
+IsRefusal kind least size flags fields texts bytes ShortHeader = length bytes < least
+IsRefusal kind least size flags fields texts bytes BadSignature = (least ≤ length bytes) × (take 8 bytes ≢ signature)
+IsRefusal kind least size flags fields texts bytes (BadType found) =
+    (least ≤ length bytes) × (take 8 bytes ≡ signature) × (long_at bytes type_place ≡ found) × (found ≢ kind)
+IsRefusal kind least size flags fields texts bytes (FieldOutside name) = IsHeader kind least bytes × IsFirstOutside size fields bytes name
+IsRefusal kind least size flags fields texts bytes (OddText name) =
+    IsHeader kind least bytes × AllByRecursion (λ field. IsInside field.1 size bytes) fields
+    × IsTrue (has_flag flags negotiate_unicode) × IsFirstOdd texts bytes name
+IsRefusal kind least size flags fields texts bytes Memory = ⊥
 
 -- ---- the written form
 
@@ -155,6 +156,24 @@ abbrev pub bytes_of : Option (List ℕ) → List ℕ
 bytes_of None = []
 bytes_of (Some bytes) = bytes
 
--- A payload field has at most 65,535 bytes, since its length has 16 bits.
+-- each field has at most 65,535 bytes, since its length has 16 bits
+abbrev pub FieldsFit : List (Field × List ℕ) → Type 0
+FieldsFit fields = AllByRecursion (λ field. length field.1 ≤ 65535) fields
+
+-- the first of the fields that has more
+abbrev pub IsFirstTooLong : List (Field × List ℕ) → Field → Type 0
+IsFirstTooLong [] name = ⊥
+IsFirstTooLong (field ∷ fields) name =
+    ((65535 < length field.1) × (name ≡ field.0)) ⊎ ((length field.1 ≤ 65535) × IsFirstTooLong fields name)
+
 abbrev pub fits_of : Field → List ℕ → Result (Unit {0}) WriteRefused
 fits_of name part = if nat_lt 65535 (length part) then Err (TooLong name) else Ok tt
+
+-- that each field fits, or the first that doesn't
+abbrev pub lengths_of : List (Field × List ℕ) → Result (Unit {0}) WriteRefused
+lengths_of [] = Ok tt
+lengths_of (field ∷ fields) = fits_of field.0 field.1 >>= λ fits. lengths_of fields
+
+-- the written form, or the first field that is too long for it
+abbrev pub form_of : List (Field × List ℕ) → List ℕ → Result (List ℕ) WriteRefused
+form_of fields written = lengths_of fields >>= λ fits. Ok written

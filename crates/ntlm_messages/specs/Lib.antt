@@ -4,7 +4,9 @@ pub mod Fields
 pub use Rattle.ntlm_flags.specs.Flags
 pub mod Negotiate
 pub mod Pairs
+pub mod Places
 pub mod Text
+pub use Rattle.wire_base.specs.Maps
 pub use Rattle.wire_base.specs.Memory
 pub use Rattle.wire_base.specs.Numbers
 pub use Rattle.wire_base.specs.Units

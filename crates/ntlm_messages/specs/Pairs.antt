@@ -1,9 +1,11 @@
 -- Target information: a list of AV_PAIRs (MS-NLMP 2.2.2.1). A pair is (id, value): an id of 16 bits, and bytes. The list ends with a pair of id 0
 -- and no bytes, which isn't an item here. Ids: 1 NetBIOS computer name, 2 NetBIOS domain name, 3 DNS computer name, 4 DNS domain name (texts of
 -- UTF-16LE), 6 flags (4 bytes), 7 timestamp (8 bytes). Other ids are carried.
-use Rattle.std.specs.Prelude.{◌≡◌, ◌≢◌, ◌+◌, ◌<◌, ◌≤◌, ◌^◌, ◌==◌, ℕ, zero, suc, Bool, true, false, List, [], ◌∷◌, ◌++◌, length, take, drop, Result, Ok, Err, nat_lt, if◌then◌else◌}
+use Rattle.std.specs.Prelude.{◌≡◌, ◌≢◌, ◌+◌, ◌<◌, ◌≤◌, ◌^◌, ◌==◌, ℕ, zero, suc, Bool, true, false, List, [], ◌∷◌, ◌++◌, length, take, drop, Option, Result, Ok, Err, nat_lt, if◌then◌else◌}
 use Rattle.std.specs.List.{flat_map, AllByRecursion}
-use Rattle.std.specs.Int.{w16, to_le_bytes}
+use Rattle.std.specs.Int.{w16, w64, to_le_bytes, from_le_bytes}
+use Rattle.std.specs.Option.{option_map}
+use Rattle.wire_base.specs.Maps.{lookup, same_number}
 use Rattle.ntlm_messages.specs.Fields.{◌>>=◌, short_at}
 use Rattle.ntlm_messages.specs.declared.pairs.PairsRefused.{PairsRefused}
 use Rattle.ntlm_messages.specs.declared.pairs.PairsRefused.TheVariants.{NoEnd, CutPair, BadLength, Memory}
@@ -31,6 +33,16 @@ ArePairs pairs = AllByRecursion IsPair pairs
 pub record IsPairs (bytes : List ℕ) (pairs : List (ℕ × List ℕ)) : Type 0 where
   pub items : ArePairs pairs
   pub layout : (rest : List ℕ) × (bytes ≡ written_pairs pairs ++ rest)
+
+-- ---- a pair by its id
+
+-- the value of the first pair of that id
+abbrev pub pair_value_of : ℕ → List (ℕ × List ℕ) → Option (List ℕ)
+pair_value_of id pairs = lookup same_number id pairs
+
+-- the time of pair 7, a FILETIME
+abbrev pub timestamp_of : List (ℕ × List ℕ) → Option ℕ
+timestamp_of pairs = option_map (from_le_bytes w64) (pair_value_of 7 pairs)
 
 -- ---- reading from the front
 

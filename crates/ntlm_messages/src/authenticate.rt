@@ -1,40 +1,60 @@
 //! AUTHENTICATE_MESSAGE (MS-NLMP 2.2.1.3).
 
-ghost use Rattle.std.specs.Prelude.{◌≡◌, ◌^◌, ◌<◌, length, OnOk, Ok, IfOk, IfErr, Err};
+ghost use Rattle.std.specs.Prelude.{◌≡◌, ◌++◌, ◌⊎◌, ◌↔◌, OnOk, Ok, IfOk, IfErr, Err, IsErrOf};
 ghost use Rattle.wire_base.specs.Memory.{UpToMemory};
-ghost use Rattle.ntlm_messages.specs.Fields.{Gives};
-ghost use Rattle.ntlm_messages.specs.Authenticate.{IsAuthenticate, IsAuthenticateRefusal, authenticate_of, authenticate_in, CanWriteAuthenticate, authenticate_form, written_authenticate, FieldsFit, HasWidths, lengths_of};
+ghost use Rattle.ntlm_messages.specs.Fields.{Shows, FieldsFit, IsFirstTooLong, lengths_of, form_of};
+ghost use Rattle.ntlm_messages.specs.Authenticate.{IsAuthenticate, IsAuthenticateRefusal, authenticate_of, authenticate_shown, authenticate_fields, CanWriteAuthenticate, HasWidths, written_authenticate, authenticate_table, authenticate_payload};
+ghost use Rattle.ntlm_messages.specs.declared.messages.Authenticate.{Authenticate};
+ghost use Rattle.ntlm_messages.specs.declared.refused.Field.{Field};
 ghost use Rattle.ntlm_messages.specs.declared.refused.MessageRefused.{MessageRefused};
 ghost use Rattle.ntlm_messages.specs.declared.refused.WriteRefused.{WriteRefused};
 
 use crate::fields::{
-    SIGNATURE, bytes_at, check_header, check_length, check_text, count_of, field_at, gap_at,
-    long_at, put_bytes, put_field,
+    SIGNATURE, check_fields, check_header, check_text, count_of, field_at, gap_at, long_at, mic_at,
+    put_bytes, put_field, version_at,
 };
 use crate::messages::{Authenticate, AuthenticateView};
+use crate::places::{
+    AUTHENTICATE_DOMAIN, AUTHENTICATE_FLAGS, AUTHENTICATE_KEY, AUTHENTICATE_LM, AUTHENTICATE_NT,
+    AUTHENTICATE_SIZE, AUTHENTICATE_USER, AUTHENTICATE_WORKSTATION,
+};
 use crate::refused::{Field, MessageRefused, WriteRefused};
-use ntlm_flags::{NTLMSSP_NEGOTIATE_VERSION, has_flag};
-use std::alloc::{AllocError, Global};
+use std::alloc::Global;
 use wire_base::{Blob, NoMemory};
 
-/// Reads an AUTHENTICATE, and lends its fields from the bytes. It takes no memory.
+/// The view; that it agrees with the grammar follows in `view_authenticate`.
 #[tactic(auto, unfolding(crate::specs::Authenticate::authenticate_of))]
-fn view_authenticate(bytes: &[u8]) -> Result<AuthenticateView<'_>, MessageRefused>
-    ensures { Gives authenticate_in result (authenticate_of bytes.now) }
+fn lend_authenticate(bytes: &[u8]) -> Result<AuthenticateView<'_>, MessageRefused>
+    ensures exact { Shows authenticate_shown result (authenticate_of bytes.now) }
+    ensures fits { IfOk result (λ view. FieldsFit (authenticate_fields (authenticate_shown view))) }
 {
-    check_header(bytes, 3, 64)?;
-    let lm = field_at(bytes, Field::Lm, 12, 64)?;
-    let nt = field_at(bytes, Field::Nt, 20, 64)?;
-    let domain = field_at(bytes, Field::Domain, 28, 64)?;
-    let user = field_at(bytes, Field::User, 36, 64)?;
-    let workstation = field_at(bytes, Field::Workstation, 44, 64)?;
-    let key = field_at(bytes, Field::Key, 52, 64)?;
-    let flags = long_at(bytes, 60);
+    check_header(bytes, 3, AUTHENTICATE_SIZE)?;
+    let lm = field_at(bytes, Field::Lm, AUTHENTICATE_LM, AUTHENTICATE_SIZE)?;
+    let nt = field_at(bytes, Field::Nt, AUTHENTICATE_NT, AUTHENTICATE_SIZE)?;
+    let domain = field_at(bytes, Field::Domain, AUTHENTICATE_DOMAIN, AUTHENTICATE_SIZE)?;
+    let user = field_at(bytes, Field::User, AUTHENTICATE_USER, AUTHENTICATE_SIZE)?;
+    let workstation = field_at(
+        bytes,
+        Field::Workstation,
+        AUTHENTICATE_WORKSTATION,
+        AUTHENTICATE_SIZE,
+    )?;
+    let key = field_at(bytes, Field::Key, AUTHENTICATE_KEY, AUTHENTICATE_SIZE)?;
+    let flags = long_at(bytes, AUTHENTICATE_FLAGS);
     check_text(flags, Field::Domain, domain)?;
     check_text(flags, Field::User, user)?;
     check_text(flags, Field::Workstation, workstation)?;
-    let gap = gap_at(bytes, &[12, 20, 28, 36, 44, 52]);
-    let versioned = has_flag(flags, NTLMSSP_NEGOTIATE_VERSION);
+    let gap = gap_at(
+        bytes,
+        &[
+            AUTHENTICATE_LM,
+            AUTHENTICATE_NT,
+            AUTHENTICATE_DOMAIN,
+            AUTHENTICATE_USER,
+            AUTHENTICATE_WORKSTATION,
+            AUTHENTICATE_KEY,
+        ],
+    );
     Ok(AuthenticateView {
         flags,
         lm,
@@ -43,18 +63,41 @@ fn view_authenticate(bytes: &[u8]) -> Result<AuthenticateView<'_>, MessageRefuse
         user,
         workstation,
         key,
-        version: bytes_at(bytes, versioned && 72 <= gap, 64),
-        mic: bytes_at(bytes, versioned && 88 <= gap, 72),
+        version: version_at(bytes, flags, AUTHENTICATE_SIZE, gap),
+        mic: mic_at(bytes, flags, AUTHENTICATE_SIZE, gap),
     })
 }
 
+/// Reads an AUTHENTICATE, and lends its fields from the bytes. It takes no memory.
+///
+/// The first of these refusals that holds of the bytes: `ShortHeader` below 64 bytes; `BadSignature`; `BadType` where the type isn't 3;
+/// `FieldOutside` of the first field, in the order LM response, NT response, domain, user, workstation, session key, that isn't empty and begins
+/// before byte 64 or ends past the message; `OddText` of the first of domain, user and workstation of odd length where texts are UTF-16LE.
+///
+pub fn view_authenticate(bytes: &[u8]) -> Result<AuthenticateView<'_>, MessageRefused>
+    // The value or the first refusal.
+    ensures exact { Shows authenticate_shown result (authenticate_of bytes.now) }
+    // What is read is in the grammar.
+    ensures found { IfOk result (λ view. IsAuthenticate bytes.now (authenticate_shown view)) }
+    // What is in the grammar is read.
+    ensures only { (value : Authenticate) → IsAuthenticate bytes.now value →
+        Shows authenticate_shown result (Ok value) }
+    // Which refusal it is.
+    ensures refused { IfErr result (λ refused. IsAuthenticateRefusal bytes.now refused) }
+    // What is read can be written, and no field is too long for it.
+    ensures writable { IfOk result (λ view. CanWriteAuthenticate (authenticate_shown view)) }
+    ensures fits { IfOk result (λ view. FieldsFit (authenticate_fields (authenticate_shown view))) }
+{
+    lend_authenticate(bytes)
+}
+
 impl AuthenticateView<'_> {
-    ghost use Rattle.std.specs.Prelude.{◌≡◌, IfOk};
-    ghost use Rattle.ntlm_messages.specs.Authenticate.{authenticate_in};
+    ghost use Rattle.std.specs.Prelude.{◌≡◌, ◌++◌, IfOk};
+    ghost use Rattle.ntlm_messages.specs.Authenticate.{authenticate_shown};
 
     /// The value, with copies of its fields.
     fn copy(&self, alloc: Global) -> Result<Authenticate, NoMemory>
-        ensures { IfOk result (λ value. value ≡ authenticate_in self.now) }
+        ensures { IfOk result (λ value. value ≡ authenticate_shown self.now) }
     {
         Ok(Authenticate {
             flags: self.flags,
@@ -70,84 +113,111 @@ impl AuthenticateView<'_> {
     }
 }
 
-/// Copies the value that the bytes are.
-fn copy_authenticate(alloc: Global, bytes: &[u8]) -> Result<Authenticate, MessageRefused>
+/// Reads an AUTHENTICATE, and copies its fields: the value that `view_authenticate` shows, or its refusal, which comes before memory is looked for; `Memory`
+/// where no memory was found.
+pub fn read_authenticate(alloc: Global, bytes: &[u8]) -> Result<Authenticate, MessageRefused>
+    // The value or the first refusal.
     ensures exact { UpToMemory MessageRefused.Memory result (authenticate_of bytes.now) }
     // A refusal comes before memory is looked for.
-    ensures refusals { (refused : MessageRefused) → authenticate_of bytes.now ≡ Err refused → result ≡ Err refused }
+    ensures refusals { (refused : MessageRefused) →
+        authenticate_of bytes.now ≡ Err refused → result ≡ Err refused }
+    // What is read is in the grammar.
+    ensures found { IfOk result (λ value. IsAuthenticate bytes.now value) }
+    // What is in the grammar is read, unless memory runs out.
+    ensures only { (value : Authenticate) → IsAuthenticate bytes.now value →
+        UpToMemory MessageRefused.Memory result (Ok value) }
+    // Which refusal it is.
+    ensures refused { IfErr result (λ refused.
+        (refused ≡ MessageRefused.Memory) ⊎ IsAuthenticateRefusal bytes.now refused) }
+    // What is read can be written, and no field is too long for it.
+    ensures writable { IfOk result (λ value. CanWriteAuthenticate value) }
+    ensures fits { IfOk result (λ value. FieldsFit (authenticate_fields value)) }
 {
     Ok(view_authenticate(bytes)?.copy(alloc)?)
 }
 
-/// Reads an AUTHENTICATE, and copies its fields.
-///
-/// The first of these refusals that holds of the bytes: `ShortHeader` below 64 bytes; `BadSignature`; `BadType` where the type isn't 3;
-/// `FieldOutside` of the first field, in the order LM response, NT response, domain, user, workstation, session key, that isn't empty and begins
-/// before byte 64 or ends past the message; `OddText` of the first of domain, user and workstation of odd length where texts are UTF-16LE.
-/// `Memory` where no memory was found.
-pub fn read_authenticate(alloc: Global, bytes: &[u8]) -> Result<Authenticate, MessageRefused>
-    // The value or the first refusal.
-    ensures exact { UpToMemory MessageRefused.Memory result (authenticate_of bytes.now) }
-    // What is read is in the grammar.
-    ensures found { IfOk result (λ value. IsAuthenticate bytes.now value) }
-    // Which refusal it is.
-    ensures refused { IfErr result (λ refused. IsAuthenticateRefusal bytes.now refused) }
-    // What is read can be written.
-    ensures writable { IfOk result (λ value. CanWriteAuthenticate value) }
-    // A refusal comes before memory is looked for.
-    ensures refusals { (refused : MessageRefused) → authenticate_of bytes.now ≡ Err refused → result ≡ Err refused }
-    // What is in the grammar is read, unless memory runs out.
-    ensures only { (value : Authenticate) → IsAuthenticate bytes.now value → UpToMemory MessageRefused.Memory result (Ok value) }
-{
-    copy_authenticate(alloc, bytes)
-}
-
 /// Whether each field fits.
-#[tactic(auto, unfolding(crate::specs::Authenticate::lengths_of))]
 fn check_lengths(value: &Authenticate) -> Result<(), WriteRefused>
-    ensures value { result ≡ lengths_of value.now }
-    ensures fits { OnOk result (FieldsFit value.now) }
+    ensures value { result ≡ lengths_of (authenticate_fields value.now) }
+    ensures fits { OnOk result (FieldsFit (authenticate_fields value.now)) }
 {
-    check_length(Field::Lm, value.lm.bytes())?;
-    check_length(Field::Nt, value.nt.bytes())?;
-    check_length(Field::Domain, value.domain.bytes())?;
-    check_length(Field::User, value.user.bytes())?;
-    check_length(Field::Workstation, value.workstation.bytes())?;
-    check_length(Field::Key, value.key.bytes())
+    check_fields(&[
+        (Field::Lm, value.lm.bytes()),
+        (Field::Nt, value.nt.bytes()),
+        (Field::Domain, value.domain.bytes()),
+        (Field::User, value.user.bytes()),
+        (Field::Workstation, value.workstation.bytes()),
+        (Field::Key, value.key.bytes()),
+    ])
 }
 
-/// The written form of a value whose fields fit.
-#[tactic(auto, unfolding(crate::specs::Authenticate::written_authenticate))]
-fn authenticate_bytes(alloc: Global, value: &Authenticate) -> Result<Vec<u8>, AllocError>
-    requires { FieldsFit value.now }
-    ensures written { IfOk result (λ out. out.items ≡ written_authenticate value.now) }
-    ensures widths { IfOk result (λ _. HasWidths value.now) }
+/// Appends the payload fields' places in the header.
+#[tactic(auto, unfolding(crate::specs::Authenticate::authenticate_table))]
+fn put_table(out: &mut Vec<u8>, value: &Authenticate) -> Result<(), NoMemory>
+    requires { FieldsFit (authenticate_fields value.now) }
+    ensures table { OnOk result (out.new.items ≡ out.old.items ++ authenticate_table value.now) }
+    ensures widths { OnOk result (HasWidths value.now) }
 {
-    let domain_at = 64 + count_of(&value.version) + count_of(&value.mic);
+    let domain_at = AUTHENTICATE_SIZE + count_of(&value.version) + count_of(&value.mic);
     let user_at = domain_at + value.domain.bytes().len();
     let workstation_at = user_at + value.user.bytes().len();
     let lm_at = workstation_at + value.workstation.bytes().len();
     let nt_at = lm_at + value.lm.bytes().len();
     let key_at = nt_at + value.nt.bytes().len();
-    let mut out = Vec::new(alloc);
-    out.extend_from_slice(&SIGNATURE)?;
-    out.extend_from_slice(&3u32.to_le_bytes())?;
-    put_field(&mut out, value.lm.bytes(), lm_at)?;
-    put_field(&mut out, value.nt.bytes(), nt_at)?;
-    put_field(&mut out, value.domain.bytes(), domain_at)?;
-    put_field(&mut out, value.user.bytes(), user_at)?;
-    put_field(&mut out, value.workstation.bytes(), workstation_at)?;
-    put_field(&mut out, value.key.bytes(), key_at)?;
-    out.extend_from_slice(&value.flags.to_le_bytes())?;
-    put_bytes(&mut out, &value.version)?;
-    put_bytes(&mut out, &value.mic)?;
+    put_field(out, value.lm.bytes(), lm_at)?;
+    put_field(out, value.nt.bytes(), nt_at)?;
+    put_field(out, value.domain.bytes(), domain_at)?;
+    put_field(out, value.user.bytes(), user_at)?;
+    put_field(out, value.workstation.bytes(), workstation_at)?;
+    put_field(out, value.key.bytes(), key_at)?;
+    Ok(())
+}
+
+/// Appends the payload.
+#[tactic(auto, unfolding(crate::specs::Authenticate::authenticate_payload))]
+fn put_payload(out: &mut Vec<u8>, value: &Authenticate) -> Result<(), NoMemory>
+    ensures { OnOk result (out.new.items ≡ out.old.items ++ authenticate_payload value.now) }
+{
     out.extend_from_slice(value.domain.bytes())?;
     out.extend_from_slice(value.user.bytes())?;
     out.extend_from_slice(value.workstation.bytes())?;
     out.extend_from_slice(value.lm.bytes())?;
     out.extend_from_slice(value.nt.bytes())?;
     out.extend_from_slice(value.key.bytes())?;
-    Ok(out)
+    Ok(())
+}
+
+/// The written form of a value whose fields fit.
+#[tactic(auto, unfolding(crate::specs::Authenticate::written_authenticate))]
+fn authenticate_bytes(alloc: Global, value: &Authenticate) -> Result<Blob, NoMemory>
+    requires { FieldsFit (authenticate_fields value.now) }
+    ensures written { IfOk result (λ bytes. bytes ≡ written_authenticate value.now) }
+    ensures widths { IfOk result (λ _. HasWidths value.now) }
+{
+    let mut out = Vec::new(alloc);
+    out.extend_from_slice(&SIGNATURE)?;
+    out.extend_from_slice(&3u32.to_le_bytes())?;
+    put_table(&mut out, value)?;
+    out.extend_from_slice(&value.flags.to_le_bytes())?;
+    put_bytes(&mut out, &value.version)?;
+    put_bytes(&mut out, &value.mic)?;
+    put_payload(&mut out, value)?;
+    Ok(Blob::from_vec(out))
+}
+
+/// The written form, or the first field that is too long for it; what that says in the grammar's terms follows in `write_authenticate`.
+fn authenticate_form(alloc: Global, value: &Authenticate) -> Result<Blob, WriteRefused>
+    requires { CanWriteAuthenticate value.now }
+    ensures exact { UpToMemory WriteRefused.Memory result
+        (form_of (authenticate_fields value.now) (written_authenticate value.now)) }
+    // A field that is too long is told before memory is looked for.
+    ensures refusals { (refused : WriteRefused) →
+        form_of (authenticate_fields value.now) (written_authenticate value.now) ≡ Err refused →
+        result ≡ Err refused }
+    ensures read_back { IfOk result (λ bytes. authenticate_of bytes ≡ Ok value.now) }
+{
+    check_lengths(value)?;
+    Ok(authenticate_bytes(alloc, value)?)
 }
 
 /// Writes an AUTHENTICATE in its one written form: the header, the version and the message integrity code where there are some, and the payload
@@ -158,12 +228,16 @@ fn authenticate_bytes(alloc: Global, value: &Authenticate) -> Result<Vec<u8>, Al
 pub fn write_authenticate(alloc: Global, value: &Authenticate) -> Result<Blob, WriteRefused>
     requires { CanWriteAuthenticate value.now }
     // The written form or the first field that is too long.
-    ensures exact { UpToMemory WriteRefused.Memory result (authenticate_form value.now) }
-    // So does a field that is too long.
-    ensures refusals { (refused : WriteRefused) → authenticate_form value.now ≡ Err refused → result ≡ Err refused }
+    ensures exact { UpToMemory WriteRefused.Memory result
+        (form_of (authenticate_fields value.now) (written_authenticate value.now)) }
+    // `TooLong` exactly where that field is the first one, also where no memory is left.
+    ensures too_long { (name : Field) → IsErrOf result (WriteRefused.TooLong name)
+        ↔ IsFirstTooLong (authenticate_fields value.now) name }
+    // What fits is written, as all that was read does, unless memory runs out.
+    ensures fits { FieldsFit (authenticate_fields value.now) →
+        UpToMemory WriteRefused.Memory result (Ok (written_authenticate value.now)) }
     // What is written is read back.
     ensures read_back { IfOk result (λ bytes. authenticate_of bytes ≡ Ok value.now) }
 {
-    check_lengths(value)?;
-    Ok(Blob::from_vec(authenticate_bytes(alloc, value)?))
+    authenticate_form(alloc, value)
 }

@@ -1,55 +1,78 @@
 //! CHALLENGE_MESSAGE (MS-NLMP 2.2.1.2).
 
-ghost use Rattle.std.specs.Prelude.{◌≡◌, OnOk, Ok, IfOk, IfErr, Err};
+ghost use Rattle.std.specs.Prelude.{◌≡◌, ◌⊎◌, ◌↔◌, OnOk, Ok, IfOk, IfErr, Err, IsErrOf};
 ghost use Rattle.wire_base.specs.Memory.{UpToMemory};
-ghost use Rattle.ntlm_messages.specs.Fields.{Gives};
-ghost use Rattle.ntlm_messages.specs.Challenge.{IsChallenge, IsChallengeRefusal, challenge_of, challenge_in, CanWriteChallenge, FieldsFit, HasWidths, lengths_of, written_challenge, challenge_form};
+ghost use Rattle.ntlm_messages.specs.Fields.{Shows, FieldsFit, IsFirstTooLong, lengths_of, form_of};
+ghost use Rattle.ntlm_messages.specs.Challenge.{IsChallenge, IsChallengeRefusal, challenge_of, challenge_shown, challenge_fields, CanWriteChallenge, HasWidths, written_challenge};
+ghost use Rattle.ntlm_messages.specs.declared.messages.Challenge.{Challenge};
+ghost use Rattle.ntlm_messages.specs.declared.refused.Field.{Field};
 ghost use Rattle.ntlm_messages.specs.declared.refused.MessageRefused.{MessageRefused};
 ghost use Rattle.ntlm_messages.specs.declared.refused.WriteRefused.{WriteRefused};
 
 use crate::fields::{
-    SIGNATURE, bytes_at, check_header, check_length, check_text, count_of, field_at, gap_at,
-    long_at, put_bytes, put_field,
+    SIGNATURE, check_fields, check_header, check_text, count_of, field_at, gap_at, long_at,
+    put_bytes, put_field, version_at,
 };
 use crate::messages::{Challenge, ChallengeView};
+use crate::places::{
+    CHALLENGE_FLAGS, CHALLENGE_INFO, CHALLENGE_SERVER, CHALLENGE_SIZE, CHALLENGE_TARGET,
+};
 use crate::refused::{Field, MessageRefused, WriteRefused};
-use ntlm_flags::{NTLMSSP_NEGOTIATE_VERSION, has_flag};
-use std::alloc::{AllocError, Global};
+use std::alloc::Global;
 use wire_base::{Blob, NoMemory};
 
-/// Reads a CHALLENGE, and lends its fields from the bytes. It takes no memory.
+/// The view; that it agrees with the grammar follows in `view_challenge`.
 #[tactic(auto, unfolding(crate::specs::Challenge::challenge_of))]
-fn view_challenge(bytes: &[u8]) -> Result<ChallengeView<'_>, MessageRefused>
-    ensures { Gives challenge_in result (challenge_of bytes.now) }
+fn lend_challenge(bytes: &[u8]) -> Result<ChallengeView<'_>, MessageRefused>
+    ensures exact { Shows challenge_shown result (challenge_of bytes.now) }
+    ensures fits { IfOk result (λ view. FieldsFit (challenge_fields (challenge_shown view))) }
 {
-    check_header(bytes, 2, 48)?;
-    let target = field_at(bytes, Field::Target, 12, 48)?;
-    let info = field_at(bytes, Field::Info, 40, 48)?;
-    let flags = long_at(bytes, 20);
+    check_header(bytes, 2, CHALLENGE_SIZE)?;
+    let target = field_at(bytes, Field::Target, CHALLENGE_TARGET, CHALLENGE_SIZE)?;
+    let info = field_at(bytes, Field::Info, CHALLENGE_INFO, CHALLENGE_SIZE)?;
+    let flags = long_at(bytes, CHALLENGE_FLAGS);
     check_text(flags, Field::Target, target)?;
-    let gap = gap_at(bytes, &[12, 40]);
+    let gap = gap_at(bytes, &[CHALLENGE_TARGET, CHALLENGE_INFO]);
     let mut challenge = [0; 8];
-    challenge.copy_from_slice(&bytes[24..32]);
+    challenge.copy_from_slice(&bytes[CHALLENGE_SERVER..CHALLENGE_SERVER + 8]);
     Ok(ChallengeView {
         flags,
         target,
         challenge,
         info,
-        version: bytes_at(
-            bytes,
-            has_flag(flags, NTLMSSP_NEGOTIATE_VERSION) && 56 <= gap,
-            48,
-        ),
+        version: version_at(bytes, flags, CHALLENGE_SIZE, gap),
     })
+}
+
+/// Reads a CHALLENGE, and lends its fields from the bytes. It takes no memory.
+///
+/// The first of these refusals that holds of the bytes: `ShortHeader` below 48 bytes; `BadSignature`; `BadType` where the type isn't 2;
+/// `FieldOutside` of the first field, in the order target, target information, that isn't empty and begins before byte 48 or ends past the message;
+/// `OddText` of the target where texts are UTF-16LE and its length is odd.
+pub fn view_challenge(bytes: &[u8]) -> Result<ChallengeView<'_>, MessageRefused>
+    // The value or the first refusal.
+    ensures exact { Shows challenge_shown result (challenge_of bytes.now) }
+    // What is read is in the grammar.
+    ensures found { IfOk result (λ view. IsChallenge bytes.now (challenge_shown view)) }
+    // What is in the grammar is read.
+    ensures only { (value : Challenge) → IsChallenge bytes.now value →
+        Shows challenge_shown result (Ok value) }
+    // Which refusal it is.
+    ensures refused { IfErr result (λ refused. IsChallengeRefusal bytes.now refused) }
+    // What is read can be written, and no field is too long for it.
+    ensures writable { IfOk result (λ view. CanWriteChallenge (challenge_shown view)) }
+    ensures fits { IfOk result (λ view. FieldsFit (challenge_fields (challenge_shown view))) }
+{
+    lend_challenge(bytes)
 }
 
 impl ChallengeView<'_> {
     ghost use Rattle.std.specs.Prelude.{◌≡◌, IfOk};
-    ghost use Rattle.ntlm_messages.specs.Challenge.{challenge_in};
+    ghost use Rattle.ntlm_messages.specs.Challenge.{challenge_shown};
 
     /// The value, with copies of its fields.
     fn copy(&self, alloc: Global) -> Result<Challenge, NoMemory>
-        ensures { IfOk result (λ value. value ≡ challenge_in self.now) }
+        ensures { IfOk result (λ value. value ≡ challenge_shown self.now) }
     {
         Ok(Challenge {
             flags: self.flags,
@@ -61,55 +84,48 @@ impl ChallengeView<'_> {
     }
 }
 
-/// Copies the value that the bytes are.
-fn copy_challenge(alloc: Global, bytes: &[u8]) -> Result<Challenge, MessageRefused>
+/// Reads a CHALLENGE, and copies its fields: the value that `view_challenge` shows, or its refusal, which comes before memory is looked for; `Memory`
+/// where no memory was found.
+pub fn read_challenge(alloc: Global, bytes: &[u8]) -> Result<Challenge, MessageRefused>
+    // The value or the first refusal.
     ensures exact { UpToMemory MessageRefused.Memory result (challenge_of bytes.now) }
     // A refusal comes before memory is looked for.
-    ensures refusals { (refused : MessageRefused) → challenge_of bytes.now ≡ Err refused → result ≡ Err refused }
+    ensures refusals { (refused : MessageRefused) →
+        challenge_of bytes.now ≡ Err refused → result ≡ Err refused }
+    // What is read is in the grammar.
+    ensures found { IfOk result (λ value. IsChallenge bytes.now value) }
+    // What is in the grammar is read, unless memory runs out.
+    ensures only { (value : Challenge) → IsChallenge bytes.now value →
+        UpToMemory MessageRefused.Memory result (Ok value) }
+    // Which refusal it is.
+    ensures refused { IfErr result (λ refused.
+        (refused ≡ MessageRefused.Memory) ⊎ IsChallengeRefusal bytes.now refused) }
+    // What is read can be written, and no field is too long for it.
+    ensures writable { IfOk result (λ value. CanWriteChallenge value) }
+    ensures fits { IfOk result (λ value. FieldsFit (challenge_fields value)) }
 {
     Ok(view_challenge(bytes)?.copy(alloc)?)
 }
 
-/// Reads a CHALLENGE, and copies its fields.
-///
-/// The first of these refusals that holds of the bytes: `ShortHeader` below 48 bytes; `BadSignature`; `BadType` where the type isn't 2;
-/// `FieldOutside` of the first field, in the order target, target information, that isn't empty and begins before byte 48 or ends past the message;
-/// `OddText` of the target where texts are UTF-16LE and its length is odd. `Memory` where no memory was found.
-pub fn read_challenge(alloc: Global, bytes: &[u8]) -> Result<Challenge, MessageRefused>
-    // The value or the first refusal.
-    ensures exact { UpToMemory MessageRefused.Memory result (challenge_of bytes.now) }
-    // What is read is in the grammar.
-    ensures found { IfOk result (λ value. IsChallenge bytes.now value) }
-    // Which refusal it is.
-    ensures refused { IfErr result (λ refused. IsChallengeRefusal bytes.now refused) }
-    // What is read can be written.
-    ensures writable { IfOk result (λ value. CanWriteChallenge value) }
-    // A refusal comes before memory is looked for.
-    ensures refusals { (refused : MessageRefused) → challenge_of bytes.now ≡ Err refused → result ≡ Err refused }
-    // What is in the grammar is read, unless memory runs out.
-    ensures only { (value : Challenge) → IsChallenge bytes.now value → UpToMemory MessageRefused.Memory result (Ok value) }
-{
-    copy_challenge(alloc, bytes)
-}
-
 /// Whether each field fits.
-#[tactic(auto, unfolding(crate::specs::Challenge::lengths_of))]
 fn check_lengths(value: &Challenge) -> Result<(), WriteRefused>
-    ensures value { result ≡ lengths_of value.now }
-    ensures fits { OnOk result (FieldsFit value.now) }
+    ensures value { result ≡ lengths_of (challenge_fields value.now) }
+    ensures fits { OnOk result (FieldsFit (challenge_fields value.now)) }
 {
-    check_length(Field::Target, value.target.bytes())?;
-    check_length(Field::Info, value.info.bytes())
+    check_fields(&[
+        (Field::Target, value.target.bytes()),
+        (Field::Info, value.info.bytes()),
+    ])
 }
 
 /// The written form of a value whose fields fit.
 #[tactic(auto, unfolding(crate::specs::Challenge::written_challenge))]
-fn challenge_bytes(alloc: Global, value: &Challenge) -> Result<Vec<u8>, AllocError>
-    requires { FieldsFit value.now }
-    ensures written { IfOk result (λ out. out.items ≡ written_challenge value.now) }
+fn challenge_bytes(alloc: Global, value: &Challenge) -> Result<Blob, NoMemory>
+    requires { FieldsFit (challenge_fields value.now) }
+    ensures written { IfOk result (λ bytes. bytes ≡ written_challenge value.now) }
     ensures widths { IfOk result (λ _. HasWidths value.now) }
 {
-    let target_at = 48 + count_of(&value.version);
+    let target_at = CHALLENGE_SIZE + count_of(&value.version);
     let info_at = target_at + value.target.bytes().len();
     let mut out = Vec::new(alloc);
     out.extend_from_slice(&SIGNATURE)?;
@@ -122,7 +138,22 @@ fn challenge_bytes(alloc: Global, value: &Challenge) -> Result<Vec<u8>, AllocErr
     put_bytes(&mut out, &value.version)?;
     out.extend_from_slice(value.target.bytes())?;
     out.extend_from_slice(value.info.bytes())?;
-    Ok(out)
+    Ok(Blob::from_vec(out))
+}
+
+/// The written form, or the first field that is too long for it; what that says in the grammar's terms follows in `write_challenge`.
+fn challenge_form(alloc: Global, value: &Challenge) -> Result<Blob, WriteRefused>
+    requires { CanWriteChallenge value.now }
+    ensures exact { UpToMemory WriteRefused.Memory result
+        (form_of (challenge_fields value.now) (written_challenge value.now)) }
+    // A field that is too long is told before memory is looked for.
+    ensures refusals { (refused : WriteRefused) →
+        form_of (challenge_fields value.now) (written_challenge value.now) ≡ Err refused →
+        result ≡ Err refused }
+    ensures read_back { IfOk result (λ bytes. challenge_of bytes ≡ Ok value.now) }
+{
+    check_lengths(value)?;
+    Ok(challenge_bytes(alloc, value)?)
 }
 
 /// Writes a CHALLENGE in its one written form: the header, the version where there is one, and the payload without gaps in the order target, target
@@ -132,12 +163,16 @@ fn challenge_bytes(alloc: Global, value: &Challenge) -> Result<Vec<u8>, AllocErr
 pub fn write_challenge(alloc: Global, value: &Challenge) -> Result<Blob, WriteRefused>
     requires { CanWriteChallenge value.now }
     // The written form or the first field that is too long.
-    ensures exact { UpToMemory WriteRefused.Memory result (challenge_form value.now) }
-    // So does a field that is too long.
-    ensures refusals { (refused : WriteRefused) → challenge_form value.now ≡ Err refused → result ≡ Err refused }
+    ensures exact { UpToMemory WriteRefused.Memory result
+        (form_of (challenge_fields value.now) (written_challenge value.now)) }
+    // `TooLong` exactly where that field is the first one, also where no memory is left.
+    ensures too_long { (name : Field) → IsErrOf result (WriteRefused.TooLong name)
+        ↔ IsFirstTooLong (challenge_fields value.now) name }
+    // What fits is written, as all that was read does, unless memory runs out.
+    ensures fits { FieldsFit (challenge_fields value.now) →
+        UpToMemory WriteRefused.Memory result (Ok (written_challenge value.now)) }
     // What is written is read back.
     ensures read_back { IfOk result (λ bytes. challenge_of bytes ≡ Ok value.now) }
 {
-    check_lengths(value)?;
-    Ok(Blob::from_vec(challenge_bytes(alloc, value)?))
+    challenge_form(alloc, value)
 }

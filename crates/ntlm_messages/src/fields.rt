@@ -1,14 +1,14 @@
 //! What the three messages share: the first twelve bytes and the payload fields (MS-NLMP 2.2.1).
 
-ghost use Rattle.std.specs.Prelude.{◌≡◌, ◌+◌, ◌≤◌, ◌<◌, ◌^◌, ◌++◌, length, OnOk, IfSome, IsTrue, nat_le};
+ghost use Rattle.std.specs.Prelude.{◌≡◌, map, ◌+◌, ◌≤◌, ◌<◌, ◌^◌, ◌++◌, length, OnOk, IfOk, IfSome, IsTrue, nat_le};
 ghost use Rattle.std.specs.List.{list_all};
 ghost use Rattle.ntlm_flags.specs.Flags.{has_flag};
-ghost use Rattle.ntlm_messages.specs.Fields.{Gives, short_at, long_at, header_of, field_of, text_of, gap_of, bytes_if, field_bytes, bytes_of, fits_of};
+ghost use Rattle.ntlm_messages.specs.Fields.{Shows, short_at, long_at, header_of, field_of, text_of, gap_of, bytes_if, version_of, mic_of, field_bytes, bytes_of, lengths_of};
 
+use crate::places;
 use crate::refused::{Field, MessageRefused, WriteRefused};
-use ntlm_flags::{NTLMSSP_NEGOTIATE_UNICODE, has_flag};
-use std::alloc::AllocError;
-use wire_base::{u16_at, u32_at};
+use ntlm_flags::{NTLMSSP_NEGOTIATE_UNICODE, NTLMSSP_NEGOTIATE_VERSION, has_flag};
+use wire_base::{NoMemory, u16_at, u32_at};
 
 /// The first eight bytes of every message.
 pub const SIGNATURE: [u8; 8] = *b"NTLMSSP\0";
@@ -27,19 +27,19 @@ pub fn long_at(bytes: &[u8], place: usize) -> u32
     u32_at(bytes, place).unwrap_or(0)
 }
 
-/// Whether the bytes have the fixed header of a message of that type.
+/// Whether the bytes are a message of that type, and at least so many.
 #[tactic(auto, unfolding(crate::specs::Fields::header_of))]
-pub fn check_header(bytes: &[u8], kind: u32, size: usize) -> Result<(), MessageRefused>
-    ensures value { result ≡ header_of kind size bytes.now }
-    ensures whole { OnOk result (size ≤ length bytes.now) }
+pub fn check_header(bytes: &[u8], kind: u32, least: usize) -> Result<(), MessageRefused>
+    ensures value { result ≡ header_of kind least bytes.now }
+    ensures whole { OnOk result (least ≤ length bytes.now) }
 {
-    if bytes.len() < size {
+    if bytes.len() < least {
         return Err(MessageRefused::ShortHeader);
     }
     if !bytes.starts_with(&SIGNATURE) {
         return Err(MessageRefused::BadSignature);
     }
-    let found = long_at(bytes, 8);
+    let found = long_at(bytes, places::TYPE);
     if found != kind {
         return Err(MessageRefused::BadType(found));
     }
@@ -55,7 +55,8 @@ pub fn field_at(
     size: usize,
 ) -> Result<&[u8], MessageRefused>
     requires { place ≤ 64 }
-    ensures { Gives (λ part. part.now) result (field_of name place size bytes.now) }
+    ensures value { Shows (λ part. part.now) result (field_of name place size bytes.now) }
+    ensures short { IfOk result (λ part. length part.now ≤ 65535) }
 {
     let len = usize::from(short_at(bytes, place));
     if len == 0 {
@@ -96,7 +97,7 @@ pub fn gap_at(bytes: &[u8], places: &[usize]) -> usize
 }
 
 /// The bytes of a fixed number at a place, where they are there.
-pub fn bytes_at<const N: usize>(bytes: &[u8], there: bool, place: usize) -> Option<[u8; N]>
+fn bytes_at<const N: usize>(bytes: &[u8], there: bool, place: usize) -> Option<[u8; N]>
     requires { IsTrue there → place + N ≤ length bytes.now }
     ensures { result ≡ bytes_if there place N bytes.now }
 {
@@ -106,19 +107,48 @@ pub fn bytes_at<const N: usize>(bytes: &[u8], there: bool, place: usize) -> Opti
     bytes[place..].first_chunk::<N>().copied()
 }
 
-/// Whether a payload field's length has 16 bits.
-pub fn check_length(name: Field, part: &[u8]) -> Result<(), WriteRefused>
-    ensures value { result ≡ fits_of name part.now }
-    ensures fits { OnOk result (length part.now ≤ 65535) }
+/// The version, which stands behind the fixed header of that size where the flag is set and the payload leaves room for it.
+pub fn version_at(bytes: &[u8], flags: u32, size: usize, gap: usize) -> Option<[u8; 8]>
+    requires size { size ≤ 64 }
+    requires gap { gap ≤ length bytes.now }
+    ensures { result ≡ version_of flags size gap bytes.now }
 {
-    if part.len() > 65535 {
-        return Err(WriteRefused::TooLong(name));
+    bytes_at(
+        bytes,
+        has_flag(flags, NTLMSSP_NEGOTIATE_VERSION) && size + 8 <= gap,
+        size,
+    )
+}
+
+/// The message integrity code, which stands behind the version where the payload leaves room for both.
+pub fn mic_at(bytes: &[u8], flags: u32, size: usize, gap: usize) -> Option<[u8; 16]>
+    requires size { size ≤ 64 }
+    requires gap { gap ≤ length bytes.now }
+    ensures { result ≡ mic_of flags size gap bytes.now }
+{
+    bytes_at(
+        bytes,
+        has_flag(flags, NTLMSSP_NEGOTIATE_VERSION) && size + 24 <= gap,
+        size + 8,
+    )
+}
+
+/// Whether the length of each payload field has 16 bits, else the first whose length hasn't.
+pub fn check_fields(fields: &[(Field, &[u8])]) -> Result<(), WriteRefused>
+    ensures { result ≡ lengths_of (map (λ field. (field.0, field.1.now)) fields.now) }
+{
+    let mut rest = fields;
+    while let [(name, part), after @ ..] = rest {
+        if part.len() > 65535 {
+            return Err(WriteRefused::TooLong(*name));
+        }
+        rest = after;
     }
     Ok(())
 }
 
 /// Appends a payload field's place in the header: its length twice, and the offset of its bytes.
-pub fn put_field(out: &mut Vec<u8>, part: &[u8], offset: usize) -> Result<(), AllocError>
+pub fn put_field(out: &mut Vec<u8>, part: &[u8], offset: usize) -> Result<(), NoMemory>
     requires len { length part.now ≤ 65535 }
     requires offset { offset < 2 ^ 32 }
     ensures { OnOk result (out.new.items ≡ out.old.items ++ field_bytes part.now offset) }
@@ -126,20 +156,18 @@ pub fn put_field(out: &mut Vec<u8>, part: &[u8], offset: usize) -> Result<(), Al
     let len = (part.len() as u16).to_le_bytes();
     out.extend_from_slice(&len)?;
     out.extend_from_slice(&len)?;
-    out.extend_from_slice(&(offset as u32).to_le_bytes())
+    out.extend_from_slice(&(offset as u32).to_le_bytes())?;
+    Ok(())
 }
 
 /// Appends bytes where there are some.
-pub fn put_bytes<const N: usize>(
-    out: &mut Vec<u8>,
-    bytes: &Option<[u8; N]>,
-) -> Result<(), AllocError>
+pub fn put_bytes<const N: usize>(out: &mut Vec<u8>, bytes: &Option<[u8; N]>) -> Result<(), NoMemory>
     ensures { OnOk result (out.new.items ≡ out.old.items ++ bytes_of bytes.now) }
 {
-    match bytes {
-        None => Ok(()),
-        Some(bytes) => out.extend_from_slice(bytes),
+    if let Some(bytes) = bytes {
+        out.extend_from_slice(bytes)?;
     }
+    Ok(())
 }
 
 /// How many bytes an array has.

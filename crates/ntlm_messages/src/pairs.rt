@@ -1,15 +1,15 @@
 //! Target information: lists of AV_PAIRs (MS-NLMP 2.2.2.1).
 
-ghost use Rattle.std.specs.Prelude.{◌≡◌, ◌+◌, ◌<◌, ◌^◌, ◌++◌, ℕ, List as list, length, Ok, IfOk, IfErr, OnOk};
+ghost use Rattle.std.specs.Prelude.{◌≡◌, ◌+◌, ◌<◌, ◌^◌, ◌++◌, ℕ, List as list, length, Ok, IfOk, IfErr, OnOk, MatchOption, Some, None};
 ghost use Rattle.std.specs.List.{flat_map};
 ghost use Rattle.wire_base.specs.Memory.{UpToMemory};
-ghost use Rattle.ntlm_messages.specs.Fields.{Gives};
-ghost use Rattle.ntlm_messages.specs.Pairs.{IsPairs, IsPairsRefusal, ArePairs, pair_of, pairs_of, pair_bytes, written_pairs, may_have_length};
+ghost use Rattle.ntlm_messages.specs.Fields.{Shows};
+ghost use Rattle.ntlm_messages.specs.Pairs.{IsPairs, IsPairsRefusal, ArePairs, pair_of, pairs_of, pair_bytes, pair_value_of, timestamp_of, written_pairs, may_have_length};
 
 use crate::fields::short_at;
-use std::alloc::{AllocError, Global};
+use std::alloc::Global;
 use thiserror::Error;
-use wire_base::{Blob, List, NoMemory};
+use wire_base::{Blob, List, NoMemory, u64_at};
 
 /// Pairs of an id and a value in their order, without the end, seen as the list of them.
 pub type Pairs = List<(u16, Blob)>;
@@ -56,7 +56,7 @@ fn may_have_length(id: u16, len: usize) -> bool
 /// The pair at the front: its id, its value and the bytes behind it.
 #[tactic(auto, unfolding(crate::specs::Pairs::pair_of))]
 fn pair_at(place: usize, bytes: &[u8]) -> Result<(u16, &[u8], &[u8]), PairsRefused>
-    ensures value { Gives (λ pair. (pair.0, pair.1.now, pair.2.now)) result (pair_of place bytes.now) }
+    ensures value { Shows (λ pair. (pair.0, pair.1.now, pair.2.now)) result (pair_of place bytes.now) }
     ensures shorter { IfOk result (λ pair. length pair.2.now + 4 + length pair.1.now ≡ length bytes.now) }
 {
     if bytes.is_empty() {
@@ -109,17 +109,18 @@ pub fn read_pairs(alloc: Global, bytes: &[u8]) -> Result<Pairs, PairsRefused>
 }
 
 /// Appends a pair.
-fn put_pair(out: &mut Vec<u8>, id: u16, value: &[u8]) -> Result<(), AllocError>
+fn put_pair(out: &mut Vec<u8>, id: u16, value: &[u8]) -> Result<(), NoMemory>
     requires { length value.now < 2 ^ 16 }
     ensures { OnOk result (out.new.items ≡ out.old.items ++ pair_bytes (id, value.now)) }
 {
     out.extend_from_slice(&id.to_le_bytes())?;
     out.extend_from_slice(&(value.len() as u16).to_le_bytes())?;
-    out.extend_from_slice(value)
+    out.extend_from_slice(value)?;
+    Ok(())
 }
 
 /// The bytes of pairs, without an end.
-fn pair_list(alloc: Global, pairs: &[(u16, Blob)]) -> Result<Vec<u8>, AllocError>
+fn pair_list(alloc: Global, pairs: &[(u16, Blob)]) -> Result<Vec<u8>, NoMemory>
     requires { ArePairs pairs.now }
     ensures { IfOk result (λ out. out.items ≡ flat_map pair_bytes pairs.now) }
 {
@@ -143,4 +144,28 @@ pub fn write_pairs(alloc: Global, pairs: &Pairs) -> Result<Blob, NoMemory>
     let mut out = pair_list(alloc, pairs.items())?;
     put_pair(&mut out, 0, &[])?;
     Ok(Blob::from_vec(out))
+}
+
+/// The value of the first pair of an id. None exactly where no pair has it. It takes no memory.
+pub fn pair_value(pairs: &Pairs, id: u16) -> Option<&[u8]>
+    ensures { MatchOption result (pair_value_of id pairs.now ≡ None)
+        (λ value. pair_value_of id pairs.now ≡ Some value.now) }
+{
+    let mut rest = pairs.items();
+    while let [(other, value), after @ ..] = rest {
+        if id == *other {
+            return Some(value.bytes());
+        }
+        rest = after;
+    }
+    None
+}
+
+/// The time of the pair of id 7, in 100 nanoseconds since 1601-01-01 00:00 UTC. None exactly where there is none. It takes no memory.
+#[tactic(auto, using(crate::proofs::PairsLaws::timestamp_read))]
+pub fn timestamp(pairs: &Pairs) -> Option<u64>
+    requires { ArePairs pairs.now }
+    ensures { result ≡ timestamp_of pairs.now }
+{
+    u64_at(pair_value(pairs, 7)?, 0)
 }

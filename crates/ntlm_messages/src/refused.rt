@@ -2,7 +2,6 @@
 
 ghost use Rattle.std.specs.Prelude.{◌≡◌};
 
-use std::alloc::AllocError;
 use thiserror::Error;
 use wire_base::NoMemory;
 
@@ -71,12 +70,12 @@ pub enum WriteRefused {
     Memory,
 }
 
-impl From<AllocError> for WriteRefused {
+impl From<NoMemory> for WriteRefused {
     ghost use Rattle.ntlm_messages.specs.declared.refused.WriteRefused.TheVariants.{Memory};
 
     ghost from_gives = { λ _ e. e ≡ Memory };
 
-    fn from(_error: AllocError) -> WriteRefused {
+    fn from(_error: NoMemory) -> WriteRefused {
         WriteRefused::Memory
     }
 }

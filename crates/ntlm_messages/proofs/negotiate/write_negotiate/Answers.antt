@@ -1,9 +1,9 @@
-use Rattle.std.proofs.Common.{ap, ◌∙◌}
-use Rattle.ntlm_messages.specs.Negotiate.{negotiate_of}
-use Rattle.ntlm_messages.proofs.NegotiateWritten.{negotiate_back}
+use Rattle.ntlm_messages.specs.Negotiate.{negotiate_fields, written_negotiate}
+use Rattle.ntlm_messages.proofs.FieldLaws.{too_long_from, written_from}
 use Rattle.ntlm_messages.proofs.negotiate.write_negotiate.Goals as goal
 
-pub returns-clause-read_back : goal.returns-clause-read_back
-returns-clause-read_back c =
-    ap negotiate_of (c.from_vec.ensures ∙ c.in_ok-negotiate_bytes.ensures.written)
-    ∙ negotiate_back c.args.value.now c.requires c.in_ok-check_lengths.ensures.fits c.in_ok-negotiate_bytes.ensures.widths
+pub returns-clause-too_long : goal.returns-clause-too_long
+returns-clause-too_long c = too_long_from c.negotiate_form.result (negotiate_fields c.args.value.now) (written_negotiate c.args.value.now) c.negotiate_form.ensures.exact c.negotiate_form.ensures.refusals
+
+pub returns-clause-fits : goal.returns-clause-fits
+returns-clause-fits c = written_from c.negotiate_form.result (negotiate_fields c.args.value.now) (written_negotiate c.args.value.now) c.negotiate_form.ensures.exact

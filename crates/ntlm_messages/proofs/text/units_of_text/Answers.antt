@@ -1,10 +1,10 @@
 use Rattle.std.proofs.Common.{inl, inr}
-use Rattle.nt_top.proofs.TextLaws.{text_units_in, text_units_are}
-use Rattle.nt_top.proofs.check.text.Goals as goal
+use Rattle.ntlm_messages.proofs.TextLaws.{text_units_read, text_units_are}
+use Rattle.ntlm_messages.proofs.text.units_of_text.Goals as goal
 
 pub unreachable-requires : goal.unreachable-requires
 unreachable-requires c =
-    let read = text_units_in c.args.flags c.args.text.now c.requires in
+    let read = text_units_read c.args.flags c.args.text.now c.requires in
     elim c.in-Err-Odd.ensures.exact [ inl memory ↦ cc | inr refused ↦ cc ]
 
 pub returns-in-Ok : goal.returns-in-Ok

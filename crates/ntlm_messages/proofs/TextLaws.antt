@@ -3,11 +3,9 @@ use Rattle.std.proofs.Common.{◌≡◌, ℕ, ◌%◌, Bool, true, false, IsTrue
 use Rattle.std.specs.Result.{result_unwrap_or}
 use Rattle.wire_base.specs.Units.{units_of}
 use Rattle.wire_base.proofs.UnitLaws.{units_of-even}
-use Rattle.ntlm_flags.specs.Flags.{has_flag}
-use Rattle.ntlm_flags.specs.declared.TheConstants.{NTLMSSP_NEGOTIATE_UNICODE}
+use Rattle.ntlm_flags.specs.Flags.{has_flag, negotiate_unicode}
 use Rattle.ntlm_messages.specs.Fields.{IsText}
-use Rattle.ntlm_messages.specs.Text.{text_units_of}
-use Rattle.nt_top.specs.Check.{text_in}
+use Rattle.ntlm_messages.specs.Text.{text_units_of, units_of_text}
 
 by_flag : (wide : Bool) (text : List ℕ) → (IsTrue wide → length text % 2 ≡ 0) →
     (if wide then units_of text else Ok text) ≡ Ok (result_unwrap_or (if wide then units_of text else Ok text) [])
@@ -17,8 +15,8 @@ by_flag false text even = refl
 ok_injective : {E : Type 0} {a b : List ℕ} → ◌≡◌ {A = Result (List ℕ) E} (Ok a) (Ok b) → a ≡ b
 ok_injective e = cc
 
-pub text_units_in : (flags : ℕ) (text : List ℕ) → IsText flags text → text_units_of flags text ≡ Ok (text_in flags text)
-text_units_in flags text even = by_flag (has_flag flags NTLMSSP_NEGOTIATE_UNICODE) text even
+pub text_units_read : (flags : ℕ) (text : List ℕ) → IsText flags text → text_units_of flags text ≡ Ok (units_of_text flags text)
+text_units_read flags text even = by_flag (has_flag flags negotiate_unicode) text even
 
-pub text_units_are : (flags : ℕ) (text units : List ℕ) → IsText flags text → text_units_of flags text ≡ Ok units → units ≡ text_in flags text
-text_units_are flags text units even read = ok_injective (sym read ∙ text_units_in flags text even)
+pub text_units_are : (flags : ℕ) (text units : List ℕ) → IsText flags text → text_units_of flags text ≡ Ok units → units ≡ units_of_text flags text
+text_units_are flags text units even read = ok_injective (sym read ∙ text_units_read flags text even)

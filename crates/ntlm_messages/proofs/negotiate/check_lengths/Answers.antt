@@ -1,0 +1,10 @@
+use Rattle.std.proofs.Common.{refl, ◌∙◌}
+use Rattle.ntlm_messages.specs.Negotiate.{negotiate_fields}
+use Rattle.ntlm_messages.proofs.FieldLaws.{fit_on_ok}
+use Rattle.ntlm_messages.proofs.negotiate.check_lengths.Goals as goal
+
+pub returns-clause-value : goal.returns-clause-value
+returns-clause-value c = c.check_fields.ensures ∙ rw (c.bytes.ensures, c.bytes-2.ensures) refl
+
+pub returns-clause-fits : goal.returns-clause-fits
+returns-clause-fits c = fit_on_ok c.check_fields.result (negotiate_fields c.args.value.now) (c.check_fields.ensures ∙ rw (c.bytes.ensures, c.bytes-2.ensures) refl)

@@ -1,0 +1,17 @@
+use Rattle.ntlm_messages.proofs.NegotiateWritten.{negotiate_back}
+use Rattle.ntlm_messages.proofs.ChallengeWritten.{challenge_back}
+use Rattle.ntlm_messages.proofs.AuthenticateWritten.{authenticate_back}
+use Rattle.ntlm_messages.proofs.PairsLaws.{written_pairs_back}
+use Rattle.ntlm_messages.proofs.written.what_is_written_is_read.Goals as goal
+
+pub returns-clause-negotiate : goal.returns-clause-negotiate
+returns-clause-negotiate c = λ value can widths fit. negotiate_back value can fit widths
+
+pub returns-clause-challenge : goal.returns-clause-challenge
+returns-clause-challenge c = λ value can widths fit. challenge_back value can fit widths
+
+pub returns-clause-authenticate : goal.returns-clause-authenticate
+returns-clause-authenticate c = λ value can widths fit. authenticate_back value can fit widths
+
+pub returns-clause-pairs : goal.returns-clause-pairs
+returns-clause-pairs c = written_pairs_back

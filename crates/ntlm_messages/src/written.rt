@@ -1,0 +1,29 @@
+//! What is written is read: the law of the written forms.
+
+ghost use Rattle.std.specs.Prelude.{◌≡◌, ℕ, List, Ok};
+ghost use Rattle.ntlm_messages.specs.Fields.{FieldsFit};
+ghost use Rattle.ntlm_messages.specs.Negotiate as negotiate;
+ghost use Rattle.ntlm_messages.specs.Challenge as challenge;
+ghost use Rattle.ntlm_messages.specs.Authenticate as authenticate;
+ghost use Rattle.ntlm_messages.specs.Pairs.{ArePairs, pairs_of, written_pairs};
+ghost use Rattle.ntlm_messages.specs.declared.messages.Negotiate.{Negotiate};
+ghost use Rattle.ntlm_messages.specs.declared.messages.Challenge.{Challenge};
+ghost use Rattle.ntlm_messages.specs.declared.messages.Authenticate.{Authenticate};
+
+/// The written form of a message or of a list of pairs is read as the same value.
+pub fn what_is_written_is_read()
+    ensures negotiate { (value : Negotiate) →
+        negotiate.CanWriteNegotiate value → negotiate.HasWidths value →
+        FieldsFit (negotiate.negotiate_fields value) →
+        negotiate.negotiate_of (negotiate.written_negotiate value) ≡ Ok value }
+    ensures challenge { (value : Challenge) →
+        challenge.CanWriteChallenge value → challenge.HasWidths value →
+        FieldsFit (challenge.challenge_fields value) →
+        challenge.challenge_of (challenge.written_challenge value) ≡ Ok value }
+    ensures authenticate { (value : Authenticate) →
+        authenticate.CanWriteAuthenticate value → authenticate.HasWidths value →
+        FieldsFit (authenticate.authenticate_fields value) →
+        authenticate.authenticate_of (authenticate.written_authenticate value) ≡ Ok value }
+    ensures pairs { (pairs : List (ℕ × List ℕ)) → ArePairs pairs →
+        pairs_of (written_pairs pairs) ≡ Ok pairs }
+{}
