@@ -15,6 +15,3 @@ pub use exit::{Exit, RefusedCause, Role};
 pub use launch::start;
 pub use texts::exit_line;
 pub use top::run;
-
-#[cfg(test)]
-mod tests;
