@@ -44,7 +44,7 @@ pub enum Operation {
 }
 
 /// All of them, in the order in which they are printed.
-pub const OPERATIONS: [Operation; 17] = [
+pub const OPERATIONS: [Operation; 19] = [
     Operation::Md4Short,
     Operation::Md4Long,
     Operation::DesBlock,
