@@ -8,7 +8,7 @@ Fields of foreign stubs are the published ones. Of changed stubs and of written 
 """
 
 from forms import blob, err, items, line, ok, option, struct, units_of, values
-from ndr_codec import Reader, Refused, Writer, sid_shown
+from ndr_codec import PartReader, PartWriter, Reader, Refused, Writer, sid_shown
 from wire import changed, compact, flipped, le, lent
 
 LOGON, LOGOFF, CHALLENGE, AUTHENTICATE = 2, 3, 4, 15
@@ -27,92 +27,66 @@ def unique(reader, item):
     return item() if reader.pointer() else None
 
 
-def halves(reader):
-    low = reader.long()
-    return low + (reader.long() << 32)
-
-
 def authenticator(reader):
     return reader.take(8), reader.long()
 
 
-def head(reader, size):
-    """The head of a counted string: its length in bytes, and whether it has a target."""
-    place = reader.start(2)
-    length, maximum, there = reader.short(), reader.short(), reader.pointer()
-    if length > maximum or length % size or length and not there:
-        raise Refused("BadStub", place)
-    return length, there
-
-
-def some_pointer(reader):
-    place = reader.start(4)
-    if not reader.pointer():
-        raise Refused("BadStub", place)
-
-
-def units(reader, of):
-    return reader.counted(of[0]) if of[1] else b""
-
-
-def counted_bytes(reader, of):
-    return reader.counted_bytes(of[0]) if of[1] else b""
-
-
 def network_info(reader):
-    domain, control, logon_id = head(reader, 2), reader.long(), halves(reader)
-    user, workstation, challenge, nt, lm = head(reader, 2), head(reader, 2), reader.take(8), head(reader, 1), head(reader, 1)
-    return {"domain": units(reader, domain), "control": control, "logon_id": logon_id, "user": units(reader, user), "workstation": units(reader, workstation),
-            "challenge": challenge, "nt": counted_bytes(reader, nt), "lm": counted_bytes(reader, lm)}
+    domain, control, logon_id = reader.head(2), reader.long(), reader.halves()
+    user, workstation, challenge, nt, lm = reader.head(2), reader.head(2), reader.take(8), reader.head(1), reader.head(1)
+    return {"domain": reader.units(*domain), "control": control, "logon_id": logon_id, "user": reader.units(*user),
+            "workstation": reader.units(*workstation),
+            "challenge": challenge, "nt": reader.bytes(*nt), "lm": reader.bytes(*lm)}
 
 
 def sam_info(reader):
-    info = {name: halves(reader) for name in TIMES}
-    heads = {name: head(reader, 2) for name in NAMES}
+    info = {name: reader.halves() for name in TIMES}
+    heads = {name: reader.head(2) for name in NAMES}
     info.update(logon_count=reader.short(), bad_count=reader.short(), user_id=reader.long(), group_id=reader.long())
     place = reader.start(4)
     count = reader.long()
     if count > 256:
-        raise Refused("BadStub", place)
+        raise Refused("BadPart", place)
     place = reader.start(4)
     groups = reader.pointer()
     if count and not groups:
-        raise Refused("BadStub", place)
+        raise Refused("BadPart", place)
     info.update(user_flags=reader.long(), key=reader.take(16))
-    server, domain = head(reader, 2), head(reader, 2)
-    some_pointer(reader)
-    for _ in range(10):
-        reader.long()
-    info.update((name, units(reader, heads[name])) for name in NAMES)
+    server, domain = reader.head(2), reader.head(2)
+    reader.some_pointer()
+    reader.reserved(10)
+    info.update((name, reader.units(*heads[name])) for name in NAMES)
     info["groups"] = []
     if groups:
         place = reader.start(4)
         if reader.long() != count:
-            raise Refused("BadStub", place)
+            raise Refused("BadPart", place)
         info["groups"] = [(reader.long(), reader.long()) for _ in range(count)]
-    info.update(server=units(reader, server), domain=units(reader, domain), sid=reader.sid())
+    info.update(server=reader.units(*server), domain=reader.units(*domain), sid=reader.sid())
     return info
 
 
 def logoff_call(reader):
-    fields = {"server": unique(reader, reader.text), "computer": unique(reader, reader.text), "authenticator": unique(reader, lambda: authenticator(reader)),
+    fields = {"server": reader.unique_text(), "computer": reader.unique_text(),
+              "authenticator": unique(reader, lambda: authenticator(reader)),
               "returned": unique(reader, lambda: authenticator(reader))}
     level, tag = reader.short(), reader.short()
     if tag != level or tag != 2:
         raise BadArm(tag)
-    some_pointer(reader)
+    reader.some_pointer()
     fields["info"] = network_info(reader)
     return fields
 
 
-def read(kind, opnum, stub):
+def read(kind, opnum, stub, reads=Reader):
     """The fields and the reader that read them."""
-    reader = Reader(stub)
+    reader = reads(stub)
     if kind == "call":
         if opnum == CHALLENGE:
-            fields = {"primary": unique(reader, reader.text), "computer": reader.text(), "challenge": reader.take(8)}
+            fields = {"primary": reader.unique_text(), "computer": reader.text(), "challenge": reader.take(8)}
         elif opnum == AUTHENTICATE:
-            fields = {"primary": unique(reader, reader.text), "account": reader.text(), "channel": reader.short(), "computer": reader.text(), "credential": reader.take(8),
+            fields = {"primary": reader.unique_text(), "account": reader.text(), "channel": reader.short(), "computer": reader.text(),
+                      "credential": reader.take(8),
                       "flags": reader.long()}
         else:
             fields = logoff_call(reader)
@@ -144,52 +118,31 @@ def write_unique(writer, value, put):
         put(value)
 
 
-def write_halves(writer, value):
-    writer.long(value & 0xFFFFFFFF)
-    writer.long(value >> 32)
-
-
 def write_authenticator(writer, value):
     writer.raw(value[0])
     writer.long(value[1])
 
 
-def write_head(writer, data):
-    writer.short(len(data))
-    writer.short(len(data))
-    writer.pointer(bool(data))
-
-
-def write_units(writer, data):
-    if data:
-        writer.counted(data)
-
-
-def write_bytes(writer, data):
-    if data:
-        writer.counted_bytes(data)
-
-
 def write_network(writer, info):
-    write_head(writer, info["domain"])
+    writer.units_head(info["domain"])
     writer.long(info["control"])
-    write_halves(writer, info["logon_id"])
-    write_head(writer, info["user"])
-    write_head(writer, info["workstation"])
+    writer.halves(info["logon_id"])
+    writer.units_head(info["user"])
+    writer.units_head(info["workstation"])
     writer.raw(info["challenge"])
-    write_head(writer, info["nt"])
-    write_head(writer, info["lm"])
+    writer.bytes_head(info["nt"])
+    writer.bytes_head(info["lm"])
     for name in ("domain", "user", "workstation"):
-        write_units(writer, info[name])
+        writer.units(info[name])
     for name in ("nt", "lm"):
-        write_bytes(writer, info[name])
+        writer.bytes(info[name])
 
 
 def write_sam(writer, info):
     for name in TIMES:
-        write_halves(writer, info[name])
+        writer.halves(info[name])
     for name in NAMES:
-        write_head(writer, info[name])
+        writer.units_head(info[name])
     writer.short(info["logon_count"])
     writer.short(info["bad_count"])
     writer.long(info["user_id"])
@@ -198,41 +151,40 @@ def write_sam(writer, info):
     writer.pointer(bool(info["groups"]))
     writer.long(info["user_flags"])
     writer.raw(info["key"])
-    write_head(writer, info["server"])
-    write_head(writer, info["domain"])
+    writer.units_head(info["server"])
+    writer.units_head(info["domain"])
     writer.pointer(True)
-    for _ in range(10):
-        writer.long(0)
+    writer.reserved(10)
     for name in NAMES:
-        write_units(writer, info[name])
+        writer.units(info[name])
     if info["groups"]:
         writer.long(len(info["groups"]))
         for group, attributes in info["groups"]:
             writer.long(group)
             writer.long(attributes)
-    write_units(writer, info["server"])
-    write_units(writer, info["domain"])
+    writer.units(info["server"])
+    writer.units(info["domain"])
     writer.sid(info["sid"])
 
 
-def write(kind, opnum, fields):
+def write(kind, opnum, fields, writes=Writer):
     """The writer of the one written form."""
-    writer = Writer()
+    writer = writes()
     if kind == "call":
         if opnum == CHALLENGE:
-            write_unique(writer, fields["primary"], writer.text)
+            writer.unique_text(fields["primary"])
             writer.text(fields["computer"])
             writer.raw(fields["challenge"])
         elif opnum == AUTHENTICATE:
-            write_unique(writer, fields["primary"], writer.text)
+            writer.unique_text(fields["primary"])
             writer.text(fields["account"])
             writer.short(fields["channel"])
             writer.text(fields["computer"])
             writer.raw(fields["credential"])
             writer.long(fields["flags"])
         else:
-            write_unique(writer, fields["server"], writer.text)
-            write_unique(writer, fields["computer"], writer.text)
+            writer.unique_text(fields["server"])
+            writer.unique_text(fields["computer"])
             write_unique(writer, fields["authenticator"], lambda value: write_authenticator(writer, value))
             write_unique(writer, fields["returned"], lambda value: write_authenticator(writer, value))
             writer.short(2)
@@ -274,7 +226,8 @@ def authenticator_option(value):
 
 
 def network_shown(info):
-    return struct("NetworkInfo", domain=text(info["domain"]), control=info["control"], logon_id=info["logon_id"], user=text(info["user"]), workstation=text(info["workstation"]),
+    return struct("NetworkInfo", domain=text(info["domain"]), control=info["control"], logon_id=info["logon_id"], user=text(info["user"]),
+                  workstation=text(info["workstation"]),
                   challenge=lent(info["challenge"]), nt=blob(info["nt"].hex()), lm=blob(info["lm"].hex()))
 
 
@@ -283,7 +236,8 @@ def sam_shown(info):
     fields.update((name, text(info[name])) for name in NAMES)
     fields.update((name, info[name]) for name in ("logon_count", "bad_count", "user_id", "group_id"))
     fields["groups"] = items([f"({group}, {attributes})" for group, attributes in info["groups"]])
-    return struct("SamInfo", **fields, user_flags=info["user_flags"], key=lent(info["key"]), server=text(info["server"]), domain=text(info["domain"]), sid=sid_shown(info["sid"]))
+    return struct("SamInfo", **fields, user_flags=info["user_flags"], key=lent(info["key"]), server=text(info["server"]),
+                  domain=text(info["domain"]), sid=sid_shown(info["sid"]))
 
 
 def shown(kind, opnum, fields):
@@ -291,10 +245,12 @@ def shown(kind, opnum, fields):
     if kind == "call" and opnum == CHALLENGE:
         return f"Challenge({struct('ChallengeCall', primary=text_option(fields['primary']), computer=text(fields['computer']), challenge=lent(fields['challenge']))})"
     if kind == "call" and opnum == AUTHENTICATE:
-        return "Authenticate(" + struct("AuthCall", primary=text_option(fields["primary"]), account=text(fields["account"]), channel=fields["channel"], computer=text(fields["computer"]),
+        return "Authenticate(" + struct("AuthCall", primary=text_option(fields["primary"]), account=text(fields["account"]),
+                                        channel=fields["channel"], computer=text(fields["computer"]),
                                         credential=lent(fields["credential"]), flags=fields["flags"]) + ")"
     if kind == "call":
-        front = {"server": text_option(fields["server"]), "computer": text_option(fields["computer"]), "authenticator": authenticator_option(fields["authenticator"]),
+        front = {"server": text_option(fields["server"]), "computer": text_option(fields["computer"]),
+                 "authenticator": authenticator_option(fields["authenticator"]),
                  "returned": authenticator_option(fields["returned"]), "info": network_shown(fields["info"])}
         if opnum == LOGON:
             return f"Logon({struct('LogonCall', **front, validation=fields['validation'])})"
@@ -306,7 +262,8 @@ def shown(kind, opnum, fields):
     returned = authenticator_option(fields["returned"])
     if opnum == LOGOFF:
         return f"Logoff({struct('LogoffReply', returned=returned, status=fields['status'])})"
-    return "Logon(" + struct("LogonReply", returned=returned, level=fields["level"], info=option(fields["info"], sam_shown), authoritative=fields["authoritative"],
+    return "Logon(" + struct("LogonReply", returned=returned, level=fields["level"], info=option(fields["info"], sam_shown),
+                             authoritative=fields["authoritative"],
                              status=fields["status"]) + ")"
 
 
@@ -388,10 +345,9 @@ def walks():
             continue
         fields, reader = read(kind, opnum, stub)
         assert fields == published(case), case["name"]
-        out.append(reader.case())
         writer = write(kind, opnum, fields)
         assert (writer.stub == stub) == case["same_when_written"], case["name"]
-        out.append(writer.case())
+        out += [reader.case(), writer.case(), read(kind, opnum, stub, PartReader)[1].case(), write(kind, opnum, fields, PartWriter).case()]
     return out
 
 
@@ -420,8 +376,10 @@ def worked_cases():
     """Stubs worked out by hand: a request for FILE1 without a primary name, and a reply whose level has no arm and whose pointer is null."""
     out = []
     for kind, opnum, data, fields in [
-        ("call", CHALLENGE, "00000000060000000000000006000000460049004c004500310000000102030405060708", {"primary": None, "computer": utf16("FILE1"), "challenge": bytes(range(1, 9))}),
-        ("reply", LOGON, "000000000300000000000000010000000d0000c0", {"returned": None, "level": 3, "info": None, "authoritative": 1, "status": 0xC000000D}),
+        ("call", CHALLENGE, "00000000060000000000000006000000460049004c004500310000000102030405060708",
+         {"primary": None, "computer": utf16("FILE1"), "challenge": bytes(range(1, 9))}),
+        ("reply", LOGON, "000000000300000000000000010000000d0000c0",
+         {"returned": None, "level": 3, "info": None, "authoritative": 1, "status": 0xC000000D}),
     ]:
         assert read(kind, opnum, bytes.fromhex(data))[0] == fields
         out.append((line(f"stubs.{kind}", opnum, data), ok(shown(kind, opnum, fields))))
@@ -462,9 +420,12 @@ def number_cases():
 
 
 BASES = [
-    ("call", CHALLENGE, "challenge, primary name and an odd computer name, by Samba"), ("call", AUTHENTICATE, "authenticate, backup controller, primary name, by Samba"),
-    ("call", LOGON, "logon, 24-byte responses, by Samba"), ("call", LOGOFF, "logoff, by Samba"), ("reply", LOGON, "logon granted, one group, by Samba"),
-    ("reply", LOGON, "logon refused, credential returned, by Samba"), ("reply", LOGOFF, "logoff answered, by Samba"), ("reply", CHALLENGE, "challenge answered, by Samba"),
+    ("call", CHALLENGE, "challenge, primary name and an odd computer name, by Samba"),
+    ("call", AUTHENTICATE, "authenticate, backup controller, primary name, by Samba"),
+    ("call", LOGON, "logon, 24-byte responses, by Samba"), ("call", LOGOFF, "logoff, by Samba"),
+    ("reply", LOGON, "logon granted, one group, by Samba"),
+    ("reply", LOGON, "logon refused, credential returned, by Samba"), ("reply", LOGOFF, "logoff answered, by Samba"),
+    ("reply", CHALLENGE, "challenge answered, by Samba"),
     ("reply", AUTHENTICATE, "authenticate granted, by Samba"),
 ]
 
@@ -500,21 +461,27 @@ def change_cases():
     # the validation level at 260.
     for at, new in [
         # referents and padding are free
-        (0, le(0, 4)), (4, le(1, 4)), (4, le(0x20000, 4)), (4, le(2**32 - 1, 4)), (4, le(0, 4)), (32, le(1, 4)), (32, le(0x20000, 4)), (32, le(0, 4)), (48, le(0, 4)), (48, le(1, 4)),
+        (0, le(0, 4)), (4, le(1, 4)), (4, le(0x20000, 4)), (4, le(2**32 - 1, 4)), (4, le(0, 4)), (32, le(1, 4)), (32, le(0x20000, 4)),
+        (32, le(0, 4)), (48, le(0, 4)), (48, le(1, 4)),
         (30, b"\xff\xff"), (170, b"\xff\xff"),
         # a tag that isn't the level, and levels that have no arm
-        (66, b"\1"), (64, b"\1"), (64, le(1, 2) * 2), (64, le(3, 2) * 2), (64, le(0, 2) * 2), (64, le(4, 2) * 2), (64, le(2, 2) + le(3, 2)), (64, le(3, 2) + le(2, 2)),
+        (66, b"\1"), (64, b"\1"), (64, le(1, 2) * 2), (64, le(3, 2) * 2), (64, le(0, 2) * 2), (64, le(4, 2) * 2), (64, le(2, 2) + le(3, 2)),
+        (64, le(3, 2) + le(2, 2)),
         (64, le(0x102, 2) * 2), (64, le(65535, 2) * 2),
         # the tag comes before the items of the structure, and the text in front of it before the tag
-        (66, bytes([1, 0, 0, 0, 0, 0, 7])), (30, b"\1"), (8, le(7, 4)), (8, le(5, 4)), (12, le(1, 4)), (16, le(0, 4)), (16, le(7, 4)), (16, le(2**32 - 1, 4)),
+        (66, bytes([1, 0, 0, 0, 0, 0, 7])), (30, b"\1"), (8, le(7, 4)), (8, le(5, 4)), (12, le(1, 4)), (16, le(0, 4)), (16, le(7, 4)),
+        (16, le(2**32 - 1, 4)),
         # no structure
         (68, le(0, 4)), (68, le(1, 4)),
         # heads: an odd length, one above the maximum, one without a target, and a maximum above the length
-        (72, b"\7"), (72, b"\x0a"), (74, b"\7"), (74, b"\6"), (74, b"\x09"), (74, le(65535, 2)), (76, le(0, 4)), (72, bytes(8)), (72, le(0, 2) + le(8, 2) + le(0, 4)),
-        (92, b"\5"), (92, b"\x08"), (96, le(0, 4)), (100, b"\3"), (104, le(0, 4)), (116, b"\x17"), (116, b"\x19"), (120, le(0, 4)), (124, b"\0"), (128, le(0, 4)),
+        (72, b"\7"), (72, b"\x0a"), (74, b"\7"), (74, b"\6"), (74, b"\x09"), (74, le(65535, 2)), (76, le(0, 4)), (72, bytes(8)),
+        (72, le(0, 2) + le(8, 2) + le(0, 4)),
+        (92, b"\5"), (92, b"\x08"), (96, le(0, 4)), (100, b"\3"), (104, le(0, 4)), (116, b"\x17"), (116, b"\x19"), (120, le(0, 4)),
+        (124, b"\0"), (128, le(0, 4)),
         (124, le(0, 2) + le(24, 2) + le(0, 4)),
         # targets: an offset, another count than the head's, and one above the maximum
-        (136, b"\1"), (140, b"\3"), (132, b"\3"), (132, b"\5"), (132, le(2**32 - 1, 4)), (140, le(2**31 + 4, 4)), (228, b"\1"), (232, b"\x17"), (232, b"\xff"), (224, b"\x17"), (224, b"\x19"),
+        (136, b"\1"), (140, b"\3"), (132, b"\3"), (132, b"\5"), (132, le(2**32 - 1, 4)), (140, le(2**31 + 4, 4)), (228, b"\1"),
+        (232, b"\x17"), (232, b"\xff"), (224, b"\x17"), (224, b"\x19"),
         # validation levels are any
         (260, le(0, 2)), (260, le(3, 2)), (260, le(65535, 2)),
     ]:
@@ -528,11 +495,16 @@ def change_cases():
     # group count at 132, the pointer to the groups at 136, the key at 144, the heads of server and domain at 160 and 168, the pointer to the
     # identifier at 176, ten reserved numbers from 180 on, the name's target at 220, the groups' at 240.
     for at, new in [
-        (0, le(0, 4)), (0, le(7, 4)), (16, le(3, 2)), (16, le(0, 2)), (16, le(1, 2)), (16, le(6, 2)), (16, le(65535, 2)), (18, b"\xff\xff"), (20, le(0, 4)), (20, le(1, 4)),
-        (16, le(3, 2) + le(0, 2) + le(0, 4)), (136, le(0, 4)), (136, le(1, 4)), (132, le(0, 4)), (132, le(0, 4) + le(0, 4)), (132, le(2, 4)), (132, le(256, 4)), (132, le(257, 4)),
-        (132, le(2**32 - 1, 4)), (132, le(257, 4) + le(0, 4)), (240, b"\0"), (240, b"\2"), (240, le(2**32 - 1, 4)), (176, le(0, 4)), (176, le(5, 4)), (180, b"\xff" * 40), (180, b"\xff" * 4), (72, le(5, 2)),
-        (72, le(8, 2)), (72, bytes(8)), (76, le(0, 4)), (112, le(2, 2) * 2 + le(0, 4)), (112, le(0, 2) + le(2, 2) + le(1, 4)), (160, le(0, 4)), (164, le(0, 4)), (168, le(7, 2)),
-        (172, le(0, 4)), (144, b"\xee" * 16), (120, b"\xff" * 12), (220, le(2, 4)), (224, b"\1"), (228, le(2, 4)), (296, b"\2"), (297, b"\3"), (292, le(3, 4)), (292, le(16, 4)), (292, le(0, 4)),
+        (0, le(0, 4)), (0, le(7, 4)), (16, le(3, 2)), (16, le(0, 2)), (16, le(1, 2)), (16, le(6, 2)), (16, le(65535, 2)), (18, b"\xff\xff"),
+        (20, le(0, 4)), (20, le(1, 4)),
+        (16, le(3, 2) + le(0, 2) + le(0, 4)), (136, le(0, 4)), (136, le(1, 4)), (132, le(0, 4)), (132, le(0, 4) + le(0, 4)),
+        (132, le(2, 4)), (132, le(256, 4)), (132, le(257, 4)),
+        (132, le(2**32 - 1, 4)), (132, le(257, 4) + le(0, 4)), (240, b"\0"), (240, b"\2"), (240, le(2**32 - 1, 4)), (176, le(0, 4)),
+        (176, le(5, 4)), (180, b"\xff" * 40), (180, b"\xff" * 4), (72, le(5, 2)),
+        (72, le(8, 2)), (72, bytes(8)), (76, le(0, 4)), (112, le(2, 2) * 2 + le(0, 4)), (112, le(0, 2) + le(2, 2) + le(1, 4)),
+        (160, le(0, 4)), (164, le(0, 4)), (168, le(7, 2)),
+        (172, le(0, 4)), (144, b"\xee" * 16), (120, b"\xff" * 12), (220, le(2, 4)), (224, b"\1"), (228, le(2, 4)), (296, b"\2"),
+        (297, b"\3"), (292, le(3, 4)), (292, le(16, 4)), (292, le(0, 4)),
         (297, b"\5"), (298, b"\xff" * 6), (304, b"\xff" * 16), (320, b"\0"), (320, b"\xff"), (321, b"\xff\xff\xff"), (324, b"\xff" * 4),
     ]:
         out.append(read_case("reply", LOGON, changed(granted, at, new)))
@@ -540,18 +512,21 @@ def change_cases():
 
 
 def plain_info(**fields):
-    return dict({"domain": utf16("CORP"), "control": 0, "logon_id": 1, "user": utf16("ann"), "workstation": utf16("WS"), "challenge": bytes(range(8)), "nt": b"\x11" * 24, "lm": b"\x22" * 24},
+    return dict({"domain": utf16("CORP"), "control": 0, "logon_id": 1, "user": utf16("ann"), "workstation": utf16("WS"),
+                 "challenge": bytes(range(8)), "nt": b"\x11" * 24, "lm": b"\x22" * 24},
                 **fields)
 
 
 def plain_logon(**fields):
-    return dict({"server": None, "computer": utf16("FILE1"), "authenticator": (b"\x33" * 8, 7), "returned": (bytes(8), 0), "info": plain_info(), "validation": 2}, **fields)
+    return dict({"server": None, "computer": utf16("FILE1"), "authenticator": (b"\x33" * 8, 7), "returned": (bytes(8), 0),
+                 "info": plain_info(), "validation": 2}, **fields)
 
 
 def plain_sam(**fields):
     info = {name: 0x7FFFFFFFFFFFFFFF for name in TIMES}
     info.update((name, b"") for name in NAMES)
-    info.update(logon_count=0, bad_count=0, user_id=1001, group_id=513, groups=[(513, 7)], user_flags=0, key=bytes(range(16)), server=utf16("PDC"), domain=utf16("CORP"), sid=(5, [21, 1, 2, 3]))
+    info.update(logon_count=0, bad_count=0, user_id=1001, group_id=513, groups=[(513, 7)], user_flags=0, key=bytes(range(16)),
+                server=utf16("PDC"), domain=utf16("CORP"), sid=(5, [21, 1, 2, 3]))
     return dict(info, **fields)
 
 
@@ -575,10 +550,13 @@ def value_cases():
     for name in names:
         for primary in (None, "", "\\\\PDC"):
             add("call", CHALLENGE, {"primary": utf16(primary), "computer": utf16(name), "challenge": bytes(range(8))})
-            add("call", AUTHENTICATE, {"primary": utf16(primary), "account": utf16(name + "$"), "channel": 2, "computer": utf16(name), "credential": b"\xcc" * 8, "flags": 0x41FF})
-        add("call", AUTHENTICATE, {"primary": None, "account": utf16(name), "channel": 6, "computer": utf16("FILE1"), "credential": b"\xcc" * 8, "flags": 0x1FF})
+            add("call", AUTHENTICATE, {"primary": utf16(primary), "account": utf16(name + "$"), "channel": 2, "computer": utf16(name),
+                                       "credential": b"\xcc" * 8, "flags": 0x41FF})
+        add("call", AUTHENTICATE, {"primary": None, "account": utf16(name), "channel": 6, "computer": utf16("FILE1"),
+                                   "credential": b"\xcc" * 8, "flags": 0x1FF})
     for channel, flags in ((0, 0), (1, 1), (4, 0x40000000), (top16, top32)):
-        add("call", AUTHENTICATE, {"primary": None, "account": utf16("FILE1$"), "channel": channel, "computer": utf16("FILE1"), "credential": bytes(8), "flags": flags})
+        add("call", AUTHENTICATE, {"primary": None, "account": utf16("FILE1$"), "channel": channel, "computer": utf16("FILE1"),
+                                   "credential": bytes(8), "flags": flags})
     for status in (0, 5, 0xC0000022, 0xC0000388, top32):
         add("reply", CHALLENGE, {"challenge": b"\x55" * 8, "status": status})
         add("reply", AUTHENTICATE, {"credential": b"\x66" * 8, "flags": status ^ top32, "status": status})
@@ -605,7 +583,8 @@ def value_cases():
         add("call", LOGON, plain_logon(info=plain_info(logon_id=number, control=number & top32), validation=number & top16))
         for name in TIMES:
             add("reply", LOGON, plain_reply(info=plain_sam(**{name: number})), printed=name == TIMES[number % 6])
-        add("reply", LOGON, plain_reply(info=plain_sam(user_id=number & top32, group_id=number >> 32, user_flags=number & top32, logon_count=number & top16, bad_count=number >> 48)))
+        add("reply", LOGON, plain_reply(info=plain_sam(user_id=number & top32, group_id=number >> 32, user_flags=number & top32,
+                                                       logon_count=number & top16, bad_count=number >> 48)))
     for name in NAMES + ["server", "domain"]:
         for value in ("", "A", "AB", "x" * 40):
             add("reply", LOGON, plain_reply(info=plain_sam(**{name: utf16(value)})), printed=value in ("", "A"))
@@ -618,9 +597,13 @@ def value_cases():
     # texts of 32,767 units and byte strings of 65,535 bytes are the longest
     long_text, long_bytes = b"\x41" * 65534, b"\x42" * 65535
     add("call", CHALLENGE, {"primary": long_text, "computer": long_text, "challenge": bytes(8)}, printed=False)
-    add("call", AUTHENTICATE, {"primary": None, "account": long_text, "channel": 2, "computer": long_text, "credential": bytes(8), "flags": 0}, printed=False)
-    add("call", LOGON, plain_logon(server=long_text, computer=long_text, info=plain_info(domain=long_text, user=long_text, workstation=long_text, nt=long_bytes, lm=long_bytes)), printed=False)
-    add("reply", LOGON, plain_reply(info=plain_sam(**{name: long_text for name in NAMES}, server=long_text, domain=long_text)), printed=False)
+    add("call", AUTHENTICATE, {"primary": None, "account": long_text, "channel": 2, "computer": long_text, "credential": bytes(8),
+                               "flags": 0}, printed=False)
+    add("call", LOGON, plain_logon(server=long_text, computer=long_text,
+                                   info=plain_info(domain=long_text, user=long_text, workstation=long_text, nt=long_bytes, lm=long_bytes)),
+        printed=False)
+    add("reply", LOGON, plain_reply(info=plain_sam(**{name: long_text for name in NAMES}, server=long_text, domain=long_text)),
+        printed=False)
     # a `string` of 32,768 units is read, and isn't written
     longer = Writer()
     longer.pointer(False)

@@ -35,6 +35,7 @@ PROGRAMS = {
         "rpc_units",
         "ndr_codec",
         "logon_stubs",
+        "memo_stubs",
     ],
     "account_cases": [
         "account_table",

@@ -1,9 +1,12 @@
 """Cases of ndr_codec.
 
 `ndr.read STUB STEP ..`: what a reader gives at each step, and where it then stands: `byte`, `short`, `long`, `pointer`, `text`, `sid`, `take/COUNT`,
-`counted/LENGTH`, `counted_bytes/LENGTH`; a length is the one that the head of a counted string tells, in bytes.
+`counted/LENGTH`, `counted_bytes/LENGTH`; a length is the one that the head of a counted string tells, in bytes. Parts of several items are steps
+too: `some_pointer`, `unique_text`, `halves`, `reserved/COUNT`, `head/SIZE` of items of so many bytes, and the targets of a head, `units/LENGTH/THERE`
+and `bytes/LENGTH/THERE`, where THERE is 1 or 0.
 `ndr.write STEP ..`: the stub of these items: `byte/NUMBER`, `short/NUMBER`, `long/NUMBER`, `raw/BYTES`, `pointer/1` or `pointer/0`, `text/UNITS`,
-`counted/UNITS`, `counted_bytes/BYTES`, `sid/TEXT`; units are UTF-16LE in hex.
+`counted/UNITS`, `counted_bytes/BYTES`, `sid/TEXT`; units are UTF-16LE in hex. Parts: `unique_text/UNITS` or `unique_text/null`, `halves/NUMBER`,
+`reserved/COUNT`, `units_head/UNITS`, `bytes_head/BYTES`, `units/UNITS`, `bytes/BYTES`.
 
 Walks through foreign stubs are worked out by the layouts of C706 14.2 and 14.3, MS-DTYP 2.3.10 and 2.4.2.3 from the published fields, and so are
 refusals, by the rules of docs/FORMATS.md.
@@ -11,7 +14,7 @@ refusals, by the rules of docs/FORMATS.md.
 
 import random
 
-from forms import blob, err, items, line, ok, struct, units_of
+from forms import blob, err, items, line, ok, option, struct, units_of
 from wire import changed, compact, le, lent, steps, truth
 
 
@@ -127,8 +130,79 @@ class Reader:
 
         return self.step("sid", value, sid_shown)
 
+    # parts of several items, item by item
+
+    def unique_text(self):
+        return self.text() if self.pointer() else None
+
+    def some_pointer(self):
+        place = self.start(4)
+        if not self.pointer():
+            raise Refused("BadPart", place)
+
+    def halves(self):
+        low = self.long()
+        return low + (self.long() << 32)
+
+    def reserved(self, count):
+        for _ in range(count):
+            self.long()
+
+    def head(self, size):
+        """The head of a counted string: its length in bytes, and whether it has a target."""
+        place = self.start(2)
+        length, maximum, there = self.short(), self.short(), self.pointer()
+        if length > maximum or length % size or length and not there:
+            raise Refused("BadPart", place)
+        return length, there
+
+    def units(self, length, there):
+        return self.counted(length) if there else b""
+
+    def bytes(self, length, there):
+        return self.counted_bytes(length) if there else b""
+
     def case(self):
         return line("ndr.read", compact(self.stub), *self.words), steps(self.answers)
+
+
+class PartReader(Reader):
+    """The same, a part a step. Where a part is refused, its items before the refusal are passed over."""
+
+    def part(self, word, read, shown):
+        self.words.append(word)
+        items_alone = Reader(self.stub)
+        items_alone.place = self.place
+        try:
+            found = read(items_alone)
+        except Refused as refused:
+            self.place = items_alone.place
+            self.answers.append(f"{err(refused)} {self.place}")
+            raise
+        self.place = items_alone.place
+        self.answers.append(f"{ok(shown(found))} {self.place}")
+        return found
+
+    def unique_text(self):
+        return self.part("unique_text", lambda reader: reader.unique_text(), lambda data: option(data, lambda it: units_of(it.hex())))
+
+    def some_pointer(self):
+        return self.part("some_pointer", lambda reader: reader.some_pointer(), lambda _: "()")
+
+    def halves(self):
+        return self.part("halves", lambda reader: reader.halves(), str)
+
+    def reserved(self, count):
+        return self.part(f"reserved/{count}", lambda reader: reader.reserved(count), lambda _: "()")
+
+    def head(self, size):
+        return self.part(f"head/{size}", lambda reader: reader.head(size), lambda it: struct("Head", len=it[0], there=truth(it[1])))
+
+    def units(self, length, there):
+        return self.part(f"units/{length}/{int(there)}", lambda reader: reader.units(length, there), lambda data: units_of(data.hex()))
+
+    def bytes(self, length, there):
+        return self.part(f"bytes/{length}/{int(there)}", lambda reader: reader.bytes(length, there), lambda data: blob(data.hex()))
 
 
 class Writer:
@@ -172,10 +246,71 @@ class Writer:
 
     def sid(self, sid):
         count = len(sid[1])
-        self.put(f"sid/{sid_text(sid)}", 4, le(count, 4) + bytes([1, count]) + sid[0].to_bytes(6, "big") + b"".join(le(number, 4) for number in sid[1]))
+        self.put(f"sid/{sid_text(sid)}", 4,
+                 le(count, 4) + bytes([1, count]) + sid[0].to_bytes(6, "big") + b"".join(le(number, 4) for number in sid[1]))
+
+    # parts of several items, item by item
+
+    def unique_text(self, units):
+        self.pointer(units is not None)
+        if units is not None:
+            self.text(units)
+
+    def halves(self, value):
+        self.long(value & 0xFFFFFFFF)
+        self.long(value >> 32)
+
+    def reserved(self, count):
+        for _ in range(count):
+            self.long(0)
+
+    def head(self, data):
+        self.short(len(data))
+        self.short(len(data))
+        self.pointer(bool(data))
+
+    units_head = bytes_head = head
+
+    def units(self, data):
+        if data:
+            self.counted(data)
+
+    def bytes(self, data):
+        if data:
+            self.counted_bytes(data)
 
     def case(self):
         return line("ndr.write", *self.words), compact(self.stub)
+
+
+class PartWriter(Writer):
+    """The same, a part a step."""
+
+    def part(self, word, write):
+        before = len(self.words)
+        write()
+        self.words[before:] = [word]
+
+    def unique_text(self, units):
+        self.part(f"unique_text/{'null' if units is None else compact(units)}", lambda: Writer.unique_text(self, units))
+
+    def halves(self, value):
+        self.part(f"halves/{value}", lambda: Writer.halves(self, value))
+
+    def reserved(self, count):
+        self.part(f"reserved/{count}", lambda: Writer.reserved(self, count))
+
+    def units_head(self, data):
+        self.part(f"units_head/{compact(data)}", lambda: Writer.head(self, data))
+
+    def bytes_head(self, data):
+        self.part(f"bytes_head/{compact(data)}", lambda: Writer.head(self, data))
+
+    def units(self, data):
+        self.part(f"units/{compact(data)}", lambda: Writer.units(self, data))
+
+    def bytes(self, data):
+        self.part(f"bytes/{compact(data)}", lambda: Writer.bytes(self, data))
 
 
 # Refused items worked out by hand: the bytes in front, the step, the stub, and the refusal with the place where the item begins.
@@ -207,7 +342,8 @@ REFUSED = [
     (0, ("sid",), "01000000020100000000000501000000", "BadCount(0)"),
     (0, ("sid",), "01000000010200000000000501000000", "BadCount(0)"),
     (0, ("sid",), "000000000100000000000005", "BadCount(0)"),
-    (0, ("sid",), "10000000011000000000000500000000000000000000000000000000000000000000000000000000000000000000000000000000000000000000000000000000000000000000000000000000", "BadCount(0)"),
+    (0, ("sid",),
+     "10000000011000000000000500000000000000000000000000000000000000000000000000000000000000000000000000000000000000000000000000000000000000000000000000000000", "BadCount(0)"),
     (0, ("counted", 3), "0100000000000000010000004100", "BadCount(0)"),
 ]
 
@@ -226,7 +362,7 @@ def do(target, step):
 
 def read_case(stub, todo):
     """The steps one after the other. A refusal leaves the reader where it stood, and the next step is tried there."""
-    reader = Reader(stub)
+    reader = PartReader(stub)
     for step in todo:
         try:
             do(reader, step)
@@ -236,7 +372,7 @@ def read_case(stub, todo):
 
 
 def write_case(todo):
-    writer = Writer()
+    writer = PartWriter()
     for step in todo:
         do(writer, step)
     return writer.case()
@@ -250,9 +386,13 @@ SID = (5, [21, 1, 2, 3])
 
 # Steps of a reader for what a writer's step put.
 READ_BACK = {
-    "byte": lambda step: ("byte",), "short": lambda step: ("short",), "long": lambda step: ("long",), "pointer": lambda step: ("pointer",), "text": lambda step: ("text",),
+    "byte": lambda step: ("byte",), "short": lambda step: ("short",), "long": lambda step: ("long",), "pointer": lambda step: ("pointer",),
+    "text": lambda step: ("text",),
     "sid": lambda step: ("sid",), "raw": lambda step: ("take", len(step[1])), "counted": lambda step: ("counted", len(step[1])),
-    "counted_bytes": lambda step: ("counted_bytes", len(step[1])),
+    "counted_bytes": lambda step: ("counted_bytes", len(step[1])), "unique_text": lambda step: ("unique_text",),
+    "halves": lambda step: ("halves",),
+    "reserved": lambda step: ("reserved", step[1]), "units_head": lambda step: ("head", 2), "bytes_head": lambda step: ("head", 1),
+    "units": lambda step: ("units", len(step[1]), bool(step[1])), "bytes": lambda step: ("bytes", len(step[1]), bool(step[1])),
 }
 
 
@@ -294,7 +434,8 @@ def worked_cases():
 def alignment_cases():
     """Each item behind 0 to 4 bytes, written, read back, read with other padding, and cut before its last byte."""
     out = []
-    every = [("byte", 7), ("short", 0x1234), ("long", 0x12345678), ("raw", b"\1\2\3"), ("pointer", True), ("pointer", False), ("text", utf16("AB")), ("text", b""), ("counted", utf16("AB")),
+    every = [("byte", 7), ("short", 0x1234), ("long", 0x12345678), ("raw", b"\1\2\3"), ("pointer", True), ("pointer", False),
+             ("text", utf16("AB")), ("text", b""), ("counted", utf16("AB")),
              ("counted", b""), ("counted_bytes", b"xyz"), ("counted_bytes", b""), ("sid", SID)]
     for front in range(5):
         for step in every:
@@ -302,7 +443,9 @@ def alignment_cases():
             out += both_cases(todo)
             stub = written(todo)
             seek = ("take", front)
-            pad = len(written([("raw", b"\x41" * front), ("long", 0)])) - 4 - front if step[0] in ("long", "pointer", "text", "counted", "counted_bytes", "sid") else front % 2 if step[0] == "short" else 0
+            pad = len(written([("raw", b"\x41" * front),
+                               ("long", 0)])) - 4 - front if step[0] in ("long", "pointer", "text", "counted", "counted_bytes",
+                                                                         "sid") else front % 2 if step[0] == "short" else 0
             if pad:
                 out.append(read_case(changed(stub, front, b"\xff" * pad), [seek, READ_BACK[step[0]](step), ("byte",)]))
             out.append(read_case(stub[:-1], [seek, READ_BACK[step[0]](step), ("byte",)]))
@@ -313,7 +456,8 @@ def alignment_cases():
 def cut_cases():
     """Each item cut at each of its bytes."""
     out = []
-    for step in [("short", 0x1234), ("long", 0x12345678), ("pointer", True), ("raw", b"\1\2\3"), ("text", utf16("AB")), ("counted", utf16("AB")), ("counted_bytes", b"xyz"), ("sid", SID)]:
+    for step in [("short", 0x1234), ("long", 0x12345678), ("pointer", True), ("raw", b"\1\2\3"), ("text", utf16("AB")),
+                 ("counted", utf16("AB")), ("counted_bytes", b"xyz"), ("sid", SID)]:
         for front in (0, 2):
             stub = written([("raw", b"\x41" * front), step])
             for size in range(front, len(stub)):
@@ -341,7 +485,8 @@ def array_cases():
     # the last unit of a text
     for last in (b"\x00\x00", b"\x01\x00", b"\x00\x01", b"\xff\xff"):
         out.append(read_case(le(2, 4) + le(0, 4) + le(2, 4) + utf16("A") + last, [("text",)]))
-        out.append(read_case(b"\xff\xff" + bytes(2) + le(3, 4) + le(0, 4) + le(3, 4) + utf16("A") + last + b"\0\0", [("take", 2), ("text",)]))
+        out.append(read_case(b"\xff\xff" + bytes(2) + le(3, 4) + le(0, 4) + le(3, 4) + utf16("A") + last + b"\0\0",
+                             [("take", 2), ("text",)]))
     # a zero in the middle is part of the text
     out.append(read_case(le(4, 4) + le(0, 4) + le(4, 4) + utf16("A\0B\0"), [("text",)]))
     out.append(read_case(le(1, 4) + le(0, 4) + le(1, 4) + utf16("\0"), [("text",)]))
@@ -357,7 +502,8 @@ def sid_cases():
             out.append(read_case(le(count, 4) + bytes([1, inner]) + bytes(5) + b"\x05" + room, [("sid",), ("byte",)]))
     for revision in (0, 1, 2, 255):
         out.append(read_case(le(1, 4) + bytes([revision, 1]) + bytes(5) + b"\x05" + room, [("sid",)]))
-    for sid in ((0, [0]), (2**48 - 1, [2**32 - 1]), (5, [32, 544]), (5, [21, 3442127797, 2314043094, 1691266673]), (0x010203040506, list(range(15)))):
+    for sid in ((0, [0]), (2**48 - 1, [2**32 - 1]), (5, [32, 544]), (5, [21, 3442127797, 2314043094, 1691266673]),
+                (0x010203040506, list(range(15)))):
         out += both_cases([("sid", sid)])
         out += both_cases([("byte", 1), ("sid", sid), ("sid", sid)])
     return out
@@ -373,10 +519,12 @@ def number_cases():
     for value in (0, 1, 0xFF, 0xFF000000, 2**31, 2**32 - 1):
         out += both_cases([("long", value), ("byte", 1), ("long", value)])
         out.append(read_case(le(value, 4), [("pointer",), ("pointer",)]))
-    out += both_cases([("pointer", True), ("pointer", False), ("pointer", True), ("pointer", True), ("pointer", False), ("byte", 1), ("pointer", True)])
+    out += both_cases([("pointer", True), ("pointer", False), ("pointer", True), ("pointer", True), ("pointer", False), ("byte", 1),
+                       ("pointer", True)])
     out.append(write_case([("pointer", True)] * 100))
     out.append(write_case([]))
-    out.append(read_case(b"", [("byte",), ("short",), ("long",), ("pointer",), ("text",), ("counted", 0), ("counted_bytes", 0), ("sid",), ("take", 0), ("take", 1)]))
+    out.append(read_case(b"", [("byte",), ("short",), ("long",), ("pointer",), ("text",), ("counted", 0), ("counted_bytes", 0), ("sid",),
+                               ("take", 0), ("take", 1)]))
     out.append(read_case(b"\1\2\3", [("long",), ("short",), ("long",), ("short",), ("byte",), ("byte",), ("take", 0)]))
     out.append(read_case(bytes(range(16)), [("take", 17), ("take", 2**32), ("take", 2**63), ("take", 2**64 - 1), ("take", 16), ("byte",)]))
     out.append(read_case(bytes(range(16)), [("byte",), ("short",), ("long",), ("byte",), ("long",), ("byte",)]))
@@ -389,6 +537,51 @@ def number_cases():
     return out
 
 
+def part_cases():
+    """Parts of several items: each written and read back behind 0 to 4 bytes, cut at each byte, and refused."""
+    out = []
+    every = [("unique_text", None), ("unique_text", b""), ("unique_text", utf16("PDC")), ("halves", 0), ("halves", 0x0123456789ABCDEF),
+             ("halves", 2**64 - 1), ("reserved", 0), ("reserved", 1),
+             ("reserved", 10), ("units_head", b""), ("units_head", utf16("AB")), ("bytes_head", b""), ("bytes_head", b"xyz"),
+             ("units", b""), ("units", utf16("AB")), ("bytes", b""), ("bytes", b"xyz")]
+    for step in every:
+        for front in range(5):
+            out += both_cases([("raw", b"\x41" * front), step])
+        stub = written([("raw", b"\x41\x41"), step])
+        for size in range(2, len(stub)):
+            out.append(read_case(stub[:size], [("take", 2), READ_BACK[step[0]](step), ("byte",)]))
+    out += both_cases([("units_head", utf16("AB")), ("bytes_head", b"xyz"), ("halves", 7), ("unique_text", utf16("C")), ("units_head", b""),
+                       ("units", utf16("AB")), ("bytes", b"xyz"), ("units", b"")])
+    # pointers that may not be null
+    for front in (0, 1, 3, 4):
+        for referent in (0, 1, 0x20000, 2**31, 2**32 - 1):
+            out.append(read_case(b"\x41" * front + bytes(-front % 4) + le(referent, 4), [("take", front), ("some_pointer",), ("byte",)]))
+    # heads: whole items, at most the maximum, and nothing where nothing is pointed to
+    for size in (1, 2, 4):
+        for length in (0, 1, 2, 3, 4, 65534, 65535):
+            for maximum in sorted({0, max(length - 1, 0), length, min(length + 1, 65535), 65535}):
+                for referent in (0, 1):
+                    if size != 2 and maximum not in (length, 65535):
+                        continue
+                    out.append(read_case(le(length, 2) + le(maximum, 2) + le(referent, 4) + b"\x99", [("head", size), ("byte",)]))
+    out.append(read_case(b"\x41" * 2 + le(3, 2) + le(4, 2) + bytes(2) + le(7, 4), [("take", 2), ("head", 2), ("long",)]))
+    out.append(read_case(b"\x41" + b"\xff" + le(4, 2) * 2 + b"\xff\xff" + le(7, 4), [("byte",), ("head", 2), ("byte",)]))
+    # targets of another length than their head's
+    data = le(3, 4) + le(0, 4) + le(2, 4) + utf16("AB") + b"\x99"
+    for length in (0, 2, 3, 4, 5, 6):
+        for there in (False, True):
+            out.append(read_case(data, [("units", length, there), ("byte",)]))
+            out.append(read_case(data, [("bytes", length, there), ("byte",)]))
+    # texts behind a pointer
+    for referent in (0, 1, 0x20000):
+        out.append(read_case(le(referent, 4) + le(2, 4) + le(0, 4) + le(2, 4) + utf16("A") + bytes(2) + b"\x99",
+                             [("unique_text",), ("byte",)]))
+    out.append(read_case(le(1, 4) + le(2, 4) + le(1, 4) + le(2, 4) + utf16("A") + bytes(2), [("unique_text",), ("long",)]))
+    out.append(read_case(le(1, 4) + le(2, 4) + le(0, 4) + le(2, 4) + utf16("AB"), [("unique_text",), ("long",)]))
+    out.append(read_case(b"\xff" * 44, [("reserved", 10), ("reserved", 1), ("reserved", 1), ("reserved", 0)]))
+    return out
+
+
 def random_cases():
     """Items in random order; the random numbers are Python's for this seed."""
     draw = random.Random(2010)
@@ -397,9 +590,12 @@ def random_cases():
         todo = []
         for _ in range(draw.randrange(1, 10)):
             todo.append(draw.choice([
-                ("byte", draw.randrange(256)), ("short", draw.randrange(2**16)), ("long", draw.randrange(2**32)), ("pointer", draw.random() < 0.7),
-                ("raw", draw.randbytes(draw.randrange(6))), ("text", utf16("abcdefgh"[:draw.randrange(8)])), ("counted", draw.randbytes(2 * draw.randrange(5))),
-                ("counted_bytes", draw.randbytes(draw.randrange(9))), ("sid", (draw.randrange(2**48), [draw.randrange(2**32) for _ in range(draw.randrange(1, 5))])),
+                ("byte", draw.randrange(256)), ("short", draw.randrange(2**16)), ("long", draw.randrange(2**32)),
+                ("pointer", draw.random() < 0.7),
+                ("raw", draw.randbytes(draw.randrange(6))), ("text", utf16("abcdefgh"[:draw.randrange(8)])),
+                ("counted", draw.randbytes(2 * draw.randrange(5))),
+                ("counted_bytes", draw.randbytes(draw.randrange(9))),
+                ("sid", (draw.randrange(2**48), [draw.randrange(2**32) for _ in range(draw.randrange(1, 5))])),
             ]))
         out += both_cases(todo)
         stub = written(todo)
@@ -411,4 +607,4 @@ def random_cases():
 
 def cases():
     """Each line and its answer."""
-    return foreign_cases() + worked_cases() + alignment_cases() + cut_cases() + array_cases() + sid_cases() + number_cases() + random_cases()
+    return foreign_cases() + worked_cases() + alignment_cases() + cut_cases() + array_cases() + sid_cases() + number_cases() + part_cases() + random_cases()

@@ -26,7 +26,8 @@ UNICODE, DOMAIN_SUPPLIED, WORKSTATION_SUPPLIED, VERSION = 0x1, 0x1000, 0x2000, 0
 KINDS = {
     "negotiate": (1, 16, 12, [("Domain", 16), ("Workstation", 24)], []),
     "challenge": (2, 48, 20, [("Target", 12), ("Info", 40)], ["Target"]),
-    "authenticate": (3, 64, 60, [("Lm", 12), ("Nt", 20), ("Domain", 28), ("User", 36), ("Workstation", 44), ("Key", 52)], ["Domain", "User", "Workstation"]),
+    "authenticate": (3, 64, 60, [("Lm", 12), ("Nt", 20), ("Domain", 28), ("User", 36), ("Workstation", 44), ("Key", 52)],
+                     ["Domain", "User", "Workstation"]),
 }
 # The payload's order in the written form.
 ORDER = {
@@ -110,8 +111,10 @@ def shown(kind, found, view=False):
     if kind == "negotiate":
         return struct(name, flags=found["flags"], domain=part(found["Domain"]), workstation=part(found["Workstation"]), version=version)
     if kind == "challenge":
-        return struct(name, flags=found["flags"], target=part(found["Target"]), challenge=lent(found["challenge"]), info=part(found["Info"]), version=version)
-    return struct(name, flags=found["flags"], lm=part(found["Lm"]), nt=part(found["Nt"]), domain=part(found["Domain"]), user=part(found["User"]),
+        return struct(name, flags=found["flags"], target=part(found["Target"]), challenge=lent(found["challenge"]),
+                      info=part(found["Info"]), version=version)
+    return struct(name, flags=found["flags"], lm=part(found["Lm"]), nt=part(found["Nt"]), domain=part(found["Domain"]),
+                  user=part(found["User"]),
                   workstation=part(found["Workstation"]), key=part(found["Key"]), version=version, mic=option(found["mic"], lent))
 
 
@@ -160,7 +163,8 @@ def foreign_cases():
 # An NTLMv1 AUTHENTICATE of domain `Domain`, user `User` and workstation `COMPUTER`, without an LM response: the NT response is that of MS-NLMP
 # 4.2.2.2.1.
 NTLMV1 = write("authenticate", {
-    "flags": 0x8201, "Lm": b"", "Nt": bytes.fromhex("67c43011f30298a2ad35ece64f16331c44bdbed927841f94"), "Domain": "Domain".encode("utf-16-le"),
+    "flags": 0x8201, "Lm": b"", "Nt": bytes.fromhex("67c43011f30298a2ad35ece64f16331c44bdbed927841f94"),
+    "Domain": "Domain".encode("utf-16-le"),
     "User": "User".encode("utf-16-le"), "Workstation": "COMPUTER".encode("utf-16-le"), "Key": b"", "version": None, "mic": None,
 })
 # A NEGOTIATE that ends behind its flags, as old clients send it.
@@ -179,15 +183,29 @@ REFUSED = [
     ("challenge", "4e544c4d53535000020000000000000030000000058200000000000000000000000000000000000000000000300000", "ShortHeader"),
     ("challenge", "4e544c4d5353510002000000000000003000000005820000000000000000000000000000000000000000000030000000", "BadSignature"),
     ("challenge", "4e544c4d5353500003000000000000003000000005820000000000000000000000000000000000000000000030000000", "BadType(3)"),
-    ("challenge", "4e544c4d5353500002000000020002002f00000005820000000000000000000000000000000000000000000030000000", "FieldOutside(Target)"),
-    ("challenge", "4e544c4d535350000200000000000000300000000582000000000000000000000000000000000000020002003000000000", "FieldOutside(Info)"),
+    ("challenge", "4e544c4d5353500002000000020002002f00000005820000000000000000000000000000000000000000000030000000",
+     "FieldOutside(Target)"),
+    ("challenge", "4e544c4d535350000200000000000000300000000582000000000000000000000000000000000000020002003000000000",
+     "FieldOutside(Info)"),
     ("challenge", "4e544c4d535350000200000001000100300000000582000000000000000000000000000000000000000000003000000000", "OddText(Target)"),
-    ("authenticate", "4e544c4d5353500003000000000000004000000000000000400000000000000040000000000000004000000000000000400000000000000040000000058200", "ShortHeader"),
-    ("authenticate", "4e544c4d535351000300000000000000400000000000000040000000000000004000000000000000400000000000000040000000000000004000000005820000", "BadSignature"),
-    ("authenticate", "4e544c4d535350000100000000000000400000000000000040000000000000004000000000000000400000000000000040000000000000004000000005820000", "BadType(1)"),
-    ("authenticate", "4e544c4d5353500003000000010001003f0000000000000040000000000000004000000000000000400000000000000040000000010001004000000005820000", "FieldOutside(Lm)"),
-    ("authenticate", "4e544c4d53535000030000000000000040000000000000004000000000000000400000000000000040000000000000004000000002000200400000000582000000", "FieldOutside(Key)"),
-    ("authenticate", "4e544c4d53535000030000000000000040000000000000004000000000000000400000000100010040000000000000004000000000000000400000000582000000", "OddText(User)"),
+    ("authenticate",
+     "4e544c4d5353500003000000000000004000000000000000400000000000000040000000000000004000000000000000400000000000000040000000058200",
+     "ShortHeader"),
+    ("authenticate",
+     "4e544c4d535351000300000000000000400000000000000040000000000000004000000000000000400000000000000040000000000000004000000005820000",
+     "BadSignature"),
+    ("authenticate",
+     "4e544c4d535350000100000000000000400000000000000040000000000000004000000000000000400000000000000040000000000000004000000005820000",
+     "BadType(1)"),
+    ("authenticate",
+     "4e544c4d5353500003000000010001003f0000000000000040000000000000004000000000000000400000000000000040000000010001004000000005820000",
+     "FieldOutside(Lm)"),
+    ("authenticate",
+     "4e544c4d53535000030000000000000040000000000000004000000000000000400000000000000040000000000000004000000002000200400000000582000000",
+     "FieldOutside(Key)"),
+    ("authenticate",
+     "4e544c4d53535000030000000000000040000000000000004000000000000000400000000100010040000000000000004000000000000000400000000582000000",
+     "OddText(User)"),
 ]
 
 
@@ -198,9 +216,11 @@ def base_messages(kind):
         names = {"flags": 0x02003201, "Domain": b"CORP", "Workstation": b"WS7", "version": bytes.fromhex("0601b11d0000000f")}
         return [SHORT_NEGOTIATE, write(kind, names), write(kind, dict(names, flags=0x3201, version=None)), foreign[7]]
     if kind == "challenge":
-        plain = {"flags": 0x8205, "Target": "CORP".encode("utf-16-le"), "challenge": bytes(range(1, 9)), "Info": bytes.fromhex("0200040041004200") + bytes(4), "version": None}
+        plain = {"flags": 0x8205, "Target": "CORP".encode("utf-16-le"), "challenge": bytes(range(1, 9)),
+                 "Info": bytes.fromhex("0200040041004200") + bytes(4), "version": None}
         return [write(kind, plain), write(kind, dict(plain, flags=0x02008205, version=bytes.fromhex("0601b11d0000000f"))), TURNED_CHALLENGE]
-    plain = {"flags": 0x02008201, "Lm": b"\x11" * 24, "Nt": b"\x22" * 24, "Domain": b"C\0", "User": b"a\0n\0", "Workstation": b"W\0S\0", "Key": b"\x33" * 16,
+    plain = {"flags": 0x02008201, "Lm": b"\x11" * 24, "Nt": b"\x22" * 24, "Domain": b"C\0", "User": b"a\0n\0", "Workstation": b"W\0S\0",
+             "Key": b"\x33" * 16,
              "version": bytes.fromhex("0601b11d0000000f"), "mic": bytes(range(0x40, 0x50))}
     return [NTLMV1, write(kind, plain), write(kind, dict(plain, mic=None))]
 
@@ -213,7 +233,8 @@ def changed_messages(kind):
     for number, data in enumerate(base_messages(kind)):
         out.append(data)
         # cut short, and longer
-        for count in sorted({0, 1, 7, 8, 11, 12, least - 1, least, size - 1, size, size + 7, size + 8, size + 23, size + 24, len(data) - 1, len(data) - 2}):
+        for count in sorted({0, 1, 7, 8, 11, 12, least - 1, least, size - 1, size, size + 7, size + 8, size + 23, size + 24, len(data) - 1,
+                             len(data) - 2}):
             if 0 <= count < len(data):
                 out.append(data[:count])
         out.append(data + b"\xee")
@@ -226,7 +247,8 @@ def changed_messages(kind):
         out.append(flipped(changed(data, 8, le(9, 4)), 0, 1))
         # flags of texts, of names and of the version
         if len(data) >= flags_at + 4:
-            for flag in (UNICODE, 2, DOMAIN_SUPPLIED, WORKSTATION_SUPPLIED, DOMAIN_SUPPLIED | WORKSTATION_SUPPLIED, VERSION, VERSION | UNICODE):
+            for flag in (UNICODE, 2, DOMAIN_SUPPLIED, WORKSTATION_SUPPLIED, DOMAIN_SUPPLIED | WORKSTATION_SUPPLIED, VERSION,
+                         VERSION | UNICODE):
                 out.append(changed(data, flags_at, le(long(data, flags_at) ^ flag, 4)))
             out.append(changed(data, flags_at, le(0, 4)))
             out.append(changed(data, flags_at, le(2**32 - 1, 4)))
@@ -240,7 +262,8 @@ def changed_messages(kind):
             out.append(changed(data, at + 2, le(0xABCD, 2)))
             out.append(changed(data, at + 2, le(0, 2)))
             last = len(data) - count
-            for place in sorted({0, size - 1, size, size + 7, size + 8, size + 23, size + 24, max(last, 0), last + 1, len(data), 2**32 - 1, 2**32 - count}):
+            for place in sorted({0, size - 1, size, size + 7, size + 8, size + 23, size + 24, max(last, 0), last + 1, len(data), 2**32 - 1,
+                                 2**32 - count}):
                 out.append(changed(data, at + 4, le(place % 2**32, 4)))
             # an empty field's offset is free
             for place in (0, 2**32 - 1):
@@ -301,7 +324,8 @@ def change_cases():
 def odd_cases():
     """Texts of odd length: the first of domain, user and workstation is named where texts are UTF-16LE; responses and keys may have any length."""
     out = []
-    plain = {"flags": 0x8201, "Lm": b"l", "Nt": b"n", "Domain": b"", "User": b"", "Workstation": b"", "Key": b"k", "version": None, "mic": None}
+    plain = {"flags": 0x8201, "Lm": b"l", "Nt": b"n", "Domain": b"", "User": b"", "Workstation": b"", "Key": b"k", "version": None,
+             "mic": None}
     for flags in (0x8201, 0x8202, 0x8200, 0x8203):
         for domain in (b"", b"d", b"do"):
             for user in (b"", b"u", b"us"):
@@ -400,7 +424,8 @@ def write_cases():
     for flags in (0, UNICODE, VERSION, VERSION | UNICODE, 2**32 - 1):
         for there, code in ((None, None), (version, None), (version, mic), (None, mic)):
             out.append(write_case("authenticate", dict(last, flags=flags, version=there, mic=code)))
-            out.append(write_case("authenticate", dict(last, flags=flags, Lm=b"l", Nt=b"nt", Domain=b"do", User=b"user", Workstation=b"work", Key=b"key", version=there, mic=code)))
+            out.append(write_case("authenticate", dict(last, flags=flags, Lm=b"l", Nt=b"nt", Domain=b"do", User=b"user",
+                                                       Workstation=b"work", Key=b"key", version=there, mic=code)))
         for name in ("Lm", "Nt", "Domain", "User", "Workstation", "Key"):
             out.append(write_case("authenticate", dict(last, **{"flags": flags, name: b"odd"})))
             out.append(write_case("authenticate", dict(last, **{"flags": flags, name: b"even"})))
@@ -467,7 +492,8 @@ def pair_cases():
             assert read_pairs(bytes.fromhex(info)) == published_pairs, case["name"]
         add(bytes.fromhex(info))
     server = write_pairs([(2, "Domain".encode("utf-16-le")), (1, "Server".encode("utf-16-le"))])
-    every = write_pairs([(1, b"S\0"), (2, b"D\0"), (3, b"s\0.\0"), (4, b""), (5, b"f"), (6, b"\2\0\0\0"), (7, bytes(range(8))), (8, b"xyz"), (9, b"t\0"), (10, bytes(16)), (0xFFFF, b"?")])
+    every = write_pairs([(1, b"S\0"), (2, b"D\0"), (3, b"s\0.\0"), (4, b""), (5, b"f"), (6, b"\2\0\0\0"), (7, bytes(range(8))), (8, b"xyz"),
+                         (9, b"t\0"), (10, bytes(16)), (0xFFFF, b"?")])
     for data in (server, every):
         for count in range(len(data) + 1):
             add(data[:count])
@@ -483,10 +509,12 @@ def pair_cases():
     add(le(1, 2) + le(65535, 2) + b"\x55" * 65535 + bytes(4))
     add(le(1, 2) + le(65535, 2) + b"\x55" * 65534)
     out = [case for case in out if len(case[1]) < 100000] + [
-        (line("messages.pairs_again", compact(le(1, 2) + le(65535, 2) + b"\x55" * 65535 + bytes(4))), compact(le(1, 2) + le(65535, 2) + b"\x55" * 65535 + bytes(4)))]
+        (line("messages.pairs_again", compact(le(1, 2) + le(65535, 2) + b"\x55" * 65535 + bytes(4))),
+         compact(le(1, 2) + le(65535, 2) + b"\x55" * 65535 + bytes(4)))]
     for pairs in ([], [(2, b"D\0"), (1, b"S\0")], [(1, b"")], [(6, bytes(4)), (7, bytes(8))], [(0xFFFF, b"last")], [(1, b"\x66" * 65535)]):
         out.append((line("messages.pairs_of", *[f"{kind}={compact(value)}" for kind, value in pairs]), compact(write_pairs(pairs))))
-    for pairs in ([(0, b"")], [(0, b"x")], [(6, b"")], [(6, bytes(5))], [(7, bytes(4))], [(7, bytes(9))], [(1, b"\x66" * 65536)], [(2, b"D\0"), (0, b"")]):
+    for pairs in ([(0, b"")], [(0, b"x")], [(6, b"")], [(6, bytes(5))], [(7, bytes(4))], [(7, bytes(9))], [(1, b"\x66" * 65536)],
+                  [(2, b"D\0"), (0, b"")]):
         out.append((line("messages.pairs_of", *[f"{kind}={compact(value)}" for kind, value in pairs]), "not to be written"))
     return out
 
@@ -509,7 +537,8 @@ def value_cases():
             assert read_pairs(data) == [(kind, bytes.fromhex(value)) for kind, value in case["fields"]["pairs"]]
             add(data, (0, 1, 2, 3, 4, 6, 7, 9))
     top = b"\xff" * 8
-    for pairs in ([], [(7, bytes(8))], [(7, top)], [(7, bytes(7) + b"\x80")], [(7, bytes(range(8))), (7, top)], [(1, b"a"), (1, b"b")], [(1, b""), (1, b"b")], [(6, bytes(4)), (7, top)], [(0xFFFF, b"z"), (7, bytes(range(8)))]):
+    for pairs in ([], [(7, bytes(8))], [(7, top)], [(7, bytes(7) + b"\x80")], [(7, bytes(range(8))), (7, top)], [(1, b"a"), (1, b"b")],
+                  [(1, b""), (1, b"b")], [(6, bytes(4)), (7, top)], [(0xFFFF, b"z"), (7, bytes(range(8)))]):
         add(write_pairs(pairs), (0, 1, 6, 7, 0xFFFF))
     return out
 
@@ -517,7 +546,8 @@ def value_cases():
 def text_cases():
     out = []
     for flags in (UNICODE, 2, 0, UNICODE | 2, 0x62898235, 0x62898234, 2**32 - 1, 2**32 - 2):
-        for data in (b"", b"D", b"D\0", b"D\0\xe9", b"D\0\xe9\x20", bytes(range(0xF0, 0x100)), "Ünïcode €".encode("utf-16-le"), "x\U0001F600".encode("utf-16-le")):
+        for data in (b"", b"D", b"D\0", b"D\0\xe9", b"D\0\xe9\x20", bytes(range(0xF0, 0x100)), "Ünïcode €".encode("utf-16-le"),
+                     "x\U0001F600".encode("utf-16-le")):
             if not flags & UNICODE:
                 answer = ok(units_of(bytes(byte for one in data for byte in (one, 0)).hex()))
             else:

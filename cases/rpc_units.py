@@ -221,7 +221,8 @@ def shown(unit, view=False):
     if unit["trailer"] is not None:
         kind, level, context, value = unit["trailer"]
         trailer = struct("Trailer" + tail, kind=kind, level=level, context=context, value=part(value))
-    return struct("Unit" + tail, first=truth(unit["first"]), last=truth(unit["last"]), call=unit["call"], body=body_shown(unit, view), trailer=option(trailer))
+    return struct("Unit" + tail, first=truth(unit["first"]), last=truth(unit["last"]), call=unit["call"], body=body_shown(unit, view),
+                  trailer=option(trailer))
 
 
 def repeated(parts):
@@ -249,7 +250,8 @@ def word_of(unit):
     if kind in (BIND, ACK):
         words += [unit["send"], unit["receive"], unit["group"]]
         if kind == BIND:
-            words.append(repeated(["/".join([str(c[0]), syntax_word(c[1])] + [part for part in [transfers_word(c[2])] if part]) for c in unit["contexts"]]))
+            words.append(repeated(["/".join([str(c[0]), syntax_word(c[1])] + [part for part in [transfers_word(c[2])] if part])
+                                   for c in unit["contexts"]]))
         else:
             words.append(repeated([f"{r[0]}/{r[1]}/{syntax_word(r[2])}" for r in unit["results"]]))
     elif kind == NAK:
@@ -276,12 +278,14 @@ def transfers_word(transfers):
 
 
 def request(stub, first=True, last=True, call=2, hint=None, context=0, opnum=4, trailer=None):
-    return {"kind": REQUEST, "first": first, "last": last, "call": call, "trailer": trailer, "hint": len(stub) if hint is None else hint, "context": context,
+    return {"kind": REQUEST, "first": first, "last": last, "call": call, "trailer": trailer, "hint": len(stub) if hint is None else hint,
+            "context": context,
             "opnum": opnum, "stub": stub}
 
 
 def response(stub, first=True, last=True, call=2, hint=None, context=0, trailer=None):
-    return {"kind": RESPONSE, "first": first, "last": last, "call": call, "trailer": trailer, "hint": len(stub) if hint is None else hint, "context": context,
+    return {"kind": RESPONSE, "first": first, "last": last, "call": call, "trailer": trailer, "hint": len(stub) if hint is None else hint,
+            "context": context,
             "stub": stub}
 
 
@@ -329,19 +333,26 @@ REFUSED = [
     ("big-endian, and another length", "05000303000000000f0000000300000018000000000000000500000000000000", "BadRepresentation"),
     ("a fragment length of 15", "05000303100000000f0000000300000018000000000000000500000000000000", "BadLength"),
     ("a fragment length of 5,841", "0500030310000000d11600000300000018000000000000000500000000000000", "BadLength"),
-    ("a fragment length of one byte less, and another type", "05000103100000001f0000000300000018000000000000000500000000000000", "BadLength"),
+    ("a fragment length of one byte less, and another type", "05000103100000001f0000000300000018000000000000000500000000000000",
+     "BadLength"),
     ("another type, and a trailer that doesn't fit", "0500010310000000200001000300000018000000000000000500000000000000", "BadType(1)"),
     ("a trailer that doesn't fit, without FIRST", "0500030210000000200001000300000018000000000000000500000000000000", "BadTrailer"),
-    ("a padding of 17 bytes where 16 are", "050002031000000040001000030000000c00000000000000749bab4c4a905ffc04e18a0ba058d6e10a061100010000000100000048f01ad3b5e0db6100000000", "BadTrailer"),
+    ("a padding of 17 bytes where 16 are",
+     "050002031000000040001000030000000c00000000000000749bab4c4a905ffc04e18a0ba058d6e10a061100010000000100000048f01ad3b5e0db6100000000",
+     "BadTrailer"),
     ("a body cut short", "050002031000000017000000020000000c000000000000", "BadBody"),
-    ("a bind without its last byte", "05000b03100000004700000001000000d016d016000000000100000000000100785634123412cdabef0001234567cffb01000000045d888aeb1cc9119fe808002b104860020000", "BadBody"),
-    ("a bind_ack without its last byte", "05000c03100000004f00000001000000d016d016935a0000000000000200000000000000045d888aeb1cc9119fe808002b104860020000000300030000000000000000000000000000000000000000", "BadBody"),
+    ("a bind without its last byte",
+     "05000b03100000004700000001000000d016d016000000000100000000000100785634123412cdabef0001234567cffb01000000045d888aeb1cc9119fe808002b104860020000", "BadBody"),
+    ("a bind_ack without its last byte",
+     "05000c03100000004f00000001000000d016d016935a0000000000000200000000000000045d888aeb1cc9119fe808002b104860020000000300030000000000000000000000000000000000000000", "BadBody"),
     ("a bind_nak without its reason", "05000d0310000000110000000100000008", "BadBody"),
     ("a fault without its last byte", "05000303100000001f00000003000000180000000000000005000000000000", "BadBody"),
     ("an auth3 of 5 bytes", "050010031000000015000000020000000000000000", "BadBody"),
-    ("a request with an object", "050000831000000054000000020000003c00000000000400000002000600000000000000060000005c005c005000440043000000060000000000000006000000460049004c004500310000000079c388648359dc", "BadBody"),
+    ("a request with an object",
+     "050000831000000054000000020000003c00000000000400000002000600000000000000060000005c005c005000440043000000060000000000000006000000460049004c004500310000000079c388648359dc", "BadBody"),
     ("a fault without LAST", "0500030110000000200000000300000018000000000000000500000000000000", "BadBody"),
-    ("a bind without FIRST", "05000b02100000004800000001000000d016d016000000000100000000000100785634123412cdabef0001234567cffb01000000045d888aeb1cc9119fe808002b10486002000000", "BadBody"),
+    ("a bind without FIRST",
+     "05000b02100000004800000001000000d016d016000000000100000000000100785634123412cdabef0001234567cffb01000000045d888aeb1cc9119fe808002b10486002000000", "BadBody"),
 ]
 
 
@@ -419,7 +430,8 @@ def foreign_cases():
         found = read(data)
         found.pop("list", None)
         assert found == unit, case["name"]
-        out += [(line("units.read", compact(data)), ok(shown(unit))), view_case(data), range_case(data), again_case(data), again_case(write(unit)), of_case(unit)]
+        out += [(line("units.read", compact(data)), ok(shown(unit))), view_case(data), range_case(data), again_case(data),
+                again_case(write(unit)), of_case(unit)]
         if len(data) < 400:
             out.append((line("units.value", compact(data), VALUE[3]), compact(data[:-16] + VALUE[3])))
     for session in values("units")["sessions"]:
@@ -493,7 +505,8 @@ def changed_units():
         # a trailer that doesn't fit before a body that is bad
         out.append(changed(changed(data, 10, le(65535, 2)), 3, b"\x80"))
         # cut short and longer, with the length that is told
-        for size in sorted({16, 17, 16 + SHORTEST[kind] - 1, 16 + SHORTEST[kind], 16 + SHORTEST[kind] + 1, len(data) - 4, len(data) - 2, len(data) - 1, len(data) + 1, len(data) + 4}):
+        for size in sorted({16, 17, 16 + SHORTEST[kind] - 1, 16 + SHORTEST[kind], 16 + SHORTEST[kind] + 1, len(data) - 4, len(data) - 2,
+                            len(data) - 1, len(data) + 1, len(data) + 4}):
             if size >= 16:
                 piece = (data + b"\xee" * 4)[:size]
                 out.append(changed(piece, 8, le(len(piece), 2)))
@@ -569,7 +582,8 @@ def list_cases():
     add(unit_bytes(ACK, body + b"more"))
     for address in (6, 7, 48, 54, 55, 56, 255, 65535):
         add(unit_bytes(ACK, changed(body, 8, le(address, 2))))
-    for kind, body in ((NAK, le(4, 2) + b"\x01\x05\x00"), (AUTH3, b"\x11\x22\x33\x44"), (FAULT, le(24, 4) + le(1, 2) + b"\xc0\xc1" + le(5, 4) + b"\xd0\xd1\xd2\xd3"),
+    for kind, body in ((NAK, le(4, 2) + b"\x01\x05\x00"), (AUTH3, b"\x11\x22\x33\x44"),
+                       (FAULT, le(24, 4) + le(1, 2) + b"\xc0\xc1" + le(5, 4) + b"\xd0\xd1\xd2\xd3"),
                        (REQUEST, le(0, 4) + le(1, 2) + le(65535, 2)), (RESPONSE, le(0, 4) + le(1, 2) + b"\xc0\xc1")):
         for size in range(len(body) + 1):
             out.append(read_case(unit_bytes(kind, body[:size])))
@@ -608,7 +622,8 @@ def limit_cases():
         out.append(of_case(ack([(2, 2, NONE)] * count)))
     for count in (0, 1, 2, 254, 255, 256, 257, 289, 290):
         out.append(of_case(bind([(1, NETLOGON, [NDR] * count)])))
-    for unit in (bind([(5, NETLOGON, [])] * 242), bind([(1, NETLOGON, [NDR] * 255)]), bind([(0, NETLOGON, [NDR])] * 132), ack([(2, 2, NONE)] * 242)):
+    for unit in (bind([(5, NETLOGON, [])] * 242), bind([(1, NETLOGON, [NDR] * 255)]), bind([(0, NETLOGON, [NDR])] * 132),
+                 ack([(2, 2, NONE)] * 242)):
         data = write(unit)
         out.append(again_case(data))
         out.append(range_case(data))
@@ -628,10 +643,12 @@ def limit_cases():
                 out.append(of_case(dict(unit, first=first, last=last)))
     # numbers at their ends
     top16, top32 = 2**16 - 1, 2**32 - 1
-    out += [of_case(request(b"x", call=top32, hint=top32, context=top16, opnum=top16)), of_case(response(b"x", call=top32, hint=top32, context=top16)),
+    out += [of_case(request(b"x", call=top32, hint=top32, context=top16, opnum=top16)),
+            of_case(response(b"x", call=top32, hint=top32, context=top16)),
             of_case(whole(FAULT, call=top32, hint=top32, context=top16, status=top32)), of_case(whole(NAK, call=top32, reason=top16)),
             of_case(bind([(top16, (b"\xff" * 16, top32), [(b"\xfe" * 16, top32)])], send=top16, receive=top16, group=top32)),
-            of_case(ack([(top16, top16, (b"\xff" * 16, top32))], send=top16, receive=top16, group=top32)), of_case(request(b"")), of_case(response(b""))]
+            of_case(ack([(top16, top16, (b"\xff" * 16, top32))], send=top16, receive=top16, group=top32)), of_case(request(b"")),
+            of_case(response(b""))]
     return out
 
 
@@ -733,7 +750,8 @@ def cut_cases():
     units.append((response(b"\x61" * 4104), (1433, 1447, 1448, 2000, 4151, 4152, 4159, 4160, 5839)))
     for unit, limits in units:
         for limit in limits:
-            answers = [f"{truth(part['first'])} {truth(part['last'])} {len(part['stub'])} {compact(write(part))}" for part in fragments(unit, limit)]
+            answers = [f"{truth(part['first'])} {truth(part['last'])} {len(part['stub'])} {compact(write(part))}"
+                       for part in fragments(unit, limit)]
             assert all(len(write(part)) <= limit for part in fragments(unit, limit))
             out.append((line("units.cut", limit, word_of(unit)), steps(answers)))
             out.append((line("units.cut_and_join", limit, word_of(unit)), join_answers(fragments(unit, limit))))
@@ -741,7 +759,8 @@ def cut_cases():
         unit = response(b"\x61" * size)
         out.append((line("units.cut_and_join", 1432, word_of(unit)), join_answers(fragments(unit, 1432))))
         out.append((line("units.cut_and_join", 5840, word_of(unit)), join_answers(fragments(unit, 5840))))
-    for unit in [response(b"x", last=False), response(b"x", first=False), request(b"x", first=False, last=False)] + [u for u in base_units() if not is_whole_call(u)]:
+    for unit in [response(b"x", last=False), response(b"x", first=False),
+                 request(b"x", first=False, last=False)] + [u for u in base_units() if not is_whole_call(u)]:
         out.append((line("units.cut", 1432, word_of(unit)), "no whole call"))
     for limit in (0, 1431, 5841, 65535):
         out.append((line("units.cut", limit, word_of(response(b"x"))), "no limit of a link"))
@@ -756,7 +775,8 @@ def join_cases():
 
     # one after the other on one joiner: after a refusal nothing is open
     out.append(join_case([
-        part(False, True), part(True, False), part(True, False), part(False, True), part(True, False, size=65528), part(False, True), part(True, False, size=65528),
+        part(False, True), part(True, False), part(True, False), part(False, True), part(True, False, size=65528), part(False, True),
+        part(True, False, size=65528),
         part(False, True, size=9), part(False, True), part(True, True, size=65537), part(True, False), part(False, True, call=3),
     ]))
     # each of first, middle, last and whole behind each
@@ -769,14 +789,17 @@ def join_cases():
                 out.append(join_case([part(*one), part(*two, fill=0x42), part(*three, fill=0x43)]))
     # another call, kind, context or opnum
     start = request(b"start", last=False)
-    for other in (request(b"more", first=False, call=3), request(b"more", first=False, context=1), request(b"more", first=False, opnum=5), response(b"more", first=False),
-                  request(b"more", first=False, call=2**32 - 2), whole(FAULT, call=2, hint=0, context=0, status=5), whole(NAK, call=2, reason=1),
+    for other in (request(b"more", first=False, call=3), request(b"more", first=False, context=1), request(b"more", first=False, opnum=5),
+                  response(b"more", first=False),
+                  request(b"more", first=False, call=2**32 - 2), whole(FAULT, call=2, hint=0, context=0, status=5),
+                  whole(NAK, call=2, reason=1),
                   dict(whole(FAULT, call=2, hint=0, context=0, status=5), first=False), dict(whole(AUTH3, call=2), first=False)):
         out.append(join_case([start, other, request(b"more", first=False)]))
         out.append(join_case([start, request(b"mid", first=False, last=False), other]))
     # the hint and the trailer of the first are kept, and those of the others passed over
     out.append(join_case([request(b"one", last=False, hint=7, trailer=VALUE), request(b"two", first=False, hint=9, trailer=None)]))
-    out.append(join_case([request(b"one", last=False, hint=7), request(b"two", first=False, last=False, hint=8, trailer=VALUE), request(b"", first=False, trailer=(9, 5, 3, b"x"))]))
+    out.append(join_case([request(b"one", last=False, hint=7), request(b"two", first=False, last=False, hint=8, trailer=VALUE),
+                          request(b"", first=False, trailer=(9, 5, 3, b"x"))]))
     # empty stubs
     out.append(join_case([part(True, False, size=0), part(False, False, size=0), part(False, True, size=0)]))
     out.append(join_case([part(True, True, size=0)]))
@@ -789,9 +812,12 @@ def join_cases():
         out.append(join_case([part(True, True, size=size)]))
         out.append(join_case([part(True, False, size=size), part(False, True, size=0)]))
     for more in (0, 1, 2):
-        out.append(join_case([part(True, False, size=32768, fill=1), part(False, False, size=32767, fill=2), part(False, True, size=more, fill=3), part(True, True)]))
-    out.append(join_case([part(True, False, size=4096, fill=place) if place == 1 else part(False, place == 16, size=4096, fill=place) for place in range(1, 17)]))
-    out.append(join_case([part(True, False, size=4096, fill=place) if place == 1 else part(False, place == 17, size=4096, fill=place) for place in range(1, 18)]))
+        out.append(join_case([part(True, False, size=32768, fill=1), part(False, False, size=32767, fill=2),
+                              part(False, True, size=more, fill=3), part(True, True)]))
+    out.append(join_case([part(True, False, size=4096, fill=place) if place == 1 else part(False, place == 16, size=4096, fill=place)
+                          for place in range(1, 17)]))
+    out.append(join_case([part(True, False, size=4096, fill=place) if place == 1 else part(False, place == 17, size=4096, fill=place)
+                          for place in range(1, 18)]))
     # too long and out of place at once: out of place is named
     out.append(join_case([part(False, True, size=65537)]))
     out.append(join_case([part(True, False), part(False, True, call=3, size=65537)]))
@@ -800,14 +826,17 @@ def join_cases():
     named = {case["name"]: bytes.fromhex(case["unit"]) for case in values("units")["units"]}
     impacket = [named[f"impacket's fragment {place} of 3"] for place in (1, 2, 3)]
     samba = [named["fragment 1 of a request"], named["fragment 2 of a request"]]
-    for pieces in (impacket, samba, impacket[::-1], impacket[:1] + impacket[2:], impacket[:2] + samba[1:], samba[1:], [samba[0], impacket[1]]):
+    for pieces in (impacket, samba, impacket[::-1], impacket[:1] + impacket[2:], impacket[:2] + samba[1:], samba[1:],
+                   [samba[0], impacket[1]]):
         out += join_bytes_cases(pieces)
     # fragments of more than 1,384 stub bytes
     for sizes in ((1385, 5816), (5816, 5816), (5816,) * 11 + (1560,), (5816,) * 11 + (1561,), (5816, 1)):
-        pieces = [write(response(bytes([place + 1]) * size, first=place == 0, last=place == len(sizes) - 1)) for place, size in enumerate(sizes)]
+        pieces = [write(response(bytes([place + 1]) * size, first=place == 0, last=place == len(sizes) - 1))
+                  for place, size in enumerate(sizes)]
         out += join_bytes_cases(pieces)
     # sealed fragments, units without a stub and refused units between
-    pieces = [write(request(b"front", last=False, trailer=VALUE)), write(base_units()[0]), write(request(b"back", first=False, trailer=VALUE))]
+    pieces = [write(request(b"front", last=False, trailer=VALUE)), write(base_units()[0]),
+              write(request(b"back", first=False, trailer=VALUE))]
     out += join_bytes_cases(pieces)
     out += join_bytes_cases([pieces[0], b"\x04" + pieces[2][1:], pieces[2]])
     draw = random.Random(2004)
@@ -815,7 +844,10 @@ def join_cases():
         units = []
         for place in range(draw.randrange(2, 7)):
             one = draw.choice([(True, False), (False, False), (False, False), (False, True), (True, True)])
-            units.append(draw.choice([request, request, response])(bytes([0x61 + place]) * draw.randrange(4), first=one[0], last=one[1], call=draw.choice([2, 2, 2, 3]), context=draw.choice([0, 0, 0, 1])))
+            maker = draw.choice([request, request, response])
+            stub = bytes([0x61 + place]) * draw.randrange(4)
+            call, context = draw.choice([2, 2, 2, 3]), draw.choice([0, 0, 0, 1])
+            units.append(maker(stub, first=one[0], last=one[1], call=call, context=context))
         out.append(join_case(units))
         out += join_bytes_cases([write(unit) for unit in units])
     return out
@@ -937,8 +969,10 @@ def stream_cases():
         out.append(stream_case(pieces))
     # a refused unit ends the stream however it is cut; by its header as soon as 16 bytes are there, by what follows once it is whole
     bad = {
-        "version": b"\x04" + fault[1:], "minor": changed(fault, 1, b"\x02"), "representation": changed(fault, 4, b"\x00"), "length 15": changed(fault, 8, le(15, 2)),
-        "length 5841": changed(fault, 8, le(5841, 2)), "type": changed(fault, 2, b"\x01"), "trailer": changed(fault, 10, le(100, 2)), "flags": changed(fault, 3, b"\x01"),
+        "version": b"\x04" + fault[1:], "minor": changed(fault, 1, b"\x02"), "representation": changed(fault, 4, b"\x00"),
+        "length 15": changed(fault, 8, le(15, 2)),
+        "length 5841": changed(fault, 8, le(5841, 2)), "type": changed(fault, 2, b"\x01"), "trailer": changed(fault, 10, le(100, 2)),
+        "flags": changed(fault, 3, b"\x01"),
         "body": unit_bytes(BIND, bytes(11)), "auth3": unit_bytes(AUTH3, bytes(5)),
     }
     for data in bad.values():
@@ -953,7 +987,8 @@ def stream_cases():
     # units of 5,840 bytes, more than one in a piece, and pieces that are longer than what a stream holds
     big = [write(request(bytes([0x61 + place]) * (LIMIT - 24), call=place)) for place in range(3)]
     data = b"".join(big)
-    for pieces in ([data], in_pieces(data, 5840), in_pieces(data, 5839), in_pieces(data, 5841), in_pieces(data, 1000), [data[:5840 + 15], data[5840 + 15:]], [fault + data], [data + fault],
+    for pieces in ([data], in_pieces(data, 5840), in_pieces(data, 5839), in_pieces(data, 5841), in_pieces(data, 1000),
+                   [data[:5840 + 15], data[5840 + 15:]], [fault + data], [data + fault],
                    [data[:-1], data[-1:]], [data[:16], data[16:]], [data + changed(fault, 8, le(5841, 2))]):
         out.append(stream_case(pieces))
     # the calls one by one
@@ -964,7 +999,8 @@ def stream_cases():
     out.append(flow_case([nothing, held, fill(b""), nothing, fill(fault), held, nothing, nothing, take, held, nothing]))
     out.append(flow_case([fill(three), nothing, take, take, nothing, take, nothing, held]))
     out.append(flow_case([fill(three[:100]), take, take, fill(three[100:]), take, take, take, held]))
-    out.append(flow_case([fill(data), held, fill(data), nothing, take, held, fill(data[5840:]), take, fill(data[11680:]), take, take, held]))
+    out.append(flow_case([fill(data), held, fill(data), nothing, take, held, fill(data[5840:]), take, fill(data[11680:]), take, take,
+                          held]))
     out.append(flow_case([fill(fault + data), held, take, held, fill(data[5840 - 32:]), held, take, held, nothing]))
     out.append(flow_case([fill(sealed), ("value", bytes(16)), ("value", VALUE[3]), take, held]))
     out.append(flow_case([fill(sealed + sealed), ("value", bytes(16)), take, nothing, ("value", b"\x77" * 16), take, held]))
@@ -979,7 +1015,8 @@ def stream_cases():
     out.append(flow_case(todo + [held]))
     draw = random.Random(2012)
     for _ in range(30):
-        parts = [draw.choice([fault, sealed, binds, write(base_units()[9]), write(whole(NAK, reason=1))]) for _ in range(draw.randrange(1, 6))]
+        parts = [draw.choice([fault, sealed, binds, write(base_units()[9]), write(whole(NAK, reason=1))])
+                 for _ in range(draw.randrange(1, 6))]
         if draw.random() < 0.4:
             parts[draw.randrange(len(parts))] = draw.choice(list(bad.values()))
         data, pieces = b"".join(parts), []

@@ -49,10 +49,14 @@ def decimal_of(text):
 
 def decimal_cases():
     """Decimal numbers as authorities and as numbers of an identifier."""
-    texts = [b"", b"0", b"1", b"9", b"10", b"07", b"00", b"+7", b"-0", b"-1", b" 7", b"7 ", b"7\x00", b"1_0", b"1e3", b"0x10", b"a", b"/", b":", b"4294967295",
-             b"4294967296", b"281474976710655", b"281474976710656", b"18446744073709551614", b"18446744073709551615", b"18446744073709551616", b"18446744073709551617",
-             b"18446744073709551625", b"99999999999999999999", b"184467440737095516150", b"018446744073709551615", b"1" * 40, b"\xc2\xb2", b"\xff", "\u0663".encode()]
-    return [case for text in texts for case in (sid_case(b"S-1-" + text + b"-1"), sid_case(b"S-1-5-" + text), sid_case(b"S-1-5-21-" + text + b"-1"))]
+    texts = [b"", b"0", b"1", b"9", b"10", b"07", b"00", b"+7", b"-0", b"-1", b" 7", b"7 ", b"7\x00", b"1_0", b"1e3", b"0x10", b"a", b"/",
+             b":", b"4294967295",
+             b"4294967296", b"281474976710655", b"281474976710656", b"18446744073709551614", b"18446744073709551615",
+             b"18446744073709551616", b"18446744073709551617",
+             b"18446744073709551625", b"99999999999999999999", b"184467440737095516150", b"018446744073709551615", b"1" * 40, b"\xc2\xb2",
+             b"\xff", "\u0663".encode()]
+    return [case for text in texts for case in (sid_case(b"S-1-" + text + b"-1"), sid_case(b"S-1-5-" + text),
+                                                sid_case(b"S-1-5-21-" + text + b"-1"))]
 
 
 def blob_cases():
@@ -80,7 +84,8 @@ def upper(unit):
 
 
 def upper_cases():
-    units = sorted(set(range(0x3F, 0x80)) | {0, 0x20, 0xE9, 0xDF, 0xFF, 0x100, 0x161, 0x3B1, 0x130, 0x131, 0x161, 0x1061, 0x6100, 0x6161, 0xD83D, 0xFF41, 0xFFFF})
+    units = sorted(set(range(0x3F, 0x80)) | {0, 0x20, 0xE9, 0xDF, 0xFF, 0x100, 0x161, 0x3B1, 0x130, 0x131, 0x161, 0x1061, 0x6100, 0x6161,
+                                             0xD83D, 0xFF41, 0xFFFF})
     return [(line("base.upper", unit), str(upper(unit))) for unit in units]
 
 
@@ -115,7 +120,8 @@ def name_of(data):
 
 def name_cases():
     pieces = [text.encode() for text in ASCII_TEXTS]
-    pieces += [b"a" * 63, b"a" * 64, b"a" * 65, b"a" * 66, b"\x7f" * 65, b"a" * 64 + b"\x00", b"a" * 63 + b"\x7f", b"\x1f" + b"a" * 63, b"a" * 300]
+    pieces += [b"a" * 63, b"a" * 64, b"a" * 65, b"a" * 66, b"\x7f" * 65, b"a" * 64 + b"\x00", b"a" * 63 + b"\x7f", b"\x1f" + b"a" * 63,
+               b"a" * 300]
     pieces += [bytes([byte]) for byte in (0, 9, 0x1F, 0x20, 0x7E, 0x7F, 0x80, 0xFF)]
     pieces += [b"ab\x7f\x1f", b"ab\x1f", "é".encode(), b"\x00abc", b"abc\x00", bytes(range(0x20, 0x60)), bytes(range(0x40, 0x7F))]
     out = []
@@ -124,13 +130,16 @@ def name_cases():
         if refused:
             out.append((line("base.name", data), err(refused)))
         else:
-            out.append((line("base.name", data), steps([ok(struct("Name", bytes=lent(data))), compact(data), struct("Units", units=numbers(data))])))
+            out.append((line("base.name", data), steps([ok(struct("Name", bytes=lent(data))), compact(data),
+                                                        struct("Units", units=numbers(data))])))
     return out
 
 
 def same_cases():
-    pairs = [("File1$", "fILE1$"), ("File1$", "File1"), ("[", "{"), ("@", "`"), ("", ""), ("", "a"), ("a", "A"), ("z", "Z"), ("^", "~"), ("ann", "anN"),
-             ("ann", "bnn"), ("ann", "anm"), ("a" * 64, "A" * 64), ("a" * 64, "A" * 63 + "B"), ("a" * 64, "A" * 63), (" ann", "ann"), ("ann ", "ann"),
+    pairs = [("File1$", "fILE1$"), ("File1$", "File1"), ("[", "{"), ("@", "`"), ("", ""), ("", "a"), ("a", "A"), ("z", "Z"), ("^", "~"),
+             ("ann", "anN"),
+             ("ann", "bnn"), ("ann", "anm"), ("a" * 64, "A" * 64), ("a" * 64, "A" * 63 + "B"), ("a" * 64, "A" * 63), (" ann", "ann"),
+             ("ann ", "ann"),
              ("\\", "|"), ("]", "}"), ("A", "B"), ("0", "P"), ("CORP", "corp")]
     out = []
     for one, other in pairs:
@@ -139,7 +148,8 @@ def same_cases():
         out.append((line("base.same", other.encode(), one.encode()), truth(same)))
         out.append((line("base.same_units", one.encode(), other.encode("utf-16-le")), truth(same)))
         out.append((line("base.same_texts", one.encode("utf-16-le"), other.encode("utf-16-le")), truth(same)))
-    for one, other in [("a", "á"), ("K", "\u212a"), ("k", "\u212a"), ("s", "ſ"), ("i", "ı"), ("I", "İ"), ("a", "ａ"), ("A", "\u0141"), ("a", "\u0161"), ("", "\0"),
+    for one, other in [("a", "á"), ("K", "\u212a"), ("k", "\u212a"), ("s", "ſ"), ("i", "ı"), ("I", "İ"), ("a", "ａ"), ("A", "\u0141"),
+                       ("a", "\u0161"), ("", "\0"),
                        ("ann", "ann\0"), ("A", "\u4100")]:
         out.append((line("base.same_units", one.encode(), other.encode("utf-16-le")), truth(False)))
         out.append((line("base.same_texts", other.encode("utf-16-le"), one.encode("utf-16-le")), truth(False)))
@@ -171,11 +181,15 @@ def sid_case(text):
 
 def sid_cases():
     fifteen = "-".join(str(n) for n in range(1, 16))
-    texts = ["S-1-5-21-1-2-3", "S-1-05-1", "S-1-5", "S-1-5-", "S-1-5-1", "S-1-5-1-", "S-1--1", "S-1-5--1", "S-1-", "S-1", "S-", "", "s-1-5-1", "S-2-5-1", "S-1-5-1 ",
-             " S-1-5-1", "S-1-5-+1", "S-1-+5-1", "S-1-5-01", "S-1-5-00", "S-1-0-0", "S-1-00-0", "S-1-281474976710655-4294967295", "S-1-281474976710656-1",
-             "S-1-18446744073709551615-1", "S-1-18446744073709551616-1", "S-1-5-4294967295", "S-1-5-4294967296", "S-1-5-21-4294967295-4294967296",
+    texts = ["S-1-5-21-1-2-3", "S-1-05-1", "S-1-5", "S-1-5-", "S-1-5-1", "S-1-5-1-", "S-1--1", "S-1-5--1", "S-1-", "S-1", "S-", "",
+             "s-1-5-1", "S-2-5-1", "S-1-5-1 ",
+             " S-1-5-1", "S-1-5-+1", "S-1-+5-1", "S-1-5-01", "S-1-5-00", "S-1-0-0", "S-1-00-0", "S-1-281474976710655-4294967295",
+             "S-1-281474976710656-1",
+             "S-1-18446744073709551615-1", "S-1-18446744073709551616-1", "S-1-5-4294967295", "S-1-5-4294967296",
+             "S-1-5-21-4294967295-4294967296",
              "S-1-5-18446744073709551616", f"S-1-0-{fifteen}", f"S-1-0-{fifteen}-16", f"S-1-0-{fifteen}-", "S-1-0-" + "-".join(["0"] * 15),
-             "S-1-0-" + "-".join(["0"] * 17), "S-1-5-a", "S-1-a-1", "S-1-0x5-1", "S-1-5-32-544", "S-1-5-21-3442127797-2314043094-1691266673", "S-1-5-21-1-2-3\n", "S_1_5_1",
+             "S-1-0-" + "-".join(["0"] * 17), "S-1-5-a", "S-1-a-1", "S-1-0x5-1", "S-1-5-32-544",
+             "S-1-5-21-3442127797-2314043094-1691266673", "S-1-5-21-1-2-3\n", "S_1_5_1",
              "S-1-5,1", "S-1-5-1-2-3-4-5-6-7-8-9-10-11-12-13-14"]
     out = [sid_case(text.encode()) for text in texts]
     made = [(2**48 - 1, [2**32 - 1]), (5, [21, 1, 2, 3]), (0, [0]), (5, list(range(15)))]
@@ -197,7 +211,8 @@ def random_cases():
         if refused:
             out.append((line("base.name", data), err(refused)))
         else:
-            out.append((line("base.name", data), steps([ok(struct("Name", bytes=lent(data))), compact(data), struct("Units", units=numbers(data))])))
+            out.append((line("base.name", data), steps([ok(struct("Name", bytes=lent(data))), compact(data),
+                                                        struct("Units", units=numbers(data))])))
     for _ in range(24):
         authority, parts = draw.randrange(2**48), [draw.randrange(2**32) for _ in range(draw.randrange(1, 16))]
         out.append(sid_case("-".join(str(part) for part in ["S", 1, authority] + parts).encode()))
@@ -241,19 +256,25 @@ def map_cases():
     draw = random.Random(2016)
     numbered, named = "base.numbers", "base.names"
     top = 2**32 - 1
-    out.append(map_case(numbered, [("find", 1), ("take", 1), ("put", 1, 10), ("find", 1), ("find", 2), ("put", 2, 20), ("put", 1, 11), ("find", 1), ("take", 1), ("find", 1), ("take", 1), ("find", 2)]))
+    out.append(map_case(numbered, [("find", 1), ("take", 1), ("put", 1, 10), ("find", 1), ("find", 2), ("put", 2, 20), ("put", 1, 11),
+                                   ("find", 1), ("take", 1), ("find", 1), ("take", 1), ("find", 2)]))
     out.append(map_case(numbered, [("put", 0, 0), ("put", top, top), ("find", 0), ("find", top), ("take", 0), ("find", top)]))
     # keys that stand twice: the first counts
-    out.append(map_case(numbered, [("add", 7, 1), ("add", 8, 2), ("add", 7, 3), ("find", 7), ("put", 7, 4), ("take", 7), ("find", 7), ("take", 7), ("find", 7), ("find", 8)]))
-    out.append(map_case(named, [("take", "ann"), ("put", "ann", 1), ("put", "ANN", 2), ("put", "bob", 3), ("take", "aNn"), ("take", "ann"), ("put", "", 4), ("put", "", 5), ("take", ""), ("take", "BOB")]))
-    out.append(map_case(named, [("add", "ann", 1), ("add", "Ann", 2), ("put", "aNN", 3), ("take", "ANN"), ("take", "ANN"), ("take", "ANN")]))
+    out.append(map_case(numbered, [("add", 7, 1), ("add", 8, 2), ("add", 7, 3), ("find", 7), ("put", 7, 4), ("take", 7), ("find", 7),
+                                   ("take", 7), ("find", 7), ("find", 8)]))
+    out.append(map_case(named, [("take", "ann"), ("put", "ann", 1), ("put", "ANN", 2), ("put", "bob", 3), ("take", "aNn"), ("take", "ann"),
+                                ("put", "", 4), ("put", "", 5), ("take", ""), ("take", "BOB")]))
+    out.append(map_case(named, [("add", "ann", 1), ("add", "Ann", 2), ("put", "aNN", 3), ("take", "ANN"), ("take", "ANN"),
+                                ("take", "ANN")]))
     # letters past ASCII are different names in another case
-    out.append(map_case(named, [("put", "\u00e9", 1), ("put", "\u00c9", 2), ("take", "\u00e9"), ("take", "\u00c9"), ("put", "[", 3), ("put", "{", 4), ("take", "{")]))
+    out.append(map_case(named, [("put", "\u00e9", 1), ("put", "\u00c9", 2), ("take", "\u00e9"), ("take", "\u00c9"), ("put", "[", 3),
+                                ("put", "{", 4), ("take", "{")]))
     for _ in range(12):
         todo = []
         for _ in range(draw.randrange(4, 16)):
             key = draw.randrange(4)
-            todo.append(draw.choice([("put", key, draw.randrange(100)), ("put", key, draw.randrange(100)), ("take", key), ("find", key), ("add", key, draw.randrange(100))]))
+            todo.append(draw.choice([("put", key, draw.randrange(100)), ("put", key, draw.randrange(100)), ("take", key), ("find", key),
+                                     ("add", key, draw.randrange(100))]))
         out.append(map_case(numbered, todo))
         names_drawn = ["ann", "Ann", "bob", "BOB", "eve"]
         out.append(map_case(named, [(step[0], draw.choice(names_drawn), *step[2:]) for step in todo if step[0] != "find"]))

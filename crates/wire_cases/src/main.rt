@@ -1,4 +1,5 @@
-//! Cases of what stands on the wire: numbers, texts, names, NTLM's messages, RPC's units, NDR's items and the stubs of Netlogon.
+//! Cases of what stands on the wire: numbers, texts, names, NTLM's messages, RPC's units, NDR's items and the stubs of Netlogon and of the memo
+//! interface.
 //!
 //! Each line of the input is an operation, as `units.read`, and its values, as `words` has them; each line of the output is what the
 //! operation gives.
@@ -7,8 +8,10 @@
 mod base;
 mod joining;
 mod maps;
+mod memo;
 mod messages;
 mod ndr;
+mod ndr_writing;
 mod pairs;
 mod streams;
 mod stubs;
@@ -29,6 +32,7 @@ fn answer(alloc: Global, words: &[&str]) -> anyhow::Result<String> {
         "units" => units::answer(alloc, operation, words),
         "ndr" => ndr::answer(alloc, operation, words),
         "stubs" => stubs::answer(alloc, operation, words),
+        "memo" => memo::answer(alloc, operation, words),
         _ => no_case(alloc),
     }
 }

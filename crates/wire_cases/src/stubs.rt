@@ -1,7 +1,8 @@
 //! Cases of `logon_stubs`: the stubs of Netlogon's requests and replies.
 
 ghost use Rattle.std.specs.Prelude.{◌≡◌, true};
-ghost use Rattle.logon_stubs.specs.Writing.{FitsText, FitsOption, CanWriteNetworkInfo, CanWriteSamInfo, CanWriteCall, CanWriteReply};
+ghost use Rattle.ndr_codec.specs.Parts.{FitsText, IfThere};
+ghost use Rattle.logon_stubs.specs.Writing.{CanWriteNetworkInfo, CanWriteSamInfo, CanWriteCall, CanWriteReply};
 
 use crate::words::{bytes, no_case, number16, text, word};
 use logon_stubs::{
@@ -11,7 +12,7 @@ use std::alloc::Global;
 use wire_base::Units;
 
 /// Whether a text may be written.
-fn fits(units: &Units) -> bool
+pub(crate) fn fits(units: &Units) -> bool
     ensures { result ≡ true → FitsText units.now }
 {
     units.units().len() <= 32767
@@ -19,7 +20,7 @@ fn fits(units: &Units) -> bool
 
 /// Whether a text that may be absent may be written.
 fn fits_option(units: &Option<Units>) -> bool
-    ensures { result ≡ true → FitsOption units.now }
+    ensures { result ≡ true → IfThere FitsText units.now }
 {
     match units {
         Some(units) => fits(units),
