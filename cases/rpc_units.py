@@ -1,13 +1,15 @@
 """Cases of rpc_units.
 
-`units.read BYTES`: the unit that is read; `units.view BYTES`: the same as a view that lends its parts; `units.again BYTES`: the bytes written of
+`units.read BYTES`: the unit that is read; `units.view BYTES`: the same as a view that lends its parts; `units.copy BYTES`: that view copied; `units.again BYTES`: the bytes written of
 the unit that is read, where it may be written; `units.range BYTES`: the range that is sealed; `units.value BYTES VALUE`: the unit with another
 authentication value.
 `units.of UNIT`: the bytes written of a unit, where it may be written.
 `units.cut LIMIT UNIT`: the fragments of a whole call: FIRST and LAST, the bytes of the stub, and the unit written.
 `units.join UNIT ..`: what a joiner gives of each unit, one after the other; `units.join_read BYTES ..`: the same of units that are read;
 `units.join_view BYTES ..`: the same of views; `units.cut_and_join LIMIT UNIT`: the same of the fragments of a whole call.
-`units.stream PIECE ..`: what comes on a stream of these pieces, each unit with its bytes, up to a refusal.
+A step of a joiner is answered with the bytes of the stub that is open behind it.
+`units.stream PIECE ..`: what comes on a stream of these pieces, each unit with its bytes, up to a refusal. `units.whole PIECE ..`: its units and the
+refusal of what is behind them.
 `units.flow STEP ..`: the calls of a stream one by one: `fill/BYTES` how many bytes are taken, `next` what is in front, `take` the same and the unit
 taken out, `value/BYTES` the same with the unit's value replaced where it lies, `held` how many bytes are held.
 
@@ -24,7 +26,7 @@ Fields of foreign units are the published ones. Of changed units and of written 
 import random
 
 from forms import array, blob, err, items, line, ok, option, struct, values
-from wire import changed, compact, flipped, le, lent, long, short, steps, truth
+from wire import changed, compact, expanded, flipped, le, lent, long, short, steps, truth
 
 REQUEST, RESPONSE, FAULT, BIND, ACK, NAK, AUTH3 = 0, 2, 3, 11, 12, 13, 16
 SHORTEST = {BIND: 12, ACK: 16, NAK: 2, AUTH3: 4, REQUEST: 8, RESPONSE: 8, FAULT: 16}
@@ -431,7 +433,7 @@ def foreign_cases():
         found.pop("list", None)
         assert found == unit, case["name"]
         out += [(line("units.read", compact(data)), ok(shown(unit))), view_case(data), range_case(data), again_case(data),
-                again_case(write(unit)), of_case(unit)]
+                again_case(write(unit)), of_case(unit), (line("units.copy", compact(data)), shown(unit))]
         if len(data) < 400:
             out.append((line("units.value", compact(data), VALUE[3]), compact(data[:-16] + VALUE[3])))
     for session in values("units")["sessions"]:
@@ -679,6 +681,10 @@ class Joiner:
     def __init__(self):
         self.now = None
 
+    def size(self):
+        """The bytes of the stub that is open."""
+        return len(self.now.get("stub", b"")) if self.now else 0
+
     def add(self, unit):
         before, self.now = self.now, None
         if before is None:
@@ -707,6 +713,7 @@ def join_answers(units):
             answers.append("None" if found is None else f"Some({joined_word(found)})")
         except Refused as refused:
             answers.append(err(refused))
+        answers[-1] += f" {joiner.size()}"
     return steps(answers)
 
 
@@ -734,6 +741,7 @@ def join_bytes_cases(pieces):
                 answers.append("None" if found is None else f"Some({joined_word(found)})")
             except Refused as refused:
                 answers.append(err(refused))
+            answers[-1] += f" {joiner.size()}"
         out.append((line(operation, *map(compact, pieces)), steps(answers)))
     return out
 
@@ -912,6 +920,25 @@ def stream_case(pieces):
     return line("units.stream", *map(compact, pieces)), steps(answers)
 
 
+def whole_case(pieces):
+    """The units of a stream, and the refusal behind them; the same however it is cut."""
+    data, answers = b"".join(pieces), []
+    while True:
+        flow = Flow()
+        flow.held = data
+        try:
+            size = flow.next()
+        except Refused as refused:
+            answers.append(f"Some({str(refused)[8:-1]})")
+            break
+        if size is None:
+            answers.append("None")
+            break
+        answers.append(compact(data[:size]))
+        data = data[size:]
+    return line("units.whole", *map(compact, pieces)), steps(answers)
+
+
 def flow_case(todo):
     """Steps: `fill` with bytes, `value` with bytes, `next`, `take`, `held`."""
     flow, words, answers = Flow(), [], []
@@ -1032,6 +1059,16 @@ def stream_cases():
     return out
 
 
+def whole_cases():
+    """Some of the same streams, read whole."""
+    out = []
+    for number, (text, _) in enumerate(stream_cases()):
+        operation, *words = text.split(" ")
+        if operation == "units.stream" and number % 4 == 0:
+            out.append(whole_case([expanded(word) for word in words]))
+    return out
+
+
 def cases():
     """Each line and its answer."""
-    return foreign_cases() + worked_cases() + change_cases() + list_cases() + limit_cases() + cut_cases() + join_cases() + stream_cases()
+    return foreign_cases() + worked_cases() + change_cases() + list_cases() + limit_cases() + cut_cases() + join_cases() + stream_cases() + whole_cases()

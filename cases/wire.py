@@ -1,7 +1,5 @@
 """What the libraries of wire_cases have in common: numbers on the wire, and long byte strings as words."""
 
-import re
-
 # A run of at least so many equal bytes is written as a count.
 RUN = 32
 
@@ -41,6 +39,15 @@ def compact(data):
     if plain:
         parts.append(plain.hex())
     return "+".join(parts) or "-"
+
+
+def expanded(word):
+    """The bytes of such a word."""
+    data = b""
+    for part in [] if word == "-" else word.split("+"):
+        count, _, digits = part.rpartition("*")
+        data += int(count or 1) * bytes.fromhex(digits)
+    return data
 
 
 def changed(data, at, new):

@@ -54,9 +54,16 @@ fn joined_text(alloc: Global, joined: Result<Option<Unit>, JoinRefused>) -> anyh
     }
 }
 
+/// A step's answer, and the bytes of the stub that is open behind it.
+fn with_open(alloc: Global, joined: String, joiner: &Joiner) -> anyhow::Result<String> {
+    let open = joiner.len();
+    Ok(format!(in alloc; "{joined} {open}")?)
+}
+
 /// The step of a joiner that a unit is.
 fn joined(alloc: Global, joiner: &mut Joiner, unit: Unit) -> anyhow::Result<String> {
-    joined_text(alloc, joiner.add(unit))
+    let text = joined_text(alloc, joiner.add(unit))?;
+    with_open(alloc, text, joiner)
 }
 
 /// `join UNIT ..`.
@@ -100,7 +107,8 @@ fn lent_and_joined(
     if !has_stub(&unit.body) {
         return Ok("no stub".to_string(alloc)?);
     }
-    joined_text(alloc, joiner.add_view(alloc, unit))
+    let text = joined_text(alloc, joiner.add_view(alloc, unit))?;
+    with_open(alloc, text, joiner)
 }
 
 /// The step of a joiner that bytes are, lent.

@@ -2,9 +2,10 @@
 
 ghost use Rattle.std.specs.Prelude.{◌≡◌, false, IfOk, IfSome, OnOk};
 
-use crate::words::{add_answer, bytes, no_case, sixteen, text, word};
-use rpc_units::{Came, Incoming, Inflow, set_value};
+use crate::words::{add_answer, blob, bytes, no_case, sixteen, text};
+use rpc_units::{Came, Incoming, Inflow, UnitRefused, read_stream, set_value};
 use std::alloc::Global;
+use wire_base::{Blob, Frames};
 
 // ---- pieces
 
@@ -60,6 +61,38 @@ fn stream(alloc: Global, words: &[&str]) -> anyhow::Result<String> {
     Ok(answer)
 }
 
+/// The pieces of the words.
+fn pieces(alloc: Global, words: &[&str]) -> anyhow::Result<Frames> {
+    let mut pieces = Frames::new(alloc);
+    for word in words.iter().skip(1) {
+        pieces.push(blob(alloc, word)?)?;
+    }
+    Ok(pieces)
+}
+
+/// Units as their bytes, and the refusal behind them.
+fn read_text(
+    alloc: Global,
+    units: &[Blob],
+    refused: Option<UnitRefused>,
+) -> anyhow::Result<String> {
+    let mut answer = String::new(alloc);
+    for unit in units {
+        let step = text(alloc, unit.bytes())?;
+        add_answer(&mut answer, step.as_str())?;
+    }
+    let step = format!(in alloc; "{refused:?}")?;
+    add_answer(&mut answer, step.as_str())?;
+    Ok(answer)
+}
+
+/// `whole PIECE ..`.
+fn whole(alloc: Global, words: &[&str]) -> anyhow::Result<String> {
+    let pieces = pieces(alloc, words)?;
+    let (units, refused) = read_stream(alloc, pieces.items())?;
+    read_text(alloc, units.items(), refused)
+}
+
 // ---- the calls one by one
 
 /// A unit in front, with its bytes.
@@ -77,7 +110,7 @@ fn fill(alloc: Global, flow: &mut Inflow, value: &str) -> anyhow::Result<String>
 
 /// `held`.
 fn held(alloc: Global, flow: &Inflow) -> anyhow::Result<String> {
-    let count = flow.held();
+    let count = flow.len();
     Ok(format!(in alloc; "{count}")?)
 }
 
@@ -143,6 +176,7 @@ fn flow(alloc: Global, words: &[&str]) -> anyhow::Result<String> {
 pub(crate) fn answer(alloc: Global, operation: &str, words: &[&str]) -> anyhow::Result<String> {
     match operation {
         "stream" => stream(alloc, words),
+        "whole" => whole(alloc, words),
         "flow" => flow(alloc, words),
         _ => no_case(alloc),
     }

@@ -9,8 +9,8 @@ use crate::joining;
 use crate::unit_words::unit;
 use crate::words::{bytes, sixteen, text, word};
 use rpc_units::{
-    Body, Contexts, Syntax, Syntaxes, Trailer, Unit, UnitWriteRefused, read_unit, sealed_range,
-    set_value, view_unit, write_unit,
+    Body, Contexts, Syntax, Syntaxes, Trailer, Unit, UnitWriteRefused, copy_unit, read_unit,
+    sealed_range, set_value, view_unit, write_unit,
 };
 use std::alloc::Global;
 use wire_base::Blob;
@@ -94,6 +94,14 @@ fn view(alloc: Global, words: &[&str]) -> anyhow::Result<String> {
     Ok(format!(in alloc; "{view:?}")?)
 }
 
+/// `copy BYTES`: the unit that a view lends, copied.
+fn copy(alloc: Global, words: &[&str]) -> anyhow::Result<String> {
+    let bytes = bytes(alloc, word(words, 1))?;
+    let view = view_unit(&bytes)?;
+    let copy = copy_unit(alloc, &view)?;
+    Ok(format!(in alloc; "{copy:?}")?)
+}
+
 /// `again BYTES`.
 fn again(alloc: Global, words: &[&str]) -> anyhow::Result<String> {
     let bytes = bytes(alloc, word(words, 1))?;
@@ -130,6 +138,7 @@ pub(crate) fn answer(alloc: Global, operation: &str, words: &[&str]) -> anyhow::
     match operation {
         "read" => read(alloc, words),
         "view" => view(alloc, words),
+        "copy" => copy(alloc, words),
         "again" => again(alloc, words),
         "range" => range(alloc, words),
         "value" => value(alloc, words),
