@@ -1,5 +1,6 @@
 //! The fixed input of all operations, and one turn of each.
 
+use crate::logon::{LOGON_CALL, read_response, write_granted};
 use crate::operation::Operation;
 use crate::plain::view_plain;
 use crate::sealing::Sides;
@@ -63,6 +64,7 @@ pub struct Bench {
     response_v2: [u8; 292],
     message: Vec<u8>,
     request: Vec<u8>,
+    logon: Vec<u8>,
     text: String,
     table: Table,
     sought: Units,
@@ -93,6 +95,7 @@ impl Bench {
             response_v2,
             message: hex::decode(alloc, MESSAGE)?,
             request,
+            logon: hex::decode(alloc, LOGON_CALL)?,
             sides: Sides::new(KEY),
         })
     }
@@ -118,6 +121,8 @@ impl Bench {
             Operation::ReadUnit => self.read_request(alloc)?,
             Operation::ViewUnit => self.view_request()?,
             Operation::ViewPlain => self.view_request_plainly()?,
+            Operation::ReadLogonCall => end_of(read_response(alloc, &self.logon)?.bytes()),
+            Operation::WriteLogonReply => end_of(write_granted(alloc)?.bytes()),
             Operation::Seal => end_of(&self.sides.carry()?),
             Operation::ReadTable => last_account(&read_table(alloc, &self.text)?),
             Operation::FindAccount => end_of(&self.find().to_be_bytes()),

@@ -2,6 +2,7 @@
 #![tactic(auto)]
 
 mod bench;
+mod logon;
 mod measure;
 mod operation;
 mod plain;

@@ -35,6 +35,10 @@ pub enum Operation {
     ViewUnit,
     /// The same without contracts, for comparison.
     ViewPlain,
+    /// Reading the stub of a request to log on, with two responses of 24 bytes.
+    ReadLogonCall,
+    /// Making the reply to a granted logon, with three texts and one group, and writing its stub.
+    WriteLogonReply,
     /// Sealing a range of 1,024 bytes at one side, and opening it at the other.
     Seal,
     /// Reading a table of 10,000 accounts.
@@ -44,7 +48,7 @@ pub enum Operation {
 }
 
 /// All of them, in the order in which they are printed.
-pub const OPERATIONS: [Operation; 19] = [
+pub const OPERATIONS: [Operation; 21] = [
     Operation::Md4Short,
     Operation::Md4Long,
     Operation::DesBlock,
@@ -61,6 +65,8 @@ pub const OPERATIONS: [Operation; 19] = [
     Operation::ReadUnit,
     Operation::ViewUnit,
     Operation::ViewPlain,
+    Operation::ReadLogonCall,
+    Operation::WriteLogonReply,
     Operation::Seal,
     Operation::ReadTable,
     Operation::FindAccount,
@@ -86,6 +92,8 @@ impl Operation {
             Operation::ReadUnit => "read-unit",
             Operation::ViewUnit => "view-unit",
             Operation::ViewPlain => "view-plain",
+            Operation::ReadLogonCall => "read-logon-call",
+            Operation::WriteLogonReply => "write-logon-reply",
             Operation::Seal => "seal-1k",
             Operation::ReadTable => "table-10k",
             Operation::FindAccount => "find-10k",
