@@ -54,6 +54,9 @@ def of_logon(case, logon, flags, key, exported, lm, answered):
     ]
     if exported:
         out.append((line("responses.exported_key", logon["exchange_key"], flags, key or ""), exported))
+    if exported and key:
+        # The same of the exported key is the key field again.
+        out.append((line("responses.exported_key", logon["exchange_key"], flags, exported), key))
     # Another challenge, another hash and another byte of the response are refused.
     out.append((line("responses.verify", *who, altered(answered, 7), nt), "none"))
     out.append((line("responses.verify", altered(who[0], 0), *who[1:], answered, nt), "none"))
