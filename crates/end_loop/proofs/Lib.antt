@@ -1,0 +1,9 @@
+pub mod ActLaws
+pub mod AskingLaws
+pub mod BegunLaws
+pub mod FaultLaws
+pub mod Putting
+pub mod RunLaws
+pub mod SendingLaws
+pub mod ServedLaws
+pub mod UniqueLaws

@@ -1,0 +1,141 @@
+-- What happens at the port while actions are performed, and what of it is stepped later (this project's own choice).
+use Rattle.std.specs.Prelude.{◌≡◌, ℕ, Bool, true, false, ◌==◌, List, [], ◌∷◌, ◌++◌, ◌+◌, length, Option, Some, None, IsTrue}
+use Rattle.std.specs.List.{flat_map, list_any, list_all}
+use Rattle.outside.specs.Causes.{RisesWhere}
+use Rattle.outside.specs.Stories.{fails_at_links}
+use Rattle.outside.specs.Telling.{Appends}
+use Rattle.outside.specs.declared.event.Event.{Event}
+use Rattle.outside.specs.declared.event.Event.TheVariants as event
+use Rattle.outside.specs.declared.event.Happening.{Happening}
+use Rattle.outside.specs.declared.event.Happening.TheVariants as happening
+use Rattle.outside.specs.Machine.{Machine}
+use Rattle.end_loop.specs.declared.halt.Halt.{Halt}
+use Rattle.end_loop.specs.declared.halt.Halt.TheVariants.{PortFault, SinkFault, NoMemory, Spent}
+use Rattle.outside.specs.declared.action.Action.{Action}
+use Rattle.outside.specs.declared.action.Action.TheVariants.{Send, Dial, Close, Told, Judged}
+
+abbrev pub has_link : List ℕ → ℕ → Bool
+has_link links link = list_any (λ (other : ℕ). other == link) links
+
+-- the link of a send that failed
+abbrev pub failed_link : Happening → List ℕ
+failed_link (happening.Sent link bytes true) = link ∷ []
+failed_link _ = []
+
+-- the event that a dial makes, by the link that it gave
+abbrev pub dial_event : Option ℕ → Event
+dial_event (Some link) = event.Dialled link
+dial_event None = event.DialFailed
+
+-- the event that a failed send or a dial makes
+abbrev pub made_event : Happening → List Event
+made_event (happening.Sent link bytes true) = event.Closed link ∷ []
+made_event (happening.Dialled peer link) = dial_event link ∷ []
+made_event _ = []
+
+abbrev pub made_events : List Happening → List Event
+made_events happened = flat_map made_event happened
+
+-- What a send comes to on a link on which a send failed before, or didn't.
+abbrev pub SendsOn : Bool → ℕ → List ℕ → List Happening → Type 0
+SendsOn true link bytes happened = happened ≡ []
+SendsOn false link bytes happened = (fails : Bool) × (happened ≡ happening.Sent link bytes fails ∷ [])
+
+-- What happens at the port for one action, where sends on these links failed before among the actions of its step.
+abbrev pub Does : List ℕ → Action → List Happening → Type 0
+Does failed (Send link bytes) happened = SendsOn (has_link failed link) link bytes happened
+Does failed (Dial peer) happened = (link : Option ℕ) × (happened ≡ happening.Dialled peer link ∷ [])
+Does failed (Close link cause) happened = happened ≡ happening.Shut link ∷ []
+Does failed (Told link outcome) happened = happened ≡ []
+Does failed (Judged judged) happened = happened ≡ []
+
+-- What happens at the port for actions, in their order.
+abbrev pub Performs : List ℕ → List Action → List Happening → Type 0
+Performs failed [] happened = happened ≡ []
+Performs failed (action ∷ actions) happened =
+    (now later : List Happening) × Does failed action now × (happened ≡ now ++ later) × Performs (failed ++ flat_map failed_link now) actions later
+
+-- One action was performed at the port. Where that went well to its end, the failed link and the event that it made are kept.
+pub record Did (action : Action) (failed failed_after : List ℕ) (queue queue_after : List Event) (story story_after : Option (List Happening)) (faults faults_after : ℕ) (whole : Bool) : Type 0 where
+  pub happened : List Happening
+  pub does : Does failed action happened
+  pub told : Appends story story_after happened
+  pub faulted : RisesWhere (fails_at_links happened) faults faults_after
+  pub links : IsTrue whole → failed_after ≡ failed ++ flat_map failed_link happened
+  pub events : IsTrue whole → queue_after ≡ queue ++ made_events happened
+
+-- the line that is put for an action: none for what is done at the port
+abbrev pub puts : {S : Type 0} → Machine S → Action → List ℕ
+puts machine (Told link outcome) = machine.line (Told link outcome)
+puts machine (Judged judged) = machine.line (Judged judged)
+puts machine _ = []
+
+-- how many events an action can make
+abbrev pub most_made : Action → ℕ
+most_made (Send link bytes) = 1
+most_made (Dial peer) = 1
+most_made _ = 0
+
+abbrev pub most_made_by : List Action → ℕ
+most_made_by [] = 0
+most_made_by (action ∷ actions) = most_made action + most_made_by actions
+
+-- an event that a failed send or a dial makes
+abbrev pub is_made : Event → Bool
+is_made (event.Closed link) = true
+is_made (event.Dialled link) = true
+is_made event.DialFailed = true
+is_made _ = false
+
+abbrev pub are_made : List Event → Bool
+are_made queue = list_all is_made queue
+
+-- What the loop and the outside have while actions are performed.
+pub record Desk : Type 0 where
+  -- the links on which a send failed among these actions
+  pub failed : List ℕ
+  -- the events that wait
+  pub queue : List Event
+  -- what the port tells that happened, and the sink that it took
+  pub story : Option (List Happening)
+  -- how often dials and sends failed
+  pub link_faults : ℕ
+  pub taken : Option (List ℕ)
+
+abbrev pub desk_of : {P S : Type 0} → (P → Option (List Happening)) → (P → ℕ) → (S → Option (List ℕ)) → P → S → List ℕ → List Event → Desk
+desk_of story link_faults taken port out failed queue =
+    record { failed = failed; queue = queue; story = story port; link_faults = link_faults port; taken = taken out }
+
+-- These actions were performed, in order, and their lines put.
+pub record Performed (line : Action → List ℕ) (actions : List Action) (before after : Desk) : Type 0 where
+  pub happened : List Happening
+  pub performs : Performs before.failed actions happened
+  pub story : Appends before.story after.story happened
+  pub faulted : RisesWhere (fails_at_links happened) before.link_faults after.link_faults
+  pub failed : after.failed ≡ before.failed ++ flat_map failed_link happened
+  pub queue : after.queue ≡ before.queue ++ made_events happened
+  pub taken : Appends before.taken after.taken (flat_map line actions)
+
+abbrev pub next_line : (Action → List ℕ) → List Action → List ℕ
+next_line line [] = []
+next_line line (action ∷ actions) = line action
+
+-- A front of these actions was performed, and their lines put; of the next action's line a front was.
+pub record CutShort (line : Action → List ℕ) (actions : List Action) (before after : Desk) : Type 0 where
+  pub done : List Action
+  pub rest : List Action
+  pub all : done ++ rest ≡ actions
+  pub happened : List Happening
+  pub performs : Performs before.failed done happened
+  pub story : Appends before.story after.story happened
+  pub faulted : RisesWhere (fails_at_links happened) before.link_faults after.link_faults
+  pub part : List ℕ
+  pub more : List ℕ
+  pub front : part ++ more ≡ next_line line rest
+  pub taken : Appends before.taken after.taken (flat_map line done ++ part)
+
+-- an exit that performing actions can come to
+abbrev pub IsOfActs : Halt → Type 0
+IsOfActs SinkFault = Unit {0}
+IsOfActs NoMemory = Unit {0}
+IsOfActs _ = ⊥

@@ -1,0 +1,9 @@
+pub mod Acts
+pub mod Asking
+pub mod Begun
+pub mod Faults
+pub mod Runs
+pub mod Seen
+pub mod Sending
+pub mod Served
+pub mod Unique

@@ -1,0 +1,32 @@
+-- What the outside tells of a run (this project's own choice).
+use Rattle.std.specs.Prelude.{◌≡◌, ℕ, Bool, List, [], ◌∷◌, ◌++◌, Option, None}
+use Rattle.outside.specs.Causes.{RisesWhere}
+use Rattle.outside.specs.Drawing.{Drawing, DrawsAll}
+use Rattle.outside.specs.Stories.{fails_at_links}
+use Rattle.outside.specs.Telling.{Appends}
+use Rattle.outside.specs.declared.event.Happening.{Happening}
+
+-- What the port, the clock, the maker of challenges, the sink and the files tell at one moment.
+pub record Sight : Type 0 where
+  pub story : Option (List Happening)
+  -- how often dials and sends failed
+  pub link_faults : ℕ
+  pub moments : Option (List ℕ)
+  pub drawing : Drawing
+  pub taken : Option (List ℕ)
+  -- the files written: the name, the bytes, and whether it failed. No end writes any yet, and nothing is told of them
+  pub written : Option (List (List ℕ × (List ℕ × Bool)))
+
+abbrev pub sight_of : {P C Q S : Type 0} → (P → Option (List Happening)) → (P → ℕ) → (C → Option (List ℕ)) → (Q → Drawing) → (S → Option (List ℕ)) → P → C → Q → S → Sight
+sight_of story link_faults moments drawing taken port clock chances out =
+    record { story = story port; link_faults = link_faults port; moments = moments clock; drawing = drawing chances; taken = taken out; written = None }
+
+-- Between two moments these things happened at the port, these moments were given, these challenges drawn and these bytes put; the
+-- count of link faults rose where a dial or a send failed.
+pub record Shows (before after : Sight) (happened : List Happening) (given : List ℕ) (drawn : List (List ℕ)) (put : List ℕ) : Type 0 where
+  pub story : Appends before.story after.story happened
+  pub links : RisesWhere (fails_at_links happened) before.link_faults after.link_faults
+  pub moments : Appends before.moments after.moments given
+  pub drawing : DrawsAll before.drawing after.drawing drawn
+  pub taken : Appends before.taken after.taken put
+  pub written : Appends before.written after.written []

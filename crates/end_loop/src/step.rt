@@ -1,0 +1,96 @@
+//! One step of an end, and the steps of the events that wait.
+
+ghost use Rattle.std.specs.Prelude.{◌≡◌, ◌≤◌, ◌+◌, ℕ, List, [], ◌∷◌, true, false, length, OnOk, IfOk, IfErr, Err, IsTrue};
+ghost use Rattle.outside.specs.Causes.{Rose};
+ghost use Rattle.end_loop.specs.Acts.{is_made, are_made};
+ghost use Rattle.end_loop.specs.Seen.{Sight, sight_of};
+ghost use Rattle.end_loop.specs.Runs.{IsOfSteps, Made, MadePart, Ran, RanInto, standing_at, idle_at};
+
+use crate::act::perform;
+use crate::end::End;
+use crate::halt::Halt;
+use outside::{Chances, Clock, Event, Port, Sink, StepRefused};
+use std::alloc::Global;
+use std::collections::VecDeque;
+
+/// Steps the event, and performs what the end asks for. What that makes waits behind the events that wait.
+pub(crate) fn step_event<E: End, P: Port, S: Sink, C: Clock, Q: Chances>(
+    alloc: Global,
+    end: &mut E,
+    event: &Event,
+    queue: &mut VecDeque<Event>,
+    port: &mut P,
+    out: &mut S,
+    clock: &mut C,
+    chances: &mut Q,
+) -> Result<(), Halt>
+    requires running { E.is_stopped end.old ≡ false }
+    ensures made { OnOk result (
+        let before = sight_of P.story P.link_faults C.moments Q.drawing S.taken
+        port.old clock.old chances.old out.old in
+        let after = sight_of P.story P.link_faults C.moments Q.drawing S.taken
+        port.new clock.new chances.new out.new in
+        Made E.machine end.old end.new event.now queue.old.items queue.new.items before after) }
+    ensures part { IfErr result (λ halt.
+        let before = sight_of P.story P.link_faults C.moments Q.drawing S.taken
+        port.old clock.old chances.old out.old in
+        let after = sight_of P.story P.link_faults C.moments Q.drawing S.taken
+        port.new clock.new chances.new out.new in
+        MadePart E.machine end.old event.now before after halt) }
+    ensures goes_on { OnOk result (E.is_stopped end.new ≡ false) }
+    ensures settles { OnOk result (IsTrue (is_made event.now) → length queue.new.items + E.pending end.new ≤ length queue.old.items + E.pending end.old) }
+    ensures waiting { OnOk result (are_made queue.old.items ≡ true → are_made queue.new.items ≡ true) }
+    ensures kinds { IfErr result IsOfSteps }
+    ensures cause { result ≡ Err Halt.SinkFault → Rose (S.faults out.old) (S.faults out.new) }
+    ensures sink { S.faults out.old ≤ S.faults out.new }
+    ensures port { P.faults port.new ≡ P.faults port.old }
+    ensures links { P.link_faults port.old ≤ P.link_faults port.new }
+{
+    let now = clock.now();
+    let actions = match end.step(alloc, event, now, chances) {
+        Ok(actions) => actions,
+        Err(StepRefused::Spent) => return Err(Halt::Spent),
+        Err(StepRefused::Memory) => return Err(Halt::NoMemory),
+        Err(StepRefused::Stopped) => unreachable!(),
+    };
+    perform(alloc, end, actions.items(), queue, port, out)
+}
+
+/// Steps all the events that wait, and those that these steps make.
+pub(crate) fn drain<E: End, P: Port, S: Sink, C: Clock, Q: Chances>(
+    alloc: Global,
+    end: &mut E,
+    queue: &mut VecDeque<Event>,
+    port: &mut P,
+    out: &mut S,
+    clock: &mut C,
+    chances: &mut Q,
+) -> Result<(), Halt>
+    requires running { E.is_stopped end.old ≡ false }
+    requires made { are_made queue.old.items ≡ true }
+    ensures ran { OnOk result (
+        let before = sight_of P.story P.link_faults C.moments Q.drawing S.taken
+        port.old clock.old chances.old out.old in
+        let after = sight_of P.story P.link_faults C.moments Q.drawing S.taken
+        port.new clock.new chances.new out.new in
+        Ran E.machine (standing_at end.old queue.old.items before) (idle_at end.new after) 0
+        before after) }
+    ensures part { IfErr result (λ halt.
+        let before = sight_of P.story P.link_faults C.moments Q.drawing S.taken
+        port.old clock.old chances.old out.old in
+        let after = sight_of P.story P.link_faults C.moments Q.drawing S.taken
+        port.new clock.new chances.new out.new in
+        RanInto E.machine (standing_at end.old queue.old.items before) 0 before after halt) }
+    ensures idle { OnOk result (queue.new.items ≡ []) }
+    ensures goes_on { OnOk result (E.is_stopped end.new ≡ false) }
+    ensures kinds { IfErr result IsOfSteps }
+    ensures cause { result ≡ Err Halt.SinkFault → Rose (S.faults out.old) (S.faults out.new) }
+    ensures sink { S.faults out.old ≤ S.faults out.new }
+    ensures port { P.faults port.new ≡ P.faults port.old }
+    ensures links { P.link_faults port.old ≤ P.link_faults port.new }
+{
+    while let Some(event) = queue.pop_front() {
+        step_event(alloc, end, &event, queue, port, out, clock, chances)?;
+    }
+    Ok(())
+}

@@ -1,0 +1,54 @@
+//! What a command that serves does around the loop.
+
+ghost use Rattle.std.specs.Prelude.{◌≡◌, ◌≤◌, [], false, true, OnOk, IfErr, Err};
+ghost use Rattle.outside.specs.Causes.{Rose};
+ghost use Rattle.end_loop.specs.Seen.{Sight, sight_of};
+ghost use Rattle.end_loop.specs.Served.{Served, ServedUntil};
+
+use crate::end::End;
+use crate::halt::Halt;
+use crate::serving::serve;
+use outside::{Chances, Clock, Port, Sink};
+use std::alloc::Global;
+use std::collections::VecDeque;
+
+/// Starts the challenges, listens at the address and serves the end.
+pub fn serve_at<E: End, P: Port, S: Sink, C: Clock, Q: Chances>(
+    alloc: Global,
+    end: &mut E,
+    address: &[u8],
+    seed: [u8; 32],
+    boot: u32,
+    most: u32,
+    port: &mut P,
+    out: &mut S,
+    clock: &mut C,
+    chances: &mut Q,
+) -> Result<(), Halt>
+    requires running { E.is_stopped end.old ≡ false }
+    ensures ends { OnOk result (
+        let before = sight_of P.story P.link_faults C.moments Q.drawing S.taken
+        port.old clock.old chances.old out.old in
+        let after = sight_of P.story P.link_faults C.moments Q.drawing S.taken
+        port.new clock.new chances.new out.new in
+        Served E.machine end.old end.new address.now seed boot most before after) }
+    ensures halts { IfErr result (λ halt.
+        let before = sight_of P.story P.link_faults C.moments Q.drawing S.taken
+        port.old clock.old chances.old out.old in
+        let after = sight_of P.story P.link_faults C.moments Q.drawing S.taken
+        port.new clock.new chances.new out.new in
+        ServedUntil E.machine end.old address.now seed boot most before after halt) }
+    ensures sink_cause { result ≡ Err Halt.SinkFault → Rose (S.faults out.old) (S.faults out.new) }
+    ensures port_cause { result ≡ Err Halt.PortFault → Rose (P.faults port.old) (P.faults port.new) }
+    ensures sink { S.faults out.old ≤ S.faults out.new }
+    ensures port { P.faults port.old ≤ P.faults port.new }
+    ensures links { P.link_faults port.old ≤ P.link_faults port.new }
+{
+    chances.start(seed, boot);
+    match port.listen(address) {
+        Ok(()) => {}
+        Err(_) => return Err(Halt::PortFault),
+    }
+    let mut queue = VecDeque::new(alloc);
+    serve(alloc, end, &mut queue, most, port, out, clock, chances)
+}
