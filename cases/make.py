@@ -42,6 +42,9 @@ PROGRAMS = {
         "sam_logon",
         "outside",
     ],
+    "end_cases": [
+        "end_loop",
+    ],
     "top_cases": [
         "nt_top",
     ],
