@@ -2,7 +2,7 @@
 
 use crate::logon::{LOGON_CALL, read_response, write_granted};
 use crate::operation::Operation;
-use crate::plain::view_plain;
+use crate::plain::{authenticate_plain, view_plain};
 use crate::sealing::Sides;
 use crate::stream::{PIECE, RunningStream};
 use account_table::Table;
@@ -13,7 +13,7 @@ use channel_keys::cred;
 use des_cipher::{Schedule, des_block};
 use digest_parts::{hmac_md5, md4};
 use hex::FromHex;
-use ntlm_messages::read_authenticate;
+use ntlm_messages::{read_authenticate, view_authenticate};
 use ntlm_responses::verify;
 use rc4_stream::Rc4;
 use rpc_units::{Body, BodyView, read_unit, view_unit};
@@ -118,6 +118,8 @@ impl Bench {
             Operation::ReadAuthenticate => end_of(
                 read_authenticate(alloc, &self.message)?.nt.bytes(),
             ),
+            Operation::ViewAuthenticate => end_of(view_authenticate(&self.message)?.nt),
+            Operation::AuthenticatePlain => self.view_message_plainly()?,
             Operation::ReadUnit => self.read_request(alloc)?,
             Operation::ViewUnit => self.view_request()?,
             Operation::ViewPlain => self.view_request_plainly()?,
@@ -172,6 +174,14 @@ impl Bench {
         match &unit.body {
             Body::Request { stub, .. } => Ok(end_of(stub.bytes())),
             _ => bail!("a request was read as another unit"),
+        }
+    }
+
+    /// The NT response of the message, by the view without contracts.
+    fn view_message_plainly(&self) -> anyhow::Result<Outcome> {
+        match authenticate_plain(&self.message) {
+            Some(message) => Ok(end_of(message.nt)),
+            None => bail!("a message was refused"),
         }
     }
 

@@ -29,6 +29,10 @@ pub enum Operation {
     VerifyV2,
     /// Reading an AUTHENTICATE message of 124 bytes.
     ReadAuthenticate,
+    /// The same message, lent.
+    ViewAuthenticate,
+    /// The same without contracts, for comparison.
+    AuthenticatePlain,
     /// Reading a request of RPC with 1,024 stub bytes.
     ReadUnit,
     /// The same request, lent.
@@ -48,7 +52,7 @@ pub enum Operation {
 }
 
 /// All of them, in the order in which they are printed.
-pub const OPERATIONS: [Operation; 21] = [
+pub const OPERATIONS: [Operation; 23] = [
     Operation::Md4Short,
     Operation::Md4Long,
     Operation::DesBlock,
@@ -62,6 +66,8 @@ pub const OPERATIONS: [Operation; 21] = [
     Operation::VerifyV1,
     Operation::VerifyV2,
     Operation::ReadAuthenticate,
+    Operation::ViewAuthenticate,
+    Operation::AuthenticatePlain,
     Operation::ReadUnit,
     Operation::ViewUnit,
     Operation::ViewPlain,
@@ -89,6 +95,8 @@ impl Operation {
             Operation::VerifyV1 => "verify-v1",
             Operation::VerifyV2 => "verify-v2",
             Operation::ReadAuthenticate => "read-authenticate",
+            Operation::ViewAuthenticate => "view-authenticate",
+            Operation::AuthenticatePlain => "authenticate-plain",
             Operation::ReadUnit => "read-unit",
             Operation::ViewUnit => "view-unit",
             Operation::ViewPlain => "view-plain",

@@ -1,4 +1,7 @@
-//! A view of a unit without contracts, to compare the library's with.
+//! Views of a unit and of a message without contracts, to compare the library's with.
+
+use ntlm_flags::{NTLMSSP_NEGOTIATE_UNICODE, NTLMSSP_NEGOTIATE_VERSION};
+use ntlm_messages::AuthenticateView;
 
 /// A request or response that lends its stub, and its authentication value.
 #[derive(Clone, Copy, Debug)]
@@ -54,6 +57,60 @@ pub fn view_plain(bytes: &[u8]) -> Option<PlainUnit<'_>> {
         stub: &bytes[24..end],
         value,
     })
+}
+
+/// The AUTHENTICATE that the bytes are, by the tests of `view_authenticate`; None of all other bytes.
+pub fn authenticate_plain(bytes: &[u8]) -> Option<AuthenticateView<'_>> {
+    if bytes.len() < 64 || !bytes.starts_with(b"NTLMSSP\0") || u32_from(bytes, 8) != 3 {
+        return None;
+    }
+    let mut gap = bytes.len();
+    let lm = part(bytes, &bytes[12..20], &mut gap)?;
+    let nt = part(bytes, &bytes[20..28], &mut gap)?;
+    let domain = part(bytes, &bytes[28..36], &mut gap)?;
+    let user = part(bytes, &bytes[36..44], &mut gap)?;
+    let workstation = part(bytes, &bytes[44..52], &mut gap)?;
+    let key = part(bytes, &bytes[52..60], &mut gap)?;
+    let flags = u32_from(bytes, 60);
+    if flags & NTLMSSP_NEGOTIATE_UNICODE != 0
+        && (domain.len() % 2 == 1 || user.len() % 2 == 1 || workstation.len() % 2 == 1)
+    {
+        return None;
+    }
+    let versioned = flags & NTLMSSP_NEGOTIATE_VERSION != 0;
+    Some(AuthenticateView {
+        flags,
+        lm,
+        nt,
+        domain,
+        user,
+        workstation,
+        key,
+        version: if versioned && 72 <= gap {
+            bytes.get(64..72)?.first_chunk::<8>().copied()
+        } else {
+            None
+        },
+        mic: if versioned && 88 <= gap {
+            bytes.get(72..88)?.first_chunk::<16>().copied()
+        } else {
+            None
+        },
+    })
+}
+
+/// The bytes of the field with that place in the header; the gap ends where they begin.
+fn part<'a>(bytes: &'a [u8], head: &[u8], gap: &mut usize) -> Option<&'a [u8]> {
+    let len = usize::from(u16_from(head, 0));
+    if len == 0 {
+        return Some(&[]);
+    }
+    let offset = u32_from(head, 4) as usize;
+    if offset < 64 || bytes.len() < offset + len {
+        return None;
+    }
+    *gap = (*gap).min(offset);
+    Some(&bytes[offset..offset + len])
 }
 
 /// Two bytes, low first; 0 where there are fewer.
