@@ -5,7 +5,6 @@ mod answer;
 mod check;
 mod exit;
 mod launch;
-mod put;
 mod show;
 mod texts;
 mod top;

@@ -14,8 +14,8 @@ ghost use Rattle.ntlm_messages.specs.declared.messages.Authenticate.{Authenticat
 use crate::answer::Answer;
 use crate::check::check;
 use crate::exit::{Exit, Role};
-use crate::put::put_all;
 use crate::show::show;
+use end_loop::put_all;
 use outside::{Chances, Clock, Failed, Files, Port, Sink};
 use std::alloc::Global;
 
