@@ -1,5 +1,7 @@
 //! Cases of `end_loop`: a small end is served over the outside in memory, a scenario a line.
 
+ghost use Rattle.std.specs.Prelude.{◌≡◌, false};
+
 use crate::small::Small;
 use crate::words::{add_answer, bytes, eight, long_number, no_case, number, text, word};
 use end_loop::{Halt, begin_with, serve_at};
@@ -94,7 +96,9 @@ fn seen(
 }
 
 /// A small end at its start.
-fn small() -> Small {
+fn small() -> Small
+    ensures { result.stopped ≡ false }
+{
     Small {
         waiting: 0,
         link: None,
