@@ -39,7 +39,10 @@ impl Model for CounterChances {
 impl CounterChances {
     /// It stands as after `start` with a seed of zeros and boot 0.
     pub fn new() -> CounterChances
-        ensures { result ≡ counter_at (replicate 32 0) 0 0 }
+        ensures exact { result ≡ counter_at (replicate 32 0) 0 0 }
+
+        // Each challenge is a block of 8 bytes.
+        ensures blocks { All IsBlock result.left }
     {
         CounterChances {
             seed: [0; 32],

@@ -1,6 +1,6 @@
 //! A sink in memory that never fails.
 
-ghost use Rattle.std.specs.Prelude.{◌≡◌, ◌≤◌, ◌<◌, [], length, take, true, IfOk, OnErr};
+ghost use Rattle.std.specs.Prelude.{◌≡◌, ◌⊎◌, ◌++◌, ◌≤◌, ◌<◌, [], length, take, true, IfOk, OnErr, Ok};
 ghost use Rattle.std.specs.Result.{result_unwrap_or};
 ghost use Rattle.outside.specs.Causes.{Rose};
 ghost use Rattle.outside.specs.Telling.{Appends};
@@ -64,6 +64,8 @@ impl Sink for SureSink {
     fn put(&mut self, bytes: &[u8]) -> Result<usize, Failed>
         ensures all { result ≡ Ok (length bytes.now) }
         ensures told { Appends (sure_taken self.old) (sure_taken self.new) bytes.now }
+        ensures kept { (self.new.bytes ≡ self.old.bytes) ⊎
+            (self.new.bytes ≡ self.old.bytes ++ bytes.now) }
     {
         self.kept.put(bytes)
     }
