@@ -20,11 +20,13 @@ pub record Opens (seed : List ℕ) (boot : ℕ) (before opened : Sight) (happene
   pub taken : opened.taken ≡ before.taken
   pub written : opened.written ≡ before.written
 
+-- The challenges were started, the port listened at the address, and the machine ran from there to its end.
 pub record Served {S : Type 0} (machine : Machine S) (old new : S) (address seed : List ℕ) (boot most : ℕ) (before after : Sight) : Type 0 where
   pub opened : Sight
   pub opens : Opens seed boot before opened (happening.Listened address ∷ [])
   pub run : RanOut machine (idle_at old opened) new most opened after
 
+-- The same, but the run halted.
 pub record ServedHalf {S : Type 0} (machine : Machine S) (old : S) (address seed : List ℕ) (boot most : ℕ) (before after : Sight) (halt : Halt) : Type 0 where
   pub opened : Sight
   pub opens : Opens seed boot before opened (happening.Listened address ∷ [])

@@ -13,7 +13,7 @@ use outside::{Actions, Chances, Clock, Port, Sink};
 use std::alloc::Global;
 use std::collections::VecDeque;
 
-/// Performs the first actions, and then serves the end.
+/// Performs the first actions, and then serves the end (this project's own choice). Refuses as `serve` does.
 pub fn begin_with<E: End, P: Port, S: Sink, C: Clock, Q: Chances>(
     alloc: Global,
     end: &mut E,
@@ -38,7 +38,8 @@ pub fn begin_with<E: End, P: Port, S: Sink, C: Clock, Q: Chances>(
         port.new clock.new chances.new out.new in
         BegunUntil E.machine first.now end.old most before after halt) }
     ensures sink_cause { result ≡ Err Halt.SinkFault → Rose (S.faults out.old) (S.faults out.new) }
-    ensures port_cause { result ≡ Err Halt.PortFault → Rose (P.faults port.old) (P.faults port.new) }
+    ensures port_cause { result ≡ Err Halt.PortFault →
+        Rose (P.faults port.old) (P.faults port.new) }
     ensures sink { S.faults out.old ≤ S.faults out.new }
     ensures port { P.faults port.old ≤ P.faults port.new }
     ensures links { P.link_faults port.old ≤ P.link_faults port.new }

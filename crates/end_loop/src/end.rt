@@ -17,8 +17,8 @@ pub trait End {
 
     ghost pending: { Self → ℕ };
 
-    /// The step for the event at this moment, in units of 100 ns since 1601-01-01. After `Spent` and `Memory` the end is stopped, and
-    /// `Stopped` comes only then.
+    /// The step for the event at this moment, in units of 100 ns since 1601-01-01. `Stopped` comes only of an end that is stopped, and
+    /// a step that is taken leaves none stopped.
     fn step<Q: Chances>(
         &mut self,
         alloc: Global,

@@ -15,8 +15,12 @@ use outside::{Chances, Clock, Event, Port, PortRefused, Sink};
 use std::alloc::Global;
 use std::collections::VecDeque;
 
-/// Serves the end: steps the events that wait, and then each event that the port gives, with all that its steps make, before the
-/// next is asked for. It ends where the end has its outcome, at `Stop`, and after that many answers of the port.
+/// Serves the end (this project's own choice): steps the events that wait, and then each event that the port gives, with all that its
+/// steps make, before the next is asked for. It ends where the end has its outcome, at `Stop`, and after `most` answers of the port, and
+/// then no event waits.
+///
+/// `PortFault` where the port failed to give an event, `SinkFault` where the sink failed, `Spent` where a step draws more challenges than
+/// are left, `NoMemory` where no memory was found. What was done until then is done.
 pub fn serve<E: End, P: Port, S: Sink, C: Clock, Q: Chances>(
     alloc: Global,
     end: &mut E,
@@ -42,8 +46,11 @@ pub fn serve<E: End, P: Port, S: Sink, C: Clock, Q: Chances>(
         let after = sight_of P.story P.link_faults C.moments Q.drawing S.taken
         port.new clock.new chances.new out.new in
         Halts E.machine (standing_at end.old queue.old.items before) most before after halt) }
+    ensures idle { OnOk result (queue.new.items ≡ []) }
+    ensures goes_on { OnOk result (E.is_stopped end.new ≡ false) }
     ensures sink_cause { result ≡ Err Halt.SinkFault → Rose (S.faults out.old) (S.faults out.new) }
-    ensures port_cause { result ≡ Err Halt.PortFault → Rose (P.faults port.old) (P.faults port.new) }
+    ensures port_cause { result ≡ Err Halt.PortFault →
+        Rose (P.faults port.old) (P.faults port.new) }
     ensures sink { S.faults out.old ≤ S.faults out.new }
     ensures port { P.faults port.old ≤ P.faults port.new }
     ensures links { P.link_faults port.old ≤ P.link_faults port.new }
@@ -97,7 +104,8 @@ fn turn<E: End, P: Port, S: Sink, C: Clock, Q: Chances>(
     ensures stopped { OnOk result (E.is_stopped end.new ≡ false) }
     ensures idle { OnOk result (queue.new.items ≡ []) }
     ensures sink_cause { result ≡ Err Halt.SinkFault → Rose (S.faults out.old) (S.faults out.new) }
-    ensures port_cause { result ≡ Err Halt.PortFault → Rose (P.faults port.old) (P.faults port.new) }
+    ensures port_cause { result ≡ Err Halt.PortFault →
+        Rose (P.faults port.old) (P.faults port.new) }
     ensures sink { S.faults out.old ≤ S.faults out.new }
     ensures port { P.faults port.old ≤ P.faults port.new }
     ensures links { P.link_faults port.old ≤ P.link_faults port.new }
@@ -114,7 +122,8 @@ fn turn<E: End, P: Port, S: Sink, C: Clock, Q: Chances>(
 
 /// Asks for the next event.
 fn ask<E: End, P: Port>(end: &E, port: &mut P) -> Result<Event, Halt>
-    ensures given { IfOk result (λ event. Appends (P.story port.old) (P.story port.new) (Happening.Given event (E.machine.want end.now) ∷ [])) }
+    ensures given { IfOk result (λ event. Appends (P.story port.old) (P.story port.new)
+        (Happening.Given event (E.machine.want end.now) ∷ [])) }
     ensures quiet { OnErr result (Appends (P.story port.old) (P.story port.new) []) }
     ensures kinds { IfErr result IsOfAsk }
     ensures cause { result ≡ Err Halt.PortFault → Rose (P.faults port.old) (P.faults port.new) }

@@ -38,8 +38,11 @@ pub(crate) fn step_event<E: End, P: Port, S: Sink, C: Clock, Q: Chances>(
         port.new clock.new chances.new out.new in
         MadePart E.machine end.old event.now before after halt) }
     ensures goes_on { OnOk result (E.is_stopped end.new ≡ false) }
-    ensures settles { OnOk result (IsTrue (is_made event.now) → length queue.new.items + E.pending end.new ≤ length queue.old.items + E.pending end.old) }
-    ensures waiting { OnOk result (are_made queue.old.items ≡ true → are_made queue.new.items ≡ true) }
+    ensures settles { OnOk result (IsTrue (is_made event.now) →
+        length queue.new.items + E.pending end.new
+        ≤ length queue.old.items + E.pending end.old) }
+    ensures waiting { OnOk result (are_made queue.old.items ≡ true →
+        are_made queue.new.items ≡ true) }
     ensures kinds { IfErr result IsOfSteps }
     ensures cause { result ≡ Err Halt.SinkFault → Rose (S.faults out.old) (S.faults out.new) }
     ensures sink { S.faults out.old ≤ S.faults out.new }

@@ -12,7 +12,8 @@ use outside::{Chances, Clock, Port, Sink};
 use std::alloc::Global;
 use std::collections::VecDeque;
 
-/// Starts the challenges, listens at the address and serves the end.
+/// Starts the challenges, listens at the address and serves the end (this project's own choice). Refuses as `serve` does, and with
+/// `PortFault` also where the port failed to listen; then the challenges stand as started, no moment was taken and nothing was put.
 pub fn serve_at<E: End, P: Port, S: Sink, C: Clock, Q: Chances>(
     alloc: Global,
     end: &mut E,
@@ -39,7 +40,8 @@ pub fn serve_at<E: End, P: Port, S: Sink, C: Clock, Q: Chances>(
         port.new clock.new chances.new out.new in
         ServedUntil E.machine end.old address.now seed boot most before after halt) }
     ensures sink_cause { result ≡ Err Halt.SinkFault → Rose (S.faults out.old) (S.faults out.new) }
-    ensures port_cause { result ≡ Err Halt.PortFault → Rose (P.faults port.old) (P.faults port.new) }
+    ensures port_cause { result ≡ Err Halt.PortFault →
+        Rose (P.faults port.old) (P.faults port.new) }
     ensures sink { S.faults out.old ≤ S.faults out.new }
     ensures port { P.faults port.old ≤ P.faults port.new }
     ensures links { P.link_faults port.old ≤ P.link_faults port.new }
