@@ -50,14 +50,15 @@ fn pair(alloc: Global, word: &str) -> anyhow::Result<(u16, Blob)> {
 fn may_write_pair(pair: &(u16, Blob)) -> bool
     ensures { result ≡ true → IsPair pair.now }
 {
+    let id = pair.0;
     let len = pair.1.bytes().len();
-    len <= 65535
-        && match pair.0 {
-            0 => false,
-            6 => len == 4,
-            7 => len == 8,
-            _ => true,
-        }
+    if id == 0 || len > 65535 {
+        return false;
+    }
+    if id == 6 && len != 4 {
+        return false;
+    }
+    id != 7 || len == 8
 }
 
 /// Whether the pairs may be written.
