@@ -1,4 +1,3 @@
-pub mod Putting
 pub mod CheckLaws
 pub mod AskedLaws
 pub mod ShownLaws
