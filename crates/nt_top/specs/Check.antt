@@ -2,7 +2,6 @@
 use Rattle.std.specs.Prelude.{◌≡◌, ℕ, Bool, true, false, List, [], ◌∷◌, Some, None, Result, Ok, codes}
 use Rattle.hex.specs.Hex.{decode_of, decode_sized}
 use Rattle.ntlm_messages.specs.Authenticate.{authenticate_of, IsAuthenticate}
-use Rattle.ntlm_messages.specs.Text.{units_of_text}
 use Rattle.ntlm_messages.specs.declared.messages.Authenticate.{Authenticate}
 use Rattle.ntlm_responses.specs.Verification.{MessageVerifies, message_verifies}
 use Rattle.nt_top.specs.declared.answer.Answer.{Answer}
@@ -15,15 +14,11 @@ use Rattle.nt_top.specs.Needs.{needs}
 -- whether the NT response is the one of the hash, under the message's names, to the challenge that its flags and responses make
 -- of this one (MS-NLMP 3.3.1, 3.3.2)
 abbrev pub accepts_of : List ℕ → List ℕ → Authenticate → Bool
-accepts_of hash challenge message =
-    message_verifies hash message.flags (units_of_text message.flags message.user)
-    (units_of_text message.flags message.domain) challenge message.lm message.nt
+accepts_of hash challenge message = message_verifies hash message.flags challenge message
 
 -- the same in the field's own words
 abbrev pub Accepts : List ℕ → List ℕ → Authenticate → Type 0
-Accepts hash challenge message =
-    MessageVerifies hash message.flags (units_of_text message.flags message.user)
-    (units_of_text message.flags message.domain) challenge message.lm message.nt
+Accepts hash challenge message = MessageVerifies hash message.flags challenge message
 
 -- what is put, and the exit, for an accepted response and for another one
 abbrev pub verdict_answer : Bool → Answer

@@ -227,6 +227,29 @@ starts bytes =
     let none : length bytes - length bytes ≡ 0 = omega arith in
     nothing_before (pairs_within (suc (length bytes)) (length bytes - length bytes) bytes) ∙ ap (λ (p : ℕ). pairs_within (suc (length bytes)) p bytes) none
 
+-- ---- whether bytes are pairs
+
+-- what is left of the answer where the pairs aren't kept, as in `verdict_on_pairs`
+abbrev pub judgement : Read → Result (Unit {0}) PairsRefused
+judgement read = read >>= λ pairs. Ok tt
+
+abbrev refused_judgement : PairsRefused → Result (Unit {0}) PairsRefused
+refused_judgement e = Err e
+
+same_refusal : (d e : PairsRefused) → refused_judgement d ≡ refused_judgement e → d ≡ e
+same_refusal d e h = cc
+
+abbrev refused_read : PairsRefused → Read
+refused_read e = Err e
+
+pub refused_from_judgement : (read : Read) (e : PairsRefused) → judgement read ≡ Err e → read ≡ Err e
+refused_from_judgement (Ok pairs) e h = absurd cc
+refused_from_judgement (Err d) e h = ap refused_read (same_refusal d e h)
+
+pub taken_from_judgement : (read : Read) (e : PairsRefused) → judgement read ≡ Ok tt → read ≡ Err e → ⊥
+taken_from_judgement (Ok pairs) e h refused = absurd cc
+taken_from_judgement (Err d) e h refused = absurd cc
+
 -- ---- refusals
 
 abbrev refusal : PairsRefused → Result (ℕ × List ℕ × List ℕ) PairsRefused
@@ -310,3 +333,6 @@ whole_number value eight =
 
 pub timestamp_read : (pairs : List (ℕ × List ℕ)) (value : List ℕ) → ArePairs pairs → pair_value_of 7 pairs ≡ Some value → timestamp_of pairs ≡ u64_of value 0
 timestamp_read pairs value are e = rw e (sym (whole_number value (timestamp_length pairs value are e)))
+
+-- for `search`: what was found of the bytes says what reading them gives
+pub ruleset judging = (refused_from_judgement, taken_from_judgement)

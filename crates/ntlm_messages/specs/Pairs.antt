@@ -70,6 +70,10 @@ pairs_within (suc limit) place bytes = do
 unfoldable pub pairs_of : List ℕ → Result (List (ℕ × List ℕ)) PairsRefused
 pairs_of bytes = pairs_within (suc (length bytes)) 0 bytes
 
+-- whether pairs and their end stand at the front, or the first refusal
+abbrev pub verdict_on_pairs : List ℕ → Result (Unit {0}) PairsRefused
+verdict_on_pairs bytes = pairs_of bytes >>= λ pairs. Ok tt
+
 -- ---- refusals
 
 -- what stands at the place where the walk from the front stops: (place, bytes from there on)

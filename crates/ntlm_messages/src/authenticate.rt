@@ -73,7 +73,6 @@ fn lend_authenticate(bytes: &[u8]) -> Result<AuthenticateView<'_>, MessageRefuse
 /// The first of these refusals that holds of the bytes: `ShortHeader` below 64 bytes; `BadSignature`; `BadType` where the type isn't 3;
 /// `FieldOutside` of the first field, in the order LM response, NT response, domain, user, workstation, session key, that isn't empty and begins
 /// before byte 64 or ends past the message; `OddText` of the first of domain, user and workstation of odd length where texts are UTF-16LE.
-///
 pub fn view_authenticate(bytes: &[u8]) -> Result<AuthenticateView<'_>, MessageRefused>
     // The value or the first refusal.
     ensures exact { Shows authenticate_shown result (authenticate_of bytes.now) }
@@ -113,8 +112,8 @@ impl AuthenticateView<'_> {
     }
 }
 
-/// Reads an AUTHENTICATE, and copies its fields: the value that `view_authenticate` shows, or its refusal, which comes before memory is looked for; `Memory`
-/// where no memory was found.
+/// Reads an AUTHENTICATE, and copies its fields: the value that `view_authenticate` shows, or its refusal, which comes before memory is looked for;
+/// `Memory` where no memory was found.
 pub fn read_authenticate(alloc: Global, bytes: &[u8]) -> Result<Authenticate, MessageRefused>
     // The value or the first refusal.
     ensures exact { UpToMemory MessageRefused.Memory result (authenticate_of bytes.now) }

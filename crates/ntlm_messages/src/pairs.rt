@@ -1,10 +1,11 @@
 //! Target information: lists of AV_PAIRs (MS-NLMP 2.2.2.1).
 
-ghost use Rattle.std.specs.Prelude.{◌≡◌, ◌+◌, ◌<◌, ◌^◌, ◌++◌, ℕ, List as list, length, Ok, IfOk, IfErr, OnOk, MatchOption, Some, None};
+ghost use Rattle.std.specs.Prelude.{◌≡◌, ◌+◌, ◌<◌, ◌^◌, ◌++◌, ℕ, List as list, length, Ok, Err, IfOk, IfErr, OnOk, MatchOption, Some, None};
 ghost use Rattle.std.specs.List.{flat_map};
 ghost use Rattle.wire_base.specs.Memory.{UpToMemory};
 ghost use Rattle.ntlm_messages.specs.Fields.{Shows};
-ghost use Rattle.ntlm_messages.specs.Pairs.{IsPairs, IsPairsRefusal, ArePairs, pair_of, pairs_of, pair_bytes, pair_value_of, timestamp_of, written_pairs, may_have_length};
+ghost use Rattle.ntlm_messages.specs.declared.pairs.PairsRefused.{PairsRefused};
+ghost use Rattle.ntlm_messages.specs.Pairs.{IsPairs, IsPairsRefusal, ArePairs, pair_of, pairs_of, pair_bytes, pair_value_of, timestamp_of, verdict_on_pairs, written_pairs, may_have_length};
 
 use crate::fields::short_at;
 use std::alloc::Global;
@@ -56,8 +57,10 @@ fn may_have_length(id: u16, len: usize) -> bool
 /// The pair at the front: its id, its value and the bytes behind it.
 #[tactic(auto, unfolding(crate::specs::Pairs::pair_of))]
 fn pair_at(place: usize, bytes: &[u8]) -> Result<(u16, &[u8], &[u8]), PairsRefused>
-    ensures value { Shows (λ pair. (pair.0, pair.1.now, pair.2.now)) result (pair_of place bytes.now) }
-    ensures shorter { IfOk result (λ pair. length pair.2.now + 4 + length pair.1.now ≡ length bytes.now) }
+    ensures value { Shows (λ pair. (pair.0, pair.1.now, pair.2.now)) result
+        (pair_of place bytes.now) }
+    ensures shorter { IfOk result (λ pair.
+        length pair.2.now + 4 + length pair.1.now ≡ length bytes.now) }
 {
     if bytes.is_empty() {
         return Err(PairsRefused::NoEnd);
@@ -71,6 +74,20 @@ fn pair_at(place: usize, bytes: &[u8]) -> Result<(u16, &[u8], &[u8]), PairsRefus
         return Err(PairsRefused::BadLength(id));
     }
     Ok((id, &bytes[4..4 + len], &bytes[4 + len..]))
+}
+
+/// Walks the pairs before the end, and refuses the first that isn't taken.
+fn check_pairs(bytes: &[u8]) -> Result<(), PairsRefused>
+    ensures { result ≡ verdict_on_pairs bytes.now }
+{
+    let mut rest = bytes;
+    loop {
+        let (id, _, after) = pair_at(bytes.len() - rest.len(), rest)?;
+        if id == 0 {
+            return Ok(());
+        }
+        rest = after;
+    }
 }
 
 /// Copies the pairs before the end.
@@ -89,13 +106,27 @@ fn copy_pairs(alloc: Global, bytes: &[u8]) -> Result<Pairs, PairsRefused>
     }
 }
 
+/// The pairs or the first refusal; what that says in the grammar's terms follows in `read_pairs`.
+#[tactic(auto, using(crate::proofs::PairsLaws::judging))]
+fn checked_pairs(alloc: Global, bytes: &[u8]) -> Result<Pairs, PairsRefused>
+    ensures exact { UpToMemory PairsRefused.Memory result (pairs_of bytes.now) }
+    ensures refusals { (refused : PairsRefused) →
+        pairs_of bytes.now ≡ Err refused → result ≡ Err refused }
+{
+    check_pairs(bytes)?;
+    copy_pairs(alloc, bytes)
+}
+
 /// Reads pairs from the front to the end pair. What follows the end is passed over.
 ///
 /// At the first pair that isn't taken: `NoEnd` where no byte is left; `CutPair` where its head or value is cut; `BadLength` where its value has a
-/// length that its id doesn't allow. `Memory` where no memory was found.
+/// length that its id doesn't allow. A refusal comes before memory is looked for; `Memory` where no memory was found.
 pub fn read_pairs(alloc: Global, bytes: &[u8]) -> Result<Pairs, PairsRefused>
     // The pairs or the first refusal.
     ensures exact { UpToMemory PairsRefused.Memory result (pairs_of bytes.now) }
+    // A refusal comes before memory is looked for.
+    ensures refusals { (refused : PairsRefused) →
+        pairs_of bytes.now ≡ Err refused → result ≡ Err refused }
     // What is read is in the grammar.
     ensures found { IfOk result (λ pairs. IsPairs bytes.now pairs) }
     // Which refusal it is.
@@ -103,9 +134,10 @@ pub fn read_pairs(alloc: Global, bytes: &[u8]) -> Result<Pairs, PairsRefused>
     // What is read can be written.
     ensures writable { IfOk result (λ pairs. ArePairs pairs) }
     // What is in the grammar is read, unless memory runs out.
-    ensures only { (pairs : list (ℕ × list ℕ)) → IsPairs bytes.now pairs → UpToMemory PairsRefused.Memory result (Ok pairs) }
+    ensures only { (pairs : list (ℕ × list ℕ)) → IsPairs bytes.now pairs →
+        UpToMemory PairsRefused.Memory result (Ok pairs) }
 {
-    copy_pairs(alloc, bytes)
+    checked_pairs(alloc, bytes)
 }
 
 /// Appends a pair.

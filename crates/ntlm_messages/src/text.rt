@@ -11,14 +11,10 @@ use std::alloc::Global;
 use wire_base::{NoMemory, Units, UnitsRefused};
 
 /// The unit of the number of each byte.
-fn widened(alloc: Global, text: &[u8]) -> Result<Vec<u16>, NoMemory>
+fn units_of_bytes(alloc: Global, text: &[u8]) -> Result<Vec<u16>, NoMemory>
     ensures { IfOk result (λ units. units.items ≡ text.now) }
 {
-    let mut units = Vec::new(alloc);
-    for byte in text {
-        units.push(u16::from(*byte))?;
-    }
-    Ok(units)
+    Ok(text.iter().map(|byte| u16::from(*byte)).collect(alloc)?)
 }
 
 /// The 16-bit units of a text field of a message with these flags: UTF-16LE where the flag UNICODE is set, else one unit for each byte.
@@ -32,7 +28,7 @@ pub fn text_units(alloc: Global, flags: u32, text: &[u8]) -> Result<Units, Units
     if has_flag(flags, NTLMSSP_NEGOTIATE_UNICODE) {
         return Units::read(alloc, text);
     }
-    Ok(Units::from_vec(widened(alloc, text)?))
+    Ok(Units::from_vec(units_of_bytes(alloc, text)?))
 }
 
 /// The same of a text field of a message that was read, which is never odd under the flag UNICODE.

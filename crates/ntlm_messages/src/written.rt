@@ -1,16 +1,20 @@
 //! What is written is read: the law of the written forms.
 
-ghost use Rattle.std.specs.Prelude.{◌≡◌, ℕ, List, Ok};
-ghost use Rattle.ntlm_messages.specs.Fields.{FieldsFit};
+ghost use Rattle.std.specs.Prelude.{◌≡◌, ℕ, List, IsTrue, Ok};
+ghost use Rattle.wire_base.specs.Units.{AreUnits, utf16_of};
+ghost use Rattle.ntlm_flags.specs.Flags.{has_flag, negotiate_unicode};
+ghost use Rattle.ntlm_messages.specs.Fields.{FieldsFit, IsText};
 ghost use Rattle.ntlm_messages.specs.Negotiate as negotiate;
 ghost use Rattle.ntlm_messages.specs.Challenge as challenge;
 ghost use Rattle.ntlm_messages.specs.Authenticate as authenticate;
 ghost use Rattle.ntlm_messages.specs.Pairs.{ArePairs, pairs_of, written_pairs};
+ghost use Rattle.ntlm_messages.specs.Text.{text_units_of};
 ghost use Rattle.ntlm_messages.specs.declared.messages.Negotiate.{Negotiate};
 ghost use Rattle.ntlm_messages.specs.declared.messages.Challenge.{Challenge};
 ghost use Rattle.ntlm_messages.specs.declared.messages.Authenticate.{Authenticate};
 
-/// The written form of a message or of a list of pairs is read as the same value.
+/// The written form of a message or of a list of pairs is read as the same value. So are units that are written in UTF-16LE into a text field of a
+/// message with the flag UNICODE, whose length is then even as a writer asks for.
 pub fn what_is_written_is_read()
     ensures negotiate { (value : Negotiate) →
         negotiate.CanWriteNegotiate value → negotiate.HasWidths value →
@@ -26,4 +30,7 @@ pub fn what_is_written_is_read()
         authenticate.authenticate_of (authenticate.written_authenticate value) ≡ Ok value }
     ensures pairs { (pairs : List (ℕ × List ℕ)) → ArePairs pairs →
         pairs_of (written_pairs pairs) ≡ Ok pairs }
+    ensures text { (flags : ℕ) (units : List ℕ) → IsTrue (has_flag flags negotiate_unicode) →
+        AreUnits units → text_units_of flags (utf16_of units) ≡ Ok units }
+    ensures even { (flags : ℕ) (units : List ℕ) → IsText flags (utf16_of units) }
 {}

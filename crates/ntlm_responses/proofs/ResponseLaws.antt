@@ -1,5 +1,5 @@
 -- What crates above may use of hashes, responses and keys: their lengths, that they are bytes, and that what is written verifies.
-use Rattle.std.proofs.Common.{sym, ap, ◌∙◌, append_assoc, ◌≡◌, ◌≢◌, ◌&&◌, ℕ, ◌+◌, ◌<◌, ◌≤◌, ◌==◌, true, false, List, ◌∷◌, ◌++◌, length, take, drop, replicate, refl, inl, inr, arith, lit<, length-append}
+use Rattle.std.proofs.Common.{sym, ap, subst, ◌∙◌, append_assoc, ◌≡◌, ◌≢◌, ◌&&◌, ℕ, ◌+◌, ◌<◌, ◌≤◌, ◌==◌, true, false, IsTrue, List, ◌∷◌, ◌++◌, length, take, drop, replicate, refl, inl, inr, arith, lit<, length-append}
 use Rattle.std.proofs.lemmas.Bool.{ne_eqb}
 use Rattle.std.proofs.Math.Bool.{and-false}
 use Rattle.std.proofs.lemmas.List.{length-take-le, take_at, drop_at}
@@ -11,10 +11,14 @@ use Rattle.des_cipher.specs.Des.{IsBlock, des_of, des_back_of, spread_of}
 use Rattle.des_cipher.proofs.DesLaws.{length-des_of, All-des_of, des_back_of-des_of}
 use Rattle.digest_parts.proofs.Laws.{length-md4_of, All-md4_of, length-md5, All-md5, length-hmac_of, All-hmac_of}
 use Rattle.rc4_stream.proofs.Rc4Laws.{applied-applied, length-applied}
-use Rattle.ntlm_flags.specs.Flags.{has_flag, negotiate_extended_sessionsecurity}
+use Rattle.wire_base.specs.Units.{AreUnits, utf16_of}
+use Rattle.ntlm_flags.specs.Flags.{has_flag, negotiate_extended_sessionsecurity, negotiate_unicode}
+use Rattle.ntlm_messages.specs.Text.{units_of_text}
+use Rattle.ntlm_messages.specs.declared.messages.Authenticate.{Authenticate}
+use Rattle.ntlm_messages.proofs.TextLaws.{units_of_text-written}
 use Rattle.ntlm_responses.specs.Hashes.{des7_of, desl_of, nt_hash_of, lm_key_of, lm_text, lm_hash_of, key_v2_of}
 use Rattle.ntlm_responses.specs.Responses.{response_v1_of, hashed_challenge_of, response_ess_of, temp_of, proof_of, response_v2_of, is_ess_pair, challenge_for_of}
-use Rattle.ntlm_responses.specs.Verification.{Verifies, MessageVerifies, base_key_by, base_key_of}
+use Rattle.ntlm_responses.specs.Verification.{Verifies, PairVerifies, MessageVerifies, base_key_by, base_key_of}
 use Rattle.ntlm_responses.specs.Keys.{exchange_key_of}
 
 abbrev pub IsByte : ℕ → Type 0
@@ -216,24 +220,35 @@ Verifies-challenge_for_of flags hash user domain challenge client lm starts ess 
 
 -- ---- what is written for a message verifies
 
-pub message_v1 : (hash user domain challenge lm : List ℕ) (flags : ℕ) → has_flag flags negotiate_extended_sessionsecurity ≡ false → MessageVerifies hash flags user domain challenge lm (response_v1_of hash challenge)
-message_v1 hash user domain challenge lm flags without =
+pub pair_v1 : (hash user domain challenge lm : List ℕ) (flags : ℕ) → has_flag flags negotiate_extended_sessionsecurity ≡ false → PairVerifies hash flags user domain challenge lm (response_v1_of hash challenge)
+pair_v1 hash user domain challenge lm flags without =
     rw (challenge_for_of-plain flags challenge lm (response_v1_of hash challenge) (is_ess_pair-flag flags lm (response_v1_of hash challenge) without))
     (Verifies-response_v1_of hash user domain challenge)
 
-pub message_ess : (hash user domain challenge client : List ℕ) (flags : ℕ) → has_flag flags negotiate_extended_sessionsecurity ≡ true → length client ≡ 8 → MessageVerifies hash flags user domain challenge (client ++ replicate 16 0) (response_ess_of hash challenge client)
-message_ess hash user domain challenge client flags with_flag eight =
+pub pair_ess : (hash user domain challenge client : List ℕ) (flags : ℕ) → has_flag flags negotiate_extended_sessionsecurity ≡ true → length client ≡ 8 → PairVerifies hash flags user domain challenge (client ++ replicate 16 0) (response_ess_of hash challenge client)
+pair_ess hash user domain challenge client flags with_flag eight =
     let nt : List ℕ = response_ess_of hash challenge client in
     let lm : List ℕ = client ++ replicate 16 0 in
     let long : length lm ≡ 24 = omega (arith, length-append client (replicate 16 0), eight) in
     Verifies-challenge_for_of flags hash user domain challenge client lm (take_at client (replicate 16 0) 8 eight) (is_ess_pair-all flags lm nt with_flag long (length-response_ess_of hash challenge client))
 
-pub message_v2 : (hash user domain challenge lm client pairs : List ℕ) (flags time : ℕ) → length client ≡ 8 → MessageVerifies hash flags user domain challenge lm (response_v2_of hash user domain challenge time client pairs)
-message_v2 hash user domain challenge lm client pairs flags time eight =
+pub pair_v2 : (hash user domain challenge lm client pairs : List ℕ) (flags time : ℕ) → length client ≡ 8 → PairVerifies hash flags user domain challenge lm (response_v2_of hash user domain challenge time client pairs)
+pair_v2 hash user domain challenge lm client pairs flags time eight =
     let nt : List ℕ = response_v2_of hash user domain challenge time client pairs in
     let long : length nt ≢ 24 = λ same. omega (arith, same, length-response_v2_of hash user domain challenge time client pairs, eight) in
     rw (challenge_for_of-plain flags challenge lm nt (is_ess_pair-length flags lm nt long))
     (Verifies-response_v2_of hash user domain challenge time client pairs (omega (arith, eight)))
+
+-- a message with these names in UTF-16LE verifies where its pair of responses does under their units
+pub message_names : (hash user domain challenge : List ℕ) (flags : ℕ) (message : Authenticate) → IsTrue (has_flag message.flags negotiate_unicode) → AreUnits user → AreUnits domain → message.user ≡ utf16_of user → message.domain ≡ utf16_of domain
+    → PairVerifies hash flags user domain challenge message.lm message.nt → MessageVerifies hash flags challenge message
+message_names hash user domain challenge flags message wide user_fits domain_fits user_is domain_is verifies =
+    let user_units : units_of_text message.flags message.user ≡ user =
+    ap (units_of_text message.flags) user_is ∙ units_of_text-written message.flags user wide user_fits in
+    let domain_units : units_of_text message.flags message.domain ≡ domain =
+    ap (units_of_text message.flags) domain_is ∙ units_of_text-written message.flags domain wide domain_fits in
+    let of_domain = subst (λ (d : List ℕ). PairVerifies hash flags user d challenge message.lm message.nt) (sym domain_units) verifies in
+    subst (λ (u : List ℕ). PairVerifies hash flags u (units_of_text message.flags message.domain) challenge message.lm message.nt) (sym user_units) of_domain
 
 -- under one hash no two challenges have one response: the first block of it is DES under one key
 pub response_v1_of-one_to_one : (hash one other : List ℕ) → IsBlock one → IsBlock other → response_v1_of hash one ≡ response_v1_of hash other → one ≡ other

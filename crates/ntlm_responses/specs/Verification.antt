@@ -3,6 +3,8 @@
 use Rattle.std.specs.Prelude.{◌≡◌, ℕ, ◌≤◌, ◌⊎◌, Bool, true, false, ◌==◌, nat_le, bytes_eq, List, length, take, drop, Option, Some, None}
 use Rattle.digest_parts.specs.Hmac.{hmac_of}
 use Rattle.digest_parts.specs.Md4.{md4_of}
+use Rattle.ntlm_messages.specs.Text.{units_of_text}
+use Rattle.ntlm_messages.specs.declared.messages.Authenticate.{Authenticate}
 use Rattle.ntlm_responses.specs.Hashes.{key_v2_of}
 use Rattle.ntlm_responses.specs.Responses.{response_v1_of, proof_of, challenge_for_of}
 
@@ -44,14 +46,26 @@ verify_of hash user domain challenge nt =
 
 -- ---- the response of a message
 
--- The response of a message verifies under the hash: its NT response, under the user's and the domain's names as the message has them,
--- against the challenge that it answers by the flags and its LM response. The flags are the message's, or those that were agreed; names
--- are lists of 16-bit units; the challenge is the server's.
-abbrev pub MessageVerifies : List ℕ → ℕ → List ℕ → List ℕ → List ℕ → List ℕ → List ℕ → Type 0
-MessageVerifies hash flags user domain challenge lm nt =
+-- Of a pair of responses, LM and NT, the NT response verifies under the hash and the names against the challenge that the pair answers by the
+-- flags. Names are lists of 16-bit units; the challenge is the server's.
+abbrev pub PairVerifies : List ℕ → ℕ → List ℕ → List ℕ → List ℕ → List ℕ → List ℕ → Type 0
+PairVerifies hash flags user domain challenge lm nt =
     Verifies hash user domain (challenge_for_of flags challenge lm nt) nt
 
 -- the test of it
-abbrev pub message_verifies : List ℕ → ℕ → List ℕ → List ℕ → List ℕ → List ℕ → List ℕ → Bool
-message_verifies hash flags user domain challenge lm nt =
+abbrev pub pair_verifies : List ℕ → ℕ → List ℕ → List ℕ → List ℕ → List ℕ → List ℕ → Bool
+pair_verifies hash flags user domain challenge lm nt =
     verifies hash user domain (challenge_for_of flags challenge lm nt) nt
+
+-- The response of an AUTHENTICATE verifies under the hash against the server's challenge: its pair of responses does, under the user's and the
+-- domain's names as the message has them. The flags are the message's, or those that were agreed; the names are texts by the message's own.
+abbrev pub MessageVerifies : List ℕ → ℕ → List ℕ → Authenticate → Type 0
+MessageVerifies hash flags challenge message =
+    PairVerifies hash flags (units_of_text message.flags message.user)
+    (units_of_text message.flags message.domain) challenge message.lm message.nt
+
+-- the test of it
+abbrev pub message_verifies : List ℕ → ℕ → List ℕ → Authenticate → Bool
+message_verifies hash flags challenge message =
+    pair_verifies hash flags (units_of_text message.flags message.user)
+    (units_of_text message.flags message.domain) challenge message.lm message.nt

@@ -101,6 +101,7 @@ fn lm_key(password: &[u8]) -> [u8; 14]
     key
 }
 
+/// The ASCII upper case of a byte.
 #[tactic(auto, unfolding(wire_base::specs::Names::upper_of))]
 fn upper_byte(byte: u8) -> u8
     ensures { result ≡ upper_of byte }

@@ -1,11 +1,13 @@
 //! The check of an NT response.
 
-ghost use Rattle.std.specs.Prelude.{◌≡◌, ◌≤◌, ◌↔◌, ℕ, List, ◌++◌, replicate, true, false, bytes_eq, length, take, drop, IsSome, IfSome};
-ghost use Rattle.ntlm_flags.specs.Flags.{has_flag, negotiate_extended_sessionsecurity};
+ghost use Rattle.std.specs.Prelude.{◌≡◌, ◌≤◌, ◌↔◌, ℕ, List, ◌++◌, replicate, true, false, bytes_eq, length, take, drop, IsTrue, IsSome, IfSome};
+ghost use Rattle.wire_base.specs.Units.{AreUnits, utf16_of};
+ghost use Rattle.ntlm_flags.specs.Flags.{has_flag, negotiate_extended_sessionsecurity, negotiate_unicode};
+ghost use Rattle.ntlm_messages.specs.declared.messages.Authenticate.{Authenticate};
 ghost use Rattle.digest_parts.specs.Hmac.{hmac_of};
 ghost use Rattle.digest_parts.specs.Md4.{md4_of};
 ghost use Rattle.ntlm_responses.specs.Responses.{response_v1_of, response_ess_of, response_v2_of, proof_of};
-ghost use Rattle.ntlm_responses.specs.Verification.{Verifies, MessageVerifies, base_key_of, verified_by, verify_of};
+ghost use Rattle.ntlm_responses.specs.Verification.{Verifies, PairVerifies, MessageVerifies, base_key_of, verified_by, verify_of};
 
 use crate::hashes::nt_key_v2;
 use crate::responses::{proof, respond_v1};
@@ -61,18 +63,24 @@ fn verify_v2(key: &[u8; 16], challenge: [u8; 8], nt: &[u8]) -> Option<[u8; 16]>
     Some(hmac_md5(key, claimed))
 }
 
-/// What a client writes into a message is found right by the message's flags: an NTLMv1 response where extended session security isn't
-/// set, one with it where it is and the LM response is the client's challenge and 16 zeros, and an NTLMv2 response. It does nothing.
+/// What a client writes into a message is found right by the flags: an NTLMv1 response where extended session security isn't set, one with it
+/// where it is and the LM response is the client's challenge and 16 zeros, and an NTLMv2 response; and so is a message whose names are written in
+/// UTF-16LE, where its responses are right under their units. It does nothing.
 pub fn what_is_written_verifies()
     ensures v1 { (hash user domain challenge lm : List ℕ) (flags : ℕ)
         → has_flag flags negotiate_extended_sessionsecurity ≡ false
-        → MessageVerifies hash flags user domain challenge lm (response_v1_of hash challenge) }
+        → PairVerifies hash flags user domain challenge lm (response_v1_of hash challenge) }
     ensures ess { (hash user domain challenge client : List ℕ) (flags : ℕ)
         → has_flag flags negotiate_extended_sessionsecurity ≡ true → length client ≡ 8
-        → MessageVerifies hash flags user domain challenge (client ++ replicate 16 0)
+        → PairVerifies hash flags user domain challenge (client ++ replicate 16 0)
         (response_ess_of hash challenge client) }
     ensures v2 { (hash user domain challenge lm client pairs : List ℕ) (flags time : ℕ)
         → length client ≡ 8
-        → MessageVerifies hash flags user domain challenge lm
+        → PairVerifies hash flags user domain challenge lm
         (response_v2_of hash user domain challenge time client pairs) }
+    ensures names { (hash user domain challenge : List ℕ) (flags : ℕ) (message : Authenticate)
+        → IsTrue (has_flag message.flags negotiate_unicode) → AreUnits user → AreUnits domain
+        → message.user ≡ utf16_of user → message.domain ≡ utf16_of domain
+        → PairVerifies hash flags user domain challenge message.lm message.nt
+        → MessageVerifies hash flags challenge message }
 {}

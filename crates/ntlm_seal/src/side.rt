@@ -3,7 +3,9 @@
 /// An end of a session: the client, which began it, or the server.
 #[derive(Clone, Copy, Debug, PartialEq, Eq)]
 pub enum Side {
+    /// The end that began the session.
     Client,
+    /// The end that answered.
     Server,
 }
 

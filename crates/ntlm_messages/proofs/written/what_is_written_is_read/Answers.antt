@@ -2,6 +2,7 @@ use Rattle.ntlm_messages.proofs.NegotiateWritten.{negotiate_back}
 use Rattle.ntlm_messages.proofs.ChallengeWritten.{challenge_back}
 use Rattle.ntlm_messages.proofs.AuthenticateWritten.{authenticate_back}
 use Rattle.ntlm_messages.proofs.PairsLaws.{written_pairs_back}
+use Rattle.ntlm_messages.proofs.TextLaws.{text_units_of-written, IsText-written}
 use Rattle.ntlm_messages.proofs.written.what_is_written_is_read.Goals as goal
 
 pub returns-clause-negotiate : goal.returns-clause-negotiate
@@ -15,3 +16,9 @@ returns-clause-authenticate c = λ value can widths fit. authenticate_back value
 
 pub returns-clause-pairs : goal.returns-clause-pairs
 returns-clause-pairs c = written_pairs_back
+
+pub returns-clause-text : goal.returns-clause-text
+returns-clause-text c = text_units_of-written
+
+pub returns-clause-even : goal.returns-clause-even
+returns-clause-even c = IsText-written
