@@ -156,6 +156,8 @@ def cases():
     out += [case("serve", [OPENED, TALK, OPENED], failing) for failing in ([4], [5], [4, 5], [4, 6], [5, 6], [6], [6, 7])]
     # a failing put at each line
     out += [case("serve", LONG, (), [number]) for number in range(5)]
+    out += [case("begin", LONG, (), [number]) for number in range(4)]
+    out.append(case("begin", LONG, [0], [0]))
     # challenges that are spent, before the first and between
     out += [case("serve", [OPENED, TALK, ("opened", 2), ("opened", 3)], (), (), CHALLENGES[:count]) for count in range(3)]
     # as many events as are taken, with dials' answers in the queue

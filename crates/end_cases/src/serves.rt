@@ -75,12 +75,13 @@ fn sent(alloc: Global, sends: &Sends) -> anyhow::Result<String> {
     Ok(all)
 }
 
-/// What is seen after a run: how it ended, what was sent, the lines put, the end, and whether all is still told.
+/// What is seen after a run: how it ended, what was sent, the lines put, the end, and whether port, sink and clock still tell all.
 fn seen(
     alloc: Global,
     done: Result<(), Halt>,
     port: &ScriptPort,
     out: &VecSink,
+    clock: &ListClock,
     end: &Small,
 ) -> anyhow::Result<String> {
     let mut answers = format!(in alloc; "{done:?}")?;
@@ -90,7 +91,7 @@ fn seen(
     add_answer(&mut answers, &lines)?;
     let state = format!(in alloc; "{end:?}")?;
     add_answer(&mut answers, &state)?;
-    let tells = port.tells() && out.tells();
+    let tells = port.tells() && out.tells() && clock.tells();
     add_answer(&mut answers, if tells { "told" } else { "not told" })?;
     Ok(answers)
 }
@@ -145,7 +146,7 @@ fn serve(alloc: Global, words: &[&str]) -> anyhow::Result<String> {
         &mut clock,
         &mut chances,
     );
-    seen(alloc, done, &port, &out, &end)
+    seen(alloc, done, &port, &out, &clock, &end)
 }
 
 /// `loop.begin EVENTS FAILING FAILING_PUTS DRAWS MOMENT MOST`: the small end, where a dial waits, is served from a first dial on.
@@ -171,7 +172,7 @@ fn begin(alloc: Global, words: &[&str]) -> anyhow::Result<String> {
         &mut clock,
         &mut chances,
     );
-    seen(alloc, done, &port, &out, &end)
+    seen(alloc, done, &port, &out, &clock, &end)
 }
 
 /// The answer to an operation.

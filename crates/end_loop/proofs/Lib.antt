@@ -1,6 +1,7 @@
 pub mod ActLaws
 pub mod AskingLaws
 pub mod BegunLaws
+pub mod DoingLaws
 pub mod FaultLaws
 pub mod Putting
 pub mod RunLaws

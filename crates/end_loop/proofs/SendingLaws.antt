@@ -11,10 +11,10 @@ use Rattle.outside.specs.declared.event.Happening.TheVariants as happening
 use Rattle.outside.specs.declared.action.Action.{Action}
 use Rattle.outside.specs.declared.action.Action.TheVariants.{Send, Dial, Close, Told, Judged}
 use Rattle.outside.specs.Machine.{Machine}
-use Rattle.outside.specs.Stories.{send_on, sends_on, fails_on, has_failed}
+use Rattle.outside.specs.Stories.{send_on, sends_on, before_failure, strings_on, fails_on, has_failed}
 use Rattle.end_loop.specs.Acts.{Does, SendsOn, Performs, failed_link, has_link}
 use Rattle.end_loop.specs.Runs.{Standing, Step, IsStep, AreSteps, Chooses, story_of, step_story}
-use Rattle.end_loop.specs.Sending.{before_failure, sent_on, asked_one, asked_on, IsFront, SendsFront}
+use Rattle.end_loop.specs.Sending.{asked_one, asked_on, IsFront, SendsFront}
 
 -- ---- sends before a failure
 
@@ -47,30 +47,30 @@ fails-append : (link : ℕ) (one others : List Happening) → fails_on link (one
 fails-append link one others = ap (list_any has_failed) (joined link one others) ∙ list_any-append has_failed (sends_on link one) (sends_on link others)
 
 -- two stories, of which no send failed in the first
-both_fronts : (link : ℕ) (one others : List Happening) (a b : List (List ℕ)) → fails_on link one ≡ false → IsFront (fails_on link one) (sent_on link one) a →
-    IsFront (fails_on link others) (sent_on link others) b → IsFront (fails_on link (one ++ others)) (sent_on link (one ++ others)) (a ++ b)
+both_fronts : (link : ℕ) (one others : List Happening) (a b : List (List ℕ)) → fails_on link one ≡ false → IsFront (fails_on link one) (strings_on link one) a →
+    IsFront (fails_on link others) (strings_on link others) b → IsFront (fails_on link (one ++ others)) (strings_on link (one ++ others)) (a ++ b)
 both_fronts link one others a b fine p q =
-    let all : sent_on link one ≡ a = sym (append-nil (sent_on link one)) ∙ ap (λ (l : List (List ℕ)). sent_on link one ++ l) (sym (p.whole fine)) ∙ p.is in
+    let all : strings_on link one ≡ a = sym (append-nil (strings_on link one)) ∙ ap (λ (l : List (List ℕ)). strings_on link one ++ l) (sym (p.whole fine)) ∙ p.is in
     let flag : fails_on link (one ++ others) ≡ fails_on link others = fails-append link one others ∙ ap (λ (b : Bool). b || fails_on link others) fine in
-    let sent : sent_on link (one ++ others) ≡ sent_on link one ++ sent_on link others =
+    let sent : strings_on link (one ++ others) ≡ strings_on link one ++ strings_on link others =
     ap before_failure (joined link one others) ∙ before-fine (sends_on link one) (sends_on link others) fine in
     record {
       rest = q.rest;
-      is = ap (λ (l : List (List ℕ)). l ++ q.rest) sent ∙ append_assoc (sent_on link one) (sent_on link others) q.rest
-          ∙ ap (λ (l : List (List ℕ)). sent_on link one ++ l) q.is ∙ ap (λ (l : List (List ℕ)). l ++ b) all;
+      is = ap (λ (l : List (List ℕ)). l ++ q.rest) sent ∙ append_assoc (strings_on link one) (strings_on link others) q.rest
+          ∙ ap (λ (l : List (List ℕ)). strings_on link one ++ l) q.is ∙ ap (λ (l : List (List ℕ)). l ++ b) all;
       whole = λ none. q.whole (sym flag ∙ none);
     }
 
 -- two stories, of which a send failed in the first: what comes later doesn't count
-first_front : (link : ℕ) (one others : List Happening) (a b : List (List ℕ)) → fails_on link one ≡ true → IsFront (fails_on link one) (sent_on link one) a →
-    IsFront (fails_on link (one ++ others)) (sent_on link (one ++ others)) (a ++ b)
+first_front : (link : ℕ) (one others : List Happening) (a b : List (List ℕ)) → fails_on link one ≡ true → IsFront (fails_on link one) (strings_on link one) a →
+    IsFront (fails_on link (one ++ others)) (strings_on link (one ++ others)) (a ++ b)
 first_front link one others a b failed p =
     let flag : fails_on link (one ++ others) ≡ true = fails-append link one others ∙ ap (λ (b : Bool). b || fails_on link others) failed in
-    let sent : sent_on link (one ++ others) ≡ sent_on link one =
+    let sent : strings_on link (one ++ others) ≡ strings_on link one =
     ap before_failure (joined link one others) ∙ before-failed (sends_on link one) (sends_on link others) failed in
     record {
       rest = p.rest ++ b;
-      is = ap (λ (l : List (List ℕ)). l ++ (p.rest ++ b)) sent ∙ sym (append_assoc (sent_on link one) p.rest b) ∙ ap (λ (l : List (List ℕ)). l ++ b) p.is;
+      is = ap (λ (l : List (List ℕ)). l ++ (p.rest ++ b)) sent ∙ sym (append_assoc (strings_on link one) p.rest b) ∙ ap (λ (l : List (List ℕ)). l ++ b) p.is;
       whole = λ none. absurd (let e = sym flag ∙ none in cc);
     }
 
@@ -97,10 +97,10 @@ same_link : (other link : ℕ) → (other == link) ≡ true → other ≡ link
 same_link other link e = grind (arith, nat_tests)
 
 -- what happened that is no send on the link, for what asks for none
-silent : (link : ℕ) (now : List Happening) (asked : List (List ℕ)) → sends_on link now ≡ [] → asked ≡ [] → IsFront (fails_on link now) (sent_on link now) asked
+silent : (link : ℕ) (now : List Happening) (asked : List (List ℕ)) → sends_on link now ≡ [] → asked ≡ [] → IsFront (fails_on link now) (strings_on link now) asked
 silent link now asked none nothing = record {
   rest = [];
-  is = append-nil (sent_on link now) ∙ ap before_failure none ∙ sym nothing;
+  is = append-nil (strings_on link now) ∙ ap before_failure none ∙ sym nothing;
   whole = λ _. refl;
 }
 
@@ -112,9 +112,9 @@ skipped failed link other bytes true is clear known =
 skipped failed link other bytes false is clear known = refl
 
 one_send : (link other : ℕ) (bytes : List ℕ) (fails : Bool) (now : List Happening) → now ≡ happening.Sent other bytes fails ∷ [] →
-    IsFront (fails_on link now) (sent_on link now) (asked_one link (Send other bytes))
+    IsFront (fails_on link now) (strings_on link now) (asked_one link (Send other bytes))
 one_send link other bytes fails now is =
-    subst (λ (hs : List Happening). IsFront (fails_on link hs) (sent_on link hs) (asked_one link (Send other bytes))) (sym is) (by_link (other == link) fails)
+    subst (λ (hs : List Happening). IsFront (fails_on link hs) (strings_on link hs) (asked_one link (Send other bytes))) (sym is) (by_link (other == link) fails)
   where
     by_link : (b fails : Bool) →
         IsFront (list_any has_failed ((if b then (bytes, fails) ∷ [] else []) ++ [])) (before_failure ((if b then (bytes, fails) ∷ [] else []) ++ [])) (if b then bytes ∷ [] else [])
@@ -123,21 +123,21 @@ one_send link other bytes fails now is =
     by_link false fails = record { rest = []; is = refl; whole = λ e. refl }
 
 sends_front : (failed : List ℕ) (link other : ℕ) (bytes : List ℕ) (now : List Happening) (known : Bool) → has_link failed other ≡ known → has_link failed link ≡ false → SendsOn known other bytes now →
-    IsFront (fails_on link now) (sent_on link now) (asked_one link (Send other bytes))
+    IsFront (fails_on link now) (strings_on link now) (asked_one link (Send other bytes))
 sends_front failed link other bytes now true known clear does = silent link now _ (ap (sends_on link) does) (skipped failed link other bytes (other == link) refl clear known)
 sends_front failed link other bytes now false known clear does = one_send link other bytes does.0 now does.1
 
-does_front : (failed : List ℕ) (link : ℕ) (x : Action) (now : List Happening) → has_link failed link ≡ false → Does failed x now → IsFront (fails_on link now) (sent_on link now) (asked_one link x)
+does_front : (failed : List ℕ) (link : ℕ) (x : Action) (now : List Happening) → has_link failed link ≡ false → Does failed x now → IsFront (fails_on link now) (strings_on link now) (asked_one link x)
 does_front failed link (Send other bytes) now clear does = sends_front failed link other bytes now (has_link failed other) refl clear does
 does_front failed link (Dial peer) now clear does = silent link now [] (ap (sends_on link) does.1) refl
 does_front failed link (Close other cause) now clear does = silent link now [] (ap (sends_on link) does) refl
 does_front failed link (Told other outcome) now clear does = silent link now [] (ap (sends_on link) does) refl
 does_front failed link (Judged judged) now clear does = silent link now [] (ap (sends_on link) does) refl
 
-as_front : (link : ℕ) (hs ks : List Happening) (asked : List (List ℕ)) → hs ≡ ks → IsFront (fails_on link ks) (sent_on link ks) asked → IsFront (fails_on link hs) (sent_on link hs) asked
-as_front link hs ks asked same p = subst (λ (l : List Happening). IsFront (fails_on link l) (sent_on link l) asked) (sym same) p
+as_front : (link : ℕ) (hs ks : List Happening) (asked : List (List ℕ)) → hs ≡ ks → IsFront (fails_on link ks) (strings_on link ks) asked → IsFront (fails_on link hs) (strings_on link hs) asked
+as_front link hs ks asked same p = subst (λ (l : List Happening). IsFront (fails_on link l) (strings_on link l) asked) (sym same) p
 
-performs_front : (failed : List ℕ) (link : ℕ) (xs : List Action) (hs : List Happening) → has_link failed link ≡ false → Performs failed xs hs → IsFront (fails_on link hs) (sent_on link hs) (asked_on link xs)
+performs_front : (failed : List ℕ) (link : ℕ) (xs : List Action) (hs : List Happening) → has_link failed link ≡ false → Performs failed xs hs → IsFront (fails_on link hs) (strings_on link hs) (asked_on link xs)
 performs_front failed link [] hs clear p = silent link hs [] (ap (sends_on link) p) refl
 performs_front failed link (x ∷ xs) hs clear p =
     let here = does_front failed link x p.0 clear p.2 in
@@ -157,7 +157,7 @@ asked_silent machine state [] step waiting link chooses = ap (sends_on link) cho
 asked_silent machine state (first ∷ later) step waiting link chooses = ap (sends_on link) chooses.0
 
 step_front : {S : Type 0} (machine : Machine S) (old new : Standing S) (step : Step) (link : ℕ) → IsStep machine old step new →
-    IsFront (fails_on link (step_story step)) (sent_on link (step_story step)) (asked_on link step.actions)
+    IsFront (fails_on link (step_story step)) (strings_on link (step_story step)) (asked_on link step.actions)
 step_front machine old new step link is =
     let none = asked_silent machine old.state old.queue step is.waiting link is.chooses in
     both_fronts link step.asked step.happened [] (asked_on link step.actions) (ap (list_any has_failed) none) (silent link step.asked [] none refl)
@@ -169,7 +169,7 @@ sends_front_of machine start last (step ∷ steps) link are =
     let here = step_front machine start are.0 step link are.1 in
     let asked : asked_on link (step.actions ++ flat_map (λ (step : Step). step.actions) steps) ≡ asked_on link step.actions ++ asked_on link (flat_map (λ (step : Step). step.actions) steps) =
     flat_map-append (asked_one link) step.actions (flat_map (λ (step : Step). step.actions) steps) in
-    subst (λ (l : List (List ℕ)). IsFront (fails_on link (step_story step ++ story_of steps)) (sent_on link (step_story step ++ story_of steps)) l) (sym asked)
+    subst (λ (l : List (List ℕ)). IsFront (fails_on link (step_story step ++ story_of steps)) (strings_on link (step_story step ++ story_of steps)) l) (sym asked)
     (elim (cases_Bool (fails_on link (step_story step))) [
       | inl broke ↦ first_front link (step_story step) (story_of steps) _ _ broke here
       | inr fine ↦ both_fronts link (step_story step) (story_of steps) _ _ fine here (sends_front_of machine are.0 last steps link are.2)

@@ -8,8 +8,8 @@ use Rattle.outside.specs.declared.action.Action.{Action}
 use Rattle.outside.specs.declared.action.Action.TheVariants.{Send, Dial, Close, Told, Judged}
 use Rattle.outside.specs.Machine.{Machine, Stepped}
 use Rattle.end_loop.specs.Acts.{Does, SendsOn, Performs, failed_link, has_link, made_events}
-use Rattle.end_loop.specs.Runs.{actions_of, Standing, Step, IsStep, AreSteps, Chooses, story_of, moments_of, drawn_of, step_story}
-use Rattle.end_loop.specs.Unique.{Agrees, IsDetermined, actions_in}
+use Rattle.end_loop.specs.Runs.{actions_of, Standing, Step, IsStep, AreSteps, Chooses, story_of, moments_of, drawn_of, step_story, actions_in}
+use Rattle.end_loop.specs.Unique.{Agrees, IsDetermined}
 
 none_same : {X : Type 0} (n m l k : List X) → n ≡ [] → m ≡ [] → n ++ l ≡ m ++ k → (n ≡ m) × (l ≡ k)
 none_same n m l k a b e = (a ∙ sym b, sym (ap (λ (x : List _). x ++ l) a) ∙ e ∙ ap (λ (x : List _). x ++ k) b)

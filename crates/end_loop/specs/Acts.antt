@@ -14,6 +14,7 @@ use Rattle.end_loop.specs.declared.halt.Halt.TheVariants.{PortFault, SinkFault, 
 use Rattle.outside.specs.declared.action.Action.{Action}
 use Rattle.outside.specs.declared.action.Action.TheVariants.{Send, Dial, Close, Told, Judged}
 
+-- whether the link is among these
 abbrev pub has_link : List ℕ → ℕ → Bool
 has_link links link = list_any (λ (other : ℕ). other == link) links
 
@@ -33,6 +34,7 @@ made_event (happening.Sent link bytes true) = event.Closed link ∷ []
 made_event (happening.Dialled peer link) = dial_event link ∷ []
 made_event _ = []
 
+-- the events that failed sends and dials make, in order
 abbrev pub made_events : List Happening → List Event
 made_events happened = flat_map made_event happened
 
@@ -56,7 +58,8 @@ Performs failed (action ∷ actions) happened =
     (now later : List Happening) × Does failed action now × (happened ≡ now ++ later) × Performs (failed ++ flat_map failed_link now) actions later
 
 -- One action was performed at the port. Where that went well to its end, the failed link and the event that it made are kept.
-pub record Did (action : Action) (failed failed_after : List ℕ) (queue queue_after : List Event) (story story_after : Option (List Happening)) (faults faults_after : ℕ) (whole : Bool) : Type 0 where
+pub record Did (action : Action) (failed failed_after : List ℕ) (queue queue_after : List Event)
+    (story story_after : Option (List Happening)) (faults faults_after : ℕ) (whole : Bool) : Type 0 where
   pub happened : List Happening
   pub does : Does failed action happened
   pub told : Appends story story_after happened
@@ -76,6 +79,7 @@ most_made (Send link bytes) = 1
 most_made (Dial peer) = 1
 most_made _ = 0
 
+-- how many events actions can make
 abbrev pub most_made_by : List Action → ℕ
 most_made_by [] = 0
 most_made_by (action ∷ actions) = most_made action + most_made_by actions
@@ -87,6 +91,7 @@ is_made (event.Dialled link) = true
 is_made event.DialFailed = true
 is_made _ = false
 
+-- events of which each is one that a failed send or a dial makes
 abbrev pub are_made : List Event → Bool
 are_made queue = list_all is_made queue
 
@@ -102,7 +107,9 @@ pub record Desk : Type 0 where
   pub link_faults : ℕ
   pub taken : Option (List ℕ)
 
-abbrev pub desk_of : {P S : Type 0} → (P → Option (List Happening)) → (P → ℕ) → (S → Option (List ℕ)) → P → S → List ℕ → List Event → Desk
+-- what the loop has, and what they tell, by the meanings of their traits
+abbrev pub desk_of : {P S : Type 0} → (P → Option (List Happening)) → (P → ℕ) → (S → Option (List ℕ)) → P → S →
+    List ℕ → List Event → Desk
 desk_of story link_faults taken port out failed queue =
     record { failed = failed; queue = queue; story = story port; link_faults = link_faults port; taken = taken out }
 
@@ -116,6 +123,7 @@ pub record Performed (line : Action → List ℕ) (actions : List Action) (befor
   pub queue : after.queue ≡ before.queue ++ made_events happened
   pub taken : Appends before.taken after.taken (flat_map line actions)
 
+-- the line of the first of these actions, if there is one
 abbrev pub next_line : (Action → List ℕ) → List Action → List ℕ
 next_line line [] = []
 next_line line (action ∷ actions) = line action

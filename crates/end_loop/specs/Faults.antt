@@ -17,5 +17,7 @@ pub record CountsFaults (before after : Sight) : Type 0 where
 
 -- Over a run, to its end or to a halt, the count rose where a dial or a send failed.
 pub record RunsCountFaults {S : Type 0} (machine : Machine S) : Type 0 where
-  pub ends : (start : Standing S) (last : S) (most : ℕ) (before after : Sight) → RanOut machine start last most before after → CountsFaults before after
-  pub halts : (start : Standing S) (most : ℕ) (before after : Sight) (halt : Halt) → Halts machine start most before after halt → CountsFaults before after
+  pub ends : (start : Standing S) (last : S) (most : ℕ) (before after : Sight) →
+      RanOut machine start last most before after → CountsFaults before after
+  pub halts : (start : Standing S) (most : ℕ) (before after : Sight) (halt : Halt) →
+      Halts machine start most before after halt → CountsFaults before after

@@ -1,6 +1,7 @@
 pub mod Acts
 pub mod Asking
 pub mod Begun
+pub mod Doing
 pub mod Faults
 pub mod Runs
 pub mod Seen

@@ -1,5 +1,5 @@
 -- Runs of an end's machine over the answers of a port, a clock and a maker of challenges (this project's own choice).
-use Rattle.std.specs.Prelude.{◌≡◌, ◌≢◌, ◌≤◌, ◌<◌, ◌⊎◌, ℕ, Bool, true, false, List, [], ◌∷◌, ◌++◌, ◌+◌, length, map, Option, Result, Ok, Err, IsOk, IsTrue}
+use Rattle.std.specs.Prelude.{◌≡◌, ◌≤◌, ◌<◌, ◌⊎◌, ℕ, Bool, true, false, List, [], ◌∷◌, ◌++◌, ◌+◌, length, map, Result, Ok, Err, IsOk}
 use Rattle.std.specs.List.{flat_map}
 use Rattle.outside.specs.declared.event.Event.{Event}
 use Rattle.outside.specs.declared.event.Event.TheVariants as event
@@ -19,6 +19,7 @@ abbrev pub taken_actions : Result (List Action) StepRefused → List Action
 taken_actions (Ok actions) = actions
 taken_actions (Err refused) = []
 
+-- the actions of what a step comes to
 abbrev pub actions_of : {S : Type 0} → Stepped S → List Action
 actions_of stepped = taken_actions stepped.answer
 
@@ -32,6 +33,7 @@ pub record Standing (S : Type 0) : Type 0 where
 abbrev pub standing_at : {S : Type 0} → S → List Event → Sight → Standing S
 standing_at state queue sight = record { state = state; queue = queue; left = sight.drawing.left }
 
+-- the same where no event waits
 abbrev pub idle_at : {S : Type 0} → S → Sight → Standing S
 idle_at state sight = standing_at state [] sight
 
@@ -46,6 +48,7 @@ pub record Step : Type 0 where
   -- what happened at the port while the actions were performed
   pub happened : List Happening
 
+-- whether the event is `Stop`
 abbrev pub is_stop : Event → Bool
 is_stop event.Stop = true
 is_stop _ = false
@@ -65,7 +68,8 @@ IsOfSteps _ = Unit {0}
 -- waited for its link, which isn't `Stop`. The last argument is the events that wait then.
 abbrev pub Chooses : {S : Type 0} → Machine S → S → List Event → Step → List Event → Type 0
 Chooses machine state [] step waiting =
-    (machine.is_over state ≡ false) × (step.asked ≡ happening.Given step.event (machine.want state) ∷ []) × (is_stop step.event ≡ false) × (waiting ≡ [])
+    (machine.is_over state ≡ false) × (step.asked ≡ happening.Given step.event (machine.want state) ∷ [])
+    × (is_stop step.event ≡ false) × (waiting ≡ [])
 Chooses machine state (first ∷ later) step waiting = (step.asked ≡ []) × (step.event ≡ first) × (waiting ≡ later)
 
 -- One whole step: all its actions were performed.
@@ -78,27 +82,38 @@ pub record IsStep {S : Type 0} (machine : Machine S) (old : Standing S) (step : 
   pub performs : Performs [] step.actions step.happened
   pub queue : new.queue ≡ waiting ++ made_events step.happened
 
+-- Steps in a row lead from the one standing to the other.
 abbrev pub AreSteps : {S : Type 0} → Machine S → Standing S → List Step → Standing S → Type 0
 AreSteps machine old [] new = new ≡ old
 AreSteps machine old (step ∷ steps) new = (middle : Standing _) × IsStep machine old step middle × AreSteps machine middle steps new
 
 -- ---- what a run does
 
+-- what happens at the port in a step
 abbrev pub step_story : Step → List Happening
 step_story step = step.asked ++ step.happened
 
+-- the lines that a step puts
 abbrev pub step_line : (Action → List ℕ) → Step → List ℕ
 step_line line step = flat_map line step.actions
 
+-- what happens at the port in a run
 abbrev pub story_of : List Step → List Happening
 story_of steps = flat_map step_story steps
 
+-- the moments of a run: one a step
 abbrev pub moments_of : List Step → List ℕ
 moments_of steps = map (λ (step : Step). step.moment) steps
 
+-- the challenges that a run draws
 abbrev pub drawn_of : List Step → List (List ℕ)
 drawn_of steps = flat_map (λ (step : Step). step.drawn) steps
 
+-- the actions of a run
+abbrev pub actions_in : List Step → List Action
+actions_in steps = flat_map (λ (step : Step). step.actions) steps
+
+-- the lines that a run puts
 abbrev pub lines_of : (Action → List ℕ) → List Step → List ℕ
 lines_of line steps = flat_map (step_line line) steps
 
@@ -218,6 +233,11 @@ pub record MadePart {S : Type 0} (machine : Machine S) (old : S) (what : Event) 
   pub front : part ++ more ≡ next_line (puts machine) rest
   pub breaks : Breaks halt (machine.step old what moment before.drawing.left) undrawn
   pub shows : Shows before after happened (moment ∷ []) drawn (flat_map (puts machine) actions ++ part)
+
+-- A fact of the moment before the event was given, at which the outside told all but that.
+abbrev pub SinceAsked : {S : Type 0} → Machine S → S → Event → Sight → (Sight → Type 0) → Type 0
+SinceAsked machine old what before fact =
+    (asked : Sight) → Shows asked before (happening.Given what (machine.want old) ∷ []) [] [] [] → fact asked
 
 -- One answer of `next` and all that it leads to: `Stop`, which changes nothing, or a run that leaves no event waiting.
 abbrev pub Turns : {S : Type 0} → Machine S → S → S → Sight → Sight → Bool → Type 0

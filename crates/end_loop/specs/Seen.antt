@@ -17,9 +17,24 @@ pub record Sight : Type 0 where
   -- the files written: the name, the bytes, and whether it failed. No end writes any yet, and nothing is told of them
   pub written : Option (List (List ℕ × (List ℕ × Bool)))
 
-abbrev pub sight_of : {P C Q S : Type 0} → (P → Option (List Happening)) → (P → ℕ) → (C → Option (List ℕ)) → (Q → Drawing) → (S → Option (List ℕ)) → P → C → Q → S → Sight
-sight_of story link_faults moments drawing taken port clock chances out =
-    record { story = story port; link_faults = link_faults port; moments = moments clock; drawing = drawing chances; taken = taken out; written = None }
+-- what they tell, by the meanings of their traits
+abbrev pub sight_of : {P C Q S : Type 0} → (P → Option (List Happening)) → (P → ℕ) → (C → Option (List ℕ)) → (Q → Drawing) →
+    (S → Option (List ℕ)) → P → C → Q → S → Sight
+sight_of story link_faults moments drawing taken port clock chances out = record {
+  story = story port;
+  link_faults = link_faults port;
+  moments = moments clock;
+  drawing = drawing chances;
+  taken = taken out;
+  written = None;
+}
+
+-- How what they tell before a call stands to what they tell after it.
+abbrev pub Between : {P C Q S : Type 0} → (P → Option (List Happening)) → (P → ℕ) → (C → Option (List ℕ)) → (Q → Drawing) →
+    (S → Option (List ℕ)) → P → C → Q → S → P → C → Q → S → (Sight → Sight → Type 0) → Type 0
+Between story link_faults moments drawing taken port clock chances out port_after clock_after chances_after out_after relation =
+    relation (sight_of story link_faults moments drawing taken port clock chances out)
+    (sight_of story link_faults moments drawing taken port_after clock_after chances_after out_after)
 
 -- Between two moments these things happened at the port, these moments were given, these challenges drawn and these bytes put; the
 -- count of link faults rose where a dial or a send failed.

@@ -5,23 +5,15 @@ use Rattle.outside.specs.declared.event.Happening.{Happening}
 use Rattle.outside.specs.declared.action.Action.{Action}
 use Rattle.outside.specs.declared.action.Action.TheVariants.{Send}
 use Rattle.outside.specs.Machine.{Machine}
-use Rattle.outside.specs.Stories.{sends_on, fails_on}
-use Rattle.end_loop.specs.Runs.{Standing, Step, AreSteps, story_of}
+use Rattle.outside.specs.Stories.{strings_on, fails_on}
+use Rattle.end_loop.specs.Runs.{Standing, Step, AreSteps, story_of, actions_in}
 
--- the byte strings of the sends before the first that failed
-abbrev pub before_failure : List (List ℕ × Bool) → List (List ℕ)
-before_failure [] = []
-before_failure (send ∷ later) = if send.1 then [] else send.0 ∷ before_failure later
-
--- the byte strings sent on the link, up to the first send on it that failed
-abbrev pub sent_on : ℕ → List Happening → List (List ℕ)
-sent_on link story = before_failure (sends_on link story)
-
--- the byte strings that actions send on the link
+-- the byte string that an action sends on the link, if it does
 abbrev pub asked_one : ℕ → Action → List (List ℕ)
 asked_one link (Send other bytes) = if other == link then bytes ∷ [] else []
 asked_one link _ = []
 
+-- the same of several actions
 abbrev pub asked_on : ℕ → List Action → List (List ℕ)
 asked_on link actions = flat_map (asked_one link) actions
 
@@ -35,4 +27,4 @@ pub record IsFront (failed : Bool) (sent asked : List (List ℕ)) : Type 0 where
 -- send on it failed, it is all of it.
 abbrev pub SendsFront : {S : Type 0} → Machine S → Type 0
 SendsFront {S} machine = (start last : Standing S) (steps : List Step) (link : ℕ) → AreSteps machine start steps last →
-    IsFront (fails_on link (story_of steps)) (sent_on link (story_of steps)) (asked_on link (flat_map (λ (step : Step). step.actions) steps))
+    IsFront (fails_on link (story_of steps)) (strings_on link (story_of steps)) (asked_on link (actions_in steps))

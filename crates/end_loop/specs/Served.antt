@@ -27,7 +27,8 @@ pub record Served {S : Type 0} (machine : Machine S) (old new : S) (address seed
   pub run : RanOut machine (idle_at old opened) new most opened after
 
 -- The same, but the run halted.
-pub record ServedHalf {S : Type 0} (machine : Machine S) (old : S) (address seed : List ℕ) (boot most : ℕ) (before after : Sight) (halt : Halt) : Type 0 where
+pub record ServedHalf {S : Type 0} (machine : Machine S) (old : S) (address seed : List ℕ) (boot most : ℕ) (before after : Sight)
+    (halt : Halt) : Type 0 where
   pub opened : Sight
   pub opens : Opens seed boot before opened (happening.Listened address ∷ [])
   pub run : Halts machine (idle_at old opened) most opened after halt

@@ -1,12 +1,7 @@
 -- That a run is determined by what its outside gave (this project's own choice).
-use Rattle.std.specs.Prelude.{◌≡◌, ℕ, List, [], ◌∷◌, ◌++◌}
-use Rattle.std.specs.List.{flat_map}
-use Rattle.outside.specs.declared.action.Action.{Action}
+use Rattle.std.specs.Prelude.{◌≡◌, List}
 use Rattle.outside.specs.Machine.{Machine}
-use Rattle.end_loop.specs.Runs.{Standing, Step, AreSteps, story_of, moments_of, drawn_of}
-
-abbrev pub actions_in : List Step → List Action
-actions_in steps = flat_map (λ (step : Step). step.actions) steps
+use Rattle.end_loop.specs.Runs.{Standing, Step, AreSteps, story_of, moments_of, drawn_of, actions_in}
 
 -- Two runs did the same and came to the same.
 pub record Agrees {S : Type 0} (last other : Standing S) (steps others : List Step) : Type 0 where
@@ -16,5 +11,6 @@ pub record Agrees {S : Type 0} (last other : Standing S) (steps others : List St
 
 -- Runs from one standing, with the same story and the same moments, agree.
 abbrev pub IsDetermined : {S : Type 0} → Machine S → Type 0
-IsDetermined {S} machine = (start last other : Standing S) (steps others : List Step) → AreSteps machine start steps last → AreSteps machine start others other →
+IsDetermined {S} machine = (start last other : Standing S) (steps others : List Step) →
+    AreSteps machine start steps last → AreSteps machine start others other →
     story_of steps ≡ story_of others → moments_of steps ≡ moments_of others → Agrees last other steps others

@@ -97,7 +97,7 @@ fn dial_peer<P: Port>(peer: &[u8], queue: &mut VecDeque<Event>, port: &mut P) ->
     ensures port { P.faults port.new ≡ P.faults port.old }
     ensures links { P.link_faults port.old ≤ P.link_faults port.new }
 {
-    let event = dialled(port.dial(peer));
+    let event = dial_event(port.dial(peer));
     wait(event, queue)?;
     Ok(())
 }
@@ -111,7 +111,7 @@ fn wait(event: Event, queue: &mut VecDeque<Event>) -> Result<(), NoMemory>
 }
 
 /// The event that a dial makes.
-fn dialled(link: Result<u32, Failed>) -> Event
+fn dial_event(link: Result<u32, Failed>) -> Event
     ensures { result ≡ dial_event (result_ok link) }
 {
     match link {

@@ -2,7 +2,7 @@
 
 ghost use Rattle.std.specs.Prelude.{◌≡◌, ◌≤◌, false, OnOk, IfErr, Err};
 ghost use Rattle.outside.specs.Causes.{Rose};
-ghost use Rattle.end_loop.specs.Seen.{sight_of};
+ghost use Rattle.end_loop.specs.Seen.{Between};
 ghost use Rattle.end_loop.specs.Begun.{Begun, BegunUntil};
 
 use crate::act::perform;
@@ -25,18 +25,14 @@ pub fn begin_with<E: End, P: Port, S: Sink, C: Clock, Q: Chances>(
     chances: &mut Q,
 ) -> Result<(), Halt>
     requires running { E.is_stopped end.old ≡ false }
-    ensures ends { OnOk result (
-        let before = sight_of P.story P.link_faults C.moments Q.drawing S.taken
-        port.old clock.old chances.old out.old in
-        let after = sight_of P.story P.link_faults C.moments Q.drawing S.taken
-        port.new clock.new chances.new out.new in
-        Begun E.machine first.now end.old end.new most before after) }
-    ensures halts { IfErr result (λ halt.
-        let before = sight_of P.story P.link_faults C.moments Q.drawing S.taken
-        port.old clock.old chances.old out.old in
-        let after = sight_of P.story P.link_faults C.moments Q.drawing S.taken
-        port.new clock.new chances.new out.new in
-        BegunUntil E.machine first.now end.old most before after halt) }
+    ensures ends { OnOk result (Between
+        P.story P.link_faults C.moments Q.drawing S.taken
+        port.old clock.old chances.old out.old port.new clock.new chances.new out.new
+        (λ before after. Begun E.machine first.now end.old end.new most before after)) }
+    ensures halts { IfErr result (λ halt. Between
+        P.story P.link_faults C.moments Q.drawing S.taken
+        port.old clock.old chances.old out.old port.new clock.new chances.new out.new
+        (λ before after. BegunUntil E.machine first.now end.old most before after halt)) }
     ensures sink_cause { result ≡ Err Halt.SinkFault → Rose (S.faults out.old) (S.faults out.new) }
     ensures port_cause { result ≡ Err Halt.PortFault →
         Rose (P.faults port.old) (P.faults port.new) }

@@ -1,6 +1,7 @@
 //! Laws of runs, for the top call. Each function does nothing, and its clause is the law, of the machine of any end.
 
 ghost use Rattle.end_loop.specs.Asking.{AsksFor};
+ghost use Rattle.end_loop.specs.Doing.{DialsAndCloses};
 ghost use Rattle.end_loop.specs.Faults.{RunsCountFaults};
 ghost use Rattle.end_loop.specs.Sending.{SendsFront};
 ghost use Rattle.end_loop.specs.Unique.{IsDetermined};
@@ -13,12 +14,18 @@ pub fn sends_what_the_machine_sends<E: End>(_end: &E)
     ensures { SendsFront E.machine }
 {}
 
+/// The peers dialled in a run and the links closed in it are those of the machine's actions, in their order.
+pub fn dials_and_closes_as_the_machine_asks<E: End>(_end: &E)
+    ensures { DialsAndCloses E.machine }
+{}
+
 /// The story and the moments determine the run: its end, what it drew and its actions.
 pub fn story_determines_the_run<E: End>(_end: &E)
     ensures { IsDetermined E.machine }
 {}
 
-/// The events that the port gave in a run are those that its steps asked for, and none is `Stop`.
+/// The events that the port gave in a run, each with the link that the end waited for, are those that its steps asked for, as many as the
+/// run asked for, and none is `Stop`.
 pub fn asks_for_its_events<E: End>(_end: &E)
     ensures { AsksFor E.machine }
 {}

@@ -19,8 +19,8 @@ pub use begun::begin_with;
 pub use end::End;
 pub use halt::Halt;
 pub use laws::{
-    asks_for_its_events, counts_its_link_faults, sends_what_the_machine_sends,
-    story_determines_the_run,
+    asks_for_its_events, counts_its_link_faults, dials_and_closes_as_the_machine_asks,
+    sends_what_the_machine_sends, story_determines_the_run,
 };
 pub use put::put_all;
 pub use serving::serve;

@@ -5,8 +5,8 @@ ghost use Rattle.outside.specs.Telling.{Appends};
 ghost use Rattle.outside.specs.declared.event.Happening.{Happening};
 ghost use Rattle.outside.specs.Causes.{Rose};
 ghost use Rattle.end_loop.specs.Acts.{are_made};
-ghost use Rattle.end_loop.specs.Seen.{Sight, Shows, sight_of};
-ghost use Rattle.end_loop.specs.Runs.{Ran, RanInto, RanOut, Halts, Turns, IsOfAsk, IsOfSteps, is_stop, standing_at, idle_at};
+ghost use Rattle.end_loop.specs.Seen.{Between};
+ghost use Rattle.end_loop.specs.Runs.{Ran, RanInto, RanOut, Halts, Turns, SinceAsked, IsOfAsk, IsOfSteps, is_stop, standing_at, idle_at};
 
 use crate::end::End;
 use crate::halt::Halt;
@@ -33,19 +33,16 @@ pub fn serve<E: End, P: Port, S: Sink, C: Clock, Q: Chances>(
 ) -> Result<(), Halt>
     requires running { E.is_stopped end.old ≡ false }
     requires made { are_made queue.old.items ≡ true }
-    ensures ends { OnOk result (
-        let before = sight_of P.story P.link_faults C.moments Q.drawing S.taken
-        port.old clock.old chances.old out.old in
-        let after = sight_of P.story P.link_faults C.moments Q.drawing S.taken
-        port.new clock.new chances.new out.new in
-        RanOut E.machine (standing_at end.old queue.old.items before) end.new most before
-        after) }
-    ensures halts { IfErr result (λ halt.
-        let before = sight_of P.story P.link_faults C.moments Q.drawing S.taken
-        port.old clock.old chances.old out.old in
-        let after = sight_of P.story P.link_faults C.moments Q.drawing S.taken
-        port.new clock.new chances.new out.new in
-        Halts E.machine (standing_at end.old queue.old.items before) most before after halt) }
+    ensures ends { OnOk result (Between
+        P.story P.link_faults C.moments Q.drawing S.taken
+        port.old clock.old chances.old out.old port.new clock.new chances.new out.new
+        (λ before after. RanOut E.machine (standing_at end.old queue.old.items before)
+        end.new most before after)) }
+    ensures halts { IfErr result (λ halt. Between
+        P.story P.link_faults C.moments Q.drawing S.taken
+        port.old clock.old chances.old out.old port.new clock.new chances.new out.new
+        (λ before after. Halts E.machine (standing_at end.old queue.old.items before)
+        most before after halt)) }
     ensures idle { OnOk result (queue.new.items ≡ []) }
     ensures goes_on { OnOk result (E.is_stopped end.new ≡ false) }
     ensures sink_cause { result ≡ Err Halt.SinkFault → Rose (S.faults out.old) (S.faults out.new) }
@@ -89,18 +86,14 @@ fn turn<E: End, P: Port, S: Sink, C: Clock, Q: Chances>(
     requires running { E.is_stopped end.old ≡ false }
     requires goes_on { E.machine.is_over end.old ≡ false }
     requires idle { queue.old.items ≡ [] }
-    ensures turns { IfOk result (λ stop.
-        let before = sight_of P.story P.link_faults C.moments Q.drawing S.taken
-        port.old clock.old chances.old out.old in
-        let after = sight_of P.story P.link_faults C.moments Q.drawing S.taken
-        port.new clock.new chances.new out.new in
-        Turns E.machine end.old end.new before after stop) }
-    ensures halts { IfErr result (λ halt.
-        let before = sight_of P.story P.link_faults C.moments Q.drawing S.taken
-        port.old clock.old chances.old out.old in
-        let after = sight_of P.story P.link_faults C.moments Q.drawing S.taken
-        port.new clock.new chances.new out.new in
-        Halts E.machine (idle_at end.old before) 1 before after halt) }
+    ensures turns { IfOk result (λ stop. Between
+        P.story P.link_faults C.moments Q.drawing S.taken
+        port.old clock.old chances.old out.old port.new clock.new chances.new out.new
+        (λ before after. Turns E.machine end.old end.new before after stop)) }
+    ensures halts { IfErr result (λ halt. Between
+        P.story P.link_faults C.moments Q.drawing S.taken
+        port.old clock.old chances.old out.old port.new clock.new chances.new out.new
+        (λ before after. Halts E.machine (idle_at end.old before) 1 before after halt)) }
     ensures stopped { OnOk result (E.is_stopped end.new ≡ false) }
     ensures idle { OnOk result (queue.new.items ≡ []) }
     ensures sink_cause { result ≡ Err Halt.SinkFault → Rose (S.faults out.old) (S.faults out.new) }
@@ -159,20 +152,16 @@ fn answer<E: End, P: Port, S: Sink, C: Clock, Q: Chances>(
     requires goes_on { E.machine.is_over end.old ≡ false }
     requires other { is_stop event.now ≡ false }
     requires idle { queue.old.items ≡ [] }
-    ensures ran { OnOk result (
-        let before = sight_of P.story P.link_faults C.moments Q.drawing S.taken
-        port.old clock.old chances.old out.old in
-        let after = sight_of P.story P.link_faults C.moments Q.drawing S.taken
-        port.new clock.new chances.new out.new in
-        (s : Sight) → Shows s before (Happening.Given event.now (E.machine.want end.old) ∷ [])
-        [] [] [] → Ran E.machine (idle_at end.old s) (idle_at end.new after) 1 s after) }
-    ensures part { IfErr result (λ halt.
-        let before = sight_of P.story P.link_faults C.moments Q.drawing S.taken
-        port.old clock.old chances.old out.old in
-        let after = sight_of P.story P.link_faults C.moments Q.drawing S.taken
-        port.new clock.new chances.new out.new in
-        (s : Sight) → Shows s before (Happening.Given event.now (E.machine.want end.old) ∷ [])
-        [] [] [] → RanInto E.machine (idle_at end.old s) 1 s after halt) }
+    ensures ran { OnOk result (Between
+        P.story P.link_faults C.moments Q.drawing S.taken
+        port.old clock.old chances.old out.old port.new clock.new chances.new out.new
+        (λ before after. SinceAsked E.machine end.old event.now before
+        (λ asked. Ran E.machine (idle_at end.old asked) (idle_at end.new after) 1 asked after))) }
+    ensures part { IfErr result (λ halt. Between
+        P.story P.link_faults C.moments Q.drawing S.taken
+        port.old clock.old chances.old out.old port.new clock.new chances.new out.new
+        (λ before after. SinceAsked E.machine end.old event.now before
+        (λ asked. RanInto E.machine (idle_at end.old asked) 1 asked after halt))) }
     ensures stop { IfOk result (λ stop. stop ≡ false) }
     ensures kinds { IfErr result IsOfSteps }
     ensures stopped { OnOk result (E.is_stopped end.new ≡ false) }

@@ -3,7 +3,7 @@
 ghost use Rattle.std.specs.Prelude.{◌≡◌, ◌≤◌, ◌+◌, ℕ, List, [], ◌∷◌, true, false, length, OnOk, IfOk, IfErr, Err, IsTrue};
 ghost use Rattle.outside.specs.Causes.{Rose};
 ghost use Rattle.end_loop.specs.Acts.{is_made, are_made};
-ghost use Rattle.end_loop.specs.Seen.{Sight, sight_of};
+ghost use Rattle.end_loop.specs.Seen.{Between};
 ghost use Rattle.end_loop.specs.Runs.{IsOfSteps, Made, MadePart, Ran, RanInto, standing_at, idle_at};
 
 use crate::act::perform;
@@ -25,18 +25,15 @@ pub(crate) fn step_event<E: End, P: Port, S: Sink, C: Clock, Q: Chances>(
     chances: &mut Q,
 ) -> Result<(), Halt>
     requires running { E.is_stopped end.old ≡ false }
-    ensures made { OnOk result (
-        let before = sight_of P.story P.link_faults C.moments Q.drawing S.taken
-        port.old clock.old chances.old out.old in
-        let after = sight_of P.story P.link_faults C.moments Q.drawing S.taken
-        port.new clock.new chances.new out.new in
-        Made E.machine end.old end.new event.now queue.old.items queue.new.items before after) }
-    ensures part { IfErr result (λ halt.
-        let before = sight_of P.story P.link_faults C.moments Q.drawing S.taken
-        port.old clock.old chances.old out.old in
-        let after = sight_of P.story P.link_faults C.moments Q.drawing S.taken
-        port.new clock.new chances.new out.new in
-        MadePart E.machine end.old event.now before after halt) }
+    ensures made { OnOk result (Between
+        P.story P.link_faults C.moments Q.drawing S.taken
+        port.old clock.old chances.old out.old port.new clock.new chances.new out.new
+        (λ before after. Made E.machine end.old end.new event.now
+        queue.old.items queue.new.items before after)) }
+    ensures part { IfErr result (λ halt. Between
+        P.story P.link_faults C.moments Q.drawing S.taken
+        port.old clock.old chances.old out.old port.new clock.new chances.new out.new
+        (λ before after. MadePart E.machine end.old event.now before after halt)) }
     ensures goes_on { OnOk result (E.is_stopped end.new ≡ false) }
     ensures settles { OnOk result (IsTrue (is_made event.now) →
         length queue.new.items + E.pending end.new
@@ -71,19 +68,16 @@ pub(crate) fn drain<E: End, P: Port, S: Sink, C: Clock, Q: Chances>(
 ) -> Result<(), Halt>
     requires running { E.is_stopped end.old ≡ false }
     requires made { are_made queue.old.items ≡ true }
-    ensures ran { OnOk result (
-        let before = sight_of P.story P.link_faults C.moments Q.drawing S.taken
-        port.old clock.old chances.old out.old in
-        let after = sight_of P.story P.link_faults C.moments Q.drawing S.taken
-        port.new clock.new chances.new out.new in
-        Ran E.machine (standing_at end.old queue.old.items before) (idle_at end.new after) 0
-        before after) }
-    ensures part { IfErr result (λ halt.
-        let before = sight_of P.story P.link_faults C.moments Q.drawing S.taken
-        port.old clock.old chances.old out.old in
-        let after = sight_of P.story P.link_faults C.moments Q.drawing S.taken
-        port.new clock.new chances.new out.new in
-        RanInto E.machine (standing_at end.old queue.old.items before) 0 before after halt) }
+    ensures ran { OnOk result (Between
+        P.story P.link_faults C.moments Q.drawing S.taken
+        port.old clock.old chances.old out.old port.new clock.new chances.new out.new
+        (λ before after. Ran E.machine (standing_at end.old queue.old.items before)
+        (idle_at end.new after) 0 before after)) }
+    ensures part { IfErr result (λ halt. Between
+        P.story P.link_faults C.moments Q.drawing S.taken
+        port.old clock.old chances.old out.old port.new clock.new chances.new out.new
+        (λ before after. RanInto E.machine (standing_at end.old queue.old.items before)
+        0 before after halt)) }
     ensures idle { OnOk result (queue.new.items ≡ []) }
     ensures goes_on { OnOk result (E.is_stopped end.new ≡ false) }
     ensures kinds { IfErr result IsOfSteps }

@@ -2,7 +2,7 @@
 
 ghost use Rattle.std.specs.Prelude.{◌≡◌, ◌≤◌, [], false, true, OnOk, IfErr, Err};
 ghost use Rattle.outside.specs.Causes.{Rose};
-ghost use Rattle.end_loop.specs.Seen.{Sight, sight_of};
+ghost use Rattle.end_loop.specs.Seen.{Between};
 ghost use Rattle.end_loop.specs.Served.{Served, ServedUntil};
 
 use crate::end::End;
@@ -27,18 +27,16 @@ pub fn serve_at<E: End, P: Port, S: Sink, C: Clock, Q: Chances>(
     chances: &mut Q,
 ) -> Result<(), Halt>
     requires running { E.is_stopped end.old ≡ false }
-    ensures ends { OnOk result (
-        let before = sight_of P.story P.link_faults C.moments Q.drawing S.taken
-        port.old clock.old chances.old out.old in
-        let after = sight_of P.story P.link_faults C.moments Q.drawing S.taken
-        port.new clock.new chances.new out.new in
-        Served E.machine end.old end.new address.now seed boot most before after) }
-    ensures halts { IfErr result (λ halt.
-        let before = sight_of P.story P.link_faults C.moments Q.drawing S.taken
-        port.old clock.old chances.old out.old in
-        let after = sight_of P.story P.link_faults C.moments Q.drawing S.taken
-        port.new clock.new chances.new out.new in
-        ServedUntil E.machine end.old address.now seed boot most before after halt) }
+    ensures ends { OnOk result (Between
+        P.story P.link_faults C.moments Q.drawing S.taken
+        port.old clock.old chances.old out.old port.new clock.new chances.new out.new
+        (λ before after. Served E.machine end.old end.new address.now seed boot most
+        before after)) }
+    ensures halts { IfErr result (λ halt. Between
+        P.story P.link_faults C.moments Q.drawing S.taken
+        port.old clock.old chances.old out.old port.new clock.new chances.new out.new
+        (λ before after. ServedUntil E.machine end.old address.now seed boot most
+        before after halt)) }
     ensures sink_cause { result ≡ Err Halt.SinkFault → Rose (S.faults out.old) (S.faults out.new) }
     ensures port_cause { result ≡ Err Halt.PortFault →
         Rose (P.faults port.old) (P.faults port.new) }

@@ -3,12 +3,12 @@
 use Rattle.std.specs.Prelude.{ℕ, ◌+◌, ◌-◌, ◌^◌, ◌≤◌, min, Bool, false, ◌||◌, IsTrue}
 
 -- a count of 64 bits after one more, which stands still at the end of its type
-abbrev pub raised : ℕ → ℕ
-raised count = min (count + 1) (2 ^ 64 - 1)
+abbrev pub next_count : ℕ → ℕ
+next_count count = min (count + 1) (2 ^ 64 - 1)
 
 -- The count rose. One that stands at the end of its type can't, and is taken as risen.
 abbrev pub Rose : ℕ → ℕ → Type 0
-Rose before now = raised before ≤ now
+Rose before now = next_count before ≤ now
 
 -- The count didn't fall; and where there was a failure, it rose.
 abbrev pub RisesWhere : Bool → ℕ → ℕ → Type 0
@@ -18,4 +18,5 @@ RisesWhere failed before now = (before ≤ now) × (IsTrue failed → Rose befor
 
 pub record RisesAddUp : Type 0 where
   pub none : (count : ℕ) → RisesWhere false count count
-  pub both : (one others : Bool) (first second third : ℕ) → RisesWhere one first second → RisesWhere others second third → RisesWhere (one || others) first third
+  pub both : (one others : Bool) (first second third : ℕ) →
+      RisesWhere one first second → RisesWhere others second third → RisesWhere (one || others) first third

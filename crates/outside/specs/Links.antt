@@ -19,13 +19,14 @@ is_given (event.Dialled link) = false
 is_given event.DialFailed = false
 is_given event.Stop = true
 
+-- an event that a port may give, as a fact
 abbrev pub IsGiven : Event → Type 0
 IsGiven what = IsTrue (is_given what)
 
 -- what a call of `next` adds to the story
-abbrev pub given : Result Event PortRefused → Option ℕ → List Happening
-given (Ok what) want = happening.Given what want ∷ []
-given (Err refused) want = []
+abbrev pub happenings_of_next : Result Event PortRefused → Option ℕ → List Happening
+happenings_of_next (Ok what) want = happening.Given what want ∷ []
+happenings_of_next (Err refused) want = []
 
 -- whether the link is open after one more happening
 abbrev pub linked_after : Happening → ℕ → Bool → Bool
@@ -35,10 +36,11 @@ linked_after (happening.Dialled peer (Some other)) link before = before || (othe
 linked_after (happening.Shut other) link before = before && not (other == link)
 linked_after _ link before = before
 
--- whether the link is open after the story, beginning with none
+-- whether the link is open after these happenings, where it was or wasn't before
 abbrev pub linked_from : Bool → List Happening → ℕ → Bool
 linked_from before [] link = before
 linked_from before (happened ∷ later) link = linked_from (linked_after happened link before) later link
 
+-- whether the link is open after the story of a port, which begins with no link
 abbrev pub is_linked : List Happening → ℕ → Bool
 is_linked story link = linked_from false story link

@@ -108,10 +108,10 @@ LeavesRest next = (value : _) (left : List (List ℕ)) → IsRest (left_by (next
 -- A call that makes two parts, the second from the value of the first, and a call that steps by a part, answer as said where the first
 -- part is refused; two parts leave a rest, as each does.
 pub record RefusalsPass (S T U : Type 0) : Type 0 where
-  pub parts : (why : StepRefused) (part : Result (Part T) StepRefused) (next : T → List (List ℕ) → Result (Part U) StepRefused) (left : List (List ℕ)) →
-      LeavesRest next → AnswersBy (Err why) part left → AnswersBy (Err why) (then_part part next) left
-  pub steps : (why : StepRefused) (actions : T → List Action) (state : T → S) (halted : S) (part : Result (Part T) StepRefused) (before after : Drawing) →
-      DrawsSome before after → AnswersBy (Err why) part after.left →
+  pub parts : (why : StepRefused) (part : Result (Part T) StepRefused) (next : T → List (List ℕ) → Result (Part U) StepRefused)
+      (left : List (List ℕ)) → LeavesRest next → AnswersBy (Err why) part left → AnswersBy (Err why) (then_part part next) left
+  pub steps : (why : StepRefused) (actions : T → List Action) (state : T → S) (halted : S) (part : Result (Part T) StepRefused)
+      (before after : Drawing) → DrawsSome before after → AnswersBy (Err why) part after.left →
       StepsBy (Err why) (step_by actions state halted before.left part) halted halted before after
   pub rests : (part : Result (Part T) StepRefused) (next : T → List (List ℕ) → Result (Part U) StepRefused) (left : List (List ℕ)) →
       LeavesRest next → IsRest (left_by part) left → IsRest (left_by (then_part part next)) left

@@ -1,6 +1,7 @@
 -- The scripted port in memory, as its callers see it (this project's own choice).
-use Rattle.std.specs.Prelude.{◌≡◌, ℕ, ◌≤◌, Bool, true, false, nat_le, nat_lt, List, [], ◌∷◌, ◌++◌, length, Option, Some, None, Result, Ok, Err, if◌then◌else◌}
-use Rattle.outside.specs.Causes.{raised}
+use Rattle.std.specs.Prelude.{◌≡◌, ℕ, ◌≤◌, Bool, true, false, nat_le, nat_lt, List, [], ◌∷◌, ◌++◌, length, Option, Some, None, Result}
+use Rattle.std.specs.Prelude.{Ok, Err, if◌then◌else◌}
+use Rattle.outside.specs.Causes.{next_count}
 use Rattle.outside.specs.Links.{is_linked, most_event_bytes}
 use Rattle.wire_base.specs.declared.memory.NoMemory.{NoMemory}
 use Rattle.outside.specs.declared.event.Event.{Event}
@@ -12,6 +13,7 @@ use Rattle.outside.specs.declared.event.Happening.TheVariants as happening
 abbrev pub first_dialled : ℕ
 first_dialled = 1000
 
+-- a scripted port
 pub record PortScript : Type 0 where
   -- the events that come next; then there is `Stop`
   pub events : List Event
@@ -29,6 +31,7 @@ pub record PortScript : Type 0 where
   -- whether it still tells: all that happened is kept
   pub tells : Bool
 
+-- the story that it tells
 abbrev pub port_story : PortScript → Option (List Happening)
 port_story port = if port.tells then Some port.story else None
 
@@ -41,11 +44,12 @@ is_scripted (event.Dialled link) = false
 is_scripted event.DialFailed = false
 is_scripted event.Stop = true
 
--- the event that comes next, and those after it
+-- the event that comes next
 abbrev pub next_event : List Event → Event
 next_event [] = event.Stop
 next_event (next ∷ later) = next
 
+-- the events after the next
 abbrev pub later_events : List Event → List Event
 later_events [] = []
 later_events (next ∷ later) = later
@@ -70,9 +74,9 @@ Stores old new (Err _) stored = (stored ≡ false) × (new ≡ old)
 abbrev pub AfterCall : PortScript → PortScript → Bool → Bool → Type 0
 AfterCall old new fault link_fault =
     new ≡ record old {
-      calls = raised old.calls;
-      faults = (if fault then raised old.faults else old.faults);
-      link_faults = (if link_fault then raised old.link_faults else old.link_faults);
+      calls = next_count old.calls;
+      faults = (if fault then next_count old.faults else old.faults);
+      link_faults = (if link_fault then next_count old.link_faults else old.link_faults);
       story = new.story;
       tells = new.tells;
     }
@@ -86,5 +90,6 @@ pub record SurePortScript : Type 0 where
   pub story : List Happening
   pub tells : Bool
 
+-- the story that it tells
 abbrev pub sure_story : SurePortScript → Option (List Happening)
 sure_story port = if port.tells then Some port.story else None

@@ -1,7 +1,7 @@
 -- The scripted implementations in memory, as their callers see them (this project's own choice). `calls` counts the calls made.
 use Rattle.std.specs.Prelude.{◌≡◌, ℕ, Bool, ◌==◌, nat_lt, List, [], ◌∷◌, length, Option, Some, None, Result, Ok, Err, if◌then◌else◌}
 use Rattle.std.specs.List.{list_any}
-use Rattle.outside.specs.Causes.{raised}
+use Rattle.outside.specs.Causes.{next_count}
 use Rattle.outside.specs.Contents.{content_of, most_file_bytes}
 use Rattle.outside.specs.declared.files.FileRefused.{FileRefused}
 use Rattle.outside.specs.declared.files.FileRefused.TheVariants.{Failed, TooLong, Memory}
@@ -10,6 +10,7 @@ use Rattle.outside.specs.declared.files.FileRefused.TheVariants.{Failed, TooLong
 abbrev pub call_fails : List ℕ → ℕ → Bool
 call_fails failing call = list_any (λ listed. listed == call) failing
 
+-- a scripted sink
 pub record SinkScript : Type 0 where
   -- the bytes kept
   pub bytes : List ℕ
@@ -19,6 +20,7 @@ pub record SinkScript : Type 0 where
   -- whether it still tells: all bytes that it took are kept
   pub tells : Bool
 
+-- the bytes that it tells
 abbrev pub sink_taken : SinkScript → Option (List ℕ)
 sink_taken sink = if sink.tells then Some sink.bytes else None
 
@@ -27,9 +29,11 @@ pub record SureScript : Type 0 where
   pub bytes : List ℕ
   pub tells : Bool
 
+-- the bytes that it tells
 abbrev pub sure_taken : SureScript → Option (List ℕ)
 sure_taken sink = if sink.tells then Some sink.bytes else None
 
+-- a listed clock
 pub record ClockScript : Type 0 where
   -- the moment that comes next, and those after it, of which the last repeats
   pub next : ℕ
@@ -38,14 +42,16 @@ pub record ClockScript : Type 0 where
   pub given : List ℕ
   pub tells : Bool
 
+-- the moments that it tells
 abbrev pub clock_moments : ClockScript → Option (List ℕ)
 clock_moments clock = if clock.tells then Some clock.given else None
 
 -- the moments that come once the first was given
-abbrev pub following : ℕ → List ℕ → List ℕ
-following moment [] = moment ∷ []
-following moment (next ∷ later) = next ∷ later
+abbrev pub moments_after : ℕ → List ℕ → List ℕ
+moments_after moment [] = moment ∷ []
+moments_after moment (next ∷ later) = next ∷ later
 
+-- scripted files
 pub record FilesScript : Type 0 where
   -- contents by name, of which the first of a name counts
   pub files : List (List ℕ × List ℕ)
@@ -56,6 +62,7 @@ pub record FilesScript : Type 0 where
   pub reads : List (List ℕ × Bool)
   pub tells : Bool
 
+-- the reads that it tells
 abbrev pub file_reads : FilesScript → Option (List (List ℕ × Bool))
 file_reads script = if script.tells then Some script.reads else None
 
@@ -72,5 +79,5 @@ read_answer script name =
 -- what a read leaves: its call is counted, and its fault; but one that found no memory changes nothing
 abbrev pub ReadsFile : FilesScript → FilesScript → Result (List ℕ) FileRefused → Type 0
 ReadsFile old new (Err Memory) = new ≡ old
-ReadsFile old new (Err Failed) = new ≡ record old { calls = raised old.calls; faults = raised old.faults; reads = new.reads; tells = new.tells }
-ReadsFile old new _ = new ≡ record old { calls = raised old.calls; reads = new.reads; tells = new.tells }
+ReadsFile old new (Err Failed) = new ≡ record old { calls = next_count old.calls; faults = next_count old.faults; reads = new.reads; tells = new.tells }
+ReadsFile old new _ = new ≡ record old { calls = next_count old.calls; reads = new.reads; tells = new.tells }

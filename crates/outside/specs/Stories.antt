@@ -10,10 +10,12 @@ use Rattle.outside.specs.declared.event.Happening.TheVariants as happening
 
 -- ---- the address listened at
 
+-- the address after one more happening
 abbrev pub address_after : Happening → Option (List ℕ) → Option (List ℕ)
 address_after (happening.Listened address) before = Some address
 address_after _ before = before
 
+-- the address after these happenings, where it was that before
 abbrev pub address_from : Option (List ℕ) → List Happening → Option (List ℕ)
 address_from before [] = before
 address_from before (happened ∷ later) = address_from (address_after happened before) later
@@ -24,6 +26,7 @@ address_in story = address_from None story
 
 -- ---- events given, dials and closes
 
+-- the event that a happening gives, with the link that was waited for
 abbrev pub event_of : Happening → List (Event × Option ℕ)
 event_of (happening.Given what want) = (what, want) ∷ []
 event_of _ = []
@@ -32,6 +35,7 @@ event_of _ = []
 abbrev pub events_in : List Happening → List (Event × Option ℕ)
 events_in story = flat_map event_of story
 
+-- the dial that it is
 abbrev pub dial_of : Happening → List (List ℕ × Option ℕ)
 dial_of (happening.Dialled peer link) = (peer, link) ∷ []
 dial_of _ = []
@@ -40,6 +44,7 @@ dial_of _ = []
 abbrev pub dials_in : List Happening → List (List ℕ × Option ℕ)
 dials_in story = flat_map dial_of story
 
+-- the link that it closes
 abbrev pub close_of : Happening → List ℕ
 close_of (happening.Shut link) = link ∷ []
 close_of _ = []
@@ -50,6 +55,7 @@ closes_in story = flat_map close_of story
 
 -- ---- sends
 
+-- the send that it is
 abbrev pub send_of : Happening → List (ℕ × (List ℕ × Bool))
 send_of (happening.Sent link bytes failed) = (link, (bytes, failed)) ∷ []
 send_of _ = []
@@ -58,6 +64,7 @@ send_of _ = []
 abbrev pub sends_in : List Happening → List (ℕ × (List ℕ × Bool))
 sends_in story = flat_map send_of story
 
+-- the send on that link that it is
 abbrev pub send_on : ℕ → Happening → List (List ℕ × Bool)
 send_on link (happening.Sent other bytes failed) = if other == link then (bytes, failed) ∷ [] else []
 send_on link _ = []
@@ -66,17 +73,26 @@ send_on link _ = []
 abbrev pub sends_on : ℕ → List Happening → List (List ℕ × Bool)
 sends_on link story = flat_map (send_on link) story
 
--- the bytes of the sends before the first that failed
-abbrev pub until_failure : List (List ℕ × Bool) → List ℕ
-until_failure [] = []
-until_failure (send ∷ later) = if send.1 then [] else send.0 ++ until_failure later
+-- the byte strings of the sends before the first that failed
+abbrev pub before_failure : List (List ℕ × Bool) → List (List ℕ)
+before_failure [] = []
+before_failure (send ∷ later) = if send.1 then [] else send.0 ∷ before_failure later
 
--- the bytes sent on a link, one after the other, up to the first send on it that failed
+-- the byte strings sent on a link, up to the first send on it that failed
+abbrev pub strings_on : ℕ → List Happening → List (List ℕ)
+strings_on link story = before_failure (sends_on link story)
+
+-- their bytes, one after the other
+abbrev pub bytes_of : List (List ℕ) → List ℕ
+bytes_of strings = flat_map (λ (bytes : List ℕ). bytes) strings
+
+-- the bytes sent on a link, up to the first send on it that failed
 abbrev pub bytes_on : ℕ → List Happening → List ℕ
-bytes_on link story = until_failure (sends_on link story)
+bytes_on link story = bytes_of (strings_on link story)
 
 -- ---- failures
 
+-- whether a send failed
 abbrev pub has_failed : List ℕ × Bool → Bool
 has_failed send = send.1
 
@@ -84,6 +100,7 @@ has_failed send = send.1
 abbrev pub fails_on : ℕ → List Happening → Bool
 fails_on link story = list_any has_failed (sends_on link story)
 
+-- whether it is a dial or a send that failed
 abbrev pub is_link_failure : Happening → Bool
 is_link_failure (happening.Sent link bytes failed) = failed
 is_link_failure (happening.Dialled peer None) = true
@@ -100,6 +117,7 @@ abbrev pub bytes_after : Bool → List ℕ → List ℕ → List ℕ
 bytes_after true before later = before
 bytes_after false before later = before ++ later
 
+-- what a story says, where more happened after it
 pub record StoriesAddUp : Type 0 where
   pub address : (before later : List Happening) → address_in (before ++ later) ≡ address_from (address_in before) later
   pub events : (before later : List Happening) → events_in (before ++ later) ≡ events_in before ++ events_in later

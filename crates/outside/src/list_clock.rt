@@ -55,14 +55,14 @@ impl ListClock {
 }
 
 impl Clock for ListClock {
-    ghost use Rattle.outside.specs.Scripts.{clock_moments, following};
+    ghost use Rattle.outside.specs.Scripts.{clock_moments, moments_after};
 
     ghost moments = { clock_moments };
 
     fn now(&mut self) -> u64
         ensures told { Appends (clock_moments self.old) (clock_moments self.new) (result ∷ []) }
         ensures moment { result ≡ self.old.next }
-        ensures next { self.new.next ∷ self.new.later ≡ following self.old.next self.old.later }
+        ensures next { self.new.next ∷ self.new.later ≡ moments_after self.old.next self.old.later }
     {
         let moment = self.next;
         if self.given.push(moment).is_err() {

@@ -1,7 +1,7 @@
 //! The sink that is standard output.
 
 ghost use Rattle.std.specs.Prelude.{◌≡◌, ◌≤◌, ◌<◌, IfOk, OnErr, is_err, length, if◌then◌else◌};
-ghost use Rattle.outside.specs.Causes.{Rose, raised};
+ghost use Rattle.outside.specs.Causes.{Rose, next_count};
 
 use crate::port::Failed;
 use crate::sink::Sink;
@@ -43,7 +43,7 @@ impl<P: Print> Sink for OutSink<'_, P> {
         ensures least { IfOk result (λ count. 0 < length bytes.now → 0 < count) }
         ensures cause { OnErr result (Rose self.old self.new) }
         ensures faults { self.old ≤ self.new }
-        ensures counts { self.new ≡ (if is_err result then raised self.old else self.old) }
+        ensures counts { self.new ≡ (if is_err result then next_count self.old else self.old) }
     {
         match self.out.write_some(bytes) {
             Ok(count) if count > 0 || bytes.is_empty() => Ok(count),

@@ -5,7 +5,7 @@ ghost use Rattle.std.specs.Result.{result_ok};
 ghost use Rattle.outside.specs.declared.event.Happening.{Happening};
 ghost use Rattle.outside.specs.Causes.{Rose};
 ghost use Rattle.outside.specs.Telling.{Appends, Tells};
-ghost use Rattle.outside.specs.Links.{is_linked, IsGiven, given};
+ghost use Rattle.outside.specs.Links.{is_linked, IsGiven, happenings_of_next};
 
 use crate::event::Event;
 use thiserror::Error;
@@ -64,7 +64,8 @@ pub trait Port {
         ensures faults { faults self.old ≤ faults self.new }
         ensures link_faults { link_faults self.new ≡ link_faults self.old }
         ensures kind { IfOk result IsGiven }
-        ensures told { Appends (story self.old) (story self.new) (given result want) };
+        ensures told { Appends (story self.old) (story self.new)
+            (happenings_of_next result want) };
 
     /// Dials the peer, and gives a link that isn't open.
     fn dial(&mut self, peer: &[u8]) -> Result<u32, Failed>

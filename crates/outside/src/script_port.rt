@@ -1,10 +1,11 @@
 //! A port in memory.
 
-ghost use Rattle.std.specs.Prelude.{◌≡◌, ◌≢◌, ◌⊎◌, ◌≤◌, ◌<◌, ◌+◌, ◌||◌, ◌==◌, [], ◌∷◌, ◌++◌, true, false, OnErr, IsOk, IfOk, IfSome, IsTrue, MatchResult, None, is_ok, is_err, if◌then◌else◌};
+ghost use Rattle.std.specs.Prelude.{◌≡◌, ◌≢◌, ◌⊎◌, ◌≤◌, ◌<◌, ◌+◌, ◌||◌, ◌==◌, [], ◌∷◌, ◌++◌, true, false};
+ghost use Rattle.std.specs.Prelude.{OnErr, IsOk, IfOk, IfSome, IsTrue, MatchResult, None, is_ok, is_err, if◌then◌else◌};
 ghost use Rattle.std.specs.List.{list_all};
 ghost use Rattle.std.specs.Result.{result_ok};
-ghost use Rattle.outside.specs.Causes.{Rose, raised};
-ghost use Rattle.outside.specs.Links.{is_linked, IsGiven, given};
+ghost use Rattle.outside.specs.Causes.{Rose, next_count};
+ghost use Rattle.outside.specs.Links.{is_linked, IsGiven, happenings_of_next};
 ghost use Rattle.outside.specs.Telling.{Appends};
 ghost use Rattle.outside.specs.PortScript.{first_dialled, is_scripted, port_story, next_event, later_events, is_kept_below, AfterCall, Stores};
 ghost use Rattle.outside.specs.Scripts.{call_fails};
@@ -117,7 +118,7 @@ impl ScriptPort {
     /// Counts a call, and says whether it is to fail.
     fn count_call(&mut self) -> bool
         ensures fails { result ≡ call_fails self.old.failing self.old.calls }
-        ensures after { self.new ≡ record self.old { calls = raised self.old.calls } }
+        ensures after { self.new ≡ record self.old { calls = next_count self.old.calls } }
     {
         let fails = is_listed(self.failing.items(), self.calls);
         self.calls = self.calls.saturating_add(1);
@@ -212,7 +213,7 @@ impl Port for ScriptPort {
             self.faults = self.faults.saturating_add(1);
             return Err(Failed);
         }
-        self.keep(listened(self.alloc, address));
+        self.keep(happening_of_listen(self.alloc, address));
         Ok(())
     }
 
@@ -221,7 +222,8 @@ impl Port for ScriptPort {
         ensures faults { self.old.faults ≤ self.new.faults }
         ensures link_faults { self.new.link_faults ≡ self.old.link_faults }
         ensures kind { IfOk result IsGiven }
-        ensures told { Appends (port_story self.old) (port_story self.new) (given result want) }
+        ensures told { Appends (port_story self.old) (port_story self.new)
+            (happenings_of_next result want) }
         // Exactly the listed calls fail, and the others give the events in order.
         ensures fails { is_err result ≡ call_fails self.old.failing self.old.calls }
         ensures no_memory { result ≢ Err PortRefused.Memory }
@@ -236,7 +238,7 @@ impl Port for ScriptPort {
             return Err(PortRefused::Failed);
         }
         let event = self.take_event();
-        self.keep(given(self.alloc, &event, want));
+        self.keep(happening_of_next(self.alloc, &event, want));
         Ok(event)
     }
 
@@ -259,12 +261,12 @@ impl Port for ScriptPort {
     {
         if self.count_call() || self.next_link == u32::MAX {
             self.link_faults = self.link_faults.saturating_add(1);
-            self.keep(dialled(self.alloc, peer, None));
+            self.keep(happening_of_dial(self.alloc, peer, None));
             return Err(Failed);
         }
         let link = self.next_link;
         self.next_link += 1;
-        self.keep(dialled(self.alloc, peer, Some(link)));
+        self.keep(happening_of_dial(self.alloc, peer, Some(link)));
         Ok(link)
     }
 
@@ -284,7 +286,7 @@ impl Port for ScriptPort {
             (is_err result) }
     {
         let failed = self.count_call();
-        self.keep(sent(self.alloc, link, bytes, failed));
+        self.keep(happening_of_send(self.alloc, link, bytes, failed));
         if failed {
             self.link_faults = self.link_faults.saturating_add(1);
             return Err(Failed);
@@ -305,29 +307,34 @@ impl Port for ScriptPort {
     }
 }
 
-/// That the port listens at the address.
-fn listened(alloc: Global, address: &[u8]) -> Result<Happening, NoMemory>
+/// What happens where the port listens at the address.
+fn happening_of_listen(alloc: Global, address: &[u8]) -> Result<Happening, NoMemory>
     ensures { IfOk result (λ h. h ≡ Happening.Listened address.now) }
 {
     Ok(Happening::Listened(Blob::copy(alloc, address)?))
 }
 
-/// That the event was given.
-fn given(alloc: Global, event: &Event, want: Option<u32>) -> Result<Happening, NoMemory>
+/// What happens where the event is given.
+fn happening_of_next(alloc: Global, event: &Event, want: Option<u32>) -> Result<Happening, NoMemory>
     ensures { IfOk result (λ h. h ≡ Happening.Given event.now want) }
 {
     Ok(Happening::Given(event.copy(alloc)?, want))
 }
 
-/// That the peer was dialled.
-fn dialled(alloc: Global, peer: &[u8], link: Option<u32>) -> Result<Happening, NoMemory>
+/// What happens where the peer is dialled.
+fn happening_of_dial(alloc: Global, peer: &[u8], link: Option<u32>) -> Result<Happening, NoMemory>
     ensures { IfOk result (λ h. h ≡ Happening.Dialled peer.now link) }
 {
     Ok(Happening::Dialled(Blob::copy(alloc, peer)?, link))
 }
 
-/// That the bytes were sent, or failed to be.
-fn sent(alloc: Global, link: u32, bytes: &[u8], failed: bool) -> Result<Happening, NoMemory>
+/// What happens where the bytes are sent, or fail to be.
+fn happening_of_send(
+    alloc: Global,
+    link: u32,
+    bytes: &[u8],
+    failed: bool,
+) -> Result<Happening, NoMemory>
     ensures { IfOk result (λ h. h ≡ Happening.Sent link bytes.now failed) }
 {
     Ok(Happening::Sent(link, Blob::copy(alloc, bytes)?, failed))

@@ -1,11 +1,11 @@
 //! A port in memory that never fails.
 
-ghost use Rattle.std.specs.Prelude.{◌≡◌, ◌≤◌, ◌+◌, ◌⊎◌, [], ◌∷◌, ◌++◌, true, false, IfOk, IfSome, IsTrue, OnErr, Ok, is_err, is_ok, ◌==◌};
+ghost use Rattle.std.specs.Prelude.{◌≡◌, ◌≤◌, ◌+◌, ◌⊎◌, [], ◌∷◌, ◌++◌, true, false, IfOk, IfSome, IsTrue, OnErr, Ok, is_err, is_ok, ◌==◌, if◌then◌else◌};
 ghost use Rattle.std.specs.List.{list_all};
 ghost use Rattle.std.specs.Result.{result_ok};
 ghost use Rattle.outside.specs.declared.event.Happening.{Happening};
-ghost use Rattle.outside.specs.Causes.{Rose};
-ghost use Rattle.outside.specs.Links.{is_linked, IsGiven, given};
+ghost use Rattle.outside.specs.Causes.{Rose, next_count};
+ghost use Rattle.outside.specs.Links.{is_linked, IsGiven, happenings_of_next};
 ghost use Rattle.outside.specs.Telling.{Appends};
 ghost use Rattle.outside.specs.PortScript.{first_dialled, is_scripted, sure_story, next_event, later_events};
 
@@ -95,7 +95,8 @@ impl Port for SurePort {
 
     fn next(&mut self, want: Option<u32>) -> Result<Event, PortRefused>
         ensures kind { IfOk result IsGiven }
-        ensures told { Appends (sure_story self.old) (sure_story self.new) (given result want) }
+        ensures told { Appends (sure_story self.old) (sure_story self.new)
+            (happenings_of_next result want) }
         ensures event { result ≡ Ok (next_event self.old.events) }
         ensures after { self.new ≡
             record self.old {
@@ -118,6 +119,8 @@ impl Port for SurePort {
         ensures link { IfOk result (λ link. (link ≡ self.old.next_link) ×
             (self.new.next_link ≡ link + 1)) }
         ensures no_link { OnErr result (self.new.next_link ≡ self.old.next_link) }
+        ensures counts { self.new.link_faults ≡
+            (if is_err result then next_count self.old.link_faults else self.old.link_faults) }
         ensures after { self.new ≡
             record self.old {
               next_link = self.new.next_link;
@@ -147,7 +150,12 @@ impl Port for SurePort {
         self.script.send(link, bytes)
     }
 
-    fn close(&mut self, link: u32) {
+    fn close(&mut self, link: u32)
+        ensures told { Appends (sure_story self.old) (sure_story self.new)
+            (Happening.Shut link ∷ []) }
+        ensures after { self.new ≡
+            record self.old { story = self.new.story; tells = self.new.tells } }
+    {
         self.script.close(link);
     }
 }

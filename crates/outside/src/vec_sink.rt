@@ -1,9 +1,10 @@
 //! Sinks in memory.
 
-ghost use Rattle.std.specs.Prelude.{◌≡◌, ◌⊎◌, ◌+◌, ◌-◌, ◌^◌, ◌≤◌, ◌<◌, ◌++◌, [], length, take, min, true, IfOk, IsOk, OnErr, is_ok, is_err, if◌then◌else◌};
+ghost use Rattle.std.specs.Prelude.{◌≡◌, ◌⊎◌, ◌+◌, ◌-◌, ◌^◌, ◌≤◌, ◌<◌, ◌++◌, [], length, take, min, true};
+ghost use Rattle.std.specs.Prelude.{IfOk, IsOk, OnErr, is_ok, is_err, if◌then◌else◌};
 ghost use Rattle.std.specs.List.{list_any};
 ghost use Rattle.std.specs.Result.{result_unwrap_or};
-ghost use Rattle.outside.specs.Causes.{Rose, raised};
+ghost use Rattle.outside.specs.Causes.{Rose, next_count};
 ghost use Rattle.outside.specs.Telling.{Appends};
 ghost use Rattle.outside.specs.Scripts.{call_fails};
 
@@ -89,8 +90,8 @@ impl Sink for VecSink {
         ensures kept { (self.new.bytes ≡ self.old.bytes) ⊎
             (IsOk result × (self.new.bytes ≡ self.old.bytes ++ bytes.now)) }
         ensures counts { self.new.faults ≡
-            (if is_err result then raised self.old.faults else self.old.faults) }
-        ensures calls { self.new.calls ≡ raised self.old.calls }
+            (if is_err result then next_count self.old.faults else self.old.faults) }
+        ensures calls { self.new.calls ≡ next_count self.old.calls }
         ensures failing { self.new.failing ≡ self.old.failing }
     {
         let fails = is_listed(self.failing.items(), self.calls);
