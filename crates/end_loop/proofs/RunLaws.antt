@@ -23,7 +23,7 @@ use Rattle.outside.specs.Machine.{Machine, Stepped, Takes, GivesUp, Spends}
 use Rattle.end_loop.specs.Acts.{puts, Performs, Performed, CutShort, IsOfActs, made_events, most_made_by, next_line, is_made, are_made}
 use Rattle.end_loop.proofs.ActLaws.{performs_makes, all_made, Rises-append}
 use Rattle.end_loop.specs.Seen.{Sight, Shows}
-use Rattle.end_loop.specs.Runs.{actions_of, Standing, Step, IsStep, AreSteps, Chooses, Ran, RanInto, RanTo, RanToAsk, RanOut, Halts, Closes, Begins, Breaks, Turns, IsOfAsk, IsOfSteps, is_stop, standing_at, idle_at, Made, MadePart, step_story, step_line, story_of, moments_of, drawn_of, lines_of, asked_by}
+use Rattle.end_loop.specs.Runs.{actions_of, Standing, Step, IsStep, AreSteps, Chooses, Ran, RanInto, RanToAsk, RanOut, Halts, Closes, Begins, Breaks, Turns, IsOfAsk, IsOfSteps, is_stop, standing_at, idle_at, Made, MadePart, step_story, step_line, story_of, moments_of, drawn_of, lines_of, asked_by}
 
 -- ---- what the outside shows
 
@@ -171,9 +171,9 @@ Into-after machine a b n m most s t u halt ran bound into = record {
   shows = into.shows;
 }
 
-pub Halts-after : {S : Type 0} (machine : Machine S) (a b : Standing S) (n m most : ℕ) (s t u : Sight) (halt : Halt) → Ran machine a b n s t → n + m ≤ most →
-    Halts machine b m t u halt → Halts machine a most s u halt
-Halts-after machine a b n m most s t u PortFault ran bound h = record {
+Ask-after : {S : Type 0} (machine : Machine S) (a b : Standing S) (n m most : ℕ) (s t u : Sight) → Ran machine a b n s t → n + m ≤ most →
+    RanToAsk machine b m t u → RanToAsk machine a most s u
+Ask-after machine a b n m most s t u ran bound h = record {
   last = h.last;
   asked = n + h.asked;
   ran = Ran-trans machine a b h.last n h.asked s t u ran h.ran;
@@ -181,13 +181,12 @@ Halts-after machine a b n m most s t u PortFault ran bound h = record {
   more = let inner = h.more in omega (arith, inner);
   open_still = h.open_still;
 }
+
+pub Halts-after : {S : Type 0} (machine : Machine S) (a b : Standing S) (n m most : ℕ) (s t u : Sight) (halt : Halt) → Ran machine a b n s t → n + m ≤ most →
+    Halts machine b m t u halt → Halts machine a most s u halt
+Halts-after machine a b n m most s t u PortFault ran bound h = Ask-after machine a b n m most s t u ran bound h
 Halts-after machine a b n m most s t u SinkFault ran bound h = Into-after machine a b n m most s t u SinkFault ran bound h
-Halts-after machine a b n m most s t u NoMemory ran bound (inl h) = inl (record {
-  last = h.last;
-  asked = n + h.asked;
-  ran = Ran-trans machine a b h.last n h.asked s t u ran h.ran;
-  within = let inner = h.within in omega (arith, inner);
-})
+Halts-after machine a b n m most s t u NoMemory ran bound (inl h) = inl (Ask-after machine a b n m most s t u ran bound h)
 Halts-after machine a b n m most s t u NoMemory ran bound (inr h) = inr (Into-after machine a b n m most s t u NoMemory ran bound h)
 Halts-after machine a b n m most s t u Spent ran bound h = Into-after machine a b n m most s t u Spent ran bound h
 
@@ -390,8 +389,9 @@ pub told_alone : (story story2 : Option (List Happening)) (faults faults2 : ℕ)
 told_alone story story2 faults faults2 moments drawing taken hs told rises = record { story = told; links = rises; moments = Appends-nothing moments; drawing = DrawsAll-none drawing; taken = Appends-nothing taken; written = refl }
 
 -- a call of `next` that gave nothing
-pub ask_halts : {S : Type 0} (machine : Machine S) (old : S) (s t : Sight) (halt : Halt) → machine.is_over old ≡ false → IsOfAsk halt → Shows s t [] [] [] [] → Halts machine (idle_at old s) 1 s t halt
-ask_halts machine old s t PortFault goes_on kind shows = record {
+asked_none : {S : Type 0} (machine : Machine S) (old : S) (s t : Sight) → machine.is_over old ≡ false → Shows s t [] [] [] [] →
+    RanToAsk machine (idle_at old s) 1 s t
+asked_none machine old s t goes_on shows = record {
   last = idle_at old s;
   asked = 0;
   ran = record { steps = []; are = refl; count = refl; shows = shows };
@@ -399,12 +399,10 @@ ask_halts machine old s t PortFault goes_on kind shows = record {
   more = omega arith;
   open_still = goes_on;
 }
-ask_halts machine old s t NoMemory goes_on kind shows = inl (record {
-  last = idle_at old s;
-  asked = 0;
-  ran = record { steps = []; are = refl; count = refl; shows = shows };
-  within = omega arith;
-})
+
+pub ask_halts : {S : Type 0} (machine : Machine S) (old : S) (s t : Sight) (halt : Halt) → machine.is_over old ≡ false → IsOfAsk halt → Shows s t [] [] [] [] → Halts machine (idle_at old s) 1 s t halt
+ask_halts machine old s t PortFault goes_on kind shows = asked_none machine old s t goes_on shows
+ask_halts machine old s t NoMemory goes_on kind shows = inl (asked_none machine old s t goes_on shows)
 ask_halts machine old s t SinkFault goes_on kind shows = absurd kind
 ask_halts machine old s t Spent goes_on kind shows = absurd kind
 

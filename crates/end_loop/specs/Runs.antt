@@ -162,13 +162,6 @@ pub record RanInto {S : Type 0} (machine : Machine S) (start : Standing S) (most
   pub within : asked + length step.asked ≤ most
   pub shows : Shows middle after (step_story step) (step.moment ∷ []) step.drawn (step_line (puts machine) step ++ part)
 
--- The machine ran, and stood between two steps.
-pub record RanTo {S : Type 0} (machine : Machine S) (start : Standing S) (most : ℕ) (before after : Sight) : Type 0 where
-  pub last : Standing S
-  pub asked : ℕ
-  pub ran : Ran machine start last asked before after
-  pub within : asked ≤ most
-
 -- The machine ran until it would ask for one more event, of those that the command takes.
 pub record RanToAsk {S : Type 0} (machine : Machine S) (start : Standing S) (most : ℕ) (before after : Sight) : Type 0 where
   pub last : Standing S
@@ -200,7 +193,7 @@ pub record RanOut {S : Type 0} (machine : Machine S) (start : Standing S) (last 
 abbrev pub Halts : {S : Type 0} → Machine S → Standing S → ℕ → Sight → Sight → Halt → Type 0
 Halts machine start most before after PortFault = RanToAsk machine start most before after
 Halts machine start most before after SinkFault = RanInto machine start most before after SinkFault
-Halts machine start most before after NoMemory = RanTo machine start most before after ⊎ RanInto machine start most before after NoMemory
+Halts machine start most before after NoMemory = RanToAsk machine start most before after ⊎ RanInto machine start most before after NoMemory
 Halts machine start most before after Spent = RanInto machine start most before after Spent
 
 -- ---- one step in the loop's own terms: the event is chosen already
