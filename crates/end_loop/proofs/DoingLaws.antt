@@ -16,10 +16,10 @@ use Rattle.end_loop.specs.Doing.{peers_of, peer_one, close_one, DialsAndCloses}
 
 -- ---- a view of what happens, which shows of each action what is asked of it, and nothing of an event that is given
 
-Views : {X : Type 0} → (Happening → List X) → (Action → List X) → Type 0
+abbrev Views : {X : Type 0} → (Happening → List X) → (Action → List X) → Type 0
 Views view asked = (failed : List ℕ) (x : Action) (now : List Happening) → Does failed x now → flat_map view now ≡ asked x
 
-PassesOver : {X : Type 0} → (Happening → List X) → Type 0
+abbrev PassesOver : {X : Type 0} → (Happening → List X) → Type 0
 PassesOver view = (what : Event) (want : Option ℕ) → view (happening.Given what want) ≡ []
 
 performs_views : {X : Type 0} (view : Happening → List X) (asked : Action → List X) → Views view asked →
@@ -53,7 +53,7 @@ steps_view {X} view asked is none machine start last (step ∷ steps) are =
 
 -- ---- dials and closes
 
-peer_of : Happening → List (List ℕ)
+abbrev peer_of : Happening → List (List ℕ)
 peer_of what = peers_of (dial_of what)
 
 peers_view : (story : List Happening) → peers_of (dials_in story) ≡ flat_map peer_of story
