@@ -1,5 +1,5 @@
 -- Laws of the index by name: what it finds is what a walk over the accounts finds.
-use Rattle.std.proofs.Common.{◌≡◌, ℕ, zero, suc, ◌+◌, ◌<◌, ◌≤◌, ◌&&◌, Bool, true, false, List, [], ◌∷◌, ◌++◌, length, Option, Some, None, option_map, Vec, IsTrue, refl, sym, ap, ◌∙◌, arith, inl, inr, zero-add, add-zero}
+use Rattle.std.proofs.Common.{◌≡◌, ℕ, zero, suc, ◌+◌, ◌<◌, ◌≤◌, ◌&&◌, Bool, true, false, List, [], ◌∷◌, ◌++◌, length, Option, Some, None, option_map, is_some, Vec, IsTrue, refl, sym, ap, ◌∙◌, arith, inl, inr, zero-add, add-zero}
 use Rattle.std.specs.List.{list_all, list_any, position, position_from, slice_get}
 use Rattle.std.specs.Bool.{then_some}
 use Rattle.std.specs.Map.{keys_of}
@@ -43,6 +43,23 @@ from_zero (Some p) = ap (λ (n : ℕ). Some n) (zero-add p)
 
 pub position-place_of : {X : Type 0} (test : X → Bool) (xs : List X) → position test xs ≡ place_of test xs
 position-place_of test xs = position_from-zero test xs ∙ position_from-place_of test 0 xs ∙ from_zero (place_of test xs)
+
+is_some-later : (o : Option ℕ) → is_some (option_map suc o) ≡ is_some o
+is_some-later None = refl
+is_some-later (Some p) = refl
+
+is_some-then_some : (b : Bool) (p : ℕ) → is_some (then_some b p) ≡ b
+is_some-then_some true p = refl
+is_some-then_some false p = refl
+
+-- one passes where there is a first
+list_any-place_of : {X : Type 0} (test : X → Bool) (xs : List X) → list_any test xs ≡ is_some (place_of test xs)
+list_any-place_of test [] = refl
+list_any-place_of test (x ∷ xs) =
+    elim (cases_Bool (test x)) [
+      | inl pass ↦ rw pass refl
+      | inr fail ↦ rw (fail, list_any-place_of test xs) (sym (is_some-later (place_of test xs)))
+    ]
 
 -- ---- an entry
 
@@ -121,6 +138,10 @@ long_place name entries accounts view whole long = rw (← view) (place_in-long 
 -- past the end
 pub none_past : (entries : List Entry) (accounts : List Account) (place : ℕ) → accounts_in entries ≡ accounts → None ≡ slice_get entries place → None ≡ slice_get accounts place
 none_past entries accounts place view past = rw (← view, slice_get-map (λ (entry : Entry). entry.1) entries place, ← past) refl
+
+-- at an entry
+pub some_at : (entries : List Entry) (accounts : List Account) (place : ℕ) (entry : Entry) → accounts_in entries ≡ accounts → Some entry ≡ slice_get entries place → Some entry.1 ≡ slice_get accounts place
+some_at entries accounts place entry view found = rw (← view, slice_get-map (λ (entry : Entry). entry.1) entries place, ← found) refl
 
 pub groups_found : (entries : List Entry) (place : ℕ) (entry : Entry) → is_index entries ≡ true → Some entry ≡ slice_get entries place → length entry.1.groups ≤ 256
 groups_found entries place entry whole found = groups_at entries place entry (IsIndex-from entries whole).each (sym found)
@@ -227,13 +248,12 @@ other_name name first account same differ =
     ]
 
 module _ (name : List ℕ) (test : Account → Bool) where
-  none_by : (first : Account) (accounts : List Account) → has_name name first ≡ true → list_any (λ (other : Account). same_name first.name other.name) accounts ≡ false → (place_of (λ account. has_name name account && test account) accounts ≡ None) × (list_any (λ account. has_name name account && test account) accounts ≡ false)
-  none_by first [] same none = (refl, refl)
+  none_by : (first : Account) (accounts : List Account) → has_name name first ≡ true → list_any (λ (other : Account). same_name first.name other.name) accounts ≡ false → place_of (λ account. has_name name account && test account) accounts ≡ None
+  none_by first [] same none = refl
   none_by first (account ∷ accounts) same none =
       let parts = or_parts _ _ none in
       let differ : has_name name account ≡ false = other_name name first account same parts.0 in
-      let later = none_by first accounts same parts.1 in
-      (rw (differ, later.0) refl, rw (differ, later.1) refl)
+      rw (differ, none_by first accounts same parts.1) refl
 
   later_hit : (first : Account) (accounts : List Account) (found : Option ℕ) → option_and_then (λ place. then_some (option_map_or test (slice_get (first ∷ accounts) place) false) place) (option_map suc found) ≡ option_map suc (option_and_then (λ place. then_some (option_map_or test (slice_get accounts place) false) place) found)
   later_hit first accounts None = refl
@@ -253,29 +273,21 @@ module _ (name : List ℕ) (test : Account → Bool) where
             let none = none_by first accounts same (not-true _ parts.0) in
             elim (cases_Bool (test first)) [
               | inl pass ↦ rw (same, pass) refl
-              | inr fail ↦ rw (same, fail, none.0) refl
+              | inr fail ↦ rw (same, fail, none) refl
             ]
         | inr other ↦ rw (other, only_hit accounts parts.1) (sym (later_hit first accounts (place_of (has_name name) accounts)))
       ]
 
-  later_test : (first : Account) (accounts : List Account) (found : Option ℕ) → option_map_or test (option_and_then (slice_get (first ∷ accounts)) (option_map suc found)) false ≡ option_map_or test (option_and_then (slice_get accounts) found) false
-  later_test first accounts None = refl
-  later_test first accounts (Some place) = refl
+  hit_passes : (accounts : List Account) (found : Option ℕ) → is_some (option_and_then (λ place. then_some (option_map_or test (slice_get accounts place) false) place) found) ≡ option_map_or test (option_and_then (slice_get accounts) found) false
+  hit_passes accounts None = refl
+  hit_passes accounts (Some place) = is_some-then_some (option_map_or test (slice_get accounts place) false) place
 
   -- some account has the name and passes where the one of that name does
   pub only_any : (accounts : List Account) → has_distinct_names accounts ≡ true → list_any (λ account. has_name name account && test account) accounts ≡ option_map_or test (option_and_then (slice_get accounts) (place_of (has_name name) accounts)) false
-  only_any [] different = refl
-  only_any (first ∷ accounts) different =
-      let parts = and_parts _ _ different in
-      elim (cases_Bool (has_name name first)) [
-        | inl same ↦
-            let none = none_by first accounts same (not-true _ parts.0) in
-            elim (cases_Bool (test first)) [
-              | inl pass ↦ rw (same, pass) refl
-              | inr fail ↦ rw (same, fail, none.1) refl
-            ]
-        | inr other ↦ rw (other, only_any accounts parts.1) (sym (later_test first accounts (place_of (has_name name) accounts)))
-      ]
+  only_any accounts different =
+      list_any-place_of (λ account. has_name name account && test account) accounts
+      ∙ ap is_some (only_hit accounts different)
+      ∙ hit_passes accounts (place_of (has_name name) accounts)
 
 -- ---- what the account tells that a name finds
 

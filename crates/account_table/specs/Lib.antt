@@ -7,6 +7,7 @@ pub mod Keys
 pub mod Limits
 pub mod Listing
 pub mod LookUps
+pub mod Ranges
 pub use Rattle.channel_keys.specs.ChannelTypes
 pub use Rattle.wire_base.specs.Memory
 pub use Rattle.wire_base.specs.Names

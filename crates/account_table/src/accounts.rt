@@ -5,6 +5,7 @@ ghost use Rattle.wire_base.specs.Names.{upper_case};
 ghost use Rattle.account_table.specs.AccountTable.{has_distinct_names};
 ghost use Rattle.account_table.specs.Limits.{account_limit, group_limit, name_limit};
 ghost use Rattle.account_table.specs.LookUps.{machine_name, place_in};
+ghost use Rattle.account_table.specs.Ranges.{AreLongs, InRangeAccount};
 
 use crate::account::Account;
 use arrayvec::ArrayVec;
@@ -55,10 +56,13 @@ impl Accounts {
     /// The account at a place, counted from 0. None exactly past the end.
     pub(crate) fn get(&self, place: usize) -> Option<&Account>
         ensures value { option_copied result ≡ slice_get self.now place }
-        ensures groups { IfSome result (λ account. length account.now.groups ≤ group_limit) }
+        ensures range { IfSome result (λ account. InRangeAccount account.now) }
     {
         match self.index.get_index(place) {
-            Some((_, account)) => Some(account),
+            Some((_, account)) => {
+                has_ranges(account);
+                Some(account)
+            }
             None => None,
         }
     }
@@ -117,6 +121,23 @@ impl Accounts {
         Ok(())
     }
 }
+
+/// The account has its ranges, which callers learn so.
+fn has_ranges(account: &Account)
+    requires { length account.now.groups ≤ group_limit }
+    ensures { InRangeAccount account.now }
+{
+    let _name = account.name.bytes();
+    let _full_name = account.full_name.bytes();
+    let _numbers = (account.rid, account.group);
+    let _moments = (account.expires, account.password_set, account.password_expires);
+    are_longs(account.groups.items());
+}
+
+/// Numbers of 32 bits are below 2^32, which callers learn so.
+pub(crate) fn are_longs(numbers: &[u32])
+    ensures { AreLongs numbers.now }
+{}
 
 /// The units in upper case.
 fn upper(units: &[u16]) -> ArrayVec<u16, 64>

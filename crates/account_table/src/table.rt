@@ -1,19 +1,19 @@
 //! The account table of a domain.
 
-ghost use Rattle.std.specs.Prelude.{◌≡◌, ◌<◌, ◌≤◌, length, Ok, IfOk, IfSome, IsTrue, option_copied, slice_get};
+ghost use Rattle.std.specs.Prelude.{◌≡◌, ◌<◌, length, Ok, IfOk, IfSome, IsTrue, option_copied, slice_get};
 ghost use Rattle.wire_base.specs.Memory.{UpToMemory};
 ghost use Rattle.toml.specs.View.{table_view};
 ghost use Rattle.account_table.specs.AccountTable.{AccountTable, has_distinct_names};
 ghost use Rattle.account_table.specs.Document.{table_of, table_in};
-ghost use Rattle.wire_base.specs.Names.{same_name};
+ghost use Rattle.wire_base.specs.Names.{IsName, same_name};
 ghost use Rattle.account_table.specs.Keys.{top};
 ghost use Rattle.account_table.specs.Index.{machine_found, computer_found};
 ghost use Rattle.account_table.specs.IsTable.{IsTableText};
-ghost use Rattle.account_table.specs.Limits.{group_limit};
 ghost use Rattle.account_table.specs.LookUps.{place_in, machine_in, knows_in, route_in, is_machine, opens, is_machine_for, machine_name};
+ghost use Rattle.account_table.specs.Ranges.{InRangeAccount, InRangeSid};
 
 use crate::account::{Account, Kind};
-use crate::accounts::{ACCOUNT_LIMIT, Accounts, machine_name};
+use crate::accounts::{ACCOUNT_LIMIT, Accounts, are_longs, machine_name};
 use crate::forms::{needed_name, needed_sid, tables_or_none};
 use crate::key::{Key, Part, Word};
 use crate::reading::{read_document, read_machines, read_users};
@@ -73,22 +73,26 @@ impl Table {
 
     /// The domain's name. It takes no memory.
     pub fn domain(&self) -> &Name
-        ensures { result.now ≡ self.now.domain }
+        ensures value { result.now ≡ self.now.domain }
+        ensures form { IsName self.now.domain }
     {
+        let _bytes = self.domain.bytes();
         &self.domain
     }
 
     /// The domain's identifier. It takes no memory.
     pub fn sid(&self) -> &Sid
-        ensures { result.now ≡ self.now.sid }
+        ensures value { result.now ≡ self.now.sid }
+        ensures range { InRangeSid self.now.sid }
     {
+        are_longs(self.sid.numbers());
         &self.sid
     }
 
     /// The account at a place, counted from 0, with at most 256 groups. None exactly past the end. It takes no memory.
     pub fn account(&self, at: u32) -> Option<&Account>
         ensures value { option_copied result ≡ slice_get self.now.accounts at }
-        ensures groups { IfSome result (λ account. length account.now.groups ≤ group_limit) }
+        ensures range { IfSome result (λ account. InRangeAccount account.now) }
     {
         self.listed.get(at as usize)
     }

@@ -57,9 +57,9 @@ pub record InStep (one other : SequenceState) : Type 0 where
   pub key : one.key ≡ other.key
   pub seed : one.seed ≡ other.seed
 
--- after making an authenticator with this timestamp
-abbrev pub made : SequenceState → ℕ → SequenceState
-made s timestamp = record {
+-- the sequence after making an authenticator with this timestamp
+abbrev pub sequence_after : SequenceState → ℕ → SequenceState
+sequence_after s timestamp = record {
   key = s.key;
   seed = next_seed s.seed timestamp;
   awaited = Some (return_of s.key s.seed timestamp);

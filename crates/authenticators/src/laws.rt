@@ -6,7 +6,7 @@ ghost use Rattle.wire_base.specs.declared.authenticator.Authenticator.{Authentic
 ghost use Rattle.channel_keys.specs.Des.{IsBlock};
 ghost use Rattle.channel_keys.specs.Credentials.{cred_of};
 ghost use Rattle.authenticators.specs.Channels.{Channel, SameChannel, same_channel, channel_key};
-ghost use Rattle.authenticators.specs.Sequences.{SequenceState, InStep, Passes, authenticator_of, add_to, seed_after, moved_by, made, judge_of};
+ghost use Rattle.authenticators.specs.Sequences.{SequenceState, InStep, Passes, authenticator_of, add_to, seed_after, moved_by, sequence_after, judge_of};
 
 /// A seed of 8 bytes stays one as it moves, and timestamps move it by the sum of each plus one, modulo 2^32 in its first four bytes.
 pub fn timestamps_move_the_seed()
@@ -34,10 +34,10 @@ pub fn an_authenticator_passes_at_its_seed_alone()
 /// one seed again.
 pub fn what_is_made_is_judged()
     ensures answer { (maker judge : SequenceState) (timestamp : ℕ) (awaited : List ℕ)
-        → InStep maker judge → (made maker timestamp).awaited ≡ Some awaited
+        → InStep maker judge → (sequence_after maker timestamp).awaited ≡ Some awaited
         → (judge_of judge (authenticator_of maker.key maker.seed timestamp)).answer ≡ Ok awaited }
     ensures seeds { (maker judge : SequenceState) (timestamp : ℕ) → InStep maker judge
-        → InStep (made maker timestamp)
+        → InStep (sequence_after maker timestamp)
         (judge_of judge (authenticator_of maker.key maker.seed timestamp)).sequence }
 {}
 

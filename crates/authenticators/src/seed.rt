@@ -5,7 +5,7 @@ ghost use Rattle.authenticators.specs.Sequences.{add_to};
 
 /// The seed with a number added to its first four bytes, low byte first, modulo 2^32. The last four stay.
 #[tactic(auto, unfolding(crate::specs::Sequences::add_to))]
-pub(crate) fn added(seed: &[u8; 8], number: u32) -> [u8; 8]
+pub(crate) fn add_to(seed: &[u8; 8], number: u32) -> [u8; 8]
     ensures { result ≡ add_to seed.now number }
 {
     let mut low = [0; 4];

@@ -1,10 +1,10 @@
 //! One end's sequence.
 
 ghost use Rattle.std.specs.Prelude.{◌≡◌, ◌↔◌, None, Some, IsOk, IsSome};
-ghost use Rattle.authenticators.specs.Sequences.{SequenceState, Passes, authenticator_of, made, taken_of, judge_of};
+ghost use Rattle.authenticators.specs.Sequences.{SequenceState, Passes, authenticator_of, sequence_after, taken_of, judge_of};
 
 use crate::refusal::NotNext;
-use crate::seed::added;
+use crate::seed::add_to;
 use channel_keys::CredKey;
 use std::marker::Model;
 use wire_base::Authenticator;
@@ -50,10 +50,10 @@ impl Sequence {
     /// awaited in return.
     pub fn make(&mut self, timestamp: u32) -> Authenticator
         ensures authenticator { result ≡ authenticator_of self.old.key self.old.seed timestamp }
-        ensures sequence { self.new ≡ made self.old timestamp }
+        ensures sequence { self.new ≡ sequence_after self.old timestamp }
     {
-        let seed = added(&self.seed, timestamp);
-        self.seed = added(&seed, 1);
+        let seed = add_to(&self.seed, timestamp);
+        self.seed = add_to(&seed, 1);
         self.awaited = Some(self.key.cred(self.seed));
         Authenticator {
             credential: self.key.cred(seed),
@@ -94,12 +94,12 @@ impl Sequence {
         ensures sequence { self.new ≡ (judge_of self.old given.now).sequence }
         ensures passes { IsOk result ↔ Passes self.old.key self.old.seed given.now }
     {
-        let seed = added(&self.seed, given.timestamp);
+        let seed = add_to(&self.seed, given.timestamp);
         let awaited = self.key.cred(seed);
         if given.credential != awaited {
             return Err(NotNext { awaited });
         }
-        let after = added(&seed, 1);
+        let after = add_to(&seed, 1);
         self.seed = after;
         Ok(self.key.cred(after))
     }

@@ -28,11 +28,15 @@ pub fn channel_types_have_their_values()
     ensures backup_controller { BACKUP_CONTROLLER_CHANNEL ≡ backup_controller_channel }
 {}
 
-/// A credential is a block of 8 bytes, and under one key two blocks never have one credential (MS-NRPC 3.1.4.4.2).
+/// A credential is a block of 8 bytes, and so is what it is the credential of; each undoes the other, so under one key two blocks never
+/// have one credential (MS-NRPC 3.1.4.4.2).
 pub fn credentials_are_one_to_one()
     ensures block { (key input : List ℕ) → IsBlock (cred_of key input) }
+    ensures back_block { (key output : List ℕ) → IsBlock (cred_back_of key output) }
     ensures undone { (key input : List ℕ) → IsBlock input
         → cred_back_of key (cred_of key input) ≡ input }
+    ensures conversely { (key output : List ℕ) → IsBlock output
+        → cred_of key (cred_back_of key output) ≡ output }
     ensures one_to_one { (key one other : List ℕ) → IsBlock one → IsBlock other
         → cred_of key one ≡ cred_of key other → one ≡ other }
 {}

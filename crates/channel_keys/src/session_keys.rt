@@ -50,17 +50,17 @@ pub fn des_key(secret: [u8; 16], client: [u8; 8], server: [u8; 8]) -> [u8; 16]
 fn halves_sum(client: [u8; 8], server: [u8; 8]) -> [u8; 8]
     ensures { result ≡ halves_sum client server }
 {
-    joined(half_sum(&client, &server, 0), half_sum(&client, &server, 4))
+    join(half_sum(&client, &server, 0), half_sum(&client, &server, 4))
 }
 
 /// Two halves, one after the other.
-fn joined(first: [u8; 4], second: [u8; 4]) -> [u8; 8]
+fn join(first: [u8; 4], second: [u8; 4]) -> [u8; 8]
     ensures { result ≡ first ++ second }
 {
-    let mut joined = [0; 8];
-    joined[..4].copy_from_slice(&first);
-    joined[4..].copy_from_slice(&second);
-    joined
+    let mut whole = [0; 8];
+    whole[..4].copy_from_slice(&first);
+    whole[4..].copy_from_slice(&second);
+    whole
 }
 
 /// The sum of the numbers of four bytes, low byte first, at a place of two challenges, modulo 2^32.

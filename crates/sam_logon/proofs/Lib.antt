@@ -1,1 +1,2 @@
+pub mod GrantedLaws
 pub mod VerdictLaws

@@ -1,8 +1,11 @@
 -- What a controller grants to an account's user (MS-NRPC 2.2.1.4.11; what stands in the fields is this project's own choice). Times are in units
 -- of 100 ns since 1601.
-use Rattle.std.specs.Prelude.{ℕ, ◌==◌, List, [], map, if◌then◌else◌}
+use Rattle.std.specs.Prelude.{ℕ, ◌==◌, List, [], map, Option, Some, if◌then◌else◌}
+use Rattle.wire_base.specs.declared.authenticator.Authenticator.{Authenticator}
 use Rattle.account_table.specs.AccountTable.{AccountTable}
 use Rattle.account_table.specs.declared.account.Account.{Account}
+use Rattle.logon_stubs.specs.declared.calls.Reply.{Reply}
+use Rattle.logon_stubs.specs.declared.calls.Reply.TheVariants.{Logon}
 use Rattle.logon_stubs.specs.declared.info.SamInfo.{SamInfo}
 
 -- the time that never comes
@@ -43,3 +46,13 @@ sam_info_of table controller account key now = record {
   domain = table.domain;
   sid = table.sid;
 }
+
+-- the reply to a logon that carries what is granted, with a key in place of its own, since a controller hides it (MS-NRPC 3.5.4.5.3)
+abbrev pub granting_reply : Option Authenticator → SamInfo → List ℕ → ℕ → ℕ → Reply
+granting_reply returned info key authoritative status = Logon (record {
+  returned = returned;
+  level = 2;
+  info = Some (record info { key = key });
+  authoritative = authoritative;
+  status = status;
+})

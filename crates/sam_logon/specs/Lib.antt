@@ -5,6 +5,7 @@ pub mod Verdict
 pub use Rattle.account_table.specs.AccountTable
 pub use Rattle.account_table.specs.Limits
 pub use Rattle.account_table.specs.LookUps
+pub use Rattle.logon_stubs.specs.Parts
 pub use Rattle.logon_stubs.specs.Ranges
 pub use Rattle.logon_stubs.specs.Status
 pub use Rattle.logon_stubs.specs.Writing

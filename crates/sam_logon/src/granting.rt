@@ -1,15 +1,15 @@
 //! What is granted to a user.
 
-ghost use Rattle.std.specs.Prelude.{◌≡◌, ◌≤◌, [], length, IfOk};
-ghost use Rattle.account_table.specs.Limits.{group_limit};
-ghost use Rattle.logon_stubs.specs.Ranges.{HasShortTexts};
+ghost use Rattle.std.specs.Prelude.{◌≡◌, [], IfOk};
+ghost use Rattle.account_table.specs.Ranges.{InRangeAccount};
+ghost use Rattle.logon_stubs.specs.Ranges.{HasShortTexts, InRangeSamInfo, IsBlock};
 ghost use Rattle.logon_stubs.specs.Writing.{CanWriteSamInfo};
 ghost use Rattle.sam_logon.specs.Granted.{groups_of, or_never, sam_info_of};
 
 use account_table::{Account, Table};
 use logon_stubs::SamInfo;
 use std::alloc::{AllocError, Global};
-use wire_base::{Groups, NAME_LIMIT, Name, NoMemory, Units};
+use wire_base::{Groups, Name, NoMemory, Units};
 
 /// A time that never comes, in units of 100 ns since 1601 (MS-NRPC 2.2.1.4.11).
 const NEVER: u64 = 0x7FFF_FFFF_FFFF_FFFF;
@@ -18,8 +18,7 @@ const NEVER: u64 = 0x7FFF_FFFF_FFFF_FFFF;
 /// SE_GROUP_ENABLED (MS-SAMR 2.2.1.10).
 const GROUP_ATTRIBUTES: u32 = 0x1 | 0x2 | 0x4;
 
-/// What is granted to the account's user at that moment, under that session base key.
-#[tactic(auto, unfolding(crate::specs::Granted::sam_info_of))]
+/// What is granted to the account's user at that moment, under that session base key. A stub can carry it.
 pub(crate) fn sam_info(
     alloc: Global,
     table: &Table,
@@ -28,11 +27,32 @@ pub(crate) fn sam_info(
     key: [u8; 16],
     now: u64,
 ) -> Result<SamInfo, NoMemory>
-    requires { length account.now.groups ≤ group_limit }
+    requires { InRangeAccount account.now }
     ensures value { IfOk result (λ info.
         info ≡ sam_info_of table.now controller.now account.now key now) }
     ensures writable { IfOk result CanWriteSamInfo }
     ensures short { IfOk result HasShortTexts }
+    ensures range { IfOk result InRangeSamInfo }
+{
+    let _domain = table.domain();
+    let _sid = table.sid();
+    let _controller = controller.bytes();
+    is_key(&key);
+    fill_in(alloc, table, controller, account, key, now)
+}
+
+/// The same, field by field.
+#[tactic(auto, unfolding(crate::specs::Granted::sam_info_of))]
+fn fill_in(
+    alloc: Global,
+    table: &Table,
+    controller: &Name,
+    account: &Account,
+    key: [u8; 16],
+    now: u64,
+) -> Result<SamInfo, NoMemory>
+    ensures { IfOk result (λ info.
+        info ≡ sam_info_of table.now controller.now account.now key now) }
 {
     Ok(SamInfo {
         logon_time: now,
@@ -41,8 +61,8 @@ pub(crate) fn sam_info(
         password_set: account.password_set,
         password_can_change: account.password_set,
         password_must_change: or_never(account.password_expires),
-        effective_name: name_units(alloc, &account.name)?,
-        full_name: name_units(alloc, &account.full_name)?,
+        effective_name: account.name.units(alloc)?,
+        full_name: account.full_name.units(alloc)?,
         script: no_text(alloc),
         profile: no_text(alloc),
         home: no_text(alloc),
@@ -54,11 +74,16 @@ pub(crate) fn sam_info(
         groups: Groups::from_vec(granted_groups(alloc, account.groups.items())?),
         user_flags: 0,
         key,
-        server: name_units(alloc, controller)?,
-        domain: name_units(alloc, table.domain())?,
+        server: controller.units(alloc)?,
+        domain: table.domain().units(alloc)?,
         sid: table.sid().copy(alloc)?,
     })
 }
+
+/// A key is 16 bytes, which callers learn so.
+fn is_key(key: &[u8; 16])
+    ensures { IsBlock 16 key.now }
+{}
 
 /// The moment, or never where it isn't set.
 fn or_never(moment: u64) -> u64
@@ -68,15 +93,6 @@ fn or_never(moment: u64) -> u64
         0 => NEVER,
         _ => moment,
     }
-}
-
-/// The name as a text, which a stub can carry.
-fn name_units(alloc: Global, name: &Name) -> Result<Units, NoMemory>
-    ensures value { IfOk result (λ units. units ≡ name.now) }
-    ensures short { IfOk result (λ units. length units ≤ 64) }
-{
-    prove!(name.bytes().len() <= NAME_LIMIT);
-    name.units(alloc)
 }
 
 /// The empty text.

@@ -1,9 +1,9 @@
 //! How a controller judges a network logon.
 
-ghost use Rattle.std.specs.Prelude.{◌≡◌, ◌≤◌, ◌↔◌, length, option_copied, IfOk, IfSome, IsTrue, OnOk, OnErr};
+ghost use Rattle.std.specs.Prelude.{◌≡◌, ◌↔◌, option_copied, IfOk, IfSome, IsTrue, OnOk, OnErr};
 ghost use Rattle.account_table.specs.LookUps.{account_in};
-ghost use Rattle.account_table.specs.Limits.{group_limit};
-ghost use Rattle.logon_stubs.specs.Ranges.{HasShortTexts};
+ghost use Rattle.account_table.specs.Ranges.{InRangeAccount};
+ghost use Rattle.logon_stubs.specs.Ranges.{HasShortTexts, InRangeSamInfo};
 ghost use Rattle.logon_stubs.specs.Writing.{CanWriteSamInfo};
 ghost use Rattle.sam_logon.specs.MayLogOn.{MayLogOn, ResponseVerifies};
 ghost use Rattle.sam_logon.specs.Verdict.{IfGranted, is_granted, judgement_of, verdict_of};
@@ -51,9 +51,10 @@ pub fn judge_logon(
     // Granted exactly where the account may log on now from there, and the response verifies.
     ensures granted { IfOk result (λ verdict. IsTrue (is_granted verdict)
         ↔ (MayLogOn table.old info.now now × ResponseVerifies table.old info.now)) }
-    // A stub can carry what is granted: at most 256 groups, and texts of at most 64 units.
+    // A stub can carry what is granted: at most 256 groups, texts of at most 64 units, and numbers of their width.
     ensures writable { IfOk result (λ verdict. IfGranted verdict CanWriteSamInfo) }
     ensures short { IfOk result (λ verdict. IfGranted verdict HasShortTexts) }
+    ensures range { IfOk result (λ verdict. IfGranted verdict InRangeSamInfo) }
 {
     judge(alloc, table, controller, info, now)
 }
@@ -71,6 +72,7 @@ fn judge(
         verdict ≡ verdict_of table.now controller.now info.now now) }
     ensures writable { IfOk result (λ verdict. IfGranted verdict CanWriteSamInfo) }
     ensures short { IfOk result (λ verdict. IfGranted verdict HasShortTexts) }
+    ensures range { IfOk result (λ verdict. IfGranted verdict InRangeSamInfo) }
 {
     if !matches!(table.route(info.domain.units()), Route::Own) {
         return Ok(Verdict::Status(STATUS_NO_SUCH_DOMAIN));
@@ -87,7 +89,7 @@ fn judge(
 /// The account of that name.
 fn find_account<'a>(table: &'a Table, user: &[u16]) -> Option<&'a Account>
     ensures value { option_copied result ≡ account_in table.now.accounts user.now }
-    ensures groups { IfSome result (λ account. length account.now.groups ≤ group_limit) }
+    ensures range { IfSome result (λ account. InRangeAccount account.now) }
 {
     table.account(table.find(user)?)
 }

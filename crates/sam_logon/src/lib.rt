@@ -3,6 +3,8 @@
 
 mod granting;
 mod judging;
+mod laws;
 mod rules;
 
 pub use judging::judge_logon;
+pub use laws::what_is_granted_joins;

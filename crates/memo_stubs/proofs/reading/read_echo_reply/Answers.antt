@@ -1,14 +1,12 @@
 use Rattle.std.proofs.Common.{arith}
-use Rattle.wire_base.proofs.MemoryLaws.{UpToMemory-found, UpToMemory-same}
-use Rattle.ndr_codec.specs.Stub.{Begins}
-use Rattle.memo_stubs.specs.Memo.{echo_reply}
-use Rattle.memo_stubs.proofs.MemoLaws.{echo_reply_of-Begins, Begins-echo_reply_of}
+use Rattle.memo_stubs.specs.Memo.{echo_reply, echo_reply_of}
+use Rattle.memo_stubs.proofs.MemoLaws.{answer_found, answer_only}
 use Rattle.memo_stubs.proofs.reading.read_echo_reply.Goals as goal
 
 pub returns-clause-found : goal.returns-clause-found
-returns-clause-found c =
-    UpToMemory-found _ _ _ (λ value. Begins echo_reply value c.args.stub.now) (λ value e. echo_reply_of-Begins c.args.stub.now (λ i. omega (arith, c.type_inv.stub i)) value e) c.echo_reply_in.ensures
+unfolding echo_reply_of
+returns-clause-found c = answer_found echo_reply c.args.stub.now (λ i. omega (arith, c.type_inv.stub i)) _ c.echo_reply_in.ensures
 
 pub returns-clause-only : goal.returns-clause-only
-returns-clause-only c value begins =
-    UpToMemory-same _ _ _ _ (Begins-echo_reply_of c.args.stub.now (λ i. omega (arith, c.type_inv.stub i)) value begins) c.echo_reply_in.ensures
+unfolding echo_reply_of
+returns-clause-only c = answer_only echo_reply c.args.stub.now (λ i. omega (arith, c.type_inv.stub i)) _ c.echo_reply_in.ensures

@@ -1,7 +1,7 @@
 use Rattle.std.proofs.Common.{◌≡◌, ℕ, List, [], ◌++◌, length, drop, replicate, refl, sym, ap, ◌∙◌, arith}
 use Rattle.std.proofs.lemmas.List.{take_at, drop_at, drop_all, append-nil}
 use borrow.Rule.Slice.PartMut.{put_mid}
-use Rattle.channel_keys.proofs.session_keys.joined.Goals as goal
+use Rattle.channel_keys.proofs.session_keys.join.Goals as goal
 
 -- a block written over the zeros behind a front
 put_at_end : (front zeros block : List ℕ) → length front ≡ 4 → length zeros ≡ 4 → put_mid 4 4 (front ++ zeros) block ≡ front ++ block
