@@ -2,20 +2,16 @@
 -- request and the reply of Echo, operation 1.
 use Rattle.std.specs.Prelude.{ℕ, ◌≤◌, ◌==◌, List, length, Result, nat_le}
 use Rattle.ndr_codec.specs.declared.refused.NdrRefused.{NdrRefused}
-use Rattle.ndr_codec.specs.declared.refused.NdrRefused.TheVariants as ndr
 use Rattle.ndr_codec.specs.Layout.{start_of, long, raw, text}
 use Rattle.ndr_codec.specs.Parts.{Putting, ◌>>◌}
-use Rattle.ndr_codec.specs.Stub.{LayoutOf, item, done, only, placed, ◌>>=◌, parsed_by}
+use Rattle.ndr_codec.specs.Stub.{LayoutOf, item, done, only, placed, ◌>>=◌, parsed_by, told_by_place}
 use Rattle.ndr_codec.specs.Writing.{nothing, put}
 use Rattle.memo_stubs.specs.declared.refused.MemoRefused.{MemoRefused}
 use Rattle.memo_stubs.specs.declared.refused.MemoRefused.TheVariants.{BadStub, Memory}
 
+-- each item that isn't of its layout is told by its place alone
 abbrev pub memo_refused : NdrRefused → MemoRefused
-memo_refused (ndr.Ends place) = BadStub place
-memo_refused (ndr.BadCount place) = BadStub place
-memo_refused (ndr.NoFinalZero place) = BadStub place
-memo_refused (ndr.BadPart place) = BadStub place
-memo_refused ndr.Memory = Memory
+memo_refused = told_by_place (λ place. BadStub place) Memory
 
 abbrev pub Layout : Type 0 → Type 1
 Layout T = LayoutOf MemoRefused T

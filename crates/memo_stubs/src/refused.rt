@@ -22,12 +22,9 @@ impl From<NdrRefused> for MemoRefused {
     ghost from_gives = { λ refused e. e ≡ memo_refused refused };
 
     fn from(refused: NdrRefused) -> MemoRefused {
-        match refused {
-            NdrRefused::Ends(place)
-            | NdrRefused::BadCount(place)
-            | NdrRefused::NoFinalZero(place)
-            | NdrRefused::BadPart(place) => MemoRefused::BadStub(place),
-            NdrRefused::Memory => MemoRefused::Memory,
+        match refused.place() {
+            Some(place) => MemoRefused::BadStub(place),
+            None => MemoRefused::Memory,
         }
     }
 }

@@ -11,7 +11,7 @@ use Rattle.wire_base.specs.Sid.{SidParts, IsSid}
 use Rattle.wire_base.proofs.NumberLaws.{AreBytes-nil, AreBytes-cons, AreBytes-append, AreBytes-to_le_bytes, length-to_le_bytes}
 use Rattle.wire_base.proofs.UnitLaws.{AreBytes-utf16_of, length-utf16_of}
 use Rattle.ndr_codec.specs.Layout.{Grammar, IsAligned, IsNumber, IsArray, array_head, sid_bytes, padding, Shape, ValueOf, byte, short, long, raw, pointer, text, counted, counted_bytes, sid, IsNdr, IsPointer, Then, Done, When}
-use Rattle.ndr_codec.specs.Writing.{Written, aligned, put_aligned, put_number, put_pointer, put_array, referent_of, put, CanPut, OfBytes, size_of, Appends, Writes}
+use Rattle.ndr_codec.specs.Writing.{Written, aligned, put_aligned, put_number, put_pointer, put_array, referent_of, put, CanPut, OfBytes, size_of, Writes}
 
 -- ---- bytes and their number
 
@@ -163,6 +163,3 @@ writes_done value written = record { bytes = []; item = (refl, refl); appended =
 
 pub writes_when : {T : Type 0} {test : Bool} {grammar : Grammar T} {value : T} {size : ℕ} {old new : Written} → IsTrue test → Writes grammar value size old new → Writes (When test grammar) value size old new
 writes_when holds more = record { bytes = more.bytes; item = (holds, more.item); appended = more.appended; are_bytes = more.are_bytes; short = more.short }
-
-pub appends_by : {T : Type 0} {grammar : Grammar T} {value : T} {size : ℕ} {old new : Written} → Writes grammar value size old new → Appends grammar value old new
-appends_by w = record { bytes = w.bytes; item = w.item; appended = w.appended }

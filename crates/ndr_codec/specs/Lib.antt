@@ -1,5 +1,4 @@
 pub mod Cursor
-pub mod Items
 pub mod Layout
 pub mod Parts
 pub mod Reading

@@ -1,12 +1,28 @@
 -- A layout of parameters in a stub, described once for both of its meanings: the bytes that have it, and how they are read. The parts stand one after
 -- the other, and a refusal, of a type E, is told where a test of what was read fails (C706 14.4).
-use Rattle.std.specs.Prelude.{ℕ, zero, suc, ◌≡◌, ◌+◌, ◌⊎◌, Bool, List, [], ◌∷◌, ◌++◌, Result, Ok, Err}
+use Rattle.std.specs.Prelude.{ℕ, zero, suc, ◌≡◌, ◌+◌, ◌⊎◌, Bool, List, [], ◌∷◌, ◌++◌, Option, Some, None, Result, Ok, Err}
 use Rattle.ndr_codec.specs.declared.refused.NdrRefused.{NdrRefused}
-use Rattle.ndr_codec.specs.declared.refused.NdrRefused.TheVariants.{Memory}
+use Rattle.ndr_codec.specs.declared.refused.NdrRefused.TheVariants.{Ends, BadCount, NoFinalZero, BadPart, Memory}
 use Rattle.ndr_codec.specs.Cursor.{Cursor}
 use Rattle.ndr_codec.specs.Layout.{Grammar, Shape, ValueOf, IsNdr, Then, Done, When}
 use Rattle.ndr_codec.specs.Reading.{Reading, read, guarded, lifted, read_on}
 use Rattle.ndr_codec.specs.Writing.{Written, Writes}
+
+-- where the item begins that is refused; none of want of memory
+abbrev pub place_of : NdrRefused → Option ℕ
+place_of (Ends place) = Some place
+place_of (BadCount place) = Some place
+place_of (NoFinalZero place) = Some place
+place_of (BadPart place) = Some place
+place_of Memory = None
+
+abbrev pub told_at : {E : Type 0} → (ℕ → E) → E → Option ℕ → E
+told_at bad memory (Some place) = bad place
+told_at bad memory None = memory
+
+-- a refusal of an item as one of E, which tells its place alone
+abbrev pub told_by_place : {E : Type 0} → (ℕ → E) → E → NdrRefused → E
+told_by_place bad memory refused = told_at bad memory (place_of refused)
 
 -- a layout of values of T, whose refusals are of E: LayoutOf E T
 pub data LayoutOf : Type 0 → Type 0 → Type 1 where

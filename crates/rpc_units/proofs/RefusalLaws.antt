@@ -13,7 +13,7 @@ use Rattle.rpc_units.specs.declared.refused.InflowRefused.{InflowRefused}
 use Rattle.rpc_units.specs.declared.refused.InflowRefused.TheVariants as inflow
 use Rattle.rpc_units.specs.Layout.{value_at, byte, fragment_of, has_version, has_representation, has_flags, kind_of, end_in, body_bytes, syntax_at, context_len, results_place}
 use Rattle.rpc_units.specs.Reading.{header_by, kind_in, with_item, items_of, syntax_in, syntaxes_of, context_with, context_in, contexts_of, answer_at, result_in, results_of, bind_with, ack_with, ack_at, body_in, unit_with, unit_within, unit_by, unit_of}
-use Rattle.rpc_units.specs.Stream.{Flow, front_with, front_after, front_of, taken_by, next_by, next_of}
+use Rattle.rpc_units.specs.Stream.{Flow, Cut, front_with, front_after, front_of, taken_by, next_by, next_of, cut_at, cut_in, cut_stream}
 
 abbrev IsRule : UnitRefused → Type 0
 IsRule BadVersion = Unit {0}
@@ -159,3 +159,22 @@ next_rule false held = taken_rule (front_of held) (front_rule held)
 -- nor does a stream refuse for it
 pub next_memory : (flow : Flow) (result : Result (Option ℕ) InflowRefused) → result ≡ next_of flow → result ≡ Err (inflow.Refused Memory) → ⊥
 next_memory flow result is e = subst InflowRule (sym is ∙ e) (next_rule flow.broken flow.held)
+
+-- nor is what stands behind the units of a stream
+
+abbrev CutRule : Option UnitRefused → Type 0
+CutRule None = Unit {0}
+CutRule (Some e) = IsRule e
+
+at_rule : (front : Result (Option ℕ) UnitRefused) (held : List ℕ) (later : ℕ → Cut) → ByRule front → ((size : ℕ) → CutRule (later size).refused) → CutRule (cut_at front held later).refused
+at_rule (Err e) held later h each = h
+at_rule (Ok None) held later h each = tt
+at_rule (Ok (Some size)) held later h each = each size
+
+cut_rule : (most : ℕ) (held : List ℕ) → CutRule (cut_in most held).refused
+cut_rule zero held = tt
+cut_rule (suc most) held = at_rule (front_of held) held (λ size. cut_in most (drop size held)) (front_rule held) (λ size. cut_rule most (drop size held))
+
+pub stream_memory : (stream : List ℕ) → (cut_stream stream).refused ≡ Some Memory → ⊥
+unfolding cut_stream
+stream_memory stream e = subst CutRule e (cut_rule (suc (length stream)) stream)

@@ -30,7 +30,7 @@ pub fn what_is_read_is_written()
 
 /// The units of a stream, its rest and its refusal: they are the stream's by the grammar, and no others are; written units are a stream of just
 /// these; a stream that comes in two pieces has the units of the first and those of its rest with the second, and a refusal stays whatever
-/// follows; and a unit that was lent and taken out, whatever was written to it, leaves what followed it.
+/// follows; and a unit that was lent and taken out, whatever was written to it, leaves what followed it. No stream is refused for want of memory.
 pub fn streams_have_one_reading()
     ensures grammar { (stream : List ℕ)
         → IsStream stream (cut_stream stream).units (cut_stream stream).rest }
@@ -51,6 +51,7 @@ pub fn streams_have_one_reading()
         → done ≡ without_front changed
         → (cut ≡ with_unit (take size came.held) (cut_stream (done.held ++ left)))
         × (done.broken ≡ false) }
+    ensures memory { (stream : List ℕ) → (cut_stream stream).refused ≡ Some UnitRefused.Memory → ⊥ }
 {}
 
 /// The fragments of a whole call in range can be written, each with at most 5,840 bytes. Their bytes, one after the other, are a stream of just

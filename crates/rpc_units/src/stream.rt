@@ -1,6 +1,6 @@
 //! A whole stream.
 
-ghost use Rattle.std.specs.Prelude.{◌≡◌, ◌++◌, ℕ, List, false, IfOk};
+ghost use Rattle.std.specs.Prelude.{◌≡◌, ◌++◌, ℕ, List, Some, false, IfOk};
 ghost use Rattle.rpc_units.specs.Stream.{cut_stream, stream_of, IsStream, IsRead, Takes};
 
 use crate::coming::Came;
@@ -11,7 +11,7 @@ use std::alloc::Global;
 use wire_base::{Blob, Frames, NoMemory};
 
 /// The units of a stream that comes in these pieces, as their bytes, and the refusal of the rest behind them; None where the rest is less than
-/// a unit. All this is the same however the stream is cut.
+/// a unit. All this is the same however the stream is cut, and the refusal is never want of memory.
 pub fn read_stream(
     alloc: Global,
     pieces: &[Blob],
@@ -20,6 +20,7 @@ pub fn read_stream(
     ensures refused { IfOk result (λ read. read.1 ≡ (cut_stream (stream_of pieces.now)).refused) }
     ensures stream { IfOk result (λ read.
         (rest : List ℕ) × IsStream (stream_of pieces.now) read.0 rest) }
+    ensures memory { IfOk result (λ read. read.1 ≡ Some UnitRefused.Memory → ⊥) }
 {
     take_pieces(alloc, pieces)
 }

@@ -1,5 +1,6 @@
 use Rattle.rpc_units.proofs.ComingLaws.{front_done}
 use Rattle.rpc_units.proofs.CutStreamLaws.{cut_is_stream, cut_only, cut_written, cut_joined, cut_stays_refused}
+use Rattle.rpc_units.proofs.RefusalLaws.{stream_memory}
 use Rattle.rpc_units.proofs.laws.streams_have_one_reading.Goals as goal
 
 pub returns-clause-grammar : goal.returns-clause-grammar
@@ -19,3 +20,6 @@ returns-clause-refused c = cut_stays_refused
 
 pub returns-clause-taken : goal.returns-clause-taken
 returns-clause-taken c = front_done
+
+pub returns-clause-memory : goal.returns-clause-memory
+returns-clause-memory c = stream_memory
