@@ -1,6 +1,7 @@
 -- A layout of parameters in a stub, described once for both of its meanings: the bytes that have it, and how they are read. The parts stand one after
 -- the other, and a refusal, of a type E, is told where a test of what was read fails (C706 14.4).
 use Rattle.std.specs.Prelude.{ℕ, zero, suc, ◌≡◌, ◌+◌, ◌⊎◌, Bool, List, [], ◌∷◌, ◌++◌, Option, Some, None, Result, Ok, Err}
+use Rattle.std.specs.Option.{option_map, unwrap_or}
 use Rattle.ndr_codec.specs.declared.refused.NdrRefused.{NdrRefused}
 use Rattle.ndr_codec.specs.declared.refused.NdrRefused.TheVariants.{Ends, BadCount, NoFinalZero, BadPart, Memory}
 use Rattle.ndr_codec.specs.Cursor.{Cursor}
@@ -16,13 +17,9 @@ place_of (NoFinalZero place) = Some place
 place_of (BadPart place) = Some place
 place_of Memory = None
 
-abbrev pub told_at : {E : Type 0} → (ℕ → E) → E → Option ℕ → E
-told_at bad memory (Some place) = bad place
-told_at bad memory None = memory
-
 -- a refusal of an item as one of E, which tells its place alone
 abbrev pub told_by_place : {E : Type 0} → (ℕ → E) → E → NdrRefused → E
-told_by_place bad memory refused = told_at bad memory (place_of refused)
+told_by_place bad memory refused = unwrap_or (option_map bad (place_of refused)) memory
 
 -- a layout of values of T, whose refusals are of E: LayoutOf E T
 pub data LayoutOf : Type 0 → Type 0 → Type 1 where
