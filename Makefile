@@ -5,10 +5,17 @@ PROGRAMS = nt_member nt_logon
 # The sample: the NT hash of `Password`, a challenge, and the AUTHENTICATE message that answers it.
 SAMPLE = $(shell cat crates/nt_member/args)
 
-.PHONY: demo cases programs $(PROGRAMS)
+.PHONY: demo bench cases programs $(PROGRAMS)
 
 demo: programs
 	@bin/nt_member $(SAMPLE)
+
+# How long each operation takes on this machine: lines `ours OPERATION NANOSECONDS`, and where their headers are there, the same of OpenSSL and
+# nettle for the operations on DES.
+bench:
+	@cd crates/nt_bench && rt run -- measure ours
+	@mkdir -p bin
+	@if cc -O2 -o bin/peers bench/peers.c -lcrypto -lnettle 2>/dev/null; then bin/peers; fi
 
 programs: $(PROGRAMS)
 

@@ -1,0 +1,95 @@
+//! What each operation of the library gives on fixed input, or how long it takes on this machine.
+#![tactic(auto)]
+
+mod bench;
+mod logon;
+mod measure;
+mod operation;
+mod plain;
+mod sealing;
+mod stream;
+
+use bench::Bench;
+use measure::tenths_of_nanoseconds;
+use operation::OPERATIONS;
+use std::io::ErrorKind;
+use std::process::ExitCode;
+use std::rt::{Clock, Env};
+
+/// What the words of the command line ask for.
+enum Job<'a> {
+    /// The result of each operation.
+    Results,
+    /// The time of each operation, under the name of a library.
+    Measure(&'a str),
+}
+
+fn main(rt: HostRuntime) -> ExitCode {
+    match run(&rt) {
+        Ok(status) => ExitCode::from(status),
+        Err(error) => {
+            let _ = eprintln!(&rt; "nt_bench: {error}");
+            ExitCode::from(1)
+        }
+    }
+}
+
+/// Does what the process's arguments ask for, and gives the exit status: 2 at words of another form.
+fn run<R: Env + Clock + Print + AllocGlobal>(rt: &R) -> anyhow::Result<u8> {
+    let Some(words) = arguments(rt)? else {
+        return Ok(2);
+    };
+    match read_words(&words) {
+        Some(Job::Results) => print_results(rt)?,
+        Some(Job::Measure(library)) => print_times(rt, library)?,
+        None => return Ok(2),
+    }
+    Ok(0)
+}
+
+/// The words after the program's name. None where one isn't UTF-8.
+fn arguments<R: Env + AllocGlobal>(rt: &R) -> anyhow::Result<Option<Vec<String>>> {
+    match std::env::args(rt) {
+        Ok(words) => Ok(Some(words.skip(1).collect(rt.alloc())?)),
+        Err(error) if error.kind() == ErrorKind::OutOfMemory => Err(error.into()),
+        Err(_) => Ok(None),
+    }
+}
+
+/// No words, or `measure` and the name of a library.
+fn read_words(words: &[String]) -> Option<Job<'_>> {
+    match words {
+        [] => Some(Job::Results),
+        [command, library] if command.as_str() == "measure" => Some(Job::Measure(library.as_str())),
+        _ => None,
+    }
+}
+
+/// A line for each operation: its name and its result in hex.
+fn print_results<R: Print + AllocGlobal>(rt: &R) -> anyhow::Result<()> {
+    let mut bench = Bench::new(rt.alloc())?;
+    for operation in OPERATIONS {
+        let result = bench.perform(rt.alloc(), operation)?;
+        println!(rt;
+            "{} {}",
+            operation.name(),
+            hex::encode(rt.alloc(), result.as_slice())?
+        )?;
+    }
+    Ok(())
+}
+
+/// A line for each operation: the library's name, the operation's, and the nanoseconds that one turn takes.
+fn print_times<R: Clock + Print + AllocGlobal>(rt: &R, library: &str) -> anyhow::Result<()> {
+    let mut bench = Bench::new(rt.alloc())?;
+    for operation in OPERATIONS {
+        let tenths = tenths_of_nanoseconds(rt, &mut bench, operation)?;
+        println!(rt;
+            "{library} {} {}.{}",
+            operation.name(),
+            tenths / 10,
+            tenths % 10
+        )?;
+    }
+    Ok(())
+}
