@@ -299,6 +299,13 @@ def worked_cases():
     out.append((line("messages.authenticate_again", empty), ok(compact(write("authenticate", read("authenticate", empty))))))
     for operation in ("authenticate", "authenticate_view"):
         out.append((line(f"messages.{operation}", NTLMV1[:-1]), err("FieldOutside(Nt)")))
+    # the same names with the responses of MS-NLMP 4.2.3 (extended session security) and 4.2.4 (NTLMv2)
+    published_setting = values("ntlm")["settings"][0]
+    ess, v2 = published_setting["v1_ess"], published_setting["v2"]
+    for flags, lm, nt in ((0x88201, ess["lm_response"], ess["nt_response"]), (0x8201, "", v2["nt_response"])):
+        found = dict(read("authenticate", NTLMV1), flags=flags, Lm=bytes.fromhex(lm), Nt=bytes.fromhex(nt))
+        out.append(write_case("authenticate", found))
+        out += read_cases("authenticate", write("authenticate", found))
     out += read_cases("negotiate", SHORT_NEGOTIATE) + read_cases("challenge", TURNED_CHALLENGE)
     for data, refused in (("", "NoEnd"), ("0100", "CutPair(0)"), ("0700040000000000", "BadLength(7)")):
         out.append((line("messages.pairs", data), err(refused)))
