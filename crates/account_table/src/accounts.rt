@@ -1,6 +1,6 @@
 //! Accounts in their order, with an index by name.
 
-ghost use Rattle.std.specs.Prelude.{◌≡◌, [], ◌∷◌, ◌++◌, ◌+◌, ◌<◌, ◌≤◌, None, length, is_some, option_copied, slice_get, IfSome, IsTrue, OnOk, OnErr};
+ghost use Rattle.std.specs.Prelude.{◌≡◌, [], ◌∷◌, ◌++◌, ◌+◌, ◌^◌, ◌<◌, ◌≤◌, None, length, is_some, option_copied, slice_get, IfSome, IsTrue, OnOk, OnErr};
 ghost use Rattle.wire_base.specs.Names.{upper_case};
 ghost use Rattle.account_table.specs.AccountTable.{has_distinct_names};
 ghost use Rattle.account_table.specs.Limits.{account_limit, group_limit, name_limit};
@@ -129,10 +129,23 @@ fn has_ranges(account: &Account)
 {
     let _name = account.name.bytes();
     let _full_name = account.full_name.bytes();
-    let _numbers = (account.rid, account.group);
-    let _moments = (account.expires, account.password_set, account.password_expires);
+    is_long(account.rid);
+    is_long(account.group);
     are_longs(account.groups.items());
+    is_hyper(account.expires);
+    is_hyper(account.password_set);
+    is_hyper(account.password_expires);
 }
+
+/// A number of 32 bits is below 2^32, which callers learn so.
+fn is_long(number: u32)
+    ensures { number < 2 ^ 32 }
+{}
+
+/// A number of 64 bits is below 2^64, which callers learn so.
+fn is_hyper(number: u64)
+    ensures { number < 2 ^ 64 }
+{}
 
 /// Numbers of 32 bits are below 2^32, which callers learn so.
 pub(crate) fn are_longs(numbers: &[u32])

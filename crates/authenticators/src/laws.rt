@@ -1,10 +1,9 @@
 //! Laws of authenticators, seeds and channels, over their definitions (MS-NRPC 3.1.4.5). Each function does nothing, and its clauses are
 //! the law.
 
-ghost use Rattle.std.specs.Prelude.{◌≡◌, ◌+◌, ◌%◌, ◌^◌, ◌↔◌, ◌∷◌, ℕ, true, List, Ok, Some};
+ghost use Rattle.std.specs.Prelude.{◌≡◌, ◌%◌, ◌^◌, ◌↔◌, ◌∷◌, ℕ, true, List, Ok, Some};
 ghost use Rattle.wire_base.specs.declared.authenticator.Authenticator.{Authenticator};
 ghost use Rattle.channel_keys.specs.Des.{IsBlock};
-ghost use Rattle.channel_keys.specs.Credentials.{cred_of};
 ghost use Rattle.authenticators.specs.Channels.{Channel, SameChannel, same_channel, channel_key};
 ghost use Rattle.authenticators.specs.Sequences.{SequenceState, InStep, Passes, authenticator_of, add_to, seed_after, moved_by, sequence_after, judge_of};
 

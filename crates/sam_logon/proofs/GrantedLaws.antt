@@ -1,5 +1,5 @@
 -- What is granted has the ranges that a stub has room for.
-use Rattle.std.proofs.Common.{◌≡◌, ℕ, ◌<◌, ◌≤◌, ◌^◌, ◌==◌, List, [], ◌∷◌, Option, length, true, false, inl, inr, refl, arith}
+use Rattle.std.proofs.Common.{ℕ, ◌<◌, ◌≤◌, ◌^◌, ◌==◌, List, [], ◌∷◌, Option, length, inl, inr, refl, arith}
 use Rattle.std.specs.List.{AllByRecursion}
 use Rattle.std.proofs.lemmas.Bool.{cases_Bool, cases_lt}
 use Rattle.std.proofs.lemmas.List.{get_or_past, length-map}
@@ -15,7 +15,7 @@ use Rattle.logon_stubs.specs.declared.info.SamInfo.{SamInfo}
 use Rattle.logon_stubs.specs.Ranges.{HasShortTexts, InRangeGroup, InRangeReply, InRangeSamInfo, IsAuthenticator, IsBlock}
 use Rattle.logon_stubs.specs.Writing.{CanWriteReply, CanWriteSamInfo, written_reply}
 use Rattle.logon_stubs.proofs.WrittenLaws.{written_reply-joins}
-use Rattle.sam_logon.specs.Granted.{granting_reply, groups_of, never, or_never, sam_info_of}
+use Rattle.sam_logon.specs.Granted.{granting_reply, groups_of, or_never, sam_info_of}
 
 -- the bytes of a name are units
 name_units : (name : List ℕ) → IsName name → AreUnits name
@@ -26,7 +26,7 @@ name_units name is place =
     ]
 
 no_units : AreUnits []
-no_units place = rw (get_or_past [] place 0 (omega arith)) (omega arith)
+no_units place = omega arith
 
 groups_in_range : (groups : List ℕ) → AreLongs groups → AllByRecursion InRangeGroup (groups_of groups)
 groups_in_range [] are = tt
@@ -45,14 +45,14 @@ short_text name is = omega (arith, is.0)
 module _ (table : AccountTable) (controller : List ℕ) (account : Account) (key : List ℕ) (now : ℕ) (domain : IsName table.domain) (server : IsName controller) (of : InRangeAccount account) where
   pub sam_info-CanWrite : CanWriteSamInfo (sam_info_of table controller account key now)
   unfolding sam_info_of
-  sam_info-CanWrite = record {
+  sam_info-CanWrite = let with_attributes : ℕ → ℕ × ℕ = λ group. (group, 7) in record {
     effective_name = short_text account.name of.name;
     full_name = short_text account.full_name of.full_name;
     script = omega arith;
     profile = omega arith;
     home = omega arith;
     home_drive = omega arith;
-    groups = omega (arith, length-map account.groups (λ (group : ℕ). (group, 7)), of.few_groups);
+    groups = omega (arith, length-map account.groups with_attributes, of.few_groups);
     server = short_text controller server;
     domain = short_text table.domain domain;
   }
@@ -102,17 +102,20 @@ module _ (table : AccountTable) (controller : List ℕ) (account : Account) (key
 
 module _ (returned : Option Authenticator) (info : SamInfo) (key : List ℕ) (authoritative status : ℕ) where
   pub granting-CanWrite : CanWriteSamInfo info → CanWriteReply (granting_reply returned info key authoritative status)
-  granting-CanWrite can = (refl, record {
-    effective_name = can.effective_name;
-    full_name = can.full_name;
-    script = can.script;
-    profile = can.profile;
-    home = can.home;
-    home_drive = can.home_drive;
-    groups = can.groups;
-    server = can.server;
-    domain = can.domain;
-  })
+  granting-CanWrite can = (
+    refl,
+    record {
+      effective_name = can.effective_name;
+      full_name = can.full_name;
+      script = can.script;
+      profile = can.profile;
+      home = can.home;
+      home_drive = can.home_drive;
+      groups = can.groups;
+      server = can.server;
+      domain = can.domain;
+    },
+  )
 
   pub granting-InRange : InRangeSamInfo info → IsBlock 16 key → IfThere IsAuthenticator returned → authoritative < 2 ^ 8 → status < 2 ^ 32 → InRangeReply (granting_reply returned info key authoritative status)
   granting-InRange is key_is returned_is authoritative_is status_is = record {

@@ -5,6 +5,7 @@ ghost use Rattle.account_table.specs.Ranges.{InRangeAccount};
 ghost use Rattle.logon_stubs.specs.Ranges.{HasShortTexts, InRangeSamInfo, IsBlock};
 ghost use Rattle.logon_stubs.specs.Writing.{CanWriteSamInfo};
 ghost use Rattle.sam_logon.specs.Granted.{groups_of, or_never, sam_info_of};
+ghost use Rattle.wire_base.specs.Numbers.{AreBytes};
 
 use account_table::{Account, Table};
 use logon_stubs::SamInfo;
@@ -83,6 +84,13 @@ fn fill_in(
 /// A key is 16 bytes, which callers learn so.
 fn is_key(key: &[u8; 16])
     ensures { IsBlock 16 key.now }
+{
+    are_bytes(key);
+}
+
+/// Each item is a byte, which callers learn so.
+fn are_bytes(bytes: &[u8])
+    ensures { AreBytes bytes.now }
 {}
 
 /// The moment, or never where it isn't set.

@@ -1,16 +1,14 @@
-use Rattle.std.proofs.Common.{arith, rules}
-use Rattle.std.proofs.lemmas.Grind.{common_steps}
 use Rattle.account_table.proofs.accounts.has_ranges.Goals as goal
 
 pub returns : goal.returns
 returns c = record {
   name = c.bytes-name.ensures.form;
-  rid = first_of (search rules, grind (arith, common_steps));
+  rid = c.is_long.ensures;
   full_name = c.bytes-full_name.ensures.form;
-  group = first_of (search rules, grind (arith, common_steps));
-  groups = first_of (search rules, grind (arith, common_steps));
+  group = c.is_long-2.ensures;
+  groups = rw (← c.items.ensures) c.are_longs.ensures;
   few_groups = c.requires;
-  expires = first_of (search rules, grind (arith, common_steps));
-  password_set = first_of (search rules, grind (arith, common_steps));
-  password_expires = first_of (search rules, grind (arith, common_steps));
+  expires = c.is_hyper.ensures;
+  password_set = c.is_hyper-2.ensures;
+  password_expires = c.is_hyper-3.ensures;
 }

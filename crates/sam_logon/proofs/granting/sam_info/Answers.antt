@@ -7,14 +7,14 @@ use Rattle.sam_logon.proofs.granting.sam_info.Goals as goal
 
 pub returns-clause-writable : goal.returns-clause-writable
 returns-clause-writable c =
-    IfOk-weaker c.fill_in.result _ CanWriteSamInfo (λ info e. rw e (sam_info-CanWrite _ _ _ _ _ c.domain-_domain.ensures.form c.bytes-_controller.ensures.form c.requires)) c.fill_in.ensures
+    IfOk-weaker c.fill_in.result _ CanWriteSamInfo (λ info e. rw e (sam_info-CanWrite _ _ _ _ _ c.domain-domain.ensures.form c.bytes-controller.ensures.form c.requires)) c.fill_in.ensures
 
 pub returns-clause-short : goal.returns-clause-short
 returns-clause-short c =
-    IfOk-weaker c.fill_in.result _ HasShortTexts (λ info e. rw e (sam_info-IsShort _ _ _ _ _ c.domain-_domain.ensures.form c.bytes-_controller.ensures.form c.requires)) c.fill_in.ensures
+    IfOk-weaker c.fill_in.result _ HasShortTexts (λ info e. rw e (sam_info-IsShort _ _ _ _ _ c.domain-domain.ensures.form c.bytes-controller.ensures.form c.requires)) c.fill_in.ensures
 
 pub returns-clause-range : goal.returns-clause-range
 returns-clause-range c =
     IfOk-weaker c.fill_in.result _ InRangeSamInfo
-    (λ info e. rw e (sam_info-InRange _ _ _ _ _ c.domain-_domain.ensures.form c.bytes-_controller.ensures.form c.requires c.sid-_sid.ensures.range c.is_key.ensures c.ranges.now))
+    (λ info e. rw e (sam_info-InRange _ _ _ _ _ c.domain-domain.ensures.form c.bytes-controller.ensures.form c.requires c.sid-sid.ensures.range c.is_key.ensures c.ranges.now.fits))
     c.fill_in.ensures
