@@ -19,6 +19,9 @@ static const u8 CHALLENGE[8] = {0x01, 0x23, 0x45, 0x67, 0x89, 0xab, 0xcd, 0xef};
 static const u8 RESPONSE[24] = {0x67, 0xc4, 0x30, 0x11, 0xf3, 0x02, 0x98, 0xa2, 0xad, 0x35, 0xec, 0xe6,
                                 0x4f, 0x16, 0x33, 0x1c, 0x44, 0xbd, 0xbe, 0xd9, 0x27, 0x84, 0x1f, 0x94};
 
+/* The turns of a round: few, so that some round is undisturbed on a machine that does other work too. */
+#define TURNS 1000
+
 /* Always 0, which the compiler can't know. */
 static volatile u8 unknown;
 
@@ -86,10 +89,10 @@ static double seconds(void) {
     double best = 1e9, start = seconds();                                                                              \
     while (seconds() - start < 0.5) {                                                                                  \
       double round = seconds();                                                                                        \
-      for (long turn = 0; turn < 20000; turn++) {                                                                      \
+      for (long turn = 0; turn < TURNS; turn++) {                                                                      \
         __VA_ARGS__;                                                                                                   \
       }                                                                                                                \
-      round = (seconds() - round) / 20000;                                                                             \
+      round = (seconds() - round) / TURNS;                                                                             \
       if (round < best)                                                                                                \
         best = round;                                                                                                  \
     }                                                                                                                  \
@@ -115,7 +118,7 @@ static double seconds(void) {
         unknown = out[7] & digest[0] & 0);                                                                             \
     MEASURE(                                                                                                           \
         name, "judge-authenticator", input[7] ^= unknown; block(&first, input, once); block(&second, once, out);       \
-        if (memcmp(out, RESPONSE, 8)) block(&first, input, once); block(&second, once, out); unknown = out[7] & 0);    \
+        if (memcmp(out, RESPONSE, 8)) { block(&first, input, once); block(&second, once, out); } unknown = out[7] & 0);\
   } while (0)
 
 int main(void) {

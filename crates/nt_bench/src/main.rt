@@ -11,7 +11,7 @@ mod stream;
 
 use bench::Bench;
 use measure::tenths_of_nanoseconds;
-use operation::OPERATIONS;
+use operation::{OPERATIONS, Operation};
 use std::io::ErrorKind;
 use std::process::ExitCode;
 use std::rt::{Clock, Env};
@@ -40,8 +40,8 @@ fn run<R: Env + Clock + Print + AllocGlobal>(rt: &R) -> anyhow::Result<u8> {
         return Ok(2);
     };
     match read_words(&words) {
-        Some(Job::Results) => print_results(rt)?,
-        Some(Job::Measure(library)) => print_times(rt, library)?,
+        Some(Job::Results) => print_results(rt, &OPERATIONS)?,
+        Some(Job::Measure(library)) => print_times(rt, library, &OPERATIONS)?,
         None => return Ok(2),
     }
     Ok(0)
@@ -65,31 +65,43 @@ fn read_words(words: &[String]) -> Option<Job<'_>> {
     }
 }
 
-/// A line for each operation: its name and its result in hex.
-fn print_results<R: Print + AllocGlobal>(rt: &R) -> anyhow::Result<()> {
+/// A line for each operation.
+fn print_results<R: Print + AllocGlobal>(rt: &R, operations: &[Operation]) -> anyhow::Result<()> {
     let mut bench = Bench::new(rt.alloc())?;
-    for operation in OPERATIONS {
-        let result = bench.perform(rt.alloc(), operation)?;
-        println!(rt;
-            "{} {}",
-            operation.name(),
-            hex::encode(rt.alloc(), result.as_slice())?
-        )?;
+    for operation in operations {
+        print_result(rt, &mut bench, *operation)?;
     }
     Ok(())
 }
 
-/// A line for each operation: the library's name, the operation's, and the nanoseconds that one turn takes.
-fn print_times<R: Clock + Print + AllocGlobal>(rt: &R, library: &str) -> anyhow::Result<()> {
+/// The line of an operation: its name and its result in hex.
+fn print_result<R: Print + AllocGlobal>(
+    rt: &R,
+    bench: &mut Bench,
+    operation: Operation,
+) -> anyhow::Result<()> {
+    let result = bench.perform(rt.alloc(), operation)?;
+    let digits = hex::encode(rt.alloc(), result.as_slice())?;
+    println!(rt; "{} {digits}", operation.name())?;
+    Ok(())
+}
+
+/// A line for each operation, under the name of a library.
+fn print_times<R: Clock + Print + AllocGlobal>(
+    rt: &R,
+    library: &str,
+    operations: &[Operation],
+) -> anyhow::Result<()> {
     let mut bench = Bench::new(rt.alloc())?;
-    for operation in OPERATIONS {
-        let tenths = tenths_of_nanoseconds(rt, &mut bench, operation)?;
-        println!(rt;
-            "{library} {} {}.{}",
-            operation.name(),
-            tenths / 10,
-            tenths % 10
-        )?;
+    for operation in operations {
+        let tenths = tenths_of_nanoseconds(rt, &mut bench, *operation)?;
+        print_time(rt, library, operation.name(), tenths)?;
     }
+    Ok(())
+}
+
+/// The line of an operation: the library's name, its own, and the nanoseconds that one turn takes.
+fn print_time<R: Print>(rt: &R, library: &str, name: &str, tenths: u128) -> anyhow::Result<()> {
+    println!(rt; "{library} {name} {}.{}", tenths / 10, tenths % 10)?;
     Ok(())
 }

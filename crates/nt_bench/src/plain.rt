@@ -1,4 +1,5 @@
-//! Views of a unit and of a message without contracts, to compare the library's with.
+//! Views of a unit and of a message without contracts, to compare the library's with. They aren't inlined, as the library's aren't: so each lends all of
+//! its parts, whatever the caller uses.
 
 use ntlm_flags::{NTLMSSP_NEGOTIATE_UNICODE, NTLMSSP_NEGOTIATE_VERSION};
 use ntlm_messages::AuthenticateView;
@@ -17,6 +18,7 @@ pub struct PlainUnit<'a> {
 }
 
 /// The request or response that the bytes are, by the tests of `view_unit`; None of all other bytes.
+#[inline(never)]
 pub fn view_plain(bytes: &[u8]) -> Option<PlainUnit<'_>> {
     if bytes.len() < 16 || bytes[0] != 5 || bytes[1] > 1 || bytes[4] != 0x10 {
         return None;
@@ -60,6 +62,7 @@ pub fn view_plain(bytes: &[u8]) -> Option<PlainUnit<'_>> {
 }
 
 /// The AUTHENTICATE that the bytes are, by the tests of `view_authenticate`; None of all other bytes.
+#[inline(never)]
 pub fn authenticate_plain(bytes: &[u8]) -> Option<AuthenticateView<'_>> {
     if bytes.len() < 64 || !bytes.starts_with(b"NTLMSSP\0") || u32_from(bytes, 8) != 3 {
         return None;
