@@ -29,6 +29,14 @@ PROGRAMS = {
         "ntlm_responses",
         "ntlm_seal",
     ],
+    "wire_cases": [
+        "wire_base",
+        "ntlm_messages",
+        "rpc_units",
+        "ndr_codec",
+        "logon_stubs",
+        "memo_stubs",
+    ],
     "account_cases": [
         "account_table",
         "sam_logon",

@@ -1,0 +1,53 @@
+//! Cases of what stands on the wire: numbers, texts, names, NTLM's messages, RPC's units, NDR's items and the stubs of Netlogon and of the memo
+//! interface.
+//!
+//! Each line of the input is an operation, as `units.read`, and its values, as `words` has them; each line of the output is what the
+//! operation gives.
+#![tactic(auto)]
+
+mod base;
+mod joining;
+mod maps;
+mod memo;
+mod messages;
+mod ndr;
+mod ndr_writing;
+mod pairs;
+mod streams;
+mod stubs;
+mod unit_words;
+mod units;
+mod words;
+
+use std::alloc::Global;
+use std::io;
+use words::{no_case, word};
+
+/// What a line's operation gives: the part of its name before the point is the file that has it.
+fn answer(alloc: Global, words: &[&str]) -> anyhow::Result<String> {
+    let (part, operation) = word(words, 0).split_once('.').unwrap_or(("", ""));
+    match part {
+        "base" => base::answer(alloc, operation, words),
+        "messages" => messages::answer(alloc, operation, words),
+        "units" => units::answer(alloc, operation, words),
+        "ndr" => ndr::answer(alloc, operation, words),
+        "stubs" => stubs::answer(alloc, operation, words),
+        "memo" => memo::answer(alloc, operation, words),
+        _ => no_case(alloc),
+    }
+}
+
+/// The answer to a line.
+fn line_of_answer(alloc: Global, line: &str) -> anyhow::Result<String> {
+    let words: Vec<&str> = line.split(' ').collect(alloc)?;
+    answer(alloc, &words)
+}
+
+fn main(rt: HostRuntime) -> anyhow::Result<()> {
+    let cases = io::read_to_string(rt.alloc(), rt.reader())?;
+    for line in cases.lines() {
+        let text = line_of_answer(rt.alloc(), line)?;
+        println!(rt; "{text}")?;
+    }
+    Ok(())
+}

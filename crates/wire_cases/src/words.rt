@@ -1,0 +1,183 @@
+//! The words of a line: values in hex, numbers in decimal digits, and `-` for what is empty. A part of a long byte string that repeats is
+//! `COUNT*HEX`, and its parts are joined by `+`; so are long answers.
+
+ghost use Rattle.std.specs.Prelude.{◌≤◌, length};
+
+use hex::FromHex;
+use std::alloc::Global;
+use wire_base::{Blob, Units};
+
+/// A run of so many equal bytes or more is answered as a count.
+const RUN: usize = 32;
+
+/// The word at a place; an empty one behind the last.
+pub(crate) fn word<'a>(words: &[&'a str], at: usize) -> &'a str {
+    match words.get(at) {
+        Some(word) => *word,
+        None => "",
+    }
+}
+
+/// The answer to an operation that there is not.
+pub(crate) fn no_case(alloc: Global) -> anyhow::Result<String> {
+    Ok("no such case".to_string(alloc)?)
+}
+
+// ---- values
+
+/// A number of 64 bits.
+pub(crate) fn number64(word: &str) -> anyhow::Result<u64> {
+    Ok(word.parse::<u64>()?)
+}
+
+/// A number of 32 bits.
+pub(crate) fn number(word: &str) -> anyhow::Result<u32> {
+    Ok(word.parse::<u32>()?)
+}
+
+/// A number of 16 bits.
+pub(crate) fn number16(word: &str) -> anyhow::Result<u16> {
+    Ok(word.parse::<u16>()?)
+}
+
+/// A number of 8 bits.
+pub(crate) fn number8(word: &str) -> anyhow::Result<u8> {
+    Ok(word.parse::<u8>()?)
+}
+
+/// A size or a place.
+pub(crate) fn size(word: &str) -> anyhow::Result<usize> {
+    Ok(word.parse::<usize>()?)
+}
+
+/// A number of 32 bits, of eight hex digits.
+pub(crate) fn flags(word: &str) -> anyhow::Result<u32> {
+    Ok(u32::from_be_bytes(<[u8; 4]>::from_hex(word)?))
+}
+
+/// Eight bytes.
+pub(crate) fn eight(word: &str) -> anyhow::Result<[u8; 8]> {
+    Ok(<[u8; 8]>::from_hex(word)?)
+}
+
+/// Sixteen bytes.
+pub(crate) fn sixteen(word: &str) -> anyhow::Result<[u8; 16]> {
+    Ok(<[u8; 16]>::from_hex(word)?)
+}
+
+/// How often a part stands, and the part.
+pub(crate) fn counted(part: &str) -> anyhow::Result<(u64, &str)> {
+    match part.split_once('*') {
+        Some((count, rest)) => Ok((number64(count)?, rest)),
+        None => Ok((1, part)),
+    }
+}
+
+/// Appends the bytes of a part.
+fn push_part(alloc: Global, bytes: &mut Vec<u8>, part: &str) -> anyhow::Result<()> {
+    let (count, digits) = counted(part)?;
+    let piece = hex::decode(alloc, digits)?;
+    for _ in 0..count {
+        bytes.extend_from_slice(&piece)?;
+    }
+    Ok(())
+}
+
+/// The bytes of a word.
+pub(crate) fn bytes(alloc: Global, word: &str) -> anyhow::Result<Vec<u8>> {
+    let mut bytes = Vec::new(alloc);
+    if word == "-" {
+        return Ok(bytes);
+    }
+    for part in word.split('+') {
+        push_part(alloc, &mut bytes, part)?;
+    }
+    Ok(bytes)
+}
+
+/// The bytes of a word, kept.
+pub(crate) fn blob(alloc: Global, word: &str) -> anyhow::Result<Blob> {
+    Ok(Blob::from_vec(bytes(alloc, word)?))
+}
+
+/// The 16-bit units of a word, little-endian.
+pub(crate) fn text_units(alloc: Global, word: &str) -> anyhow::Result<Units> {
+    let bytes = bytes(alloc, word)?;
+    Ok(Units::read(alloc, &bytes)?)
+}
+
+// ---- answers
+
+/// How many bytes in front are equal to the first; one at least.
+fn run_of(bytes: &[u8]) -> usize
+    requires { 1 ≤ length bytes.now }
+    ensures least { 1 ≤ result }
+    ensures most { result ≤ length bytes.now }
+{
+    let first = bytes[0];
+    match bytes.iter().position(|byte| *byte != first) {
+        Some(0) => 1,
+        Some(place) => place,
+        None => bytes.len(),
+    }
+}
+
+/// Appends a part of a long answer.
+fn push_text(text: &mut String, part: &str) -> anyhow::Result<()> {
+    if part.is_empty() {
+        return Ok(());
+    }
+    if !text.is_empty() {
+        text.push('+')?;
+    }
+    text.push_str(part)?;
+    Ok(())
+}
+
+/// Appends a run of a byte.
+fn push_run(alloc: Global, text: &mut String, count: usize, byte: u8) -> anyhow::Result<()> {
+    let part = format!(in alloc; "{count}*{byte:02x}")?;
+    push_text(text, part.as_str())
+}
+
+/// Appends bytes in hex.
+fn push_plain(alloc: Global, text: &mut String, bytes: &[u8]) -> anyhow::Result<()> {
+    let part = hex::encode(alloc, bytes)?;
+    push_text(text, part.as_str())
+}
+
+/// Bytes as a word.
+pub(crate) fn text(alloc: Global, bytes: &[u8]) -> anyhow::Result<String> {
+    if bytes.is_empty() {
+        return Ok("-".to_string(alloc)?);
+    }
+    let mut text = String::new(alloc);
+    let mut plain = bytes;
+    let mut rest = bytes;
+    while !rest.is_empty() {
+        let run = run_of(rest);
+        if run >= RUN {
+            let front = plain.len().saturating_sub(rest.len());
+            push_plain(alloc, &mut text, plain.get(..front).unwrap_or(plain))?;
+            push_run(alloc, &mut text, run, rest[0])?;
+            plain = &rest[run..];
+        }
+        rest = &rest[run..];
+    }
+    push_plain(alloc, &mut text, plain)?;
+    Ok(text)
+}
+
+/// A truth value.
+pub(crate) fn truth(value: bool) -> &'static str {
+    if value { "true" } else { "false" }
+}
+
+/// Appends the answer of a step of a scenario.
+pub(crate) fn add_answer(text: &mut String, step: &str) -> anyhow::Result<()> {
+    if !text.is_empty() {
+        text.push(';')?;
+    }
+    text.push_str(step)?;
+    Ok(())
+}
