@@ -5,11 +5,11 @@ use Rattle.ntlm_messages.specs.declared.refused.Field.{Field}
 use Rattle.ntlm_messages.specs.declared.refused.Field.TheVariants.{Domain, Workstation}
 use Rattle.ntlm_messages.specs.declared.refused.MessageRefused.{MessageRefused}
 use Rattle.ntlm_messages.specs.declared.refused.MessageRefused.TheVariants.{FieldOutside}
-use Rattle.ntlm_messages.specs.Fields.{IsFirstOutside, header_of, version_of, long_at}
+use Rattle.ntlm_messages.specs.Fields.{IsFirstOutside, header_of, version_of, long_at, narrow_gaps}
 use Rattle.std.proofs.lemmas.Bool.{and_right}
 use Rattle.ntlm_flags.specs.Flags.{has_flag, negotiate_oem_domain_supplied, negotiate_oem_workstation_supplied}
 use Rattle.ntlm_messages.specs.Places.{negotiate_flags_place, negotiate_domain_place, negotiate_workstation_place, negotiate_size, negotiate_least}
-use Rattle.ntlm_messages.specs.Negotiate.{is_supplied, IsNegotiate, negotiate_of, IsName, name_of, has_domain, has_workstation, negotiate_gap, supplied_names, IsNegotiateRefusal, CanWriteNegotiate}
+use Rattle.ntlm_messages.specs.Negotiate.{is_supplied, IsNegotiate, negotiate_of, IsName, name_of, names_read, narrow_name, has_domain, has_workstation, negotiate_gap, supplied_names, IsNegotiateRefusal, CanWriteNegotiate}
 use Rattle.ntlm_messages.proofs.FieldLaws.{bind_then, done, ok_is, header_found, field_found, header_only, field_only, refused_then, header_is, header_refused, field_refused, inside_from, version_flag}
 
 name_found : (read : Bool) (name : Field) (place : ℕ) (bytes part : List ℕ) → name_of read name place bytes ≡ Ok part → IsName read place bytes part
@@ -19,6 +19,13 @@ name_found false name place bytes part e = sym (ok_is [] part e)
 name_only : (read : Bool) (name : Field) (place : ℕ) (bytes part : List ℕ) → IsName read place bytes part → name_of read name place bytes ≡ Ok part
 name_only true name place bytes part h = field_only name place negotiate_size bytes part h
 name_only false name place bytes part h = ap (λ (x : List ℕ). done x) (sym h)
+
+pub names_narrowed : (domain workstation : Bool) (bytes : List ℕ) (gap : ℕ)
+    → narrow_name workstation negotiate_workstation_place bytes (narrow_name domain negotiate_domain_place bytes gap) ≡ narrow_gaps (names_read domain workstation) bytes gap
+names_narrowed true true bytes gap = refl
+names_narrowed true false bytes gap = refl
+names_narrowed false true bytes gap = refl
+names_narrowed false false bytes gap = refl
 
 pub negotiate_found : (bytes : List ℕ) (value : Negotiate) → negotiate_of bytes ≡ Ok value → IsNegotiate bytes value
 unfolding negotiate_of

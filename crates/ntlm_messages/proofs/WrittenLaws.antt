@@ -1,6 +1,6 @@
 -- Parts joined end to end, as a written message is, and what a reader finds at the place of each of them.
 use Rattle.std.proofs.Common.{◌≡◌, ℕ, zero, suc, ◌+◌, ◌^◌, ◌<◌, ◌≤◌, ◌&&◌, Bool, true, false, eqb, leb, List, [], ◌∷◌, ◌++◌, length, get_or, take, drop, Option, Some, None, refl, sym, ap, ◌∙◌, append_assoc, arith, inl, inr}
-use Rattle.std.specs.Prelude.{IsSome, IsTrue, IfSome}
+use Rattle.std.specs.Prelude.{IsSome, IsTrue, IfSome, min}
 use Rattle.std.specs.List.{concat, AllByRecursion}
 use Rattle.std.specs.Int.{Width, w16, w32, byte_len, to_le_bytes}
 use Rattle.std.proofs.lemmas.Bool.{ne_eqb, le-leb, lt-leb, and_from, and_right, cases_Bool}
@@ -8,7 +8,7 @@ use Rattle.std.proofs.lemmas.List.{take_at, drop_at, length-append}
 use Rattle.wire_base.specs.Numbers.{number_at, IsMessageWidth}
 use Rattle.wire_base.proofs.NumberLaws.{number_at-written}
 use Rattle.ntlm_flags.specs.Flags.{has_flag, negotiate_version}
-use Rattle.ntlm_messages.specs.Fields.{short_at, long_at, length_at, offset_at, IsField, gap_of, bytes_if, version_of, mic_of, bytes_of}
+use Rattle.ntlm_messages.specs.Fields.{short_at, long_at, length_at, offset_at, IsField, gap_of, narrow_gap, narrow_gaps, bytes_if, version_of, mic_of, bytes_of}
 
 -- ---- parts of a joined list
 
@@ -88,6 +88,19 @@ gap_in (place ∷ places) bytes =
       | inl none ↦ rw none (gap_in places bytes)
       | inr some ↦ rw some (omega (arith, gap_in places bytes))
     ]
+
+-- read from the first field to the last, it comes to the same
+pub gaps_narrowed : (places bytes : List ℕ) (gap : ℕ) → gap ≤ length bytes → narrow_gaps places bytes gap ≡ min gap (gap_of places bytes)
+unfolding narrow_gap
+gaps_narrowed [] bytes gap inside = omega (arith, inside)
+gaps_narrowed (place ∷ places) bytes gap inside =
+    elim (cases_Bool (eqb (length_at bytes place) 0)) [
+      | inl none ↦ rw none (gaps_narrowed places bytes gap inside)
+      | inr some ↦ rw some (omega (arith, gaps_narrowed places bytes (min gap (offset_at bytes place)) (omega (arith, inside))))
+    ]
+
+pub gap_narrowed : (places bytes : List ℕ) → narrow_gaps places bytes (length bytes) ≡ gap_of places bytes
+gap_narrowed places bytes = omega (arith, gaps_narrowed places bytes (length bytes) (omega arith), gap_in places bytes)
 
 -- no more than the offset of a field that isn't empty
 pub gap_before : (places bytes : List ℕ) (k : ℕ) → k < length places → (length_at bytes (get_or places k 0) ≡ 0 → ⊥) → gap_of places bytes ≤ offset_at bytes (get_or places k 0)

@@ -97,6 +97,15 @@ abbrev pub gap_of : List ℕ → List ℕ → ℕ
 gap_of [] bytes = length bytes
 gap_of (place ∷ places) bytes = if length_at bytes place == 0 then gap_of places bytes else min (offset_at bytes place) (gap_of places bytes)
 
+-- the least offset so far, once the field at the place is read too
+unfoldable pub narrow_gap : ℕ → List ℕ → ℕ → ℕ
+narrow_gap place bytes gap = if length_at bytes place == 0 then gap else min gap (offset_at bytes place)
+
+-- the same for fields read in the header's order
+abbrev pub narrow_gaps : List ℕ → List ℕ → ℕ → ℕ
+narrow_gaps [] bytes gap = gap
+narrow_gaps (place ∷ places) bytes gap = narrow_gaps places bytes (narrow_gap place bytes gap)
+
 -- the number of bytes at the place, where that is so
 abbrev pub bytes_if : Bool → ℕ → ℕ → List ℕ → Option (List ℕ)
 bytes_if there place number bytes = if there then Some (take number (drop place bytes)) else None

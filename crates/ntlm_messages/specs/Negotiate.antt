@@ -2,7 +2,7 @@
 use Rattle.std.specs.Prelude.{◌≡◌, ◌+◌, ◌<◌, ◌^◌, ◌&&◌, ℕ, Bool, true, false, List, [], ◌∷◌, ◌++◌, length, IsTrue, IsSome, IfSome, Result, Ok, nat_le}
 use Rattle.std.specs.Int.{w32, to_le_bytes}
 use Rattle.ntlm_flags.specs.Flags.{has_flag, negotiate_oem_domain_supplied, negotiate_oem_workstation_supplied, negotiate_version}
-use Rattle.ntlm_messages.specs.Fields.{◌>>=◌, long_at, signature, IsHeader, header_of, IsField, field_of, IsRefusal, gap_of, version_of, field_bytes, bytes_of}
+use Rattle.ntlm_messages.specs.Fields.{◌>>=◌, long_at, signature, IsHeader, header_of, IsField, field_of, IsRefusal, gap_of, narrow_gap, version_of, field_bytes, bytes_of}
 use Rattle.ntlm_messages.specs.Places.{negotiate_flags_place, negotiate_domain_place, negotiate_workstation_place, negotiate_size, negotiate_least}
 use Rattle.ntlm_messages.specs.declared.messages.Negotiate.{Negotiate}
 use Rattle.ntlm_messages.specs.declared.messages.NegotiateView.{NegotiateView}
@@ -35,6 +35,11 @@ names_read true true = negotiate_domain_place ∷ negotiate_workstation_place �
 names_read true false = negotiate_domain_place ∷ []
 names_read false true = negotiate_workstation_place ∷ []
 names_read false false = []
+
+-- the least offset so far, once the name is read too, where it is
+abbrev pub narrow_name : Bool → ℕ → List ℕ → ℕ → ℕ
+narrow_name true place bytes gap = narrow_gap place bytes gap
+narrow_name false place bytes gap = gap
 
 abbrev pub negotiate_gap : List ℕ → ℕ
 negotiate_gap bytes = gap_of (names_read (has_domain bytes) (has_workstation bytes)) bytes

@@ -10,8 +10,8 @@ ghost use Rattle.ntlm_messages.specs.declared.refused.MessageRefused.{MessageRef
 ghost use Rattle.ntlm_messages.specs.declared.refused.WriteRefused.{WriteRefused};
 
 use crate::fields::{
-    SIGNATURE, check_fields, check_header, check_text, count_of, field_at, gap_at, long_at, mic_at,
-    put_bytes, put_field, version_at,
+    SIGNATURE, check_fields, check_header, check_text, count_of, field_at, gap_left, long_at,
+    mic_at, put_bytes, put_field, version_at,
 };
 use crate::messages::{Authenticate, AuthenticateView};
 use crate::places::{
@@ -29,22 +29,24 @@ fn lend_authenticate(bytes: &[u8]) -> Result<AuthenticateView<'_>, MessageRefuse
     ensures fits { IfOk result (λ view. FieldsFit (authenticate_fields (authenticate_shown view))) }
 {
     check_header(bytes, 3, AUTHENTICATE_SIZE)?;
-    let lm = field_at(bytes, Field::Lm, AUTHENTICATE_LM, AUTHENTICATE_SIZE)?;
-    let nt = field_at(bytes, Field::Nt, AUTHENTICATE_NT, AUTHENTICATE_SIZE)?;
-    let domain = field_at(bytes, Field::Domain, AUTHENTICATE_DOMAIN, AUTHENTICATE_SIZE)?;
-    let user = field_at(bytes, Field::User, AUTHENTICATE_USER, AUTHENTICATE_SIZE)?;
+    let size = AUTHENTICATE_SIZE;
+    let lm = field_at(bytes, Field::Lm, AUTHENTICATE_LM, size, bytes.len())?;
+    let nt = field_at(bytes, Field::Nt, AUTHENTICATE_NT, size, lm.gap)?;
+    let domain = field_at(bytes, Field::Domain, AUTHENTICATE_DOMAIN, size, nt.gap)?;
+    let user = field_at(bytes, Field::User, AUTHENTICATE_USER, size, domain.gap)?;
     let workstation = field_at(
         bytes,
         Field::Workstation,
         AUTHENTICATE_WORKSTATION,
-        AUTHENTICATE_SIZE,
+        size,
+        user.gap,
     )?;
-    let key = field_at(bytes, Field::Key, AUTHENTICATE_KEY, AUTHENTICATE_SIZE)?;
+    let key = field_at(bytes, Field::Key, AUTHENTICATE_KEY, size, workstation.gap)?;
     let flags = long_at(bytes, AUTHENTICATE_FLAGS);
-    check_text(flags, Field::Domain, domain)?;
-    check_text(flags, Field::User, user)?;
-    check_text(flags, Field::Workstation, workstation)?;
-    let gap = gap_at(
+    check_text(flags, Field::Domain, domain.bytes)?;
+    check_text(flags, Field::User, user.bytes)?;
+    check_text(flags, Field::Workstation, workstation.bytes)?;
+    let gap = gap_left(
         bytes,
         &[
             AUTHENTICATE_LM,
@@ -54,17 +56,18 @@ fn lend_authenticate(bytes: &[u8]) -> Result<AuthenticateView<'_>, MessageRefuse
             AUTHENTICATE_WORKSTATION,
             AUTHENTICATE_KEY,
         ],
+        key.gap,
     );
     Ok(AuthenticateView {
         flags,
-        lm,
-        nt,
-        domain,
-        user,
-        workstation,
-        key,
-        version: version_at(bytes, flags, AUTHENTICATE_SIZE, gap),
-        mic: mic_at(bytes, flags, AUTHENTICATE_SIZE, gap),
+        lm: lm.bytes,
+        nt: nt.bytes,
+        domain: domain.bytes,
+        user: user.bytes,
+        workstation: workstation.bytes,
+        key: key.bytes,
+        version: version_at(bytes, flags, size, gap),
+        mic: mic_at(bytes, flags, size, gap),
     })
 }
 

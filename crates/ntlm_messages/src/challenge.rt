@@ -10,7 +10,7 @@ ghost use Rattle.ntlm_messages.specs.declared.refused.MessageRefused.{MessageRef
 ghost use Rattle.ntlm_messages.specs.declared.refused.WriteRefused.{WriteRefused};
 
 use crate::fields::{
-    SIGNATURE, check_fields, check_header, check_text, count_of, field_at, gap_at, long_at,
+    SIGNATURE, check_fields, check_header, check_text, count_of, field_at, gap_left, long_at,
     put_bytes, put_field, version_at,
 };
 use crate::messages::{Challenge, ChallengeView};
@@ -28,19 +28,20 @@ fn lend_challenge(bytes: &[u8]) -> Result<ChallengeView<'_>, MessageRefused>
     ensures fits { IfOk result (λ view. FieldsFit (challenge_fields (challenge_shown view))) }
 {
     check_header(bytes, 2, CHALLENGE_SIZE)?;
-    let target = field_at(bytes, Field::Target, CHALLENGE_TARGET, CHALLENGE_SIZE)?;
-    let info = field_at(bytes, Field::Info, CHALLENGE_INFO, CHALLENGE_SIZE)?;
+    let size = CHALLENGE_SIZE;
+    let target = field_at(bytes, Field::Target, CHALLENGE_TARGET, size, bytes.len())?;
+    let info = field_at(bytes, Field::Info, CHALLENGE_INFO, size, target.gap)?;
     let flags = long_at(bytes, CHALLENGE_FLAGS);
-    check_text(flags, Field::Target, target)?;
-    let gap = gap_at(bytes, &[CHALLENGE_TARGET, CHALLENGE_INFO]);
+    check_text(flags, Field::Target, target.bytes)?;
+    let gap = gap_left(bytes, &[CHALLENGE_TARGET, CHALLENGE_INFO], info.gap);
     let mut challenge = [0; 8];
     challenge.copy_from_slice(&bytes[CHALLENGE_SERVER..CHALLENGE_SERVER + 8]);
     Ok(ChallengeView {
         flags,
-        target,
+        target: target.bytes,
         challenge,
-        info,
-        version: version_at(bytes, flags, CHALLENGE_SIZE, gap),
+        info: info.bytes,
+        version: version_at(bytes, flags, size, gap),
     })
 }
 

@@ -1,9 +1,8 @@
 //! What the three messages share: the first twelve bytes and the payload fields (MS-NLMP 2.2.1).
 
-ghost use Rattle.std.specs.Prelude.{◌≡◌, map, ◌+◌, ◌≤◌, ◌<◌, ◌^◌, ◌++◌, length, OnOk, IfOk, IfSome, IsTrue, nat_le};
-ghost use Rattle.std.specs.List.{list_all};
+ghost use Rattle.std.specs.Prelude.{◌≡◌, map, ◌+◌, ◌≤◌, ◌<◌, ◌^◌, ◌++◌, length, OnOk, IfOk, IfSome, IsTrue};
 ghost use Rattle.ntlm_flags.specs.Flags.{has_flag};
-ghost use Rattle.ntlm_messages.specs.Fields.{Shows, short_at, long_at, header_of, field_of, text_of, gap_of, bytes_if, version_of, mic_of, field_bytes, bytes_of, lengths_of};
+ghost use Rattle.ntlm_messages.specs.Fields.{Shows, short_at, long_at, header_of, field_of, text_of, gap_of, narrow_gap, narrow_gaps, bytes_if, version_of, mic_of, field_bytes, bytes_of, lengths_of};
 
 use crate::places;
 use crate::refused::{Field, MessageRefused, WriteRefused};
@@ -46,27 +45,41 @@ pub fn check_header(bytes: &[u8], kind: u32, least: usize) -> Result<(), Message
     Ok(())
 }
 
-/// The bytes of the payload field that stands at `place` of a header of `size` bytes.
-#[tactic(auto, unfolding(crate::specs::Fields::field_of))]
+/// A payload field that was read.
+#[derive(Clone, Copy)]
+pub struct Part<'a> {
+    /// Its bytes.
+    pub bytes: &'a [u8],
+    /// The least offset of it and of the fields read before it, of those that aren't empty; the message's length where all are.
+    pub gap: usize,
+}
+
+/// The payload field that stands at `place` of a header of `size` bytes; `gap` is the least offset of the fields read before it.
+#[tactic(auto, unfolding(crate::specs::Fields::field_of, crate::specs::Fields::narrow_gap))]
 pub fn field_at(
     bytes: &[u8],
     name: Field,
     place: usize,
     size: usize,
-) -> Result<&[u8], MessageRefused>
+    gap: usize,
+) -> Result<Part<'_>, MessageRefused>
     requires { place ≤ 64 }
-    ensures value { Shows (λ part. part.now) result (field_of name place size bytes.now) }
-    ensures short { IfOk result (λ part. length part.now ≤ 65535) }
+    ensures value { Shows (λ part. part.bytes.now) result (field_of name place size bytes.now) }
+    ensures short { IfOk result (λ part. length part.bytes.now ≤ 65535) }
+    ensures gap { IfOk result (λ part. part.gap ≡ narrow_gap place bytes.now gap) }
 {
     let len = usize::from(short_at(bytes, place));
     if len == 0 {
-        return Ok(&[]);
+        return Ok(Part { bytes: &[], gap });
     }
     let offset = long_at(bytes, place + 4) as usize;
     if offset < size || bytes.len() < offset + len {
         return Err(MessageRefused::FieldOutside(name));
     }
-    Ok(&bytes[offset..offset + len])
+    Ok(Part {
+        bytes: &bytes[offset..offset + len],
+        gap: gap.min(offset),
+    })
 }
 
 /// Whether a text has an even length, where texts are UTF-16LE.
@@ -80,20 +93,14 @@ pub fn check_text(flags: u32, name: Field, text: &[u8]) -> Result<(), MessageRef
     Ok(())
 }
 
-/// The least offset of the fields at these places that aren't empty, or the message's length where there is none.
-pub fn gap_at(bytes: &[u8], places: &[usize]) -> usize
-    requires { IsTrue (list_all (λ place. nat_le place 64) places.now) }
+/// The least offset of the fields at these places that aren't empty, or the message's length where there is none: the `gap` of the last of them.
+/// Its only reason is the proof, since the definition begins at the last field.
+pub fn gap_left(bytes: &[u8], places: &[usize], gap: usize) -> usize
+    requires { gap ≡ narrow_gaps places.now bytes.now (length bytes.now) }
     ensures value { result ≡ gap_of places.now bytes.now }
     ensures within { result ≤ length bytes.now }
 {
-    let [place, rest @ ..] = places else {
-        return bytes.len();
-    };
-    let gap = gap_at(bytes, rest);
-    if short_at(bytes, *place) == 0 {
-        return gap;
-    }
-    gap.min(long_at(bytes, *place + 4) as usize)
+    gap
 }
 
 /// The bytes of a fixed number at a place, where they are there.

@@ -3,14 +3,14 @@
 ghost use Rattle.std.specs.Prelude.{◌≡◌, ◌≤◌, length, ◌⊎◌, ◌↔◌, OnOk, Ok, IfOk, IfErr, Err, IsErrOf};
 ghost use Rattle.wire_base.specs.Memory.{UpToMemory};
 ghost use Rattle.ntlm_messages.specs.Fields.{Shows, FieldsFit, IsFirstTooLong, lengths_of, form_of};
-ghost use Rattle.ntlm_messages.specs.Negotiate.{IsNegotiate, IsNegotiateRefusal, negotiate_of, negotiate_shown, negotiate_fields, CanWriteNegotiate, HasWidths, written_negotiate, is_supplied, name_of, names_read};
+ghost use Rattle.ntlm_messages.specs.Negotiate.{IsNegotiate, IsNegotiateRefusal, negotiate_of, negotiate_shown, negotiate_fields, CanWriteNegotiate, HasWidths, written_negotiate, is_supplied, name_of, names_read, narrow_name};
 ghost use Rattle.ntlm_messages.specs.declared.messages.Negotiate.{Negotiate};
 ghost use Rattle.ntlm_messages.specs.declared.refused.Field.{Field};
 ghost use Rattle.ntlm_messages.specs.declared.refused.MessageRefused.{MessageRefused};
 ghost use Rattle.ntlm_messages.specs.declared.refused.WriteRefused.{WriteRefused};
 
 use crate::fields::{
-    SIGNATURE, check_fields, check_header, count_of, field_at, gap_at, long_at, put_bytes,
+    Part, SIGNATURE, check_fields, check_header, count_of, field_at, gap_left, long_at, put_bytes,
     put_field, version_at,
 };
 use crate::messages::{Negotiate, NegotiateView};
@@ -31,16 +31,23 @@ fn is_supplied(flag: u32, bytes: &[u8]) -> bool
     bytes.len() >= NEGOTIATE_SIZE && has_flag(long_at(bytes, NEGOTIATE_FLAGS), flag)
 }
 
-/// A name's bytes, none where it isn't read.
-fn name_at(bytes: &[u8], read: bool, name: Field, place: usize) -> Result<&[u8], MessageRefused>
+/// A name's field, empty where it isn't read.
+fn name_at(
+    bytes: &[u8],
+    read: bool,
+    name: Field,
+    place: usize,
+    gap: usize,
+) -> Result<Part<'_>, MessageRefused>
     requires { place ≤ 64 }
-    ensures value { Shows (λ part. part.now) result (name_of read name place bytes.now) }
-    ensures short { IfOk result (λ part. length part.now ≤ 65535) }
+    ensures value { Shows (λ part. part.bytes.now) result (name_of read name place bytes.now) }
+    ensures short { IfOk result (λ part. length part.bytes.now ≤ 65535) }
+    ensures gap { IfOk result (λ part. part.gap ≡ narrow_name read place bytes.now gap) }
 {
     if !read {
-        return Ok(&[]);
+        return Ok(Part { bytes: &[], gap });
     }
-    field_at(bytes, name, place, NEGOTIATE_SIZE)
+    field_at(bytes, name, place, NEGOTIATE_SIZE, gap)
 }
 
 /// The places of the names that are read.
@@ -56,7 +63,7 @@ fn names_read(domain: bool, workstation: bool) -> &'static [usize]
 }
 
 /// The view; that it agrees with the grammar follows in `view_negotiate`.
-#[tactic(auto, unfolding(crate::specs::Negotiate::negotiate_of))]
+#[tactic(auto, using(crate::proofs::NegotiateLaws::names_narrowed), unfolding(crate::specs::Negotiate::negotiate_of))]
 fn lend_negotiate(bytes: &[u8]) -> Result<NegotiateView<'_>, MessageRefused>
     ensures exact { Shows negotiate_shown result (negotiate_of bytes.now) }
     ensures fits { IfOk result (λ view. FieldsFit (negotiate_fields (negotiate_shown view))) }
@@ -64,19 +71,30 @@ fn lend_negotiate(bytes: &[u8]) -> Result<NegotiateView<'_>, MessageRefused>
     check_header(bytes, 1, NEGOTIATE_LEAST)?;
     let has_domain = is_supplied(NTLMSSP_NEGOTIATE_OEM_DOMAIN_SUPPLIED, bytes);
     let has_workstation = is_supplied(NTLMSSP_NEGOTIATE_OEM_WORKSTATION_SUPPLIED, bytes);
-    let domain = name_at(bytes, has_domain, Field::Domain, NEGOTIATE_DOMAIN)?;
+    let domain = name_at(
+        bytes,
+        has_domain,
+        Field::Domain,
+        NEGOTIATE_DOMAIN,
+        bytes.len(),
+    )?;
     let workstation = name_at(
         bytes,
         has_workstation,
         Field::Workstation,
         NEGOTIATE_WORKSTATION,
+        domain.gap,
     )?;
     let flags = long_at(bytes, NEGOTIATE_FLAGS);
-    let gap = gap_at(bytes, names_read(has_domain, has_workstation));
+    let gap = gap_left(
+        bytes,
+        names_read(has_domain, has_workstation),
+        workstation.gap,
+    );
     Ok(NegotiateView {
         flags,
-        domain,
-        workstation,
+        domain: domain.bytes,
+        workstation: workstation.bytes,
         version: version_at(bytes, flags, NEGOTIATE_SIZE, gap),
     })
 }
