@@ -1,0 +1,3 @@
+pub mod BindingLaws
+pub mod LinkLaws
+pub mod ServingLaws

@@ -1,0 +1,18 @@
+-- What was served and what is left to serve are all; challenges were drawn from the front.
+use Rattle.std.proofs.Common.{◌≡◌, ◌++◌, length, false}
+use Rattle.outside.specs.Drawing.{DrawsSome}
+use Rattle.rpc_units.specs.Stream.{cut_stream}
+use Rattle.end_links.specs.Serving.{served_cut}
+use Rattle.end_links.proofs.serving.serve_piece.Given as goal
+
+abbrev pub invariant-units : goal.invariant-units
+invariant-units g l = record {
+  runs : l.coming.flow.broken ≡ false;
+  draws : DrawsSome (g.Q.Chances.drawing l.fn.chances) (g.Q.Chances.drawing l.chances);
+  so_far : served_cut g.W.ServesUnits.server (cut_stream (l.coming.flow.held ++ l.coming.left)) l.work l.talk (g.Q.Chances.drawing l.chances).left
+      ≡ served_cut g.W.ServesUnits.server (cut_stream (l.fn.link.rest ++ l.fn.piece)) l.fn.work l.fn.link.talk (g.Q.Chances.drawing l.fn.chances).left;
+  rest : (cut_stream (l.coming.flow.held ++ l.coming.left)).rest ≡ (cut_stream (l.fn.link.rest ++ l.fn.piece)).rest;
+}
+
+abbrev pub decreases-units : goal.decreases-units
+decreases-units g l = length (cut_stream (l.coming.flow.held ++ l.coming.left)).units

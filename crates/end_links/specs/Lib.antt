@@ -1,0 +1,5 @@
+pub mod Agreed
+pub mod Binding
+pub mod Links
+pub mod Sending
+pub mod Serving

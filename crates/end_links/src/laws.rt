@@ -1,0 +1,15 @@
+//! What holds of bindings, and of the units of a stream that any end serves.
+
+ghost use Rattle.end_links.specs.Binding.{ContextsAnswered};
+ghost use Rattle.end_links.specs.Serving.{UnitsServed};
+
+/// A context is accepted exactly where the answer to it says so, and only for the interface that is served, with NDR.
+pub fn contexts_are_answered()
+    ensures { ContextsAnswered }
+{}
+
+/// The units of a stream are served in order, however it comes in pieces; a call that is sent in fragments is heard once; challenges are drawn
+/// from the front. `W` is the end at work, `T` what is said on the link.
+pub fn units_are_served_in_order<W, T>()
+    ensures { UnitsServed W T }
+{}
