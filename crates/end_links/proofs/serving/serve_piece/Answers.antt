@@ -10,7 +10,7 @@ returns-in_err-after-in-Unit-clause-answer g c =
     let p = err_from_is_err_and c.from_residual.result c.from_residual.ensures.1 in
     rw (p.1, p.2) (unit_failed g.W.ServesUnits.server c.in-Unit.field-0 (cut_stream (c.units.coming.flow.held ++ c.units.coming.left)) (cut_stream (c.args.link.rest ++ c.args.piece.now)) c.next.new.self.flow c.next.new.self.left c.unit.result.now
     c.units.work c.args.work c.units.talk c.args.link.talk (g.Q.Chances.drawing c.units.chances).left (g.Q.Chances.drawing c.args.chances.now).left (g.Q.Chances.drawing c.serve.new.chances).left c.in_err-after-in-Unit.field-0.0
-    g.met.W.ServesUnits.leaves c.in-Unit.ensures c.unit.ensures.value c.units.invariant.so_far c.in_err-after-in-Unit.ensures.answer)
+    g.met.W.ServesUnits.leaves c.in-Unit.ensures.cut c.unit.ensures.value c.units.invariant.so_far c.in_err-after-in-Unit.ensures.answer)
 
 pub units-preserved : goal.units-preserved
 units-preserved g c =
@@ -19,7 +19,7 @@ units-preserved g c =
     let after = (g.Q.Chances.drawing c.serve.new.chances).left in
     let old = cut_stream (c.units.coming.flow.held ++ c.units.coming.left) in
     let next = cut_stream (c.done.new.self.flow.held ++ c.done.new.self.left) in
-    let front = unit_done c.in-Unit.field-0 old c.next.new.self c.done.new.self c.unit.result.now c.serve.new.bytes c.in-Unit.ensures c.unit.ensures.value c.unit.ensures.len c.serve.ensures.len c.done.ensures in
+    let front = unit_done c.in-Unit.field-0 old c.next.new.self c.done.new.self c.unit.result.now c.serve.new.bytes c.in-Unit.ensures.cut c.unit.ensures.value c.unit.ensures.len c.serve.ensures.len c.done.ensures in
     let served : server.unit c.unit.result.now c.units.work c.units.talk before ≡ Ok (record { value = (c.in_ok-after-in-Unit.after, Some c.in-Some.still); left = after }) = search rules in
     record {
       runs = front.1;
