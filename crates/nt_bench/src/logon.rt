@@ -3,8 +3,9 @@
 ghost use Rattle.std.specs.Prelude.{IfOk};
 ghost use Rattle.logon_stubs.specs.Writing.{CanWriteSamInfo, CanWriteReply};
 
+use crate::bench::{Outcome, end_of};
 use anyhow::bail;
-use logon_stubs::{Call, LogonReply, Reply, SamInfo, StubRefused, read_call, write_reply};
+use logon_stubs::{Call, LogonReply, Reply, SamInfo, read_call, write_reply};
 use std::alloc::Global;
 use wire_base::{Authenticator, Blob, Groups, NoMemory, Sid, Units};
 
@@ -18,21 +19,40 @@ const PDC: [u16; 3] = [0x50, 0x44, 0x43];
 
 const CORP: [u16; 4] = [0x43, 0x4f, 0x52, 0x50];
 
-/// The request to log on that a stub is.
-pub fn read_logon(alloc: Global, stub: &[u8]) -> Result<Call, StubRefused> {
-    read_call(alloc, 2, stub)
+/// The NT response of the request to log on, read so many times.
+pub fn read_logons(alloc: Global, stub: &[u8], turns: u32) -> anyhow::Result<Outcome> {
+    let mut end = Outcome::new();
+    for _ in 0..turns {
+        match read_call(alloc, 2, stub) {
+            Ok(call) => end = end_of(response_of(&call)),
+            Err(_) => bail!("a request was refused"),
+        }
+    }
+    Ok(end)
 }
 
-/// The NT response in a request to log on.
-pub fn response_of(call: &Call) -> anyhow::Result<&[u8]> {
+/// The NT response in a request to log on; empty of another call.
+fn response_of(call: &Call) -> &[u8] {
     match call {
-        Call::Logon(call) => Ok(call.info.nt.bytes()),
-        _ => bail!("a logon was read as another call"),
+        Call::Logon(call) => call.info.nt.bytes(),
+        _ => &[],
     }
 }
 
+/// The end of a reply that is made and written so many times.
+pub fn write_replies(alloc: Global, turns: u32) -> anyhow::Result<Outcome> {
+    let mut end = Outcome::new();
+    for _ in 0..turns {
+        match write_granted(alloc) {
+            Ok(stub) => end = end_of(stub.bytes()),
+            Err(_) => bail!("no memory"),
+        }
+    }
+    Ok(end)
+}
+
 /// The stub of the reply to a logon that is granted.
-pub fn write_granted(alloc: Global) -> Result<Blob, NoMemory> {
+fn write_granted(alloc: Global) -> Result<Blob, NoMemory> {
     let reply = granted_reply(alloc)?;
     write_reply(alloc, &reply)
 }

@@ -1,10 +1,14 @@
 //! What each operation of the library gives on fixed input, or how long it takes on this machine.
 #![tactic(auto)]
 
+mod accounts;
 mod bench;
+mod digests;
+mod keys;
 mod logon;
 mod measure;
 mod operation;
+mod packets;
 mod plain;
 mod sealing;
 mod stream;
@@ -80,7 +84,7 @@ fn print_result<R: Print + AllocGlobal>(
     bench: &mut Bench,
     operation: Operation,
 ) -> anyhow::Result<()> {
-    let result = bench.perform(rt.alloc(), operation)?;
+    let result = bench.perform(rt.alloc(), operation, 1)?;
     let digits = hex::encode(rt.alloc(), result.as_slice())?;
     println!(rt; "{} {digits}", operation.name())?;
     Ok(())

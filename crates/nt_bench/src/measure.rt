@@ -8,8 +8,8 @@ use std::time::Instant;
 /// The nanoseconds that the rounds of one operation take together, about.
 const TIME: u128 = 500_000_000;
 
-/// The nanoseconds that one round takes at least.
-const ROUND: u128 = 10_000_000;
+/// The nanoseconds that one round takes at least: few, so that some round is undisturbed on a machine that does other work too.
+const ROUND: u128 = 200_000;
 
 /// The most rounds of one operation.
 const ROUNDS: u32 = 1_000_000;
@@ -41,7 +41,8 @@ fn turns_of_a_round<R: Clock + AllocGlobal>(
 ) -> anyhow::Result<u32> {
     let mut turns: u32 = 1;
     for _ in 0..31 {
-        if time_of(rt, bench, operation, turns)? >= ROUND {
+        let first = time_of(rt, bench, operation, turns)?;
+        if first.min(time_of(rt, bench, operation, turns)?) >= ROUND {
             break;
         }
         turns = turns.saturating_mul(2);
@@ -56,10 +57,7 @@ fn time_of<R: Clock + AllocGlobal>(
     operation: Operation,
     turns: u32,
 ) -> anyhow::Result<u128> {
-    let alloc = rt.alloc();
     let start = Instant::now(rt)?;
-    for _ in 0..turns {
-        bench.perform(alloc, operation)?;
-    }
+    bench.perform(rt.alloc(), operation, turns)?;
     Ok(start.elapsed(rt)?.as_nanos())
 }

@@ -3,23 +3,11 @@
 
 use ntlm_flags::{NTLMSSP_NEGOTIATE_UNICODE, NTLMSSP_NEGOTIATE_VERSION};
 use ntlm_messages::AuthenticateView;
-
-/// A request or response that lends its stub, and its authentication value.
-#[derive(Clone, Copy, Debug)]
-pub struct PlainUnit<'a> {
-    pub first: bool,
-    pub last: bool,
-    pub call: u32,
-    pub hint: u32,
-    pub context: u16,
-    pub opnum: u16,
-    pub stub: &'a [u8],
-    pub value: &'a [u8],
-}
+use rpc_units::{BodyView, TrailerView, UnitView};
 
 /// The request or response that the bytes are, by the tests of `view_unit`; None of all other bytes.
 #[inline(never)]
-pub fn view_plain(bytes: &[u8]) -> Option<PlainUnit<'_>> {
+pub fn view_plain(bytes: &[u8]) -> Option<UnitView<'_>> {
     if bytes.len() < 16 || bytes[0] != 5 || bytes[1] > 1 || bytes[4] != 0x10 {
         return None;
     }
@@ -33,7 +21,7 @@ pub fn view_plain(bytes: &[u8]) -> Option<PlainUnit<'_>> {
     }
     let authentication = usize::from(u16_from(bytes, 10));
     let mut end = bytes.len();
-    let mut value: &[u8] = &[];
+    let mut trailer = None;
     if authentication != 0 {
         if bytes.len() < 32 + authentication {
             return None;
@@ -44,21 +32,41 @@ pub fn view_plain(bytes: &[u8]) -> Option<PlainUnit<'_>> {
             return None;
         }
         end = place - padding;
-        value = &bytes[place + 8..];
+        trailer = Some(TrailerView {
+            kind: bytes[place],
+            level: bytes[place + 1],
+            context: u32_from(bytes, place + 4),
+            value: &bytes[place + 8..],
+        });
     }
     if kind == 0 && bytes[3] & 0x80 != 0 || end < 24 {
         return None;
     }
-    Some(PlainUnit {
+    Some(UnitView {
         first: bytes[3] & 1 != 0,
         last: bytes[3] & 2 != 0,
         call: u32_from(bytes, 12),
-        hint: u32_from(bytes, 16),
-        context: u16_from(bytes, 20),
-        opnum: if kind == 0 { u16_from(bytes, 22) } else { 0 },
-        stub: &bytes[24..end],
-        value,
+        body: body_plain(kind, bytes, &bytes[24..end]),
+        trailer,
     })
+}
+
+/// The body of a request or a response with that stub.
+fn body_plain<'a>(kind: u8, bytes: &[u8], stub: &'a [u8]) -> BodyView<'a> {
+    let (hint, context) = (u32_from(bytes, 16), u16_from(bytes, 20));
+    if kind != 0 {
+        return BodyView::Response {
+            hint,
+            context,
+            stub,
+        };
+    }
+    BodyView::Request {
+        hint,
+        context,
+        opnum: u16_from(bytes, 22),
+        stub,
+    }
 }
 
 /// The AUTHENTICATE that the bytes are, by the tests of `view_authenticate`; None of all other bytes.

@@ -1,6 +1,7 @@
 //! Two sides of a session.
 
-use crate::bench::ramp;
+use crate::bench::{Outcome, end_of, ramp};
+use anyhow::bail;
 use ntlm_flags::{
     NTLMSSP_NEGOTIATE_128, NTLMSSP_NEGOTIATE_EXTENDED_SESSIONSECURITY, NTLMSSP_NEGOTIATE_KEY_EXCH,
 };
@@ -31,8 +32,20 @@ impl Sides {
         }
     }
 
+    /// Carries the unit so many times from the client to the server. Gives the last signature.
+    pub fn carry(&mut self, turns: u32) -> anyhow::Result<Outcome> {
+        let mut signature = [0; 16];
+        for _ in 0..turns {
+            match self.carry_once() {
+                Ok(last) => signature = last,
+                Err(_) => bail!("a unit was refused"),
+            }
+        }
+        Ok(end_of(&signature))
+    }
+
     /// Seals a unit at the client and opens it at the server. Gives the signature.
-    pub fn carry(&mut self) -> Result<[u8; 16], SealRefused> {
+    fn carry_once(&mut self) -> Result<[u8; 16], SealRefused> {
         let signature = self.client.seal(&mut self.unit, 24, 24 + 1024)?;
         self.server.open(&mut self.unit, 24, 24 + 1024, &signature)?;
         Ok(signature)

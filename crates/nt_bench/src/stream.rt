@@ -2,7 +2,7 @@
 
 ghost use Rattle.std.specs.Prelude.{◌≡◌, ◌+◌, ◌*◌, ◌^◌, ◌<◌};
 
-use crate::bench::{KEY, ramp};
+use crate::bench::{KEY, Outcome, end_of, ramp};
 use rc4_stream::Rc4;
 use std::marker::Model;
 
@@ -37,11 +37,13 @@ impl RunningStream {
         }
     }
 
-    /// Combines the bytes with the next piece of the stream, and gives them. After 2^32 - 1 pieces the stream begins anew.
-    pub fn next_piece(&mut self) -> &[u8] {
-        self.make_room();
-        self.combine();
-        &self.bytes
+    /// Combines the bytes with so many pieces of the stream, one after the other. After 2^32 - 1 pieces the stream begins anew.
+    pub fn pieces(&mut self, turns: u32) -> Outcome {
+        for _ in 0..turns {
+            self.make_room();
+            self.combine();
+        }
+        end_of(&self.bytes)
     }
 
     /// Begins anew where no further piece can be counted.
