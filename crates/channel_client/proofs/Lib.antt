@@ -1,0 +1,4 @@
+pub mod CauseLaws
+pub mod EffectLaws
+pub mod StubLaws
+pub mod TurnLaws

@@ -1,0 +1,284 @@
+//! The channel.
+
+ghost use Rattle.std.specs.Prelude.{◌≡◌, ◌≤◌, length, IfOk, OnOk, OnErr};
+ghost use Rattle.logon_stubs.specs.Writing.{CanWriteNetworkInfo};
+ghost use Rattle.channel_client.specs.Machine.{CanWriteStep, fresh_requester, ask_of, AsksBy, needs_challenge, can_start, start_of, wait_for, hear, settle, act, take_of, lose_of, end_turn, remove_first, place_of};
+
+use crate::answers::{AskRefused, TakeRefused, Taken};
+use crate::caller::Caller;
+use crate::hearing::{Hearing, hear_body};
+use crate::judging::{Judgement, judge};
+use crate::starting::{begin_with, bind_frames};
+use crate::state::{Pending, Standing, Step, Waiting};
+use crate::turn::Turn;
+use logon_stubs::NetworkInfo;
+use outside::DropCause;
+use rpc_units::Unit;
+use std::alloc::Global;
+use std::marker::Model;
+use std::mem;
+use wire_base::{Frames, Name, NoMemory, Units};
+
+/// The most logons that wait for one channel (this project's own choice).
+pub const WAITING_LIMIT: usize = 64;
+
+/// One end of a secure channel, the one that asks, and the logons that wait for it. Clauses see it as the record of what it keeps.
+#[derive(Drop)]
+pub struct Channel {
+    caller: Caller,
+    standing: Standing,
+    waiting: Vec<Waiting>,
+    next_place: u32,
+    next_call: u32,
+    turn: Option<Pending>,
+}
+
+impl Model for Channel {
+    ghost use Rattle.logon_stubs.specs.Parts.{FitsText};
+    ghost use Rattle.channel_client.specs.Machine.{CanWriteTurn, CanWriteWaiting};
+    ghost use Rattle.channel_client.specs.State.{Requester};
+
+    ghost Value = { Requester };
+
+    ghost view = { λ c. record { caller = c.caller; standing = c.standing; waiting = c.waiting.items; next_place = c.next_place; next_call = c.next_call; turn = c.turn } };
+
+    ghost invariant = { λ c. FitsText c.caller.computer × FitsText c.caller.account × CanWriteWaiting c.waiting.items × CanWriteTurn c.turn };
+}
+
+impl Channel {
+    /// A channel that is none, for which nobody waits: of the account with this secret, which is its NT hash, and this name of at most 65 units; of
+    /// this computer; and of this type (MS-NRPC 2.2.1.3.13). `NoMemory` where no memory was found.
+    pub fn new(
+        alloc: Global,
+        secret: [u8; 16],
+        computer: Name,
+        account: Units,
+        kind: u16,
+    ) -> Result<Channel, NoMemory>
+        requires { length account ≤ 65 }
+        ensures { IfOk result (λ channel. channel ≡ fresh_requester
+            (record { secret = secret; computer = computer; account = account; kind = kind })) }
+    {
+        let _short = computer.bytes();
+        let computer = computer.units(alloc)?;
+        let caller = Caller {
+            secret,
+            computer,
+            account,
+            kind,
+        };
+        Ok(Channel {
+            caller,
+            standing: Standing::Nothing,
+            waiting: Vec::new(alloc),
+            next_place: 0,
+            next_call: 1,
+            turn: None,
+        })
+    }
+
+    /// Lets a logon wait behind those that wait, and gives its place, counted from 0 modulo 2^32, which becomes the logon's id. A logon in a turn
+    /// waits too.
+    ///
+    /// `QueueFull` exactly where 64 wait. It and `Memory` change nothing.
+    pub fn ask(&mut self, logon: NetworkInfo) -> Result<u32, AskRefused>
+        requires { CanWriteNetworkInfo logon }
+        ensures { AsksBy result (ask_of self.old logon) self.old self.new }
+    {
+        if self.waiting.len() >= WAITING_LIMIT {
+            return Err(AskRefused::QueueFull);
+        }
+        let place = self.next_place;
+        let info = NetworkInfo {
+            logon_id: u64::from(place),
+            ..logon
+        };
+        self.waiting.push(Waiting { place, info })?;
+        self.next_place = place.wrapping_add(1);
+        Ok(place)
+    }
+
+    /// Whether a turn that starts draws a challenge: true exactly where the channel is none. It takes no memory.
+    pub fn needs_challenge(&self) -> bool
+        ensures { result ≡ needs_challenge self.now.standing }
+    {
+        match &self.standing {
+            Standing::Nothing => true,
+            Standing::Half { .. } | Standing::Open(_) => false,
+        }
+    }
+
+    /// Whether a turn can start: true exactly where somebody waits and no turn is out. It takes no memory.
+    pub fn can_start(&self) -> bool
+        ensures { result ≡ can_start self.now.turn self.now.waiting }
+    {
+        self.turn.is_none() && !self.waiting.is_empty()
+    }
+
+    /// Starts the turn of the first logon that waits: gives the right to it, and the frames of its bind. Its call is NetrServerReqChallenge with the
+    /// challenge where the channel is none, NetrServerAuthenticate2 where both challenges are known, and where it is open NetrLogonSamLogon of the
+    /// logon, with the timestamp. Else the challenge isn't looked at, nor is the timestamp.
+    ///
+    /// None exactly where nobody waits or a turn is out. `NoMemory` where no memory was found; then nothing changes.
+    pub fn start_turn(
+        &mut self,
+        alloc: Global,
+        timestamp: u32,
+        challenge: [u8; 8],
+    ) -> Result<Option<(Turn, Frames)>, NoMemory>
+        ensures answer { IfOk result (λ given. given ≡ (start_of self.old timestamp challenge).answer) }
+        ensures state { OnOk result (self.new ≡ (start_of self.old timestamp challenge).state) }
+        ensures unchanged { OnErr result (self.new ≡ self.old) }
+    {
+        if self.turn.is_some() {
+            return Ok(None);
+        }
+        let Some(first) = self.waiting.first() else {
+            return Ok(None);
+        };
+        let place = first.place;
+        let info = first.info.copy(alloc)?;
+        let caller = self.caller.copy(alloc)?;
+        let frames = bind_frames(alloc, self.next_call)?;
+        let standing = mem::replace(&mut self.standing, Standing::Nothing);
+        let (standing, call) = begin_with(standing, caller, info, timestamp, challenge);
+        self.standing = standing;
+        self.wait_for(place, Step::Bind(call));
+        Ok(Some((Turn::new(), frames)))
+    }
+
+    /// Takes a whole unit that came on the turn's link. `Skip` exactly where its call number isn't the one that the turn waits for; the right comes back
+    /// with it, and with `Next`. `Dropped` has the first cause, in the order of docs/FORMATS.md.
+    ///
+    /// `Memory` where no memory was found; the right comes back, and nothing changes.
+    pub fn take(&mut self, alloc: Global, turn: Turn, unit: &Unit) -> Result<Taken, TakeRefused>
+        ensures answer { IfOk result (λ taken. taken ≡ (take_of self.old unit.now).taken) }
+        ensures state { OnOk result (self.new ≡ (take_of self.old unit.now).state) }
+        ensures unchanged { OnErr result (self.new ≡ self.old) }
+    {
+        match self.hear(alloc, unit) {
+            Ok(heard) => Ok(self.act(turn, heard)),
+            Err(_) => Err(TakeRefused::Memory(turn)),
+        }
+    }
+
+    /// Gives the turn up, for a cause outside of the channel: the first logon waits no more, and the channel is none. Gives the logon's place. It
+    /// takes no memory.
+    pub fn lose(&mut self, _turn: Turn, _cause: DropCause) -> u32
+        ensures place { result ≡ (lose_of self.old).place }
+        ensures state { self.new ≡ (lose_of self.old).state }
+    {
+        self.give_up()
+    }
+
+    /// What a unit comes to for the turn.
+    fn hear(&self, alloc: Global, unit: &Unit) -> Result<Hearing, NoMemory>
+        ensures { IfOk result (λ heard. heard ≡ hear self.now.turn unit.now self.now.next_call) }
+    {
+        match &self.turn {
+            Some(pending) if unit.call == pending.number => {
+                hear_body(alloc, &unit.body, &pending.step, self.next_call)
+            }
+            _ => Ok(Hearing::Skip),
+        }
+    }
+
+    /// Does what a unit comes to.
+    fn act(&mut self, turn: Turn, heard: Hearing) -> Taken
+        ensures answer { result ≡ (act heard self.old).taken }
+        ensures state { self.new ≡ (act heard self.old).state }
+    {
+        match heard {
+            Hearing::Skip => Taken::Skip(turn),
+            Hearing::Next(question, frames) => {
+                let place = self.place();
+                self.wait_for(place, Step::Reply(question));
+                Taken::Next(turn, frames)
+            }
+            Hearing::Reply(question, reply) => {
+                let standing = mem::replace(&mut self.standing, Standing::Nothing);
+                let judgement = judge(question, reply, standing, self.caller.secret);
+                self.settle(judgement)
+            }
+            Hearing::Drop(cause) => self.settle(Judgement::Drop(cause)),
+        }
+    }
+
+    /// Settles a judgement. How the channel stands doesn't matter.
+    fn settle(&mut self, judgement: Judgement) -> Taken
+        ensures answer { result ≡ (settle judgement self.old).taken }
+        ensures state { self.new ≡ (settle judgement self.old).state }
+    {
+        match judgement {
+            Judgement::Half(client, server) => {
+                self.end_turn(Standing::Half { client, server });
+                Taken::Half
+            }
+            Judgement::Opened(opened) => {
+                self.end_turn(Standing::Open(opened));
+                Taken::Opened
+            }
+            Judgement::Answer(opened, verdict) => {
+                let place = self.place();
+                self.remove_first(Standing::Open(opened));
+                Taken::Answer(place, verdict)
+            }
+            Judgement::Drop(cause) => {
+                let place = self.give_up();
+                Taken::Dropped(place, cause)
+            }
+        }
+    }
+
+    /// The turn of the logon of that place waits for the answer to the bind or request that takes the next number.
+    fn wait_for(&mut self, place: u32, step: Step)
+        requires { CanWriteStep step }
+        ensures { self.new ≡ wait_for self.old place step }
+    {
+        let number = self.next_call;
+        self.turn = Some(Pending {
+            number,
+            place,
+            step,
+        });
+        self.next_call = number.wrapping_add(1);
+    }
+
+    /// The place of the logon that the turn is for; 0 where none is out.
+    fn place(&self) -> u32
+        ensures { result ≡ place_of self.now.turn }
+    {
+        match &self.turn {
+            Some(pending) => pending.place,
+            None => 0,
+        }
+    }
+
+    /// The first logon waits no more, and the channel is none. Gives the logon's place.
+    fn give_up(&mut self) -> u32
+        ensures place { result ≡ (lose_of self.old).place }
+        ensures state { self.new ≡ (lose_of self.old).state }
+    {
+        let place = self.place();
+        self.remove_first(Standing::Nothing);
+        place
+    }
+
+    /// The turn ends, and the channel stands so.
+    fn end_turn(&mut self, standing: Standing)
+        ensures { self.new ≡ end_turn standing self.old }
+    {
+        self.standing = standing;
+        self.turn = None;
+    }
+
+    /// The turn ends, the channel stands so, and the first logon waits no more.
+    fn remove_first(&mut self, standing: Standing)
+        ensures { self.new ≡ remove_first standing self.old }
+    {
+        if !self.waiting.is_empty() {
+            let _first = self.waiting.remove(0);
+        }
+        self.end_turn(standing);
+    }
+}

@@ -1,0 +1,167 @@
+//! What a unit comes to for the turn that is out.
+
+ghost use Rattle.std.specs.Prelude.{◌≡◌, ◌<◌, ◌^◌, IfOk, Ok, length};
+ghost use Rattle.logon_stubs.specs.Calls.{call_of, opnum_of_call};
+ghost use Rattle.logon_stubs.specs.Writing.{CanWriteCall, written_call};
+ghost use Rattle.end_links.specs.Binding.{limit_of};
+ghost use Rattle.end_links.specs.Sending.{frames_of, request_of};
+ghost use Rattle.channel_client.specs.Machine.{CanWriteStep, question_of, opnum_asked, is_accepting, hear_ack, hear_stub, hear_body};
+
+use crate::state::{Question, Step};
+use end_links::{call_frames, fragment_limit, request};
+use logon_stubs::{Call, Reply, StubRefused, read_reply, write_call};
+use outside::DropCause;
+use rpc_units::{Body, Results};
+use std::alloc::Global;
+use wire_base::{Blob, Frames, NoMemory};
+
+/// What a unit comes to for the turn that is out.
+#[derive(Debug, Drop)]
+pub enum Hearing {
+    /// It answers nothing that the turn waits for.
+    Skip,
+    /// The request of that question goes out, in these frames.
+    Next(Question, Frames),
+    /// It is the reply to the question.
+    Reply(Question, Reply),
+    /// The turn ends without an answer.
+    Drop(DropCause),
+}
+
+/// What the body of a unit comes to for a turn that waits for its number. A request would go out with the number `next`.
+pub(crate) fn hear_body(
+    alloc: Global,
+    body: &Body,
+    step: &Step,
+    next: u32,
+) -> Result<Hearing, NoMemory>
+    requires { CanWriteStep step.now }
+    ensures { IfOk result (λ heard. heard ≡ hear_body body.now step.now next) }
+{
+    match body {
+        Body::BindNak(_) => Ok(Hearing::Drop(DropCause::Bind)),
+        Body::BindAck {
+            receive,
+            results,
+            ..
+        } => hear_ack(alloc, is_accepting(results), step, *receive, next),
+        Body::Fault { status, .. } => Ok(Hearing::Drop(DropCause::Fault(*status))),
+        Body::Response { stub, .. } => hear_stub(alloc, step, stub.bytes()),
+        Body::Bind { .. } | Body::Request { .. } | Body::Auth3 => {
+            Ok(Hearing::Drop(DropCause::BadReply))
+        }
+    }
+}
+
+/// Whether a bind_ack accepts the first context.
+fn is_accepting(results: &Results) -> bool
+    ensures { result ≡ is_accepting results.now }
+{
+    match results.get(0) {
+        Some(first) => first.0 == 0,
+        None => false,
+    }
+}
+
+/// What a bind_ack comes to, of a peer that receives so many bytes.
+fn hear_ack(
+    alloc: Global,
+    accepting: bool,
+    step: &Step,
+    receive: u16,
+    next: u32,
+) -> Result<Hearing, NoMemory>
+    requires { CanWriteStep step.now }
+    ensures { IfOk result (λ heard. heard ≡ hear_ack accepting step.now receive next) }
+{
+    if !accepting {
+        return Ok(Hearing::Drop(DropCause::Bind));
+    }
+    match step {
+        Step::Bind(call) => Ok(Hearing::Next(
+            question_of(call),
+            request_frames(alloc, call, receive, next)?,
+        )),
+        Step::Reply(_) => Ok(Hearing::Drop(DropCause::BadReply)),
+    }
+}
+
+/// The frames of the request of a call, on context 0, for a peer that receives so many bytes.
+fn request_frames(alloc: Global, call: &Call, receive: u16, number: u32) -> Result<Frames, NoMemory>
+    requires { CanWriteCall call.now }
+    ensures { IfOk result (λ frames. frames ≡ frames_of
+        (request_of number 0 (opnum_of_call call.now) (written_call call.now))
+        (limit_of receive)) }
+{
+    let stub = call_stub(alloc, call)?;
+    let unit = request(number, 0, opnum(call), stub);
+    call_frames(alloc, &unit, fragment_limit(receive))
+}
+
+/// The stub of a call, which is short enough for the hint of a request.
+fn call_stub(alloc: Global, call: &Call) -> Result<Blob, NoMemory>
+    requires { CanWriteCall call.now }
+    ensures exact { IfOk result (λ stub. stub ≡ written_call call.now) }
+    ensures short { IfOk result (λ stub. length stub < 2 ^ 32) }
+{
+    let stub = write_call(alloc, call)?;
+    read_stub(call, stub.bytes());
+    Ok(stub)
+}
+
+/// The stub of a call has fewer than 2^20 bytes. It reads them, so that this is known.
+#[tactic(auto, using(crate::proofs::StubLaws::stub_short))]
+fn read_stub(call: &Call, stub: &[u8])
+    requires writable { CanWriteCall call.now }
+    requires again { call_of (opnum_of_call call.now) stub.now ≡ Ok call.now }
+    requires exact { stub.now ≡ written_call call.now }
+    ensures { length stub.now < 2 ^ 20 }
+{}
+
+/// What a reply is judged by, of a call.
+fn question_of(call: &Call) -> Question
+    ensures { result ≡ question_of call.now }
+{
+    match call {
+        Call::Logon(_) | Call::Logoff(_) => Question::Logon,
+        Call::Challenge(value) => Question::Challenge(value.challenge),
+        Call::Authenticate(_) => Question::Authenticate,
+    }
+}
+
+/// The number of a call.
+fn opnum(call: &Call) -> u16
+    ensures { result ≡ opnum_of_call call.now }
+{
+    match call {
+        Call::Logon(_) => 2,
+        Call::Logoff(_) => 3,
+        Call::Challenge(_) => 4,
+        Call::Authenticate(_) => 15,
+    }
+}
+
+/// The number of the call that asks a question.
+fn opnum_asked(question: Question) -> u16
+    ensures { result ≡ opnum_asked question }
+{
+    match question {
+        Question::Challenge(_) => 4,
+        Question::Authenticate => 15,
+        Question::Logon => 2,
+    }
+}
+
+/// What the stub of a response comes to.
+fn hear_stub(alloc: Global, step: &Step, stub: &[u8]) -> Result<Hearing, NoMemory>
+    ensures { IfOk result (λ heard. heard ≡ hear_stub step.now stub.now) }
+{
+    match step {
+        Step::Bind(_) => Ok(Hearing::Drop(DropCause::BadReply)),
+        Step::Reply(question) => match read_reply(alloc, opnum_asked(*question), stub) {
+            Ok(reply) => Ok(Hearing::Reply(*question, reply)),
+            Err(StubRefused::Memory) => Err(NoMemory),
+            Err(_) => Ok(Hearing::Drop(DropCause::BadReply)),
+        },
+    }
+}

@@ -1,0 +1,147 @@
+//! How a reply is judged.
+
+ghost use Rattle.std.specs.Prelude.{◌≡◌, ◌==◌};
+ghost use Rattle.logon_stubs.specs.Status.{access_denied};
+ghost use Rattle.channel_client.specs.Machine.{judge_challenge, judge_credential, judge_auth, judge_status, judge_return, judge_logon, judge};
+
+use crate::hidden::crypt_key;
+use crate::opened::Opened;
+use crate::state::{Question, Standing};
+use channel_keys::{RC4, SUPPORTED_FLAGS, cred, has_flag, session_key};
+use logon_stubs::{
+    AuthReply, ChallengeReply, LogonReply, Reply, STATUS_ACCESS_DENIED, SamInfo, Verdict,
+};
+use outside::DropCause;
+use wire_base::Authenticator;
+
+/// What a reply comes to.
+#[derive(Drop)]
+pub enum Judgement {
+    /// Both challenges are known: the client's and the server's.
+    Half([u8; 8], [u8; 8]),
+    /// The channel opens.
+    Opened(Opened),
+    /// The channel stays open, and the logon has its verdict.
+    Answer(Opened, Verdict),
+    /// The turn ends without an answer.
+    Drop(DropCause),
+}
+
+/// What the reply to a question comes to, by how far the channel is.
+pub(crate) fn judge(
+    question: Question,
+    reply: Reply,
+    standing: Standing,
+    secret: [u8; 16],
+) -> Judgement
+    ensures { result ≡ judge question reply standing secret }
+{
+    match (question, reply) {
+        (Question::Challenge(client), Reply::Challenge(reply)) => judge_challenge(reply, client),
+        (Question::Authenticate, Reply::Authenticate(reply)) => judge_auth(reply, standing, secret),
+        (Question::Logon, Reply::Logon(reply)) => judge_logon(reply, standing),
+        _ => Judgement::Drop(DropCause::BadReply),
+    }
+}
+
+/// What the reply to NetrServerReqChallenge comes to.
+fn judge_challenge(reply: ChallengeReply, client: [u8; 8]) -> Judgement
+    ensures { result ≡ judge_challenge (reply.status == 0) client reply.challenge }
+{
+    if reply.status != 0 {
+        return Judgement::Drop(DropCause::Denied);
+    }
+    Judgement::Half(client, reply.challenge)
+}
+
+/// What the reply to NetrServerAuthenticate2 comes to.
+fn judge_auth(reply: AuthReply, standing: Standing, secret: [u8; 16]) -> Judgement
+    ensures { result ≡ judge_auth (reply.status == 0) standing secret reply.credential reply.flags }
+{
+    if reply.status != 0 {
+        return Judgement::Drop(DropCause::Denied);
+    }
+    match standing {
+        Standing::Half { client, server } => {
+            let key = session_key(secret, client, server, SUPPORTED_FLAGS);
+            let right = reply.credential == cred(key, server);
+            judge_credential(right, secret, client, server, reply.flags)
+        }
+        Standing::Nothing | Standing::Open(_) => Judgement::Drop(DropCause::NotNext),
+    }
+}
+
+/// What a right or wrong credential of the server comes to, with the flags that it grants.
+fn judge_credential(
+    right: bool,
+    secret: [u8; 16],
+    client: [u8; 8],
+    server: [u8; 8],
+    flags: u32,
+) -> Judgement
+    ensures { result ≡ judge_credential right secret client server flags }
+{
+    if !right {
+        return Judgement::Drop(DropCause::NotNext);
+    }
+    if has_flag(SUPPORTED_FLAGS, flags) && has_flag(flags, RC4) {
+        return Judgement::Opened(Opened::new(secret, client, server, SUPPORTED_FLAGS));
+    }
+    Judgement::Drop(DropCause::BadReply)
+}
+
+/// What the reply to NetrLogonSamLogon comes to.
+fn judge_logon(reply: LogonReply, standing: Standing) -> Judgement
+    ensures { result ≡ judge_logon (reply.status == access_denied) standing
+        reply.returned reply.status reply.level reply.info }
+{
+    if reply.status == STATUS_ACCESS_DENIED {
+        return Judgement::Drop(DropCause::Denied);
+    }
+    match standing {
+        Standing::Open(opened) => judge_return(
+            reply.returned,
+            reply.status,
+            reply.level,
+            reply.info,
+            opened,
+        ),
+        Standing::Nothing | Standing::Half { .. } => Judgement::Drop(DropCause::NotNext),
+    }
+}
+
+/// What it comes to on an open channel, by the authenticator that is returned.
+fn judge_return(
+    returned: Option<Authenticator>,
+    status: u32,
+    level: u16,
+    info: Option<SamInfo>,
+    opened: Opened,
+) -> Judgement
+    ensures { result ≡ judge_return returned status level info opened }
+{
+    let Some(returned) = returned else {
+        return Judgement::Drop(DropCause::NotNext);
+    };
+    let mut opened = opened;
+    if !opened.take_return(returned.credential) {
+        return Judgement::Drop(DropCause::NotNext);
+    }
+    judge_status(status, level, info, opened)
+}
+
+/// What it comes to once the return credential was compared.
+fn judge_status(status: u32, level: u16, info: Option<SamInfo>, opened: Opened) -> Judgement
+    ensures { result ≡ judge_status (status == 0) status level info opened }
+{
+    if status != 0 {
+        return Judgement::Answer(opened, Verdict::Status(status));
+    }
+    match info {
+        Some(info) if level == 2 => {
+            let key = crypt_key(opened.key(), info.key);
+            Judgement::Answer(opened, Verdict::Granted(SamInfo { key, ..info }))
+        }
+        _ => Judgement::Drop(DropCause::BadReply),
+    }
+}

@@ -1,0 +1,20 @@
+//! The end of Netlogon's secure channel that asks (MS-NRPC 3.1.4 and 3.5.4): one channel that all logons of the end share, each in a turn of its
+//! own. It sends and hears units of RPC as values, and knows no links.
+#![tactic(auto)]
+
+mod answers;
+mod caller;
+mod channel;
+mod hearing;
+mod hidden;
+mod judging;
+pub mod laws;
+mod opened;
+mod starting;
+mod state;
+mod turn;
+
+pub use answers::{AskRefused, TakeRefused, Taken};
+pub use channel::{Channel, WAITING_LIMIT};
+pub use hidden::crypt_key;
+pub use turn::Turn;

@@ -1,0 +1,51 @@
+//! What a channel keeps.
+
+use crate::opened::Opened;
+use logon_stubs::{Call, NetworkInfo};
+
+/// How far the channel is (MS-NRPC 3.1.4.1).
+#[derive(Drop)]
+pub enum Standing {
+    /// It is none.
+    Nothing,
+    /// Both challenges are known, and no credential was compared yet.
+    Half { client: [u8; 8], server: [u8; 8] },
+    /// It is open.
+    Open(Opened),
+}
+
+/// A request that waits for its reply, by what the reply is judged by.
+#[derive(Clone, Copy, Debug, PartialEq, Eq)]
+pub enum Question {
+    /// NetrServerReqChallenge, with the client's challenge that it carried.
+    Challenge([u8; 8]),
+    /// NetrServerAuthenticate2.
+    Authenticate,
+    /// NetrLogonSamLogon.
+    Logon,
+}
+
+/// What a turn waits for.
+#[derive(Drop)]
+pub enum Step {
+    /// The answer to the bind, behind which this call goes out.
+    Bind(Call),
+    /// The reply to the request.
+    Reply(Question),
+}
+
+/// The turn that is out: the number of the bind or request whose answer it waits for, the place of the logon that it is for, and what it waits
+/// for.
+#[derive(Drop)]
+pub struct Pending {
+    pub number: u32,
+    pub place: u32,
+    pub step: Step,
+}
+
+/// A logon that waits, and its place: the number, counted from 0 modulo 2^32, of the logons that were let wait before it.
+#[derive(Debug, Drop)]
+pub struct Waiting {
+    pub place: u32,
+    pub info: NetworkInfo,
+}
