@@ -3,7 +3,8 @@
 use Rattle.std.specs.Prelude.{ℕ, ◌≡◌, ◌+◌, ◌%◌, ◌^◌, ◌==◌, ◌&&◌, Bool, true, false, List, [], ◌∷◌, ◌++◌, length, nat_le, replicate, Option, Some, None, Result, Ok, Err, bytes_eq}
 use Rattle.std.specs.List.{AllByRecursion}
 use Rattle.channel_keys.specs.Credentials.{cred_of}
-use Rattle.channel_keys.specs.Flags.{has_flag, rc4_flag, supported_flags}
+use Rattle.ntlm_flags.specs.Flags.{has_flag}
+use Rattle.channel_keys.specs.Flags.{rc4_flag, supported_flags}
 use Rattle.channel_keys.specs.SessionKeys.{key_of}
 use Rattle.authenticators.specs.Sequences.{authenticator_of}
 use Rattle.wire_base.specs.declared.authenticator.Authenticator.{Authenticator}

@@ -7,7 +7,8 @@ ghost use Rattle.channel_client.specs.Machine.{judge_challenge, judge_credential
 use crate::hidden::crypt_key;
 use crate::opened::Opened;
 use crate::state::{Question, Standing};
-use channel_keys::{RC4, SUPPORTED_FLAGS, cred, has_flag, session_key};
+use channel_keys::{RC4, SUPPORTED_FLAGS, cred, session_key};
+use ntlm_flags::has_flag;
 use logon_stubs::{
     AuthReply, ChallengeReply, LogonReply, Reply, STATUS_ACCESS_DENIED, SamInfo, Verdict,
 };

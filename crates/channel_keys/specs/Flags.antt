@@ -1,5 +1,5 @@
 -- The negotiated options of a secure channel (MS-NRPC 3.1.4.2, NegotiateFlags): a 32-bit number with a bit for each.
-use Rattle.std.specs.Prelude.{ℕ, Bool, ◌==◌, bit_and}
+use Rattle.std.specs.Prelude.{ℕ, bit_and}
 
 -- RC4 (the standard's option C)
 abbrev pub rc4_flag : ℕ
@@ -20,10 +20,6 @@ secure_rpc_flag = 0x4000_0000
 -- the flags that ends of this project offer and grant (this project's own choice)
 abbrev pub supported_flags : ℕ
 supported_flags = 0x0000_41FF
-
--- the flag is set
-abbrev pub has_flag : ℕ → ℕ → Bool
-has_flag flags flag = bit_and flags flag == flag
 
 -- the flags granted of those offered, by an end that supports these
 abbrev pub granted_of : ℕ → ℕ → ℕ

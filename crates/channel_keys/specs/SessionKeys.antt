@@ -5,7 +5,8 @@ use Rattle.std.specs.Int.{w32, to_le_bytes, from_le_bytes}
 use Rattle.md5.specs.Md5.{md5}
 use Rattle.des_cipher.specs.Des.{des_of, spread_of}
 use Rattle.digest_parts.specs.Hmac.{hmac_of}
-use Rattle.channel_keys.specs.Flags.{has_flag, strong_key_flag}
+use Rattle.ntlm_flags.specs.Flags.{has_flag}
+use Rattle.channel_keys.specs.Flags.{strong_key_flag}
 
 -- ---- the strong key (3.1.4.3.2)
 

@@ -1,7 +1,7 @@
 //! The negotiated options of a secure channel (MS-NRPC 3.1.4.2, NegotiateFlags).
 
 ghost use Rattle.std.specs.Prelude.{◌≡◌};
-ghost use Rattle.channel_keys.specs.Flags.{has_flag, granted_of};
+ghost use Rattle.channel_keys.specs.Flags.{granted_of};
 
 /// RC4 for what is hidden under the session key.
 pub const RC4: u32 = 0x0000_0004;
@@ -14,13 +14,6 @@ pub const SECURE_RPC: u32 = 0x4000_0000;
 
 /// The flags that ends of this project offer and grant (this project's own choice).
 pub const SUPPORTED_FLAGS: u32 = 0x0000_41ff;
-
-/// Whether a flag is set among the flags of a channel.
-pub fn has_flag(flags: u32, flag: u32) -> bool
-    ensures { result ≡ has_flag flags flag }
-{
-    flags & flag == flag
-}
 
 /// The flags that an end grants of those offered: the ones that it supports (MS-NRPC 3.5.4.4.3, NegotiateFlags).
 pub fn granted_flags(supported: u32, offered: u32) -> u32

@@ -4,10 +4,11 @@ ghost use Rattle.std.specs.Prelude.{◌≡◌, ◌≤◌, ◌++◌, take, drop};
 ghost use Rattle.std.specs.Int.{w32, from_le_bytes};
 ghost use Rattle.channel_keys.specs.SessionKeys.{strong_key_of, des_key_of, key_of, word_plus, halves_sum};
 
-use crate::flags::{STRONG_KEY, has_flag};
+use crate::flags::STRONG_KEY;
 use crate::parts::des_under;
 use digest_parts::hmac_md5;
 use md5::{Digest, Md5};
+use ntlm_flags::has_flag;
 
 /// The session key of a channel with these flags: the strong key where `STRONG_KEY` is set, else the DES key
 /// (MS-NRPC 3.1.4.3).

@@ -5,8 +5,8 @@ use Rattle.std.specs.List.{concat, AllByRecursion}
 use Rattle.std.specs.Int.{Width, w16, w32, byte_len, to_le_bytes}
 use Rattle.std.proofs.lemmas.Bool.{ne_eqb, le-leb, lt-leb, and_from, and_right, cases_Bool}
 use Rattle.std.proofs.lemmas.List.{take_at, drop_at, length-append}
-use Rattle.wire_base.specs.Numbers.{number_at, IsMessageWidth}
-use Rattle.wire_base.proofs.NumberLaws.{number_at-written}
+use Rattle.wire_base.specs.Numbers.{number_at}
+use Rattle.wire_base.proofs.NumberLaws.{IsMessageWidth, number_at-written}
 use Rattle.ntlm_flags.specs.Flags.{has_flag, negotiate_version}
 use Rattle.ntlm_messages.specs.Fields.{short_at, long_at, length_at, offset_at, IsField, gap_of, narrow_gap, narrow_gaps, bytes_if, version_of, mic_of, bytes_of}
 

@@ -3,9 +3,10 @@
 use crate::words::{eight, flags, no_case, sixteen, text, word};
 use channel_keys::{
     AES, BACKUP_CONTROLLER_CHANNEL, CredKey, RC4, SECURE_RPC, STRONG_KEY, SUPPORTED_FLAGS,
-    TRUSTED_DOMAIN_CHANNEL, WORKSTATION_CHANNEL, cred, cred_back, des_key, granted_flags, has_flag,
+    TRUSTED_DOMAIN_CHANNEL, WORKSTATION_CHANNEL, cred, cred_back, des_key, granted_flags,
     session_key, strong_key,
 };
+use ntlm_flags::has_flag;
 use std::alloc::Global;
 
 /// `session_key SECRET CLIENT SERVER FLAGS`: the session key of a channel with these flags.

@@ -5,7 +5,15 @@ use Rattle.std.specs.Int.{Width, w8, w16, w32, w64, w128, byte_len, byte_at, byt
 use Rattle.std.proofs.lemmas.Bool.{cases_lt, le-leb, lt-leb}
 use Rattle.std.proofs.lemmas.List.{take_at, drop_at, take-append-drop, length-append, length-take, length-drop, drop-drop, take-append-le, drop-append-le, get_or-drop, get_or-take, get_or_past, get_or_append_left, get_or-append_right}
 use Rattle.std.proofs.lemmas.Nat.{le_bytes_2, le_bytes_4, le_bytes_8, from_le_bytes-to_le_bytes_2, from_le_bytes-to_le_bytes_4, from_le_bytes-to_le_bytes_8}
-use Rattle.wire_base.specs.Numbers.{number_at, AreBytes, IsMessageWidth}
+use Rattle.wire_base.specs.Numbers.{number_at, AreBytes}
+
+-- the widths of the numbers in messages: 16, 32 and 64 bits
+abbrev pub IsMessageWidth : Width → Type 0
+IsMessageWidth w8 = ⊥
+IsMessageWidth w16 = Unit {0}
+IsMessageWidth w32 = Unit {0}
+IsMessageWidth w64 = Unit {0}
+IsMessageWidth w128 = ⊥
 
 -- ---- bytes
 

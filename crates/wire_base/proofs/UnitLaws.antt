@@ -6,7 +6,7 @@ use Rattle.std.proofs.lemmas.Bool.{cases_eq}
 use Rattle.std.proofs.lemmas.Nat.{from_le_bytes-to_le_bytes_2}
 use Rattle.wire_base.specs.declared.units.UnitsRefused.TheVariants.{Odd}
 use Rattle.wire_base.specs.Numbers.{AreBytes}
-use Rattle.wire_base.specs.Units.{AreUnits, utf16_of, paired, units_of}
+use Rattle.wire_base.specs.Units.{AreUnits, utf16_of, whole_units, units_of}
 use Rattle.wire_base.proofs.NumberLaws.{AreBytes-nil, AreBytes-append, AreBytes-to_le_bytes}
 
 pub utf16_of-nil : utf16_of [] ≡ []
@@ -41,28 +41,28 @@ AreBytes-utf16_of (unit ∷ units) = AreBytes-append (to_le_bytes w16 unit) (utf
 
 -- ---- the first units of bytes
 
-pub paired-utf16_of : (units : List ℕ) → AreUnits units → paired (utf16_of units) ≡ units
+pub whole_units-utf16_of : (units : List ℕ) → AreUnits units → whole_units (utf16_of units) ≡ units
 unfolding utf16_of
-paired-utf16_of [] fits = refl
-paired-utf16_of (unit ∷ units) fits =
-    rw (from_le_bytes-to_le_bytes_2 unit (fits 0), paired-utf16_of units (λ i. fits (suc i))) refl
+whole_units-utf16_of [] fits = refl
+whole_units-utf16_of (unit ∷ units) fits =
+    rw (from_le_bytes-to_le_bytes_2 unit (fits 0), whole_units-utf16_of units (λ i. fits (suc i))) refl
 
-pub utf16_of-paired : (bytes : List ℕ) → AreBytes bytes → length bytes % 2 ≡ 0 → utf16_of (paired bytes) ≡ bytes
+pub utf16_of-whole_units : (bytes : List ℕ) → AreBytes bytes → length bytes % 2 ≡ 0 → utf16_of (whole_units bytes) ≡ bytes
 unfolding utf16_of
-utf16_of-paired [] fits even = refl
-utf16_of-paired (low ∷ []) fits even = absurd (omega arith)
-utf16_of-paired (low ∷ high ∷ rest) fits even =
+utf16_of-whole_units [] fits even = refl
+utf16_of-whole_units (low ∷ []) fits even = absurd (omega arith)
+utf16_of-whole_units (low ∷ high ∷ rest) fits even =
     let first : low < 256 = fits 0 in
     let second : high < 256 = fits 1 in
     let low-is : (low + high * 256) % 256 ≡ low = omega arith in
     let high-is : (low + high * 256) / 256 % 256 ≡ high = omega arith in
-    rw (low-is, high-is, utf16_of-paired rest (λ i. fits (suc (suc i))) (omega arith)) refl
+    rw (low-is, high-is, utf16_of-whole_units rest (λ i. fits (suc (suc i))) (omega arith)) refl
 
-AreUnits-paired : (bytes : List ℕ) → AreBytes bytes → AreUnits (paired bytes)
-AreUnits-paired [] fits i = omega arith
-AreUnits-paired (low ∷ []) fits i = omega arith
-AreUnits-paired (low ∷ high ∷ rest) fits zero = omega (arith, fits 0, fits 1)
-AreUnits-paired (low ∷ high ∷ rest) fits (suc i) = AreUnits-paired rest (λ k. fits (suc (suc k))) i
+AreUnits-whole_units : (bytes : List ℕ) → AreBytes bytes → AreUnits (whole_units bytes)
+AreUnits-whole_units [] fits i = omega arith
+AreUnits-whole_units (low ∷ []) fits i = omega arith
+AreUnits-whole_units (low ∷ high ∷ rest) fits zero = omega (arith, fits 0, fits 1)
+AreUnits-whole_units (low ∷ high ∷ rest) fits (suc i) = AreUnits-whole_units rest (λ k. fits (suc (suc k))) i
 
 -- ---- both directions
 
@@ -72,7 +72,7 @@ unfolding units_of
 units_of-odd bytes odd = rw odd refl
 
 -- an even number of bytes is read
-pub units_of-even : (bytes : List ℕ) → length bytes % 2 ≡ 0 → units_of bytes ≡ Ok (paired bytes)
+pub units_of-even : (bytes : List ℕ) → length bytes % 2 ≡ 0 → units_of bytes ≡ Ok (whole_units bytes)
 unfolding units_of
 units_of-even bytes even = rw even refl
 
@@ -85,23 +85,23 @@ even_from-units_of bytes units read =
     ]
 
 -- and these units
-pub paired_from-units_of : (bytes units : List ℕ) → units_of bytes ≡ Ok units → paired bytes ≡ units
-paired_from-units_of bytes units read =
+pub whole_units_from-units_of : (bytes units : List ℕ) → units_of bytes ≡ Ok units → whole_units bytes ≡ units
+whole_units_from-units_of bytes units read =
     let here = units_of-even bytes (even_from-units_of bytes units read) in cc
 
 -- what is read of written units is the units
 pub units_of-utf16_of : (units : List ℕ) → AreUnits units → units_of (utf16_of units) ≡ Ok units
 units_of-utf16_of units fits =
-    units_of-even (utf16_of units) (omega (arith, length-utf16_of units)) ∙ ap (λ (t : List ℕ). Ok t) (paired-utf16_of units fits)
+    units_of-even (utf16_of units) (omega (arith, length-utf16_of units)) ∙ ap (λ (t : List ℕ). Ok t) (whole_units-utf16_of units fits)
 
 -- what is written of read bytes is the bytes
 pub utf16_of-units_of : (bytes units : List ℕ) → AreBytes bytes → units_of bytes ≡ Ok units → utf16_of units ≡ bytes
 utf16_of-units_of bytes units fits read =
-    rw (← paired_from-units_of bytes units read) (utf16_of-paired bytes fits (even_from-units_of bytes units read))
+    rw (← whole_units_from-units_of bytes units read) (utf16_of-whole_units bytes fits (even_from-units_of bytes units read))
 
 -- each unit that is read has 16 bits
 pub AreUnits-units_of : (bytes units : List ℕ) → AreBytes bytes → units_of bytes ≡ Ok units → AreUnits units
-AreUnits-units_of bytes units fits read = rw (← paired_from-units_of bytes units read) (AreUnits-paired bytes fits)
+AreUnits-units_of bytes units fits read = rw (← whole_units_from-units_of bytes units read) (AreUnits-whole_units bytes fits)
 
 -- for `grind`: the calls that read and write units
 pub ruleset reading = (units_of-odd, units_of-even)

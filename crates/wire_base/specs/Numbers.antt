@@ -1,7 +1,7 @@
 -- Little-endian numbers in a byte string, as every message here has them (MS-NLMP 2.2, C706 14.2).
 -- Bytes are numbers below 256; a width is w16, w32 or w64 of `Rattle.std.specs.Int`.
 use Rattle.std.specs.Prelude.{ℕ, List, Option, Some, None, ◌+◌, ◌<◌, length, nat_le, take, drop, slice_index, if◌then◌else◌}
-use Rattle.std.specs.Int.{Width, w8, w16, w32, w64, w128, byte_len, from_le_bytes}
+use Rattle.std.specs.Int.{Width, w16, w32, w64, byte_len, from_le_bytes}
 
 -- the number of that width whose lowest byte is at the place; None where the bytes end before it does
 unfoldable pub number_at : Width → List ℕ → ℕ → Option ℕ
@@ -20,11 +20,3 @@ u64_of bytes place = number_at w64 bytes place
 -- each item is a byte
 abbrev pub AreBytes : List ℕ → Type 0
 AreBytes bytes = (place : ℕ) → slice_index bytes place < 256
-
--- the widths of the numbers in messages: 16, 32 and 64 bits
-abbrev pub IsMessageWidth : Width → Type 0
-IsMessageWidth w8 = ⊥
-IsMessageWidth w16 = Unit {0}
-IsMessageWidth w32 = Unit {0}
-IsMessageWidth w64 = Unit {0}
-IsMessageWidth w128 = ⊥

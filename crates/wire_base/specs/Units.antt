@@ -14,11 +14,11 @@ unfoldable pub utf16_of : List ℕ → List ℕ
 utf16_of units = flat_map (to_le_bytes w16) units
 
 -- the units of an even number of bytes; an odd last byte belongs to none
-abbrev pub paired : List ℕ → List ℕ
-paired [] = []
-paired (low ∷ []) = []
-paired (low ∷ high ∷ rest) = from_le_bytes w16 (low ∷ high ∷ []) ∷ paired rest
+abbrev pub whole_units : List ℕ → List ℕ
+whole_units [] = []
+whole_units (low ∷ []) = []
+whole_units (low ∷ high ∷ rest) = from_le_bytes w16 (low ∷ high ∷ []) ∷ whole_units rest
 
 -- the units of the bytes; Odd where their number is odd
 unfoldable pub units_of : List ℕ → Result (List ℕ) UnitsRefused
-units_of bytes = if (length bytes % 2 == 0) then Ok (paired bytes) else Err Odd
+units_of bytes = if (length bytes % 2 == 0) then Ok (whole_units bytes) else Err Odd

@@ -22,4 +22,4 @@ pub use names::{
 };
 pub use numbers::{u16_at, u32_at, u64_at};
 pub use sid::{Sid, SidRefused};
-pub use units::{Units, UnitsRefused};
+pub use units::{Units, UnitsRefused, what_is_written_is_read};

@@ -52,7 +52,7 @@ pub fn take_number<V>(entries: List<(u32, V)>, key: u32) -> (List<(u32, V)>, Opt
     take(entries, &key)
 }
 
-/// The entry in place of the first of the number, or at the end.
+/// The entry in place of the first of the number, or at the end. Want of memory drops the entries.
 pub fn put_number<V: Drop>(
     entries: List<(u32, V)>,
     key: u32,
@@ -79,7 +79,7 @@ pub fn take_named<V>(entries: List<(Units, V)>, key: &[u16]) -> (List<(Units, V)
     take(entries, &NameSought { text: key })
 }
 
-/// The entry in place of the first of the name, or at the end.
+/// The entry in place of the first of the name, or at the end. Want of memory drops the entries.
 pub fn put_named<V: Drop>(
     entries: List<(Units, V)>,
     key: Units,
@@ -152,7 +152,8 @@ pub fn what_is_put_is_found<K, V>()
     ensures put_distinct { (same : K → K → Bool) (key : K) (value : V) (entries : list (K × V))
         → IsSameness same → IsMap same entries → IsMap same (put same key value entries) }
     ensures taken_gone { (same : K → K → Bool) (key : K) (entries : list (K × V))
-        → IsSameness same → IsMap same entries → lookup same key (take_out same key entries) ≡ None }
+        → IsSameness same → IsMap same entries
+        → lookup same key (take_out same key entries) ≡ None }
     ensures taken_others { (same : K → K → Bool) (key other : K) (entries : list (K × V))
         → IsSameness same → same key other ≡ false
         → lookup same other (take_out same key entries) ≡ lookup same other entries }

@@ -61,9 +61,11 @@ impl Sid {
     pub fn read(alloc: Global, text: &[u8]) -> Result<Sid, SidRefused>
         ensures exact { UpToMemory SidRefused.Memory result (sid_of text.now) }
         ensures found { IfOk result (λ sid. IsSidText text.now sid) }
-        ensures only { (sid : SidParts) → IsSidText text.now sid → UpToMemory SidRefused.Memory result (Ok sid) }
+        ensures only { (sid : SidParts) → IsSidText text.now sid
+            → UpToMemory SidRefused.Memory result (Ok sid) }
         ensures judged { IfNone (authority_of text.now) (IsErrOf result SidRefused.NotSid) }
-        ensures not_sid { IsErrOf result SidRefused.NotSid → (sid : SidParts) → IsSidText text.now sid → ⊥ }
+        ensures not_sid { IsErrOf result SidRefused.NotSid
+            → (sid : SidParts) → IsSidText text.now sid → ⊥ }
     {
         read_text(alloc, text)
     }
@@ -73,7 +75,8 @@ impl Sid {
         requires authority { authority < 2 ^ 48 }
         requires one { 1 ≤ length numbers.now }
         requires at_most { length numbers.now ≤ 15 }
-        ensures { IfOk result (λ sid. sid ≡ record { authority = authority; numbers = numbers.now }) }
+        ensures { IfOk result (λ sid.
+            sid ≡ record { authority = authority; numbers = numbers.now }) }
     {
         Ok(Sid {
             authority,
@@ -131,7 +134,8 @@ fn read_text(alloc: Global, text: &[u8]) -> Result<Sid, SidRefused>
 /// The numbers of the parts of a rest, at most 15.
 #[tactic(auto, using(crate::proofs::SidLaws::counting))]
 fn read_numbers(alloc: Global, text: Option<&[u8]>) -> Result<Numbers, SidRefused>
-    ensures exact { UpToMemory SidRefused.Memory result (numbers_of 15 (parts_of (option_map (λ t. t.now) text.entry))) }
+    ensures exact { UpToMemory SidRefused.Memory result
+        (numbers_of 15 (parts_of (option_map (λ t. t.now) text.entry))) }
     ensures at_most { IfOk result (λ numbers. length numbers ≤ 15) }
 {
     let mut numbers = Numbers::new(alloc);
@@ -153,7 +157,8 @@ fn read_numbers(alloc: Global, text: Option<&[u8]>) -> Result<Numbers, SidRefuse
 /// The text up to the first '-', and what follows it; no rest where there is none.
 #[tactic(auto, using(crate::proofs::SidLaws::splitting))]
 fn first_part(text: &[u8]) -> (&[u8], Option<&[u8]>)
-    ensures parts { slice_split is_dash text.now ≡ result.0.now ∷ parts_of (option_map (λ t. t.now) result.1) }
+    ensures parts { slice_split is_dash text.now
+        ≡ result.0.now ∷ parts_of (option_map (λ t. t.now) result.1) }
     ensures shorter { IfSome result.1 (λ rest. length rest.now < length text.now) }
 {
     match dash_at(text) {

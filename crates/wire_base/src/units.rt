@@ -1,8 +1,9 @@
 //! Unicode text as it stands in messages: 16-bit units, two bytes each.
 
-ghost use Rattle.std.specs.Prelude.{◌≡◌, ◌%◌, ◌↔◌, length, IfOk, IsErrOf, Err};
+ghost use Rattle.std.specs.Prelude.{ℕ, List, ◌≡◌, ◌%◌, ◌↔◌, length, IfOk, IsErrOf, Err, Ok};
 ghost use Rattle.wire_base.specs.Memory.{UpToMemory};
-ghost use Rattle.wire_base.specs.Units.{paired, units_of, utf16_of};
+ghost use Rattle.wire_base.specs.Numbers.{AreBytes};
+ghost use Rattle.wire_base.specs.Units.{AreUnits, whole_units, units_of, utf16_of};
 
 use crate::blob::Blob;
 use crate::memory::NoMemory;
@@ -108,9 +109,17 @@ impl Units {
     }
 }
 
+/// The law of UTF-16LE: what is written of units is read as the same units, and what is written of units that were read is the bytes.
+/// It does nothing.
+pub fn what_is_written_is_read()
+    ensures units { (units : List ℕ) → AreUnits units → units_of (utf16_of units) ≡ Ok units }
+    ensures bytes { (bytes units : List ℕ) → AreBytes bytes → units_of bytes ≡ Ok units
+        → utf16_of units ≡ bytes }
+{}
+
 /// The unit of each two bytes, the low byte first.
 fn pairs(alloc: Global, bytes: &[u8]) -> Result<Vec<u16>, NoMemory>
-    ensures { IfOk result (λ v. v.items ≡ paired bytes.now) }
+    ensures { IfOk result (λ v. v.items ≡ whole_units bytes.now) }
 {
     let mut units = Vec::with_capacity(alloc, bytes.len() / 2)?;
     let mut rest = bytes;
