@@ -3,4 +3,3 @@ pub mod Credentials
 pub mod Flags
 pub mod SessionKeys
 pub use Rattle.des_cipher.specs.Des
-pub use Rattle.ntlm_flags.specs.Flags
