@@ -10,8 +10,8 @@ use Rattle.std.specs.Prelude.{bytes_eq, ◌==◌, Result, Ok, Err}
 use Rattle.digest_parts.proofs.Laws.{length-hmac_of}
 use Rattle.rc4_stream.proofs.Rc4Laws.{length-applied}
 use Rattle.ntlm_seal.specs.declared.refusal.SealRefused.{SealRefused}
-use Rattle.ntlm_seal.specs.Directions.{Direction, checksum_of, sent_by, sent_checksum, signature_of, version_in, checksum_in, number_in}
-use Rattle.ntlm_seal.specs.Sessions.{last_number, is_spent, expected_by, expected, compared_by, judged_by, judged}
+use Rattle.ntlm_seal.specs.Directions.{Direction, checksum_of, sent_form_by, sent_checksum, signature_of, version_in, checksum_in, number_in}
+use Rattle.ntlm_seal.specs.Sessions.{last_number, is_spent, expect_by, expect, compare_by, verdict_by, verdict_of}
 
 -- ---- lengths
 
@@ -20,14 +20,14 @@ unfolding checksum_of
 length-checksum_of key number plain =
     length-take-le 8 _ (omega (arith, length-hmac_of key (to_le_bytes w32 number ++ plain)))
 
-length-sent_by : (exchange : Bool) (key : List ℕ) (used : ℕ) (checksum : List ℕ) → length (sent_by exchange key used checksum) ≡ length checksum
-length-sent_by true key used checksum = length-applied key used checksum
-length-sent_by false key used checksum = refl
+length-sent_form_by : (exchange : Bool) (key : List ℕ) (used : ℕ) (checksum : List ℕ) → length (sent_form_by exchange key used checksum) ≡ length checksum
+length-sent_form_by true key used checksum = length-applied key used checksum
+length-sent_form_by false key used checksum = refl
 
 pub length-sent_checksum : (d : Direction) (plain : List ℕ) (range : ℕ) → length (sent_checksum d plain range) ≡ 8
 unfolding sent_checksum
 length-sent_checksum d plain range =
-    length-sent_by d.key_exchange d.sealing_key (d.used + range) _ ∙ length-checksum_of d.signing_key d.number plain
+    length-sent_form_by d.key_exchange d.sealing_key (d.used + range) _ ∙ length-checksum_of d.signing_key d.number plain
 
 -- ---- the parts of a written signature
 
@@ -80,24 +80,24 @@ read_back s at n sixteen within bytes e =
 
 -- ---- the tests
 
-expected_true : (spent version number : Bool) (d : Direction) (s : List ℕ) → expected_by spent version number d s ≡ Ok tt → (version ≡ true) × (number ≡ true)
-expected_true true version number d s e = absurd (let no : ⊥ = cc in no)
-expected_true false false number d s e = absurd (let no : ⊥ = cc in no)
-expected_true false true false d s e = absurd (let no : ⊥ = cc in no)
-expected_true false true true d s e = (refl, refl)
+expect_true : (spent version number : Bool) (d : Direction) (s : List ℕ) → expect_by spent version number d s ≡ Ok tt → (version ≡ true) × (number ≡ true)
+expect_true true version number d s e = absurd (let no : ⊥ = cc in no)
+expect_true false false number d s e = absurd (let no : ⊥ = cc in no)
+expect_true false true false d s e = absurd (let no : ⊥ = cc in no)
+expect_true false true true d s e = (refl, refl)
 
-judged_true : (answer : Result Unit SealRefused) (same : Bool) → judged_by answer same ≡ Ok tt → (answer ≡ Ok tt) × (same ≡ true)
-judged_true (Ok tt) true e = (refl, refl)
-judged_true (Ok tt) false e = absurd (let no : ⊥ = cc in no)
-judged_true (Err r) same e = absurd (let no : ⊥ = cc in no)
+verdict_true : (answer : Result Unit SealRefused) (same : Bool) → verdict_by answer same ≡ Ok tt → (answer ≡ Ok tt) × (same ≡ true)
+verdict_true (Ok tt) true e = (refl, refl)
+verdict_true (Ok tt) false e = absurd (let no : ⊥ = cc in no)
+verdict_true (Err r) same e = absurd (let no : ⊥ = cc in no)
 
 -- ---- accepted exactly where it is the signature of the next unit
 
-pub judged_accepts : (d : Direction) (plain : List ℕ) (from to : ℕ) (s : List ℕ) → length s ≡ 16 → ((i : ℕ) → get_or s i 0 < 256) → judged d plain from to s ≡ Ok tt → s ≡ signature_of d plain from to
+pub verdict_accepts : (d : Direction) (plain : List ℕ) (from to : ℕ) (s : List ℕ) → length s ≡ 16 → ((i : ℕ) → get_or s i 0 < 256) → verdict_of d plain from to s ≡ Ok tt → s ≡ signature_of d plain from to
 unfolding signature_of
-judged_accepts d plain from to s sixteen bytes e =
-    let parts = judged_true (expected d s) (bytes_eq (checksum_in s) (sent_checksum d plain (to - from))) e in
-    let numbers = expected_true (is_spent d) (version_in s == 1) (number_in s == d.number) d s parts.0 in
+verdict_accepts d plain from to s sixteen bytes e =
+    let parts = verdict_true (expect d s) (bytes_eq (checksum_in s) (sent_checksum d plain (to - from))) e in
+    let numbers = expect_true (is_spent d) (version_in s == 1) (number_in s == d.number) d s parts.0 in
     let version : to_le_bytes w32 1 ≡ take 4 s = read_back s 0 1 sixteen (lit≤ tt) bytes (eqb-true (version_in s) 1 numbers.0) in
     let number : to_le_bytes w32 d.number ≡ take 4 (drop 12 s) = read_back s 12 d.number sixteen (lit≤ tt) bytes (eqb-true (number_in s) d.number numbers.1) in
     let checksum : checksum_in s ≡ sent_checksum d plain (to - from) = (bytes_eq-Decides (checksum_in s) (sent_checksum d plain (to - from))).0 parts.1 in
@@ -106,14 +106,14 @@ judged_accepts d plain from to s sixteen bytes e =
     ∙ ap (λ x. (to_le_bytes w32 1 ++ x) ++ take 4 (drop 12 s)) checksum
     ∙ ap (λ x. (to_le_bytes w32 1 ++ sent_checksum d plain (to - from)) ++ x) (sym number)
 
-pub judged-signature_of : (d : Direction) (plain : List ℕ) (from to : ℕ) → d.number < 2 ^ 32 - 1 → judged d plain from to (signature_of d plain from to) ≡ Ok tt
-judged-signature_of d plain from to room =
+pub verdict_of-signature_of : (d : Direction) (plain : List ℕ) (from to : ℕ) → d.number < 2 ^ 32 - 1 → verdict_of d plain from to (signature_of d plain from to) ≡ Ok tt
+verdict_of-signature_of d plain from to room =
     let s = signature_of d plain from to in
     let spent : is_spent d ≡ false = ne_eqb d.number last_number (λ (same : d.number ≡ last_number). omega arith) in
     let version : (version_in s == 1) ≡ true = eq-eqb (version_in s) 1 (version_in-signature_of d plain from to) in
     let number : (number_in s == d.number) ≡ true = eq-eqb (number_in s) d.number (number_in-signature_of d plain from to (omega arith)) in
     let checksum : bytes_eq (checksum_in s) (sent_checksum d plain (to - from)) ≡ true = (bytes_eq-Decides (checksum_in s) (sent_checksum d plain (to - from))).1 (checksum_in-signature_of d plain from to) in
-    ap (λ b. judged_by (expected_by b (version_in s == 1) (number_in s == d.number) d s) (bytes_eq (checksum_in s) (sent_checksum d plain (to - from)))) spent
-    ∙ ap (λ b. judged_by (expected_by false b (number_in s == d.number) d s) (bytes_eq (checksum_in s) (sent_checksum d plain (to - from)))) version
-    ∙ ap (λ b. judged_by (expected_by false true b d s) (bytes_eq (checksum_in s) (sent_checksum d plain (to - from)))) number
-    ∙ ap compared_by checksum
+    ap (λ b. verdict_by (expect_by b (version_in s == 1) (number_in s == d.number) d s) (bytes_eq (checksum_in s) (sent_checksum d plain (to - from)))) spent
+    ∙ ap (λ b. verdict_by (expect_by false b (number_in s == d.number) d s) (bytes_eq (checksum_in s) (sent_checksum d plain (to - from)))) version
+    ∙ ap (λ b. verdict_by (expect_by false true b d s) (bytes_eq (checksum_in s) (sent_checksum d plain (to - from)))) number
+    ∙ ap compare_by checksum

@@ -3,7 +3,7 @@ use Rattle.std.proofs.Common.{◌≡◌, ℕ, ◌+◌, ◌-◌, ◌≤◌, List,
 use Rattle.std.proofs.lemmas.List.{append_assoc, drop-drop, length-take-le, length-drop}
 use borrow.Rule.Slice.PartMut.{put_mid, take_put, drop_put}
 use Rattle.rc4_stream.specs.Rc4.{applied}
-use Rattle.ntlm_seal.specs.Directions.{Direction, combined}
+use Rattle.ntlm_seal.specs.Directions.{Direction, combine}
 
 -- the list in which a range holds other elements
 pub put_range : (from to : ℕ) (xs ys : List ℕ) → from ≤ to → put_mid from (to - from) xs ys ≡ take from xs ++ ys ++ drop to xs
@@ -12,9 +12,9 @@ put_range from to xs ys h =
     ap (λ zs. take from xs ++ (ys ++ zs)) past ∙ sym (append_assoc (take from xs) ys (drop to xs))
 
 -- the code's write of the combined range is the combined unit
-pub range_combined : (d : Direction) (unit ys : List ℕ) (from to : ℕ) → from ≤ to → ys ≡ applied d.sealing_key d.used (slice_range unit from to) → put_mid from (to - from) unit ys ≡ combined d unit from to
-unfolding combined
-range_combined d unit ys from to h e =
+pub range_combine : (d : Direction) (unit ys : List ℕ) (from to : ℕ) → from ≤ to → ys ≡ applied d.sealing_key d.used (slice_range unit from to) → put_mid from (to - from) unit ys ≡ combine d unit from to
+unfolding combine
+range_combine d unit ys from to h e =
     put_range from to unit ys h ∙ ap (λ zs. take from unit ++ zs ++ drop to unit) e
 
 pub length_range : (unit : List ℕ) (from to : ℕ) → from ≤ to → to ≤ length unit → length (slice_range unit from to) ≡ to - from

@@ -9,13 +9,13 @@ use Rattle.rc4_stream.proofs.Rc4Laws.{length-applied}
 use Rattle.ntlm_seal.specs.declared.side.Side.{Side}
 use Rattle.ntlm_seal.specs.declared.side.Side.TheVariants.{Client, Server}
 use Rattle.ntlm_seal.specs.Sides.{other_side}
-use Rattle.ntlm_seal.specs.Directions.{Direction, combined, sent_checksum, signature_of, next_of}
-use Rattle.ntlm_seal.specs.Sessions.{SessionState, session_of, last_number, is_spent, judged, seal_by, seal_of, judge_by, judge_of, answered, open_of}
+use Rattle.ntlm_seal.specs.Directions.{Direction, combine, sent_checksum, signature_of, next_of}
+use Rattle.ntlm_seal.specs.Sessions.{SessionState, session_of, last_number, is_spent, verdict_of, seal_by, seal_of, judge_by, judge_of, judgement_with, open_of}
 use Rattle.ntlm_seal.specs.Runs.{Follows}
 use Rattle.ntlm_seal.specs.Turns.{Paired, after_sending, after_taking, sealing_done, taking_done, OpensAgain, IsAccepted}
-use Rattle.ntlm_seal.proofs.AcceptLaws.{judged-signature_of, length-sent_checksum}
+use Rattle.ntlm_seal.proofs.AcceptLaws.{verdict_of-signature_of, length-sent_checksum}
 use Rattle.ntlm_seal.proofs.RangeLaws.{length_range}
-use Rattle.ntlm_seal.proofs.RunLaws.{combined-combined}
+use Rattle.ntlm_seal.proofs.RunLaws.{combine-combine}
 
 pub sealing_goes : (s : SessionState) (unit : List ℕ) (from to : ℕ) → s.broken ≡ false → s.sending.number < 2 ^ 32 - 1 → seal_of s unit from to ≡ sealing_done s unit from to
 sealing_goes s unit from to runs room =
@@ -27,17 +27,17 @@ pub judging_goes : (one other : SessionState) (unit : List ℕ) (from to : ℕ) 
 judging_goes one other unit from to follows room =
     let d : Direction = one.sending in
     let signature : List ℕ = signature_of d unit from to in
-    let accepted : judged other.receiving unit from to signature ≡ Ok tt =
-    ap (λ (x : Direction). judged x unit from to signature) (sym follows.direction) ∙ judged-signature_of d unit from to room in
+    let accepted : verdict_of other.receiving unit from to signature ≡ Ok tt =
+    ap (λ (x : Direction). verdict_of x unit from to signature) (sym follows.direction) ∙ verdict_of-signature_of d unit from to room in
     ap (λ b. judge_by b other unit from to signature) follows.receives
-    ∙ ap (λ z. answered z other from to) accepted
+    ∙ ap (λ z. judgement_with z other from to) accepted
     ∙ ap (λ b. record { answer = Ok tt; session = record other { receiving = next_of other.receiving from to; broken = b } }) (sym follows.receives)
 
-pub opened_same : (one other : SessionState) (unit : List ℕ) (from to : ℕ) → Follows one other → from ≤ to → to ≤ length unit → combined other.receiving (combined one.sending unit from to) from to ≡ unit
+pub opened_same : (one other : SessionState) (unit : List ℕ) (from to : ℕ) → Follows one other → from ≤ to → to ≤ length unit → combine other.receiving (combine one.sending unit from to) from to ≡ unit
 opened_same one other unit from to follows h within =
-    ap (λ (x : Direction). combined x (combined one.sending unit from to) from to) (sym follows.direction) ∙ combined-combined one.sending unit from to h within
+    ap (λ (x : Direction). combine x (combine one.sending unit from to) from to) (sym follows.direction) ∙ combine-combine one.sending unit from to h within
 
-pub opening_goes : (one other : SessionState) (unit : List ℕ) (from to : ℕ) → Follows one other → from ≤ to → to ≤ length unit → one.sending.number < 2 ^ 32 - 1 → open_of other (combined one.sending unit from to) from to (signature_of one.sending unit from to) ≡ taking_done other from to
+pub opening_goes : (one other : SessionState) (unit : List ℕ) (from to : ℕ) → Follows one other → from ≤ to → to ≤ length unit → one.sending.number < 2 ^ 32 - 1 → open_of other (combine one.sending unit from to) from to (signature_of one.sending unit from to) ≡ taking_done other from to
 opening_goes one other unit from to follows h within room =
     ap (λ u. judge_of other u from to (signature_of one.sending unit from to)) (opened_same one other unit from to follows h within)
     ∙ judging_goes one other unit from to follows room
@@ -47,9 +47,9 @@ unfolding applied
 applied_none key used = refl
 
 -- an empty range leaves the unit
-pub combined_none : (d : Direction) (unit : List ℕ) (at : ℕ) → combined d unit at at ≡ unit
-unfolding combined
-combined_none d unit at =
+pub combine_none : (d : Direction) (unit : List ℕ) (at : ℕ) → combine d unit at at ≡ unit
+unfolding combine
+combine_none d unit at =
     let none : slice_range unit at at ≡ [] = ap (λ n. take n (drop at unit)) (let e : at - at ≡ 0 = omega arith in e) in
     let nothing : applied d.sealing_key d.used (slice_range unit at at) ≡ [] = ap (applied d.sealing_key d.used) none ∙ applied_none d.sealing_key d.used in
     ap (λ x. take at unit ++ x ++ drop at unit) nothing
@@ -78,7 +78,7 @@ pub is_accepted : (one other : SessionState) (unit : List ℕ) → Paired one ot
 is_accepted one other unit p room = record {
   signed = sealing_goes one unit 0 0 p.there.sends room;
   checked = judging_goes one other unit 0 0 p.there room;
-  untouched = combined_none one.sending unit 0;
+  untouched = combine_none one.sending unit 0;
   paired = paired_after one other 0 0 p;
 }
 
@@ -95,12 +95,12 @@ length-signature_of d plain from to =
     omega (arith, length-append (version ++ checksum) number, length-append version checksum, eight, four, last)
 
 -- only the range of a unit changes, and it keeps its length
-pub combined_range : (d : Direction) (unit : List ℕ) (from to : ℕ) → from ≤ to → to ≤ length unit → (range : List ℕ) × (length range ≡ to - from) × (combined d unit from to ≡ take from unit ++ range ++ drop to unit)
-unfolding combined
-combined_range d unit from to h within =
+pub combine_range : (d : Direction) (unit : List ℕ) (from to : ℕ) → from ≤ to → to ≤ length unit → (range : List ℕ) × (length range ≡ to - from) × (combine d unit from to ≡ take from unit ++ range ++ drop to unit)
+unfolding combine
+combine_range d unit from to h within =
     (applied d.sealing_key d.used (slice_range unit from to), length-applied d.sealing_key d.used (slice_range unit from to) ∙ length_range unit from to h within, refl)
 
-pub length-combined : (d : Direction) (unit : List ℕ) (from to : ℕ) → from ≤ to → to ≤ length unit → length (combined d unit from to) ≡ length unit
-length-combined d unit from to h within =
-    let r = combined_range d unit from to h within in
+pub length-combine : (d : Direction) (unit : List ℕ) (from to : ℕ) → from ≤ to → to ≤ length unit → length (combine d unit from to) ≡ length unit
+length-combine d unit from to h within =
+    let r = combine_range d unit from to h within in
     ap length r.2 ∙ omega (arith, length-append (take from unit ++ r.0) (drop to unit), length-append (take from unit) r.0, r.1, length-take-le from unit (omega arith), length-drop to unit)

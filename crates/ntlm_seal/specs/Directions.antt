@@ -32,8 +32,8 @@ direction_of exported flags side = record {
 
 -- the unit with its range combined with the next bytes of the key stream; of the plain unit this is the sealed one, and of the sealed
 -- unit the plain one
-unfoldable pub combined : Direction → List ℕ → ℕ → ℕ → List ℕ
-combined d unit from to =
+unfoldable pub combine : Direction → List ℕ → ℕ → ℕ → List ℕ
+combine d unit from to =
     take from unit ++ applied d.sealing_key d.used (slice_range unit from to) ++ drop to unit
 
 -- ---- the signature (2.2.2.9.2 and 3.4.4.2)
@@ -44,14 +44,14 @@ checksum_of signing_key number plain = take 8 (hmac_of signing_key (to_le_bytes 
 
 -- A checksum as it is sent: with a key exchange it is combined with the bytes of the key stream that follow the used ones. The
 -- arguments: whether keys were exchanged, the sealing key, the bytes used, and the checksum.
-abbrev pub sent_by : Bool → List ℕ → ℕ → List ℕ → List ℕ
-sent_by true sealing_key used checksum = applied sealing_key used checksum
-sent_by false sealing_key used checksum = checksum
+abbrev pub sent_form_by : Bool → List ℕ → ℕ → List ℕ → List ℕ
+sent_form_by true sealing_key used checksum = applied sealing_key used checksum
+sent_form_by false sealing_key used checksum = checksum
 
 -- the checksum of a direction's next unit as it is sent, after as many more bytes of the key stream as its range takes
 unfoldable pub sent_checksum : Direction → List ℕ → ℕ → List ℕ
 sent_checksum d plain range =
-    sent_by d.key_exchange d.sealing_key (d.used + range) (checksum_of d.signing_key d.number plain)
+    sent_form_by d.key_exchange d.sealing_key (d.used + range) (checksum_of d.signing_key d.number plain)
 
 -- the signature of a plain unit whose range is sealed: version 1, the checksum as it is sent and the number, 16 bytes
 unfoldable pub signature_of : Direction → List ℕ → ℕ → ℕ → List ℕ

@@ -1,7 +1,7 @@
 -- What one side seals, and what the other makes of it: this project's own way to say that a session carries units.
 use Rattle.std.specs.Prelude.{◌≡◌, ℕ, ◌≤◌, false, List, [], ◌∷◌, length, Result, Ok, Err}
 use Rattle.ntlm_seal.specs.declared.refusal.SealRefused.{SealRefused}
-use Rattle.ntlm_seal.specs.Directions.{combined}
+use Rattle.ntlm_seal.specs.Directions.{combine}
 use Rattle.ntlm_seal.specs.Sessions.{SessionState, seal_of, open_of, unit_left}
 
 -- a plain unit and the range of it that is sealed
@@ -34,28 +34,28 @@ pub record Follows (sender receiver : SessionState) : Type 0 where
   pub direction : sender.sending ≡ receiver.receiving
 
 -- a unit that is opened to what it was
-abbrev pub opened_whole : PlainUnit → OpenedUnit
-opened_whole p = record { answer = Ok tt; unit = p.unit }
+abbrev pub whole_opening : PlainUnit → OpenedUnit
+whole_opening p = record { answer = Ok tt; unit = p.unit }
 
 -- a unit is sent where sealing answers its signature
-abbrev pub sent_with : Result (List ℕ) SealRefused → List ℕ → PlainUnit → List SentUnit → List SentUnit
-sent_with (Ok signature) sealed p rest =
+abbrev pub send_with : Result (List ℕ) SealRefused → List ℕ → PlainUnit → List SentUnit → List SentUnit
+send_with (Ok signature) sealed p rest =
     record { unit = sealed; from = p.from; to = p.to; signature = signature } ∷ rest
-sent_with (Err _) sealed p rest = rest
+send_with (Err _) sealed p rest = rest
 
 -- the units that a session sends where it is called to seal these, one after another
-unfoldable pub sent_all : SessionState → List PlainUnit → List SentUnit
-sent_all s [] = []
-sent_all s (p ∷ ps) =
+unfoldable pub send_all : SessionState → List PlainUnit → List SentUnit
+send_all s [] = []
+send_all s (p ∷ ps) =
     let sealing = seal_of s p.unit p.from p.to in
-    sent_with sealing.answer sealing.unit p (sent_all sealing.session ps)
+    send_with sealing.answer sealing.unit p (send_all sealing.session ps)
 
 -- what a session makes of sent units, one after another
-unfoldable pub opened_all : SessionState → List SentUnit → List OpenedUnit
-opened_all s [] = []
-opened_all s (x ∷ xs) =
+unfoldable pub open_all : SessionState → List SentUnit → List OpenedUnit
+open_all s [] = []
+open_all s (x ∷ xs) =
     let opening = open_of s x.unit x.from x.to x.signature in
     record {
       answer = opening.answer;
-      unit = unit_left opening.answer x.unit (combined s.receiving x.unit x.from x.to) x.from x.to;
-    } ∷ opened_all opening.session xs
+      unit = unit_left opening.answer x.unit (combine s.receiving x.unit x.from x.to) x.from x.to;
+    } ∷ open_all opening.session xs

@@ -6,7 +6,7 @@ use Rattle.ntlm_seal.specs.declared.refusal.SealRefused.{SealRefused}
 use Rattle.ntlm_seal.specs.declared.refusal.SealRefused.TheVariants.{Broken, Spent, BadVersion, BadSequence, BadChecksum}
 use Rattle.ntlm_seal.specs.declared.side.Side.{Side}
 use Rattle.ntlm_seal.specs.Sides.{other_side}
-use Rattle.ntlm_seal.specs.Directions.{Direction, direction_of, combined, sent_checksum, signature_of, version_in, checksum_in, number_in, next_of}
+use Rattle.ntlm_seal.specs.Directions.{Direction, direction_of, combine, sent_checksum, signature_of, version_in, checksum_in, number_in, next_of}
 
 pub record SessionState : Type 0 where
   pub sending : Direction
@@ -48,7 +48,7 @@ seal_by false true s unit from to =
     record { answer = Err Spent; unit = unit; session = record s { broken = true } }
 seal_by false false s unit from to = record {
   answer = Ok (signature_of s.sending unit from to);
-  unit = combined s.sending unit from to;
+  unit = combine s.sending unit from to;
   session = record s { sending = next_of s.sending from to };
 }
 
@@ -56,41 +56,41 @@ abbrev pub seal_of : SessionState → List ℕ → ℕ → ℕ → Sealing
 seal_of s unit from to = seal_by s.broken (is_spent s.sending) s unit from to
 
 -- whether a session may send: its answer, and the session
-abbrev pub sendable_by : Bool → Bool → SessionState → Judgement
-sendable_by true _ s = record { answer = Err Broken; session = s }
-sendable_by false true s = record { answer = Err Spent; session = record s { broken = true } }
-sendable_by false false s = record { answer = Ok tt; session = s }
+abbrev pub may_send_by : Bool → Bool → SessionState → Judgement
+may_send_by true _ s = record { answer = Err Broken; session = s }
+may_send_by false true s = record { answer = Err Spent; session = record s { broken = true } }
+may_send_by false false s = record { answer = Ok tt; session = s }
 
-abbrev pub sendable : SessionState → Judgement
-sendable s = sendable_by s.broken (is_spent s.sending) s
+abbrev pub may_send : SessionState → Judgement
+may_send s = may_send_by s.broken (is_spent s.sending) s
 
 -- ---- checking and opening
 
 -- What a direction answers to a signature before its checksum is looked at. The arguments: whether the direction is spent, whether
 -- the signature's version is 1, and whether its number is the next.
-abbrev pub expected_by : Bool → Bool → Bool → Direction → List ℕ → Result Unit SealRefused
-expected_by true _ _ d signature = Err Spent
-expected_by false false _ d signature = Err BadVersion
-expected_by false true false d signature = Err (BadSequence (number_in signature) d.number)
-expected_by false true true d signature = Ok tt
+abbrev pub expect_by : Bool → Bool → Bool → Direction → List ℕ → Result Unit SealRefused
+expect_by true _ _ d signature = Err Spent
+expect_by false false _ d signature = Err BadVersion
+expect_by false true false d signature = Err (BadSequence (number_in signature) d.number)
+expect_by false true true d signature = Ok tt
 
-abbrev pub expected : Direction → List ℕ → Result Unit SealRefused
-expected d signature =
-    expected_by (is_spent d) (version_in signature == 1) (number_in signature == d.number) d signature
+abbrev pub expect : Direction → List ℕ → Result Unit SealRefused
+expect d signature =
+    expect_by (is_spent d) (version_in signature == 1) (number_in signature == d.number) d signature
 
 -- and then by whether its checksum is that of the unit
-abbrev pub compared_by : Bool → Result Unit SealRefused
-compared_by true = Ok tt
-compared_by false = Err BadChecksum
+abbrev pub compare_by : Bool → Result Unit SealRefused
+compare_by true = Ok tt
+compare_by false = Err BadChecksum
 
-abbrev pub judged_by : Result Unit SealRefused → Bool → Result Unit SealRefused
-judged_by (Ok _) same = compared_by same
-judged_by (Err e) same = Err e
+abbrev pub verdict_by : Result Unit SealRefused → Bool → Result Unit SealRefused
+verdict_by (Ok _) same = compare_by same
+verdict_by (Err e) same = Err e
 
 -- what a direction answers to the signature of a unit, of which this is the plain form, with its range
-abbrev pub judged : Direction → List ℕ → ℕ → ℕ → List ℕ → Result Unit SealRefused
-judged d plain from to signature =
-    judged_by (expected d signature) (bytes_eq (checksum_in signature) (sent_checksum d plain (to - from)))
+abbrev pub verdict_of : Direction → List ℕ → ℕ → ℕ → List ℕ → Result Unit SealRefused
+verdict_of d plain from to signature =
+    verdict_by (expect d signature) (bytes_eq (checksum_in signature) (sent_checksum d plain (to - from)))
 
 -- the direction afterwards: once it has come to the checksum it has gone on to the next unit
 abbrev pub direction_left : Result Unit SealRefused → Direction → ℕ → ℕ → Direction
@@ -101,8 +101,8 @@ direction_left (Err Spent) d from to = d
 direction_left (Err BadVersion) d from to = d
 direction_left (Err (BadSequence _ _)) d from to = d
 
-abbrev pub answered : Result Unit SealRefused → SessionState → ℕ → ℕ → Judgement
-answered answer s from to = record {
+abbrev pub judgement_with : Result Unit SealRefused → SessionState → ℕ → ℕ → Judgement
+judgement_with answer s from to = record {
   answer = answer;
   session = record s { receiving = direction_left answer s.receiving from to; broken = is_err answer };
 }
@@ -111,7 +111,7 @@ answered answer s from to = record {
 abbrev pub judge_by : Bool → SessionState → List ℕ → ℕ → ℕ → List ℕ → Judgement
 judge_by true s plain from to signature = record { answer = Err Broken; session = s }
 judge_by false s plain from to signature =
-    answered (judged s.receiving plain from to signature) s from to
+    judgement_with (verdict_of s.receiving plain from to signature) s from to
 
 abbrev pub judge_of : SessionState → List ℕ → ℕ → ℕ → List ℕ → Judgement
 judge_of s plain from to signature = judge_by s.broken s plain from to signature
@@ -128,4 +128,4 @@ unit_left (Err (BadSequence _ _)) unit plain from to = unit
 
 -- opening: the plain unit is judged
 abbrev pub open_of : SessionState → List ℕ → ℕ → ℕ → List ℕ → Judgement
-open_of s unit from to signature = judge_of s (combined s.receiving unit from to) from to signature
+open_of s unit from to signature = judge_of s (combine s.receiving unit from to) from to signature

@@ -3,8 +3,8 @@
 ghost use Rattle.std.specs.Prelude.{◌≡◌, ℕ, ◌+◌, ◌-◌, ◌^◌, ◌<◌, ◌≤◌, ◌==◌, List, ◌++◌, length, take, drop, replicate, slice_range, bytes_eq, Ok, Err, OnOk};
 ghost use Rattle.std.specs.Bool.{OnFalse};
 ghost use Rattle.std.specs.Int.{w32, to_le_bytes, from_le_bytes};
-ghost use Rattle.ntlm_seal.specs.Directions.{Direction, direction_of, combined, checksum_in, checksum_of, sent_by, signature_of, checksum_bytes, next_of};
-ghost use Rattle.ntlm_seal.specs.Sessions.{is_spent, expected, judged, direction_left, unit_left};
+ghost use Rattle.ntlm_seal.specs.Directions.{Direction, direction_of, combine, checksum_in, checksum_of, sent_form_by, signature_of, checksum_bytes, next_of};
+ghost use Rattle.ntlm_seal.specs.Sessions.{is_spent, expect, verdict_of, direction_left, unit_left};
 
 use crate::keys::{sealing_key, signing_key};
 use crate::refusal::SealRefused;
@@ -76,7 +76,7 @@ impl OneWay {
         requires size { length unit.old ≤ 65536 }
         requires numbers { self.old.number < 2 ^ 32 - 1 }
         ensures signature { result ≡ signature_of self.old unit.old from to }
-        ensures unit { unit.new ≡ combined self.old unit.old from to }
+        ensures unit { unit.new ≡ combine self.old unit.old from to }
         ensures direction { self.new ≡ next_of self.old from to }
     {
         let number = self.number;
@@ -90,7 +90,7 @@ impl OneWay {
 
     /// Compares a signature with that of the next unit, of which this is the plain form.
     pub fn check(&mut self, unit: &[u8], signature: &[u8; 16]) -> Result<(), SealRefused>
-        ensures answer { result ≡ judged self.old unit.now 0 0 signature.now }
+        ensures answer { result ≡ verdict_of self.old unit.now 0 0 signature.now }
         ensures direction { self.new ≡ direction_left result self.old 0 0 }
     {
         self.expects(signature)?;
@@ -115,9 +115,9 @@ impl OneWay {
         requires within { to ≤ length unit.old }
         requires size { length unit.old ≤ 65536 }
         ensures answer { result
-            ≡ judged self.old (combined self.old unit.old from to) from to signature.now }
+            ≡ verdict_of self.old (combine self.old unit.old from to) from to signature.now }
         ensures unit { unit.new
-            ≡ unit_left result unit.old (combined self.old unit.old from to) from to }
+            ≡ unit_left result unit.old (combine self.old unit.old from to) from to }
         ensures direction { self.new ≡ direction_left result self.old from to }
     {
         self.expects(signature)?;
@@ -134,7 +134,7 @@ impl OneWay {
 
     /// Refuses, in this order, where the numbers are used up, and a signature whose version or number isn't the next unit's.
     fn expects(&self, signature: &[u8; 16]) -> Result<(), SealRefused>
-        ensures answer { result ≡ expected self.now signature.now }
+        ensures answer { result ≡ expect self.now signature.now }
         ensures room { OnOk result (self.now.number < 2 ^ 32 - 1) }
     {
         if self.is_spent() {
@@ -193,7 +193,7 @@ fn first_half(digest: &[u8; 16]) -> [u8; 8]
 /// The checksum as it is sent: with a key exchange it passes through the key stream.
 fn pass_checksum(stream: &mut Rc4, key_exchange: bool, mut checksum: [u8; 8]) -> [u8; 8]
     requires { stream.old.used < 2 ^ 62 }
-    ensures checksum { result ≡ sent_by key_exchange stream.old.key stream.old.used checksum }
+    ensures checksum { result ≡ sent_form_by key_exchange stream.old.key stream.old.used checksum }
     ensures stream { stream.new
         ≡ record stream.old { used = stream.old.used + checksum_bytes key_exchange } }
     ensures few { stream.new.used ≤ stream.old.used + 8 }

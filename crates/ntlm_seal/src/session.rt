@@ -3,11 +3,11 @@
 ghost use Rattle.std.specs.Prelude.{◌≡◌, ℕ, ◌+◌, ◌-◌, ◌^◌, ◌<◌, ◌≤◌, ◌↔◌, ◌++◌, List, length, take, drop, map, false, IsTrue, Ok, Err, OnOk};
 ghost use Rattle.std.specs.List.{AllByRecursion};
 ghost use Rattle.ntlm_flags.specs.Flags.{has_flag, negotiate_extended_sessionsecurity};
-ghost use Rattle.ntlm_seal.specs.Directions.{Direction, combined, signature_of};
-ghost use Rattle.ntlm_seal.specs.Sessions.{SessionState, session_of, seal_of, sendable, judge_of, open_of, unit_left};
+ghost use Rattle.ntlm_seal.specs.Directions.{Direction, combine, signature_of};
+ghost use Rattle.ntlm_seal.specs.Sessions.{SessionState, session_of, seal_of, may_send, judge_of, open_of, unit_left};
 ghost use Rattle.ntlm_seal.specs.Sides.{other_side};
 ghost use Rattle.ntlm_seal.specs.Turns.{Paired, OpensAgain, IsAccepted};
-ghost use Rattle.ntlm_seal.specs.Runs.{Follows, PlainUnit, HasRange, sent_all, opened_all, opened_whole};
+ghost use Rattle.ntlm_seal.specs.Runs.{Follows, PlainUnit, HasRange, send_all, open_all, whole_opening};
 
 use crate::direction::OneWay;
 use crate::refusal::SealRefused;
@@ -107,9 +107,9 @@ impl Session {
         requires size { length unit.old ≤ 65536 }
         ensures answer { result ≡ (open_of self.old unit.old from to signature.now).answer }
         ensures unit { unit.new
-            ≡ unit_left result unit.old (combined self.old.receiving unit.old from to) from to }
+            ≡ unit_left result unit.old (combine self.old.receiving unit.old from to) from to }
         ensures session { self.new ≡ (open_of self.old unit.old from to signature.now).session }
-        ensures accepts { let plain = combined self.old.receiving unit.old from to in
+        ensures accepts { let plain = combine self.old.receiving unit.old from to in
             self.old.broken ≡ false → self.old.receiving.number < 2 ^ 32 - 1
             → ((result ≡ Ok tt) ↔ (signature.now ≡ signature_of self.old.receiving plain from to)) }
     {
@@ -123,8 +123,8 @@ impl Session {
 
     /// Refuses to send where the session is broken or the numbers of the direction are used up, which breaks it.
     fn may_send(&mut self) -> Result<(), SealRefused>
-        ensures answer { result ≡ (sendable self.old).answer }
-        ensures session { self.new ≡ (sendable self.old).session }
+        ensures answer { result ≡ (may_send self.old).answer }
+        ensures session { self.new ≡ (may_send self.old).session }
         ensures room { OnOk result (self.new.sending.number < 2 ^ 32 - 1) }
     {
         match (self.broken, self.sending.is_spent()) {
@@ -146,18 +146,18 @@ impl Session {
 pub fn what_is_sealed_opens()
     ensures to_server { (exported : List ℕ) (flags : ℕ) (units : List PlainUnit)
         → AllByRecursion HasRange units → length units < 2 ^ 32
-        → opened_all (session_of exported flags Side.Server)
-        (sent_all (session_of exported flags Side.Client) units)
-        ≡ map opened_whole units }
+        → open_all (session_of exported flags Side.Server)
+        (send_all (session_of exported flags Side.Client) units)
+        ≡ map whole_opening units }
     ensures to_client { (exported : List ℕ) (flags : ℕ) (units : List PlainUnit)
         → AllByRecursion HasRange units → length units < 2 ^ 32
-        → opened_all (session_of exported flags Side.Client)
-        (sent_all (session_of exported flags Side.Server) units)
-        ≡ map opened_whole units }
+        → open_all (session_of exported flags Side.Client)
+        (send_all (session_of exported flags Side.Server) units)
+        ≡ map whole_opening units }
     ensures from_any { (sender receiver : SessionState) (units : List PlainUnit)
         → Follows sender receiver
         → AllByRecursion HasRange units → sender.sending.number + length units < 2 ^ 32
-        → opened_all receiver (sent_all sender units) ≡ map opened_whole units }
+        → open_all receiver (send_all sender units) ≡ map whole_opening units }
 {}
 
 /// What one side sends the other takes, and both are in step again.
@@ -178,7 +178,7 @@ pub fn what_is_sent_is_taken()
         → IsAccepted one other unit }
     ensures range { (d : Direction) (unit : List ℕ) (from to : ℕ) → from ≤ to → to ≤ length unit
         → (range : List ℕ) × (length range ≡ to - from)
-        × (combined d unit from to ≡ take from unit ++ range ++ drop to unit) }
+        × (combine d unit from to ≡ take from unit ++ range ++ drop to unit) }
     ensures signature { (d : Direction) (plain : List ℕ) (from to : ℕ)
         → length (signature_of d plain from to) ≡ 16 }
 {}

@@ -1,4 +1,4 @@
-use Rattle.ntlm_seal.proofs.TurnLaws.{paired_first, opens_again, is_accepted, combined_range, length-signature_of}
+use Rattle.ntlm_seal.proofs.TurnLaws.{paired_first, opens_again, is_accepted, combine_range, length-signature_of}
 use Rattle.ntlm_seal.proofs.session.what_is_sent_is_taken.Goals as goal
 
 pub returns-clause-first : goal.returns-clause-first
@@ -14,7 +14,7 @@ pub returns-clause-signed : goal.returns-clause-signed
 returns-clause-signed c = is_accepted
 
 pub returns-clause-range : goal.returns-clause-range
-returns-clause-range c = combined_range
+returns-clause-range c = combine_range
 
 pub returns-clause-signature : goal.returns-clause-signature
 returns-clause-signature c = length-signature_of
