@@ -1,7 +1,7 @@
 //! Cases of `sam_logon`: the verdict of a controller on a logon.
 
-use crate::words::{bytes, eight, long_number, units, word};
 use account_table::Table;
+use case_words::{bytes, eight, number64, text_units, word};
 use logon_stubs::NetworkInfo;
 use sam_logon::judge_logon;
 use std::alloc::Global;
@@ -10,9 +10,9 @@ use wire_base::{Blob, Name};
 /// What is sent of a logon: `DOMAIN USER WORKSTATION CHALLENGE NT`, from the third word on.
 fn info(alloc: Global, words: &[&str]) -> anyhow::Result<NetworkInfo> {
     let challenge = eight(word(words, 6))?;
-    let domain = units(alloc, word(words, 3))?;
-    let user = units(alloc, word(words, 4))?;
-    let workstation = units(alloc, word(words, 5))?;
+    let domain = text_units(alloc, word(words, 3))?;
+    let user = text_units(alloc, word(words, 4))?;
+    let workstation = text_units(alloc, word(words, 5))?;
     let nt = bytes(alloc, word(words, 7))?;
     Ok(NetworkInfo {
         domain,
@@ -34,7 +34,7 @@ fn controller(alloc: Global, word: &str) -> anyhow::Result<Name> {
 
 /// `logon.judge DOCUMENT CONTROLLER DOMAIN USER WORKSTATION CHALLENGE NT NOW`: the verdict.
 pub(crate) fn judge(alloc: Global, words: &[&str]) -> anyhow::Result<String> {
-    let now = long_number(word(words, 8))?;
+    let now = number64(word(words, 8))?;
     let controller = controller(alloc, word(words, 2))?;
     let info = info(alloc, words)?;
     let document = bytes(alloc, word(words, 1))?;

@@ -1,17 +1,15 @@
 //! Cases of the account table, the verdict on a logon, and the outside in memory.
 //!
-//! Each line of the input is an operation, as `table.find`, and its values, as `words` has them; each line of the output is what the
+//! Each line of the input is an operation, as `table.find`, and its values, as `case_words` has them; each line of the output is what the
 //! operation gives.
 #![tactic(auto)]
 
 mod logons;
 mod scripts;
 mod tables;
-mod words;
 
+use case_words::{answer_lines, no_case, word};
 use std::alloc::Global;
-use std::io;
-use words::{no_case, word};
 
 /// What a line's operation gives: the part of its name before the point is the file that has it.
 fn answer(alloc: Global, words: &[&str]) -> anyhow::Result<String> {
@@ -24,17 +22,6 @@ fn answer(alloc: Global, words: &[&str]) -> anyhow::Result<String> {
     }
 }
 
-/// The answer to a line.
-fn line_of_answer(alloc: Global, line: &str) -> anyhow::Result<String> {
-    let words: Vec<&str> = line.split(' ').collect(alloc)?;
-    answer(alloc, &words)
-}
-
 fn main(rt: HostRuntime) -> anyhow::Result<()> {
-    let cases = io::read_to_string(rt.alloc(), rt.reader())?;
-    for line in cases.lines() {
-        let text = line_of_answer(rt.alloc(), line)?;
-        println!(rt; "{text}")?;
-    }
-    Ok(())
+    answer_lines(rt, answer)
 }

@@ -1,6 +1,6 @@
 //! Cases of `outside`: what each step of a line is answered in memory, and at its end what was kept and whether it is still told.
 
-use crate::words::{add_answer, bytes, eight, long_number, no_case, number, text, word};
+use case_words::{add_answer, bytes, eight, no_case, number, number64, text, word};
 use hex::FromHex;
 use outside::{
     Chances, Clock, CounterChances, Draws, Event, Events, Files, ListChances, ListClock, MapFiles,
@@ -76,7 +76,7 @@ fn moments(alloc: Global, word: &str) -> anyhow::Result<Moments> {
     let mut moments = Moments::new(alloc);
     if word != "-" {
         for part in word.split(',') {
-            moments.push(long_number(part)?)?;
+            moments.push(number64(part)?)?;
         }
     }
     Ok(moments)
@@ -84,7 +84,7 @@ fn moments(alloc: Global, word: &str) -> anyhow::Result<Moments> {
 
 /// `clock FIRST LATER COUNT`: so many moments.
 fn clock(alloc: Global, words: &[&str]) -> anyhow::Result<String> {
-    let first = long_number(word(words, 1))?;
+    let first = number64(word(words, 1))?;
     let later = moments(alloc, word(words, 2))?;
     let count = number(word(words, 3))?;
     let mut clock = ListClock::new(alloc, first, later);

@@ -1,7 +1,7 @@
 //! Cases of `account_table`: documents as bytes in hex, names as 16-bit units in hex.
 
-use crate::words::{add_answer, bytes, no_case, number, size, units, word};
 use account_table::{Table, TableRefused};
+use case_words::{add_answer, bytes, no_case, number, size, text_units, word};
 use std::alloc::Global;
 
 /// A refusal.
@@ -47,7 +47,7 @@ fn account(alloc: Global, words: &[&str]) -> anyhow::Result<String> {
 
 /// `find DOCUMENT USER`: the place of the account of that name.
 fn find(alloc: Global, words: &[&str]) -> anyhow::Result<String> {
-    let user = units(alloc, word(words, 2))?;
+    let user = text_units(alloc, word(words, 2))?;
     let document = bytes(alloc, word(words, 1))?;
     let table = Table::read(alloc, &document)?;
     let place = table.find(user.units());
@@ -56,9 +56,9 @@ fn find(alloc: Global, words: &[&str]) -> anyhow::Result<String> {
 
 /// `machine DOCUMENT ACCOUNT CHANNEL COMPUTER`: the place of the account that opens the channel.
 fn machine(alloc: Global, words: &[&str]) -> anyhow::Result<String> {
-    let account = units(alloc, word(words, 2))?;
+    let account = text_units(alloc, word(words, 2))?;
     let channel = word(words, 3).parse::<u16>()?;
-    let computer = units(alloc, word(words, 4))?;
+    let computer = text_units(alloc, word(words, 4))?;
     let document = bytes(alloc, word(words, 1))?;
     let table = Table::read(alloc, &document)?;
     let place = table.machine(account.units(), channel, computer.units());
@@ -67,7 +67,7 @@ fn machine(alloc: Global, words: &[&str]) -> anyhow::Result<String> {
 
 /// `knows DOCUMENT COMPUTER`: whether a computer's account has that name.
 fn knows(alloc: Global, words: &[&str]) -> anyhow::Result<String> {
-    let computer = units(alloc, word(words, 2))?;
+    let computer = text_units(alloc, word(words, 2))?;
     let document = bytes(alloc, word(words, 1))?;
     let table = Table::read(alloc, &document)?;
     let known = table.knows(computer.units());
@@ -76,7 +76,7 @@ fn knows(alloc: Global, words: &[&str]) -> anyhow::Result<String> {
 
 /// `route DOCUMENT DOMAIN`: where the accounts of a domain are.
 fn route(alloc: Global, words: &[&str]) -> anyhow::Result<String> {
-    let domain = units(alloc, word(words, 2))?;
+    let domain = text_units(alloc, word(words, 2))?;
     let document = bytes(alloc, word(words, 1))?;
     let table = Table::read(alloc, &document)?;
     let route = table.route(domain.units());
@@ -101,7 +101,7 @@ fn find_among(alloc: Global, words: &[&str]) -> anyhow::Result<String> {
     let table = Table::read(alloc, document.as_bytes())?;
     let mut answers = String::new(alloc);
     for user in words.iter().skip(2) {
-        let user = units(alloc, user)?;
+        let user = text_units(alloc, user)?;
         let place = table.find(user.units());
         add_answer(&mut answers, &format!(in alloc; "{place:?}")?)?;
     }

@@ -1,6 +1,6 @@
 //! Cases of `channel_keys`: secrets, challenges, keys and credentials in hex, flags in eight hex digits.
 
-use crate::words::{eight, flags, no_case, sixteen, text, word};
+use case_words::{eight, flags, no_case, sixteen, text, word};
 use channel_keys::{
     AES, BACKUP_CONTROLLER_CHANNEL, CredKey, RC4, SECURE_RPC, STRONG_KEY, SUPPORTED_FLAGS,
     TRUSTED_DOMAIN_CHANNEL, WORKSTATION_CHANNEL, cred, cred_back, des_key, granted_flags,

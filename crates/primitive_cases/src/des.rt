@@ -1,6 +1,6 @@
 //! Cases of `des_cipher`: keys, blocks and answers in hex.
 
-use crate::words::{eight, no_case, seven, text, word};
+use case_words::{eight, no_case, seven, text, word};
 use des_cipher::{Schedule, des_back, des_block, des_block8, plain, spread_key};
 use std::alloc::Global;
 

@@ -1,6 +1,6 @@
 //! Cases of `digest_parts`: keys, messages and digests in hex.
 
-use crate::words::{bytes, no_case, size, text, word};
+use case_words::{bytes, no_case, size, text, word};
 use digest_parts::{Hmac, Md4Hasher, hmac_md5, md4};
 use std::alloc::Global;
 

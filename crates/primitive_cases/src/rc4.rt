@@ -2,7 +2,7 @@
 
 ghost use Rattle.std.specs.Prelude.{◌≡◌, ◌+◌, ◌≤◌, length};
 
-use crate::words::{bytes, no_case, size, text, word};
+use case_words::{bytes, no_case, size, text, word};
 use rc4_stream::Rc4;
 use std::alloc::Global;
 

@@ -1,7 +1,7 @@
 //! Cases of `ntlm_responses`: hashes, challenges, responses and keys in hex, names and passwords as 16-bit units in hex, flags in
 //! eight hex digits, times in sixteen.
 
-use crate::words::{bytes, eight, flags, no_case, sixteen, text, units, word};
+use case_words::{bytes, eight, flags, no_case, sixteen, text, text_units, word};
 use ntlm_responses::{
     challenge_for, exchange_key, exported_key, hashed_challenge, lm_hash, nt_hash, nt_key_v2,
     respond_v1, respond_v1_ess, respond_v2, verify,
@@ -18,7 +18,7 @@ fn text_of_key(alloc: Global, key: Option<[u8; 16]>) -> anyhow::Result<String> {
 
 /// `nt_hash PASSWORD`, of units.
 fn nt_hash_of(alloc: Global, words: &[&str]) -> anyhow::Result<String> {
-    let password = units(alloc, word(words, 1))?;
+    let password = text_units(alloc, word(words, 1))?;
     text(alloc, &nt_hash(password.units()))
 }
 
@@ -31,8 +31,8 @@ fn lm_hash_of(alloc: Global, words: &[&str]) -> anyhow::Result<String> {
 /// `nt_key_v2 HASH USER DOMAIN`.
 fn nt_key_v2_of(alloc: Global, words: &[&str]) -> anyhow::Result<String> {
     let hash = sixteen(word(words, 1))?;
-    let user = units(alloc, word(words, 2))?;
-    let domain = units(alloc, word(words, 3))?;
+    let user = text_units(alloc, word(words, 2))?;
+    let domain = text_units(alloc, word(words, 3))?;
     text(alloc, &nt_key_v2(&hash, user.units(), domain.units()))
 }
 
@@ -64,8 +64,8 @@ fn respond_v2_of(alloc: Global, words: &[&str]) -> anyhow::Result<String> {
     let challenge = eight(word(words, 4))?;
     let time = u64::from_be_bytes(eight(word(words, 5))?);
     let client = eight(word(words, 6))?;
-    let user = units(alloc, word(words, 2))?;
-    let domain = units(alloc, word(words, 3))?;
+    let user = text_units(alloc, word(words, 2))?;
+    let domain = text_units(alloc, word(words, 3))?;
     let pairs = bytes(alloc, word(words, 7))?;
     let response = respond_v2(
         alloc,
@@ -84,8 +84,8 @@ fn respond_v2_of(alloc: Global, words: &[&str]) -> anyhow::Result<String> {
 fn verify_of(alloc: Global, words: &[&str]) -> anyhow::Result<String> {
     let hash = sixteen(word(words, 1))?;
     let challenge = eight(word(words, 4))?;
-    let user = units(alloc, word(words, 2))?;
-    let domain = units(alloc, word(words, 3))?;
+    let user = text_units(alloc, word(words, 2))?;
+    let domain = text_units(alloc, word(words, 3))?;
     let nt = bytes(alloc, word(words, 5))?;
     let key = verify(&hash, user.units(), domain.units(), challenge, &nt);
     text_of_key(alloc, key)

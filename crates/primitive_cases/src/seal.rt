@@ -2,7 +2,7 @@
 
 ghost use Rattle.std.specs.Prelude.{◌≡◌};
 
-use crate::words::{add_answer, bytes, flags, no_case, sixteen, size, text, word};
+use case_words::{add_answer, bytes, flags, no_case, sixteen, size, text, word};
 use ntlm_flags::{NTLMSSP_NEGOTIATE_EXTENDED_SESSIONSECURITY, has_flag};
 use ntlm_seal::{SealRefused, Session, Side};
 use std::alloc::Global;

@@ -2,8 +2,8 @@
 
 ghost use Rattle.std.specs.Prelude.{◌≡◌};
 
-use crate::words::{add_answer, eight, flags, long_number, no_case, number, sixteen, text, word};
 use authenticators::{Sequence, timestamp_at};
+use case_words::{add_answer, eight, flags, no_case, number, number64, sixteen, text, word};
 use channel_keys::{cred, session_key};
 use std::alloc::Global;
 use wire_base::Authenticator;
@@ -90,7 +90,7 @@ fn channel(alloc: Global, words: &[&str]) -> anyhow::Result<String> {
 
 /// `timestamp NOW`: the timestamp of a moment.
 fn timestamp(alloc: Global, words: &[&str]) -> anyhow::Result<String> {
-    let timestamp = timestamp_at(long_number(word(words, 1))?);
+    let timestamp = timestamp_at(number64(word(words, 1))?);
     Ok(format!(in alloc; "{timestamp}")?)
 }
 

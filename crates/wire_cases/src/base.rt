@@ -3,8 +3,8 @@
 ghost use Rattle.std.specs.Prelude.{◌≡◌, ◌<◌, ◌≤◌, ◌^◌, true, length};
 
 use crate::maps;
-use crate::words::{
-    add_answer, bytes, number, number16, number64, size, text, text_units, truth, word,
+use case_words::{
+    add_answer, bytes, long_text, number, number16, number64, size, text_units, truth, word,
 };
 use std::alloc::Global;
 use wire_base::{
@@ -41,7 +41,7 @@ fn blob(alloc: Global, words: &[&str]) -> anyhow::Result<String> {
     let bytes = bytes(alloc, word(words, 1))?;
     let copy = Blob::copy(alloc, &bytes)?;
     let mut answer = format!(in alloc; "{copy:?}")?;
-    let back = text(alloc, copy.bytes())?;
+    let back = long_text(alloc, copy.bytes())?;
     add_answer(&mut answer, back.as_str())?;
     Ok(answer)
 }
@@ -49,7 +49,7 @@ fn blob(alloc: Global, words: &[&str]) -> anyhow::Result<String> {
 /// `blob_back BYTES`: the bytes of a vector, given back as one.
 fn blob_back(alloc: Global, words: &[&str]) -> anyhow::Result<String> {
     let bytes = bytes(alloc, word(words, 1))?;
-    text(alloc, &Blob::from_vec(bytes).into_vec())
+    long_text(alloc, &Blob::from_vec(bytes).into_vec())
 }
 
 /// The numbers of the words behind a place.
@@ -120,7 +120,7 @@ fn upper(alloc: Global, words: &[&str]) -> anyhow::Result<String> {
 fn units_answer(alloc: Global, read: Units) -> anyhow::Result<String> {
     let mut answer = format!(in alloc; "Ok({read:?})")?;
     let bytes = read.duplicate(alloc)?.bytes(alloc)?;
-    let step = text(alloc, bytes.bytes())?;
+    let step = long_text(alloc, bytes.bytes())?;
     add_answer(&mut answer, step.as_str())?;
     let units = read.into_vec();
     let step = format!(in alloc; "{units:?}")?;
@@ -147,14 +147,14 @@ fn units_back(alloc: Global, words: &[&str]) -> anyhow::Result<String> {
     let read = text_units(alloc, word(words, 1))?;
     let copy = Units::copy(alloc, read.units())?;
     let bytes = Units::from_vec(copy.into_vec()).bytes(alloc)?;
-    text(alloc, bytes.bytes())
+    long_text(alloc, bytes.bytes())
 }
 
 /// A name that was read, its copy's bytes, and its units.
 fn name_answer(alloc: Global, read: Name) -> anyhow::Result<String> {
     let mut answer = format!(in alloc; "Ok({read:?})")?;
     let copy = read.copy(alloc)?;
-    let step = text(alloc, copy.bytes())?;
+    let step = long_text(alloc, copy.bytes())?;
     add_answer(&mut answer, step.as_str())?;
     let units = read.units(alloc)?;
     let step = format!(in alloc; "{units:?}")?;

@@ -7,7 +7,7 @@ ghost use Rattle.rpc_units.specs.Views.{body_shown};
 use crate::streams;
 use crate::unit_words::{unit, word_of};
 use crate::units::may_write;
-use crate::words::{add_answer, bytes, number16, text, truth, word};
+use case_words::{add_answer, bytes, long_text, number16, truth, word};
 use rpc_units::{
     Body, BodyView, JoinRefused, Joiner, Unit, UnitList, UnitView, cut_call, read_unit, view_unit,
     write_unit,
@@ -137,7 +137,7 @@ fn fragment_text(alloc: Global, unit: &Unit) -> anyhow::Result<String> {
         return Ok("not to be written".to_string(alloc)?);
     }
     let bytes = write_unit(alloc, unit)?;
-    let text = text(alloc, bytes.bytes())?;
+    let text = long_text(alloc, bytes.bytes())?;
     let (first, last) = (truth(unit.first), truth(unit.last));
     let size = stub(&unit.body).len();
     Ok(format!(in alloc; "{first} {last} {size} {text}")?)

@@ -1,7 +1,7 @@
 //! Cases of what stands on the wire: numbers, texts, names, NTLM's messages, RPC's units, NDR's items and the stubs of Netlogon and of the memo
 //! interface.
 //!
-//! Each line of the input is an operation, as `units.read`, and its values, as `words` has them; each line of the output is what the
+//! Each line of the input is an operation, as `units.read`, and its values, as `case_words` has them; each line of the output is what the
 //! operation gives.
 #![tactic(auto)]
 
@@ -17,11 +17,9 @@ mod streams;
 mod stubs;
 mod unit_words;
 mod units;
-mod words;
 
+use case_words::{answer_lines, no_case, word};
 use std::alloc::Global;
-use std::io;
-use words::{no_case, word};
 
 /// What a line's operation gives: the part of its name before the point is the file that has it.
 fn answer(alloc: Global, words: &[&str]) -> anyhow::Result<String> {
@@ -37,17 +35,6 @@ fn answer(alloc: Global, words: &[&str]) -> anyhow::Result<String> {
     }
 }
 
-/// The answer to a line.
-fn line_of_answer(alloc: Global, line: &str) -> anyhow::Result<String> {
-    let words: Vec<&str> = line.split(' ').collect(alloc)?;
-    answer(alloc, &words)
-}
-
 fn main(rt: HostRuntime) -> anyhow::Result<()> {
-    let cases = io::read_to_string(rt.alloc(), rt.reader())?;
-    for line in cases.lines() {
-        let text = line_of_answer(rt.alloc(), line)?;
-        println!(rt; "{text}")?;
-    }
-    Ok(())
+    answer_lines(rt, answer)
 }

@@ -1,6 +1,6 @@
 //! Cases of the maps of `wire_base`: a scenario of steps each.
 
-use crate::words::{add_answer, no_case, number, text_units, word};
+use case_words::{add_answer, no_case, number, text_units, word};
 use std::alloc::Global;
 use wire_base::{List, Units, find_number, put_named, put_number, take_named, take_number};
 

@@ -4,7 +4,7 @@ ghost use Rattle.std.specs.Prelude.{◌≡◌, true};
 ghost use Rattle.memo_stubs.specs.Memo.{FitsEcho};
 
 use crate::stubs::fits;
-use crate::words::{blob, bytes, no_case, text, text_units, word};
+use case_words::{blob, bytes, long_text, no_case, text_units, word};
 use memo_stubs::{
     read_echo_reply, read_echo_request, read_who_reply, write_echo_reply, write_echo_request,
     write_who_reply,
@@ -51,7 +51,7 @@ fn who_text(alloc: Global, name: &Units) -> anyhow::Result<String> {
         return not_to_be_written(alloc);
     }
     let stub = write_who_reply(alloc, name)?;
-    text(alloc, stub.bytes())
+    long_text(alloc, stub.bytes())
 }
 
 /// The stub of a request of Echo.
@@ -60,7 +60,7 @@ fn echo_request_text(alloc: Global, bytes: &Blob) -> anyhow::Result<String> {
         return not_to_be_written(alloc);
     }
     let stub = write_echo_request(alloc, bytes)?;
-    text(alloc, stub.bytes())
+    long_text(alloc, stub.bytes())
 }
 
 /// The stub of a reply of Echo.
@@ -69,7 +69,7 @@ fn echo_reply_text(alloc: Global, bytes: &Blob) -> anyhow::Result<String> {
         return not_to_be_written(alloc);
     }
     let stub = write_echo_reply(alloc, bytes)?;
-    text(alloc, stub.bytes())
+    long_text(alloc, stub.bytes())
 }
 
 /// `who_of UNITS`.

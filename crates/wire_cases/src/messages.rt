@@ -7,7 +7,7 @@ ghost use Rattle.ntlm_messages.specs.Challenge.{CanWriteChallenge};
 ghost use Rattle.ntlm_messages.specs.Authenticate.{CanWriteAuthenticate};
 
 use crate::pairs;
-use crate::words::{blob, bytes, eight, flags, sixteen, text, word};
+use case_words::{blob, bytes, eight, flags, long_text, sixteen, word};
 use ntlm_flags::{
     NTLMSSP_NEGOTIATE_OEM_DOMAIN_SUPPLIED, NTLMSSP_NEGOTIATE_OEM_WORKSTATION_SUPPLIED,
     NTLMSSP_NEGOTIATE_UNICODE, NTLMSSP_NEGOTIATE_VERSION, has_flag,
@@ -40,7 +40,7 @@ fn mic(word: &str) -> anyhow::Result<Option<[u8; 16]>> {
 fn written(alloc: Global, outcome: Result<Blob, WriteRefused>) -> anyhow::Result<String> {
     match outcome {
         Ok(bytes) => {
-            let text = text(alloc, bytes.bytes())?;
+            let text = long_text(alloc, bytes.bytes())?;
             Ok(format!(in alloc; "Ok({text})")?)
         }
         Err(refused) => Ok(format!(in alloc; "Err({refused:?})")?),

@@ -1,7 +1,7 @@
 //! Cases of `ndr_codec`: the steps of a reader. `ndr_writing` has those of a writer.
 
 use crate::ndr_writing;
-use crate::words::{add_answer, bytes, no_case, number, number16, size, word};
+use case_words::{add_answer, bytes, no_case, number, number16, size, word};
 use ndr_codec::{
     Head, Reader, read_bytes, read_halves, read_head, read_reserved, read_some_pointer,
     read_unique_text, read_units,

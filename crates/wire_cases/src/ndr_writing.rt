@@ -3,8 +3,8 @@
 ghost use Rattle.std.specs.Prelude.{◌≤◌, length, IfOk};
 
 use crate::ndr::parts;
-use crate::words::{blob, bytes, number, number8, number16, number64, text, text_units};
 use anyhow::anyhow;
+use case_words::{blob, bytes, long_text, number, number8, number16, number64, text_units};
 use ndr_codec::{
     Writer, write_bytes, write_bytes_head, write_halves, write_reserved, write_unique_text,
     write_units, write_units_head,
@@ -198,7 +198,7 @@ fn written(alloc: Global, words: &[&str]) -> anyhow::Result<Blob> {
 /// `write STEP ..`.
 pub(crate) fn write(alloc: Global, words: &[&str]) -> anyhow::Result<String> {
     match written(alloc, words) {
-        Ok(stub) => text(alloc, stub.bytes()),
+        Ok(stub) => long_text(alloc, stub.bytes()),
         Err(refused) => Ok(format!(in alloc; "{refused}")?),
     }
 }

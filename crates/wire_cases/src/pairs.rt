@@ -3,7 +3,7 @@
 ghost use Rattle.std.specs.Prelude.{◌≡◌, true};
 ghost use Rattle.ntlm_messages.specs.Pairs.{IsPair, ArePairs};
 
-use crate::words::{blob, bytes, no_case, number16, text, word};
+use case_words::{blob, bytes, long_text, no_case, number16, word};
 use ntlm_messages::{Pairs, pair_value, read_pairs, timestamp, write_pairs};
 use std::alloc::Global;
 use wire_base::Blob;
@@ -20,7 +20,7 @@ fn pairs_again(alloc: Global, words: &[&str]) -> anyhow::Result<String> {
     let bytes = bytes(alloc, word(words, 1))?;
     let read = read_pairs(alloc, &bytes)?;
     let again = write_pairs(alloc, &read)?;
-    text(alloc, again.bytes())
+    long_text(alloc, again.bytes())
 }
 
 /// `pair_value ID BYTES`: the value of the first pair of an id.
@@ -84,7 +84,7 @@ fn pairs_of(alloc: Global, words: &[&str]) -> anyhow::Result<String> {
         return Ok("not to be written".to_string(alloc)?);
     }
     let bytes = write_pairs(alloc, &pairs)?;
-    text(alloc, bytes.bytes())
+    long_text(alloc, bytes.bytes())
 }
 
 /// What an operation gives.

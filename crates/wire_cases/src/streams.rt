@@ -2,7 +2,7 @@
 
 ghost use Rattle.std.specs.Prelude.{◌≡◌, false, IfOk, IfSome, OnOk};
 
-use crate::words::{add_answer, blob, bytes, no_case, sixteen, text};
+use case_words::{add_answer, blob, bytes, long_text, no_case, sixteen};
 use rpc_units::{Came, Incoming, Inflow, UnitRefused, read_stream, set_value};
 use std::alloc::Global;
 use wire_base::{Blob, Frames};
@@ -11,7 +11,7 @@ use wire_base::{Blob, Frames};
 
 /// A unit that came, with its bytes.
 fn unit_text(alloc: Global, size: usize, unit: &[u8]) -> anyhow::Result<String> {
-    let text = text(alloc, unit)?;
+    let text = long_text(alloc, unit)?;
     Ok(format!(in alloc; "Unit({size}) {text}")?)
 }
 
@@ -78,7 +78,7 @@ fn read_text(
 ) -> anyhow::Result<String> {
     let mut answer = String::new(alloc);
     for unit in units {
-        let step = text(alloc, unit.bytes())?;
+        let step = long_text(alloc, unit.bytes())?;
         add_answer(&mut answer, step.as_str())?;
     }
     let step = format!(in alloc; "{refused:?}")?;
@@ -97,7 +97,7 @@ fn whole(alloc: Global, words: &[&str]) -> anyhow::Result<String> {
 
 /// A unit in front, with its bytes.
 fn front_text(alloc: Global, size: usize, unit: &[u8]) -> anyhow::Result<String> {
-    let text = text(alloc, unit)?;
+    let text = long_text(alloc, unit)?;
     Ok(format!(in alloc; "Ok(Some({size})) {text}")?)
 }
 

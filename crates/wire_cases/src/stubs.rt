@@ -4,7 +4,7 @@ ghost use Rattle.std.specs.Prelude.{◌≡◌, true};
 ghost use Rattle.ndr_codec.specs.Parts.{FitsText, IfThere};
 ghost use Rattle.logon_stubs.specs.Writing.{CanWriteNetworkInfo, CanWriteSamInfo, CanWriteCall, CanWriteReply};
 
-use crate::words::{bytes, no_case, number16, text, word};
+use case_words::{bytes, long_text, no_case, number16, word};
 use logon_stubs::{
     Call, NetworkInfo, Reply, SamInfo, read_call, read_reply, write_call, write_reply,
 };
@@ -107,7 +107,7 @@ fn call_text(alloc: Global, call: &Call) -> anyhow::Result<String> {
         return Ok("not to be written".to_string(alloc)?);
     }
     let stub = write_call(alloc, call)?;
-    text(alloc, stub.bytes())
+    long_text(alloc, stub.bytes())
 }
 
 /// The stub of a reply.
@@ -116,7 +116,7 @@ fn reply_text(alloc: Global, reply: &Reply) -> anyhow::Result<String> {
         return Ok("not to be written".to_string(alloc)?);
     }
     let stub = write_reply(alloc, reply)?;
-    text(alloc, stub.bytes())
+    long_text(alloc, stub.bytes())
 }
 
 /// The stub that is written of a request that was read.

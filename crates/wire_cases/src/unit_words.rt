@@ -1,7 +1,7 @@
 //! Units of RPC as words of a line: fields joined by commas, the kind, the flags (1 FIRST, 2 LAST), the call and the trailer first.
 
-use crate::words::{blob, counted, flags, number, number8, number16, sixteen, text, word};
 use anyhow::anyhow;
+use case_words::{blob, counted, flags, long_text, number, number8, number16, sixteen, word};
 use rpc_units::{Body, Contexts, Results, Syntax, Syntaxes, Trailer, Unit};
 use std::alloc::Global;
 use wire_base::Blob;
@@ -209,7 +209,7 @@ fn trailer_text(alloc: Global, trailer: &Option<Trailer>) -> anyhow::Result<Stri
     let Some(trailer) = trailer else {
         return Ok("-".to_string(alloc)?);
     };
-    let value = text(alloc, trailer.value.bytes())?;
+    let value = long_text(alloc, trailer.value.bytes())?;
     let (kind, level, context) = (trailer.kind, trailer.level, trailer.context);
     Ok(format!(in alloc; "{kind}/{level}/{context}/{value}")?)
 }
@@ -232,7 +232,7 @@ pub(crate) fn word_of(alloc: Global, unit: &Unit) -> anyhow::Result<String> {
             stub,
         } => {
             let front = front_text(alloc, unit)?;
-            let stub = text(alloc, stub.bytes())?;
+            let stub = long_text(alloc, stub.bytes())?;
             Ok(format!(in alloc; "request,{front},{hint},{context},{opnum},{stub}")?)
         }
         Body::Response {
@@ -241,7 +241,7 @@ pub(crate) fn word_of(alloc: Global, unit: &Unit) -> anyhow::Result<String> {
             stub,
         } => {
             let front = front_text(alloc, unit)?;
-            let stub = text(alloc, stub.bytes())?;
+            let stub = long_text(alloc, stub.bytes())?;
             Ok(format!(in alloc; "response,{front},{hint},{context},{stub}")?)
         }
         _ => Ok(format!(in alloc; "{unit:?}")?),

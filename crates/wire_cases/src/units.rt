@@ -7,7 +7,7 @@ ghost use Rattle.rpc_units.specs.Writing.{HasCounts, HasPieces, HasValue, IsWrit
 
 use crate::joining;
 use crate::unit_words::unit;
-use crate::words::{bytes, sixteen, text, word};
+use case_words::{bytes, long_text, sixteen, word};
 use rpc_units::{
     Body, Contexts, Syntax, Syntaxes, Trailer, Unit, UnitWriteRefused, copy_unit, read_unit,
     sealed_range, set_value, view_unit, write_unit,
@@ -65,7 +65,7 @@ pub(crate) fn may_write(unit: &Unit) -> bool
 fn written(alloc: Global, outcome: Result<Blob, UnitWriteRefused>) -> anyhow::Result<String> {
     match outcome {
         Ok(bytes) => {
-            let text = text(alloc, bytes.bytes())?;
+            let text = long_text(alloc, bytes.bytes())?;
             Ok(format!(in alloc; "Ok({text})")?)
         }
         Err(refused) => Ok(format!(in alloc; "Err({refused:?})")?),
@@ -124,7 +124,7 @@ fn value(alloc: Global, words: &[&str]) -> anyhow::Result<String> {
         return Ok("too short".to_string(alloc)?);
     }
     set_value(&mut bytes, &value);
-    text(alloc, &bytes)
+    long_text(alloc, &bytes)
 }
 
 /// `of UNIT`.

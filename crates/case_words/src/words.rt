@@ -1,5 +1,5 @@
 //! The words of a line: values in hex, numbers in decimal digits, and `-` for what is empty. A part of a long byte string that repeats is
-//! `COUNT*HEX`, and its parts are joined by `+`; so are long answers.
+//! `COUNT*HEX`, and its parts are joined by `+`; so are the bytes of `long_text`.
 
 ghost use Rattle.std.specs.Prelude.{◌≤◌, length};
 
@@ -11,7 +11,7 @@ use wire_base::{Blob, Units};
 const RUN: usize = 32;
 
 /// The word at a place; an empty one behind the last.
-pub(crate) fn word<'a>(words: &[&'a str], at: usize) -> &'a str {
+pub fn word<'a>(words: &[&'a str], at: usize) -> &'a str {
     match words.get(at) {
         Some(word) => *word,
         None => "",
@@ -19,54 +19,59 @@ pub(crate) fn word<'a>(words: &[&'a str], at: usize) -> &'a str {
 }
 
 /// The answer to an operation that there is not.
-pub(crate) fn no_case(alloc: Global) -> anyhow::Result<String> {
+pub fn no_case(alloc: Global) -> anyhow::Result<String> {
     Ok("no such case".to_string(alloc)?)
 }
 
 // ---- values
 
 /// A number of 64 bits.
-pub(crate) fn number64(word: &str) -> anyhow::Result<u64> {
+pub fn number64(word: &str) -> anyhow::Result<u64> {
     Ok(word.parse::<u64>()?)
 }
 
 /// A number of 32 bits.
-pub(crate) fn number(word: &str) -> anyhow::Result<u32> {
+pub fn number(word: &str) -> anyhow::Result<u32> {
     Ok(word.parse::<u32>()?)
 }
 
 /// A number of 16 bits.
-pub(crate) fn number16(word: &str) -> anyhow::Result<u16> {
+pub fn number16(word: &str) -> anyhow::Result<u16> {
     Ok(word.parse::<u16>()?)
 }
 
 /// A number of 8 bits.
-pub(crate) fn number8(word: &str) -> anyhow::Result<u8> {
+pub fn number8(word: &str) -> anyhow::Result<u8> {
     Ok(word.parse::<u8>()?)
 }
 
 /// A size or a place.
-pub(crate) fn size(word: &str) -> anyhow::Result<usize> {
+pub fn size(word: &str) -> anyhow::Result<usize> {
     Ok(word.parse::<usize>()?)
 }
 
 /// A number of 32 bits, of eight hex digits.
-pub(crate) fn flags(word: &str) -> anyhow::Result<u32> {
+pub fn flags(word: &str) -> anyhow::Result<u32> {
     Ok(u32::from_be_bytes(<[u8; 4]>::from_hex(word)?))
 }
 
+/// Seven bytes.
+pub fn seven(word: &str) -> anyhow::Result<[u8; 7]> {
+    Ok(<[u8; 7]>::from_hex(word)?)
+}
+
 /// Eight bytes.
-pub(crate) fn eight(word: &str) -> anyhow::Result<[u8; 8]> {
+pub fn eight(word: &str) -> anyhow::Result<[u8; 8]> {
     Ok(<[u8; 8]>::from_hex(word)?)
 }
 
 /// Sixteen bytes.
-pub(crate) fn sixteen(word: &str) -> anyhow::Result<[u8; 16]> {
+pub fn sixteen(word: &str) -> anyhow::Result<[u8; 16]> {
     Ok(<[u8; 16]>::from_hex(word)?)
 }
 
 /// How often a part stands, and the part.
-pub(crate) fn counted(part: &str) -> anyhow::Result<(u64, &str)> {
+pub fn counted(part: &str) -> anyhow::Result<(u64, &str)> {
     match part.split_once('*') {
         Some((count, rest)) => Ok((number64(count)?, rest)),
         None => Ok((1, part)),
@@ -84,7 +89,7 @@ fn push_part(alloc: Global, bytes: &mut Vec<u8>, part: &str) -> anyhow::Result<(
 }
 
 /// The bytes of a word.
-pub(crate) fn bytes(alloc: Global, word: &str) -> anyhow::Result<Vec<u8>> {
+pub fn bytes(alloc: Global, word: &str) -> anyhow::Result<Vec<u8>> {
     let mut bytes = Vec::new(alloc);
     if word == "-" {
         return Ok(bytes);
@@ -96,12 +101,12 @@ pub(crate) fn bytes(alloc: Global, word: &str) -> anyhow::Result<Vec<u8>> {
 }
 
 /// The bytes of a word, kept.
-pub(crate) fn blob(alloc: Global, word: &str) -> anyhow::Result<Blob> {
+pub fn blob(alloc: Global, word: &str) -> anyhow::Result<Blob> {
     Ok(Blob::from_vec(bytes(alloc, word)?))
 }
 
 /// The 16-bit units of a word, little-endian.
-pub(crate) fn text_units(alloc: Global, word: &str) -> anyhow::Result<Units> {
+pub fn text_units(alloc: Global, word: &str) -> anyhow::Result<Units> {
     let bytes = bytes(alloc, word)?;
     Ok(Units::read(alloc, &bytes)?)
 }
@@ -146,8 +151,16 @@ fn push_plain(alloc: Global, text: &mut String, bytes: &[u8]) -> anyhow::Result<
     push_text(text, part.as_str())
 }
 
-/// Bytes as a word.
-pub(crate) fn text(alloc: Global, bytes: &[u8]) -> anyhow::Result<String> {
+/// The hex digits of bytes, or `-` where there are none.
+pub fn text(alloc: Global, bytes: &[u8]) -> anyhow::Result<String> {
+    if bytes.is_empty() {
+        return Ok("-".to_string(alloc)?);
+    }
+    Ok(hex::encode(alloc, bytes)?)
+}
+
+/// Bytes as a word in which long runs of a byte are counted.
+pub fn long_text(alloc: Global, bytes: &[u8]) -> anyhow::Result<String> {
     if bytes.is_empty() {
         return Ok("-".to_string(alloc)?);
     }
@@ -169,12 +182,12 @@ pub(crate) fn text(alloc: Global, bytes: &[u8]) -> anyhow::Result<String> {
 }
 
 /// A truth value.
-pub(crate) fn truth(value: bool) -> &'static str {
+pub fn truth(value: bool) -> &'static str {
     if value { "true" } else { "false" }
 }
 
 /// Appends the answer of a step of a scenario.
-pub(crate) fn add_answer(text: &mut String, step: &str) -> anyhow::Result<()> {
+pub fn add_answer(text: &mut String, step: &str) -> anyhow::Result<()> {
     if !text.is_empty() {
         text.push(';')?;
     }
