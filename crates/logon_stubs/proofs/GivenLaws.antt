@@ -1,5 +1,5 @@
 -- What is read of a stub of bytes has its ranges.
-use Rattle.std.proofs.Common.{◌≡◌, ℕ, ◌^◌, ◌<◌, Bool, true, false, List, Ok}
+use Rattle.std.proofs.Common.{◌≡◌, ℕ, ◌^◌, ◌<◌, Bool, true, false, List, [], get_or, Ok, arith}
 use Rattle.std.specs.List.{AllByRecursion}
 use Rattle.wire_base.specs.Numbers.{AreBytes}
 use Rattle.wire_base.specs.Units.{AreUnits}
@@ -10,11 +10,12 @@ use Rattle.logon_stubs.specs.declared.calls.Reply.{Reply}
 use Rattle.logon_stubs.specs.declared.calls.Reply.TheVariants as reply
 use Rattle.logon_stubs.specs.declared.calls.Call.{Call}
 use Rattle.logon_stubs.specs.declared.calls.Call.TheVariants as call
-use Rattle.logon_stubs.specs.Layout.{Layout, item, part}
+use Rattle.logon_stubs.specs.declared.refused.StubRefused.{StubRefused}
+use Rattle.logon_stubs.specs.Layout.{item, part}
 use Rattle.ndr_codec.specs.declared.parts.Head.{Head}
 use Rattle.ndr_codec.specs.Parts.{halves, head, units, bytes, IfThere}
-use Rattle.ndr_codec.proofs.PartLaws.{gives_unique, gives_text, gives_halves, gives_some_pointer, gives_reserved, gives_head, gives_target, gives_units, gives_bytes, gives_times}
-use Rattle.logon_stubs.specs.Structures.{authenticator, network_info, Six, six, six_texts, sam_numbers, groups_head, groups_pointer, group, group_array, groups_target, sam_info}
+use Rattle.ndr_codec.proofs.PartLaws.{gives_unique, gives_text, gives_halves, gives_some_pointer, gives_reserved, gives_head, gives_target, gives_units, gives_bytes, gives_each, gives_times, one_of_all}
+use Rattle.logon_stubs.specs.Structures.{authenticator, network_info, sam_times, sam_heads, sam_texts, sam_numbers, groups_head, groups_pointer, group, group_array, groups_target, sam_info}
 use Rattle.logon_stubs.specs.Calls.{challenge_call, auth_call, leveled_info, request_arm, logoff_call, logon_call, challenge_reply, auth_reply, logoff_reply, reply_arm, validation_arm, logon_reply, IsCall, IsReply, call_of, reply_of}
 use Rattle.logon_stubs.specs.Ranges.{IsAuthenticator, InRangeNetworkInfo, InRangeChallengeCall, InRangeAuthCall, InRangeLogoffCall, InRangeLogonCall, InRangeCall, InRangeGroup, InRangeSamInfo, InRangeLogonReply, InRangeLogoffReply, InRangeChallengeReply, InRangeAuthReply, InRangeReply}
 use Rattle.logon_stubs.proofs.CallLaws.{call_of-IsCall, reply_of-IsReply}
@@ -79,20 +80,6 @@ call_of-InRange opnum stub value are e = IsCall-InRange opnum stub value are (ca
 
 -- ---- replies
 
-gives_six : {T : Type 0} (layout : Layout T) (Is : T → Type 0) (So : Six T → Type 0) → Gives layout Is → ((value : Six T) → Is value.0 → Is value.1 → Is value.2 → Is value.3 → Is value.4 → Is value.5 → So value) → Gives (six layout) So
-unfolding six
-gives_six layout Is So g each =
-    gives_more layout Is _ (λ a x. gives_more layout Is _ (λ b y. gives_more layout Is _ (λ c z. gives_more layout Is _ (λ d u. gives_more layout Is _ (λ e v. gives_more layout Is _ (λ f w.
-    each (a, b, c, d, e, f) x y z u v w) g) g) g) g) g) g
-
-gives_six_texts : (heads : Six Head) (So : Six (List ℕ) → Type 0) → ((value : Six (List ℕ)) → AreUnits value.0 → AreUnits value.1 → AreUnits value.2 → AreUnits value.3 → AreUnits value.4 → AreUnits value.5 → So value) → Gives (six_texts heads) So
-unfolding six_texts
-gives_six_texts heads So each =
-    gives_more (units heads.0) AreUnits _ (λ a x. gives_more (units heads.1) AreUnits _ (λ b y. gives_more (units heads.2) AreUnits _ (λ c z.
-    gives_more (units heads.3) AreUnits _ (λ d u. gives_more (units heads.4) AreUnits _ (λ e v. gives_more (units heads.5) AreUnits _ (λ f w.
-    each (a, b, c, d, e, f) x y z u v w)
-    (gives_units heads.5)) (gives_units heads.4)) (gives_units heads.3)) (gives_units heads.2)) (gives_units heads.1)) (gives_units heads.0)
-
 gives_groups_head : (So : ℕ × Bool → Type 0) → ((front : ℕ × Bool) → So front) → Gives groups_head So
 unfolding groups_head groups_pointer
 gives_groups_head So each place count a b holds place-2 there c d holds-2 = each _
@@ -105,20 +92,34 @@ gives_groups_target : (front : ℕ × Bool) → Gives (groups_target front) (All
 unfolding groups_target group_array
 gives_groups_target front = gives_target _ front.1 (AllByRecursion InRangeGroup) tt (λ place actual a b holds. gives_times group InRangeGroup front.0 gives_group)
 
+gives_sam_times : Gives sam_times (AllByRecursion (λ n. n < 2 ^ 64))
+unfolding sam_times
+gives_sam_times = gives_times {E = StubRefused} (part halves) (λ n. n < 2 ^ 64) 6 gives_halves
+
+gives_sam_heads : Gives sam_heads (AllByRecursion (λ front. Unit {0}))
+unfolding sam_heads
+gives_sam_heads = gives_times {E = StubRefused} (part (head 2)) (λ front. Unit {0}) 6 (gives_head 2 _ (λ front. tt))
+
+gives_sam_texts : (heads : List Head) → Gives (sam_texts heads) (AllByRecursion AreUnits)
+unfolding sam_texts
+gives_sam_texts heads = gives_each (λ front. part (units front)) AreUnits heads gives_units
+
 gives_sam_info : Gives sam_info InRangeSamInfo
 unfolding sam_info sam_numbers
 gives_sam_info =
-    gives_six (part halves) (λ n. n < 2 ^ 64) _ gives_halves (λ times t0 t1 t2 t3 t4 t5.
-    gives_six (part (head 2)) (λ front. Unit {0}) _ (gives_head 2 _ (λ front. tt)) (λ heads h0 h1 h2 h3 h4 h5. λ logon_count a ao. λ bad_count b bo. λ user_id c co. λ group_id d do-of.
+    gives_more sam_times (AllByRecursion (λ n. n < 2 ^ 64)) _ (λ moments t.
+    gives_more sam_heads (AllByRecursion (λ front. Unit {0})) _ (λ heads h. λ logon_count a ao. λ bad_count b bo. λ user_id c co. λ group_id d do-of.
     gives_groups_head _ (λ groups_front. λ user_flags e eo. λ key len are.
     gives_head 2 _ (λ server_head. gives_head 2 _ (λ domain_head. gives_some_pointer _ (gives_reserved 10 _ (
-    gives_six_texts heads _ (λ texts n0 n1 n2 n3 n4 n5.
+    gives_more (sam_texts heads) (AllByRecursion AreUnits) _ (λ texts n.
     gives_more (groups_target groups_front) (AllByRecursion InRangeGroup) _ (λ groups g.
     gives_more (units server_head) AreUnits _ (λ server s.
     gives_more (units domain_head) AreUnits _ (λ domain m. λ identifier i io.
+    let time : (place : ℕ) → get_or moments place 0 < 2 ^ 64 = one_of_all (λ n. n < 2 ^ 64) 0 (omega arith) moments t in
+    let text : (place : ℕ) → AreUnits (get_or texts place []) = one_of_all AreUnits [] (λ i. omega arith) texts n in
     record {
-      times = record { logon_time = t0; logoff_time = t1; kickoff_time = t2; password_set = t3; password_can_change = t4; password_must_change = t5 };
-      texts = record { effective_name = n0; full_name = n1; script = n2; profile = n3; home = n4; home_drive = n5 };
+      times = (time 0, (time 1, (time 2, (time 3, (time 4, (time 5, tt))))));
+      texts = (text 0, (text 1, (text 2, (text 3, (text 4, (text 5, tt))))));
       numbers = record { logon_count = a; bad_count = b; user_id = c; group_id = d };
       groups = g;
       user_flags = e;
@@ -127,7 +128,7 @@ gives_sam_info =
       domain = m;
       sid = i;
     })
-    (gives_units domain_head)) (gives_units server_head)) (gives_groups_target groups_front)))))))))
+    (gives_units domain_head)) (gives_units server_head)) (gives_groups_target groups_front)) (gives_sam_texts heads))))))) gives_sam_heads) gives_sam_times
 
 gives_reply_arm : (level : ℕ) (there : Bool) → Gives (reply_arm level there) (IfThere InRangeSamInfo)
 gives_reply_arm level false = tt

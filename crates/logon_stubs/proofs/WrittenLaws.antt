@@ -1,6 +1,7 @@
 -- What is put of each structure is of its layout, by its ranges alone: of bytes, and at most so many.
-use Rattle.std.proofs.Common.{◌≡◌, ℕ, ◌+◌, ◌*◌, ◌^◌, ◌<◌, ◌≤◌, eqb, not, true, false, List, [], ◌∷◌, length, Option, Some, None, Ok, refl, sym, ap, subst, ◌∙◌, arith}
+use Rattle.std.proofs.Common.{◌≡◌, ℕ, ◌+◌, ◌*◌, ◌^◌, ◌<◌, ◌≤◌, eqb, not, true, false, List, [], ◌∷◌, length, map, Option, Some, None, Ok, refl, sym, ap, subst, ◌∙◌, arith}
 use Rattle.wire_base.specs.Numbers.{AreBytes}
+use Rattle.wire_base.specs.Units.{AreUnits}
 use Rattle.ndr_codec.specs.Layout.{byte, short, long, raw, pointer, sid}
 use Rattle.ndr_codec.specs.Writing.{Written, nothing, put}
 use Rattle.std.specs.List.{AllByRecursion}
@@ -21,15 +22,14 @@ use Rattle.logon_stubs.specs.declared.calls.Call.TheVariants as call
 use Rattle.logon_stubs.specs.declared.calls.Reply.{Reply}
 use Rattle.logon_stubs.specs.declared.calls.Reply.TheVariants as reply
 use Rattle.logon_stubs.specs.Layout.{item, part, WritesLayout}
-use Rattle.ndr_codec.specs.declared.parts.Head.{Head}
 use Rattle.ndr_codec.specs.Stub.{size_of_all}
-use Rattle.ndr_codec.specs.Parts.{unique, halves, head, FitsText, IfThere, text_size, size_if_there, put_unique, units_head}
-use Rattle.ndr_codec.proofs.TimesLaws.{writes_times}
-use Rattle.ndr_codec.proofs.PartLaws.{it, of_part, then, end, where_true, from_place, within, text_law, unique_law, unique_text_law, some_pointer_law, halves_law, reserved_law, units_head_law, bytes_head_law, target_law, some, either, IsStub, stub_of, units_law, bytes_law}
-use Rattle.logon_stubs.specs.Structures.{authenticator, network_info, Six, six, six_texts, sam_numbers, groups_head, groups_pointer, group, groups, group_array, groups_target, sam_info}
+use Rattle.ndr_codec.specs.Parts.{unique, halves, head, units, FitsText, IfThere, text_size, size_if_there, put_unique, put_halves, put_head, units_head, put_units}
+use Rattle.ndr_codec.proofs.TimesLaws.{writes_each, writes_times}
+use Rattle.ndr_codec.proofs.PartLaws.{it, of_part, then, end, where_true, from_place, within, text_law, unique_law, unique_text_law, some_pointer_law, halves_law, reserved_law, units_head_law, bytes_head_law, target_law, some, either, IsStub, stub_of, units_law, bytes_law, IsFitText, both_of_all}
+use Rattle.logon_stubs.specs.Structures.{authenticator, network_info, sam_times, sam_heads, sam_texts, sam_numbers, groups_head, groups_pointer, group, groups, group_array, groups_target, sam_info}
 use Rattle.logon_stubs.specs.Calls.{challenge_call, challenge_reply, auth_call, auth_reply, leveled_info, request_arm, logoff_call, logoff_reply, logon_call, validation_arm, logon_reply, IsCall, IsReply, call_of, reply_of, opnum_of_call, opnum_of_reply}
-use Rattle.logon_stubs.specs.Writing.{CanWriteNetworkInfo, CanWriteSamInfo, CanWriteLogoffCall, CanWriteLogonCall, CanWriteArm, CanWriteCall, CanWriteReply, put_authenticator, put_network_info, put_times, put_text_heads, put_sam_numbers, put_groups_head, put_texts, put_group, put_groups, put_group_array, put_sam_info, put_challenge_call, put_challenge_reply, put_auth_call, put_auth_reply, put_leveled_info, put_logoff_call, put_logoff_reply, front_of, put_logon_call, put_logon_reply, put_call, put_reply, written_call, written_reply}
-use Rattle.logon_stubs.specs.Ranges.{IsBlock, IsAuthenticator, InRangeNetworkInfo, InRangeChallengeCall, InRangeAuthCall, InRangeLogoffCall, InRangeLogonCall, InRangeCall, InRangeGroup, InRangeTimes, InRangeTexts, InRangeNumbers, InRangeSamInfo, InRangeLogonReply, InRangeLogoffReply, InRangeChallengeReply, InRangeAuthReply, InRangeReply, bytes_of_text, call_content, HasShortTexts, IsShortReply}
+use Rattle.logon_stubs.specs.Writing.{CanWriteNetworkInfo, CanWriteSamInfo, CanWriteLogoffCall, CanWriteLogonCall, CanWriteArm, CanWriteCall, CanWriteReply, put_authenticator, put_network_info, times_of, texts_of, put_times, put_text_heads, put_sam_numbers, put_groups_head, put_texts, put_group, put_groups, put_group_array, put_sam_info, put_challenge_call, put_challenge_reply, put_auth_call, put_auth_reply, put_leveled_info, put_logoff_call, put_logoff_reply, front_of, put_logon_call, put_logon_reply, put_call, put_reply, written_call, written_reply}
+use Rattle.logon_stubs.specs.Ranges.{IsBlock, IsAuthenticator, InRangeNetworkInfo, InRangeChallengeCall, InRangeAuthCall, InRangeLogoffCall, InRangeLogonCall, InRangeCall, InRangeGroup, InRangeNumbers, InRangeSamInfo, InRangeLogonReply, InRangeLogoffReply, InRangeChallengeReply, InRangeAuthReply, InRangeReply, bytes_of_text, call_content, HasShortTexts, IsShortReply}
 use Rattle.logon_stubs.proofs.CallLaws.{IsCall-call_of, IsReply-reply_of}
 
 -- ---- at most so many bytes
@@ -97,36 +97,17 @@ network_info_law info old can is =
 
 -- ---- what is granted
 
-abbrev times_of : SamInfo → Six ℕ
-times_of info = (info.logon_time, info.logoff_time, info.kickoff_time, info.password_set, info.password_can_change, info.password_must_change)
+texts_fit : (info : SamInfo) → CanWriteSamInfo info → AllByRecursion FitsText (texts_of info)
+texts_fit info can = (can.effective_name, (can.full_name, (can.script, (can.profile, (can.home, (can.home_drive, tt))))))
 
-abbrev texts_of : SamInfo → Six (List ℕ)
-texts_of info = (info.effective_name, info.full_name, info.script, info.profile, info.home, info.home_drive)
+times_law : (info : SamInfo) (old : Written) → AllByRecursion (λ n. n < 2 ^ 64) (times_of info) → WritesLayout sam_times (times_of info) 84 old (put_times info old)
+unfolding sam_times put_times
+times_law info old is = writes_times (part halves) put_halves (λ n. 14) (λ n. n < 2 ^ 64) (λ n written fits. of_part (halves_law n written fits)) (times_of info) old is
 
-abbrev heads_of : SamInfo → Six Head
-heads_of info = (units_head info.effective_name, units_head info.full_name, units_head info.script, units_head info.profile, units_head info.home, units_head info.home_drive)
-
-times_law : (info : SamInfo) (old : Written) → InRangeTimes info → WritesLayout (six (part halves)) (times_of info) 84 old (put_times info old)
-unfolding six put_times
-times_law info old is =
-    then (of_part (halves_law info.logon_time old is.logon_time)) (
-    then (of_part (halves_law info.logoff_time _ is.logoff_time)) (
-    then (of_part (halves_law info.kickoff_time _ is.kickoff_time)) (
-    then (of_part (halves_law info.password_set _ is.password_set)) (
-    then (of_part (halves_law info.password_can_change _ is.password_can_change)) (
-    then (of_part (halves_law info.password_must_change _ is.password_must_change)) (
-    end _ _))))))
-
-text_heads_law : (info : SamInfo) (old : Written) → CanWriteSamInfo info → WritesLayout (six (part (head 2))) (heads_of info) 102 old (put_text_heads info old)
-unfolding six put_text_heads
+text_heads_law : (info : SamInfo) (old : Written) → CanWriteSamInfo info → WritesLayout sam_heads (map units_head (texts_of info)) 102 old (put_text_heads info old)
+unfolding sam_heads put_text_heads
 text_heads_law info old can =
-    then (of_part (units_head_law info.effective_name old can.effective_name)) (
-    then (of_part (units_head_law info.full_name _ can.full_name)) (
-    then (of_part (units_head_law info.script _ can.script)) (
-    then (of_part (units_head_law info.profile _ can.profile)) (
-    then (of_part (units_head_law info.home _ can.home)) (
-    then (of_part (units_head_law info.home_drive _ can.home_drive)) (
-    end _ _))))))
+    writes_each {A = Unit {0}} (λ _. part (head 2)) (λ _. tt) units_head (λ text. put_head (2 * length text)) (λ text. 17) FitsText (λ text written fits. of_part (units_head_law text written fits)) (texts_of info) old (texts_fit info can)
 
 groups_head_law : (count : ℕ) (old : Written) → count ≤ 256 → WritesLayout groups_head (count, not (eqb count 0)) 14 old (put_groups_head count old)
 unfolding groups_head groups_pointer put_groups_head
@@ -142,17 +123,10 @@ sam_numbers_law info old is =
     then (it long info.group_id _ is.group_id tt) (
     end _ _))))
 
-texts_law : (info : SamInfo) (old : Written) → CanWriteSamInfo info → InRangeTexts info → WritesLayout (six_texts (heads_of info)) (texts_of info) (90 + (2 * length info.effective_name + 2 * length info.full_name + 2 * length info.script + 2 * length info.profile + 2 * length info.home + 2 * length info.home_drive)) old (put_texts info old)
-unfolding six_texts put_texts
-texts_law info old can is =
-    within _ (omega arith) (
-    then (of_part (units_law info.effective_name old can.effective_name is.effective_name)) (
-    then (of_part (units_law info.full_name _ can.full_name is.full_name)) (
-    then (of_part (units_law info.script _ can.script is.script)) (
-    then (of_part (units_law info.profile _ can.profile is.profile)) (
-    then (of_part (units_law info.home _ can.home is.home)) (
-    then (of_part (units_law info.home_drive _ can.home_drive is.home_drive)) (
-    end _ _)))))))
+texts_law : (info : SamInfo) (old : Written) → CanWriteSamInfo info → AllByRecursion AreUnits (texts_of info) → WritesLayout (sam_texts (map units_head (texts_of info))) (texts_of info) (90 + (2 * length info.effective_name + 2 * length info.full_name + 2 * length info.script + 2 * length info.profile + 2 * length info.home + 2 * length info.home_drive)) old (put_texts info old)
+unfolding sam_texts put_texts
+texts_law info old can are =
+    within _ (omega arith) (writes_each (λ front. part (units front)) units_head (λ text. text) put_units (λ text. 15 + 2 * length text) IsFitText (λ text written fits. of_part (units_law text written fits.0 fits.1)) (texts_of info) old (both_of_all FitsText AreUnits (texts_of info) (texts_fit info can) are))
 
 group_law : (value : ℕ × ℕ) (old : Written) → InRangeGroup value → WritesLayout group value 14 old (put_group value old)
 unfolding group

@@ -4,7 +4,7 @@ use Rattle.ndr_codec.specs.Cursor.{Cursor}
 use Rattle.ndr_codec.specs.Reading.{Reading}
 use Rattle.ndr_codec.specs.Stub.{LayoutOf, reading_by, ReadsBy, WritesBy}
 use Rattle.ndr_codec.specs.Writing.{Written}
-pub use Rattle.ndr_codec.specs.Stub.{item, part, after, done, only, placed, times, ◌>>=◌, HasLayout}
+pub use Rattle.ndr_codec.specs.Stub.{item, part, after, done, only, placed, each, times, ◌>>=◌, HasLayout}
 use Rattle.logon_stubs.specs.declared.refused.StubRefused.{StubRefused}
 use Rattle.logon_stubs.specs.declared.refused.StubRefused.TheVariants.{Memory}
 use Rattle.logon_stubs.specs.Refusals.{stub_refused}

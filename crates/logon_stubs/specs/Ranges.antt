@@ -20,7 +20,7 @@ use Rattle.logon_stubs.specs.declared.calls.Call.{Call}
 use Rattle.logon_stubs.specs.declared.calls.Call.TheVariants as call
 use Rattle.logon_stubs.specs.declared.calls.Reply.{Reply}
 use Rattle.logon_stubs.specs.declared.calls.Reply.TheVariants as reply
-use Rattle.logon_stubs.specs.Writing.{front_of}
+use Rattle.logon_stubs.specs.Writing.{front_of, times_of, texts_of}
 
 -- that many bytes
 abbrev pub IsBlock : ℕ → List ℕ → Type 0
@@ -73,22 +73,6 @@ InRangeCall (call.Authenticate value) = InRangeAuthCall value
 abbrev pub InRangeGroup : ℕ × ℕ → Type 0
 InRangeGroup group = (group.0 < 2 ^ 32) × (group.1 < 2 ^ 32)
 
-pub record InRangeTimes (info : SamInfo) : Type 0 where
-  pub logon_time : info.logon_time < 2 ^ 64
-  pub logoff_time : info.logoff_time < 2 ^ 64
-  pub kickoff_time : info.kickoff_time < 2 ^ 64
-  pub password_set : info.password_set < 2 ^ 64
-  pub password_can_change : info.password_can_change < 2 ^ 64
-  pub password_must_change : info.password_must_change < 2 ^ 64
-
-pub record InRangeTexts (info : SamInfo) : Type 0 where
-  pub effective_name : AreUnits info.effective_name
-  pub full_name : AreUnits info.full_name
-  pub script : AreUnits info.script
-  pub profile : AreUnits info.profile
-  pub home : AreUnits info.home
-  pub home_drive : AreUnits info.home_drive
-
 pub record InRangeNumbers (info : SamInfo) : Type 0 where
   pub logon_count : info.logon_count < 2 ^ 16
   pub bad_count : info.bad_count < 2 ^ 16
@@ -96,8 +80,8 @@ pub record InRangeNumbers (info : SamInfo) : Type 0 where
   pub group_id : info.group_id < 2 ^ 32
 
 pub record InRangeSamInfo (info : SamInfo) : Type 0 where
-  pub times : InRangeTimes info
-  pub texts : InRangeTexts info
+  pub times : AllByRecursion (λ n. n < 2 ^ 64) (times_of info)
+  pub texts : AllByRecursion AreUnits (texts_of info)
   pub numbers : InRangeNumbers info
   pub groups : AllByRecursion InRangeGroup info.groups
   pub user_flags : info.user_flags < 2 ^ 32

@@ -1,14 +1,16 @@
 -- The structures in Netlogon's calls, each as a layout (MS-NRPC 2.2.1; C706 14.3). Padding, nonzero referents and maximum lengths are free. Each structure
 -- stands behind a referent, and each head behind parts of whole 4 bytes, so at a multiple of 4, as C706 14.3.2 aligns them: no padding comes before one.
-use Rattle.std.specs.Prelude.{ℕ, ◌==◌, ◌||◌, Bool, List, nat_le}
+use Rattle.std.specs.Prelude.{ℕ, ◌≡◌, ◌⊎◌, ◌==◌, ◌||◌, Bool, List, [], ◌∷◌, Result, Ok, Err, get_or, nat_le}
+use Rattle.ndr_codec.specs.Cursor.{Cursor}
 use Rattle.ndr_codec.specs.Layout.{start_of, short, long, raw, pointer, sid}
 use Rattle.ndr_codec.specs.Parts.{some_pointer, halves, reserved, head, target, units, bytes}
 use Rattle.ndr_codec.specs.declared.parts.Head.{Head}
 use Rattle.wire_base.specs.declared.authenticator.Authenticator.{Authenticator}
-use Rattle.logon_stubs.specs.declared.refused.StubRefused.TheVariants.{BadStub}
+use Rattle.logon_stubs.specs.declared.refused.StubRefused.{StubRefused}
+use Rattle.logon_stubs.specs.declared.refused.StubRefused.TheVariants.{BadStub, Memory}
 use Rattle.logon_stubs.specs.declared.info.NetworkInfo.{NetworkInfo}
 use Rattle.logon_stubs.specs.declared.info.SamInfo.{SamInfo}
-use Rattle.logon_stubs.specs.Layout.{Layout, item, part, done, only, placed, times, ◌>>=◌}
+use Rattle.logon_stubs.specs.Layout.{Layout, reading_of, item, part, done, only, placed, each, times, ◌>>=◌}
 
 -- ---- authenticators
 
@@ -41,30 +43,29 @@ network_info = do
 
 -- ---- NETLOGON_VALIDATION_SAM_INFO (MS-NRPC 2.2.1.4.11)
 
--- six of the same: six times, and six heads
+-- six of the same, as the code holds them
 abbrev pub Six : Type 0 → Type 0
 Six T = T × T × T × T × T × T
 
-unfoldable pub six : {T : Type 0} → Layout T → Layout (Six T)
-six layout = do
-  a ← layout
-  b ← layout
-  c ← layout
-  d ← layout
-  e ← layout
-  f ← layout
-  done (a, b, c, d, e, f)
+abbrev pub list_of : {T : Type 0} → Six T → List T
+list_of six = six.0 ∷ six.1 ∷ six.2 ∷ six.3 ∷ six.4 ∷ six.5 ∷ []
 
--- the targets of six heads, in their order
-unfoldable pub six_texts : Six Head → Layout (Six (List ℕ))
-six_texts heads = do
-  a ← part (units heads.0)
-  b ← part (units heads.1)
-  c ← part (units heads.2)
-  d ← part (units heads.3)
-  e ← part (units heads.4)
-  f ← part (units heads.5)
-  done (a, b, c, d, e, f)
+-- what a function promises that reads six of them
+abbrev pub ReadsSix : {T : Type 0} → Layout (List T) → Result (Six T) StubRefused → Cursor → Cursor → Type 0
+ReadsSix layout (Ok six) old new = reading_of layout old ≡ Ok (list_of six, new)
+ReadsSix layout (Err refused) old new = (refused ≡ Memory) ⊎ (reading_of layout old ≡ Err refused)
+
+-- the times of logon, logoff and kick-off, and those at which the password was set, can change and must change
+unfoldable pub sam_times : Layout (List ℕ)
+sam_times = times 6 (part halves)
+
+-- the heads of the effective name, the full name, the script, the profile, the home and the home drive
+unfoldable pub sam_heads : Layout (List Head)
+sam_heads = times 6 (part (head 2))
+
+-- their targets, in the same order
+unfoldable pub sam_texts : List Head → Layout (List (List ℕ))
+sam_texts heads = each (λ front. part (units front)) heads
 
 -- the counts of logons and of bad passwords, and the relative identifiers of the user and of the primary group
 unfoldable pub sam_numbers : Layout (ℕ × ℕ × ℕ × ℕ)
@@ -109,8 +110,8 @@ groups_target front = target (group_array front.0) front.1
 -- the structure, and then the targets in the order of their pointers (C706 14.3.12.3); the ten reserved numbers end the structure
 unfoldable pub sam_info : Layout SamInfo
 sam_info = do
-  times ← six (part halves)
-  heads ← six (part (head 2))
+  moments ← sam_times
+  heads ← sam_heads
   numbers ← sam_numbers
   groups_front ← groups_head
   user_flags ← item long
@@ -119,24 +120,24 @@ sam_info = do
   domain_head ← part (head 2)
   identified ← part some_pointer
   passed ← part (reserved 10)
-  texts ← six_texts heads
+  texts ← sam_texts heads
   groups ← groups_target groups_front
   server ← part (units server_head)
   domain ← part (units domain_head)
   identifier ← item sid
   done (record {
-    logon_time = times.0;
-    logoff_time = times.1;
-    kickoff_time = times.2;
-    password_set = times.3;
-    password_can_change = times.4;
-    password_must_change = times.5;
-    effective_name = texts.0;
-    full_name = texts.1;
-    script = texts.2;
-    profile = texts.3;
-    home = texts.4;
-    home_drive = texts.5;
+    logon_time = get_or moments 0 0;
+    logoff_time = get_or moments 1 0;
+    kickoff_time = get_or moments 2 0;
+    password_set = get_or moments 3 0;
+    password_can_change = get_or moments 4 0;
+    password_must_change = get_or moments 5 0;
+    effective_name = get_or texts 0 [];
+    full_name = get_or texts 1 [];
+    script = get_or texts 2 [];
+    profile = get_or texts 3 [];
+    home = get_or texts 4 [];
+    home_drive = get_or texts 5 [];
     logon_count = numbers.0;
     bad_count = numbers.1;
     user_id = numbers.2;

@@ -1,9 +1,8 @@
 //! What a logon asks, and what it is answered, read from a stub.
 
 ghost use Rattle.std.specs.Prelude.{◌≡◌, ◌≤◌};
-ghost use Rattle.ndr_codec.specs.Parts.{halves, head};
-ghost use Rattle.logon_stubs.specs.Layout.{Reads, part};
-ghost use Rattle.logon_stubs.specs.Structures.{network_info, six, six_texts, sam_numbers, groups_head, groups, group, group_array, groups_target, sam_info};
+ghost use Rattle.logon_stubs.specs.Layout.{Reads};
+ghost use Rattle.logon_stubs.specs.Structures.{ReadsSix, network_info, list_of, sam_times, sam_heads, sam_texts, sam_numbers, groups_head, groups, group, group_array, groups_target, sam_info};
 
 use crate::info::{NetworkInfo, SamInfo};
 use crate::reading_parts::{long_at, pointer_at, read_eight, read_sixteen};
@@ -52,9 +51,9 @@ pub(crate) fn read_network_info(
 }
 
 /// The times of a user's information, in their order.
-#[tactic(auto, unfolding(crate::specs::Structures::six))]
+#[tactic(auto, unfolding(crate::specs::Structures::sam_times))]
 fn read_times(reader: &mut Reader<'_>) -> Result<Six<u64>, StubRefused>
-    ensures { Reads (six (part halves)) result reader.old reader.new }
+    ensures { ReadsSix sam_times result reader.old reader.new }
 {
     Ok((
         read_halves(reader)?,
@@ -67,9 +66,9 @@ fn read_times(reader: &mut Reader<'_>) -> Result<Six<u64>, StubRefused>
 }
 
 /// The heads of the texts of a user's information, in their order.
-#[tactic(auto, unfolding(crate::specs::Structures::six))]
+#[tactic(auto, unfolding(crate::specs::Structures::sam_heads))]
 fn read_text_heads(reader: &mut Reader<'_>) -> Result<Six<Head>, StubRefused>
-    ensures { Reads (six (part (head 2))) result reader.old reader.new }
+    ensures { ReadsSix sam_heads result reader.old reader.new }
 {
     Ok((
         read_head(reader, 2)?,
@@ -82,13 +81,13 @@ fn read_text_heads(reader: &mut Reader<'_>) -> Result<Six<Head>, StubRefused>
 }
 
 /// The texts with those heads.
-#[tactic(auto, unfolding(crate::specs::Structures::six_texts))]
+#[tactic(auto, unfolding(crate::specs::Structures::sam_texts))]
 fn read_texts(
     alloc: Global,
     reader: &mut Reader<'_>,
     heads: Six<Head>,
 ) -> Result<Six<Units>, StubRefused>
-    ensures { Reads (six_texts heads) result reader.old reader.new }
+    ensures { ReadsSix (sam_texts (list_of heads)) result reader.old reader.new }
 {
     Ok((
         read_units(alloc, reader, heads.0)?,

@@ -2,8 +2,9 @@
 
 ghost use Rattle.std.specs.Prelude.{◌≡◌, ◌^◌, ◌<◌, ◌≤◌, length, OnOk};
 ghost use Rattle.std.specs.List.{AllByRecursion};
-ghost use Rattle.logon_stubs.specs.Ranges.{InRangeNetworkInfo, InRangeTimes, InRangeTexts, InRangeNumbers, InRangeGroup, InRangeSamInfo};
-ghost use Rattle.logon_stubs.specs.Writing.{CanWriteNetworkInfo, CanWriteSamInfo, put_network_info, put_times, put_text_heads, put_sam_numbers, put_groups_head, put_texts, put_groups, put_group_array, put_sam_info};
+ghost use Rattle.wire_base.specs.Units.{AreUnits};
+ghost use Rattle.logon_stubs.specs.Ranges.{InRangeNetworkInfo, InRangeNumbers, InRangeGroup, InRangeSamInfo};
+ghost use Rattle.logon_stubs.specs.Writing.{CanWriteNetworkInfo, CanWriteSamInfo, times_of, texts_of, put_network_info, put_times, put_text_heads, put_sam_numbers, put_groups_head, put_texts, put_groups, put_group_array, put_sam_info};
 
 use crate::info::{NetworkInfo, SamInfo};
 use crate::reading_info::RESERVED;
@@ -40,7 +41,7 @@ pub(crate) fn write_network_info(writer: &mut Writer, info: &NetworkInfo) -> Res
 #[tactic(auto, unfolding(crate::specs::Writing::put_times))]
 fn write_times(writer: &mut Writer, info: &SamInfo) -> Result<(), NoMemory>
     ensures exact { OnOk result (writer.new ≡ put_times info.now writer.old) }
-    ensures range { OnOk result (InRangeTimes info.now) }
+    ensures range { OnOk result (AllByRecursion (λ n. n < 2 ^ 64) (times_of info.now)) }
 {
     write_halves(writer, info.logon_time)?;
     write_halves(writer, info.logoff_time)?;
@@ -92,7 +93,7 @@ fn write_sam_numbers(writer: &mut Writer, info: &SamInfo) -> Result<(), NoMemory
 fn write_texts(writer: &mut Writer, info: &SamInfo) -> Result<(), NoMemory>
     requires { CanWriteSamInfo info.now }
     ensures exact { OnOk result (writer.new ≡ put_texts info.now writer.old) }
-    ensures range { OnOk result (InRangeTexts info.now) }
+    ensures range { OnOk result (AllByRecursion AreUnits (texts_of info.now)) }
 {
     write_units(writer, &info.effective_name)?;
     write_units(writer, &info.full_name)?;

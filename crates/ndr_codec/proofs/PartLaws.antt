@@ -1,5 +1,5 @@
 -- What is put of each part is of its layout, of bytes, and at most so many; and what a part gives of a stub of bytes has its ranges.
-use Rattle.std.proofs.Common.{◌≡◌, ℕ, zero, suc, ◌+◌, ◌*◌, ◌/◌, ◌%◌, ◌^◌, ◌<◌, ◌≤◌, eqb, not, ◌||◌, Bool, true, false, IsTrue, List, [], ◌∷◌, length, Option, Some, None, refl, sym, ap, subst, ◌∙◌, arith}
+use Rattle.std.proofs.Common.{◌≡◌, ℕ, zero, suc, ◌+◌, ◌*◌, ◌/◌, ◌%◌, ◌^◌, ◌<◌, ◌≤◌, eqb, not, ◌||◌, Bool, true, false, IsTrue, List, [], ◌∷◌, length, get_or, Option, Some, None, refl, sym, ap, subst, ◌∙◌, arith}
 use Rattle.std.specs.Prelude.{replicate}
 use Rattle.std.specs.List.{AllByRecursion}
 use Rattle.std.proofs.lemmas.List.{append-nil, length-replicate}
@@ -10,7 +10,7 @@ use Rattle.wire_base.specs.Units.{AreUnits}
 use Rattle.ndr_codec.specs.declared.parts.Head.{Head}
 use Rattle.ndr_codec.specs.Layout.{Shape, ValueOf, short, long, pointer, text, counted, counted_bytes}
 use Rattle.ndr_codec.specs.Writing.{Written, nothing, put, CanPut, OfBytes, size_of}
-use Rattle.ndr_codec.specs.Stub.{LayoutOf, item, part, after, done, only, placed, times, put_all, size_of_all, Begins, WritesBy}
+use Rattle.ndr_codec.specs.Stub.{LayoutOf, item, part, after, done, only, placed, each, times, put_all, size_of_all, Begins, WritesBy}
 use Rattle.ndr_codec.specs.Parts.{Part, unique, some_pointer, halves, reserved, put_reserved, is_head, head, target, units, bytes, FitsText, FitsBytes, IfThere, text_size, size_if_there, Putting, put_unique, put_halves, head_of, put_head, units_head, bytes_head, put_units, put_bytes}
 use Rattle.ndr_codec.proofs.WritesLaws.{writes_item, writes_then, writes_done, writes_when, writes_within}
 use Rattle.ndr_codec.proofs.TimesLaws.{writes_times}
@@ -49,7 +49,7 @@ unfolding unique
 unique_law layout putting size Is None old law is = then (it pointer false old tt tt) (end _ _)
 unique_law layout putting size Is (Some target) old law is = within _ (omega arith) (then (it pointer true old tt tt) (then (law target _ is) (end _ _)))
 
-abbrev IsFitText : List ℕ → Type 0
+abbrev pub IsFitText : List ℕ → Type 0
 IsFitText value = FitsText value × AreUnits value
 
 fit_if_there : (value : Option (List ℕ)) → IfThere FitsText value → IfThere AreUnits value → IfThere IsFitText value
@@ -128,11 +128,25 @@ bytes_law (first ∷ rest) old fits are =
 
 -- ---- the ranges of what is read
 
--- each of several of the same
+-- each of several
+pub gives_each : {E A T : Type 0} (layout : A → LayoutOf E T) (Is : T → Type 0) (fronts : List A) → ((front : A) → Gives (layout front) Is) → Gives (each layout fronts) (AllByRecursion Is)
+gives_each layout Is [] g = tt
+gives_each layout Is (front ∷ others) g =
+    gives_more (layout front) Is _ (λ first is. gives_more (each layout others) (AllByRecursion Is) _ (λ more all. (is, all)) (gives_each layout Is others g)) (g front)
+
 pub gives_times : {E T : Type 0} (layout : LayoutOf E T) (Is : T → Type 0) (count : ℕ) → Gives layout Is → Gives (times count layout) (AllByRecursion Is)
-gives_times layout Is zero g = tt
-gives_times layout Is (suc count) g =
-    gives_more layout Is _ (λ first is. gives_more (times count layout) (AllByRecursion Is) _ (λ more all. (is, all)) (gives_times layout Is count g)) g
+gives_times layout Is count g = gives_each {A = Unit {0}} (λ _. layout) Is (replicate count tt) (λ _. g)
+
+-- what is said of each of a list by two words
+pub both_of_all : {T : Type 0} (Is So : T → Type 0) (list : List T) → AllByRecursion Is list → AllByRecursion So list → AllByRecursion (λ x. Is x × So x) list
+both_of_all Is So [] are also = tt
+both_of_all Is So (first ∷ more) are also = ((are.0, also.0), both_of_all Is So more are.1 also.1)
+
+-- the one at a place is such as all are; past the end `none` is
+pub one_of_all : {T : Type 0} (Is : T → Type 0) (none : T) → Is none → (list : List T) → AllByRecursion Is list → (i : ℕ) → Is (get_or list i none)
+one_of_all Is none base [] all i = base
+one_of_all Is none base (first ∷ more) all zero = all.0
+one_of_all Is none base (first ∷ more) all (suc i) = one_of_all Is none base more all.1 i
 
 pub gives_unique : {E T : Type 0} (layout : LayoutOf E T) (Is : T → Type 0) (So : Option T → Type 0) → Gives layout Is → ((value : Option T) → IfThere Is value → So value) → Gives (unique layout) So
 unfolding unique

@@ -1,5 +1,6 @@
 -- Several of the same: read one by one, and put one by one.
-use Rattle.std.proofs.Common.{◌≡◌, ℕ, suc, ◌+◌, ◌-◌, ◌<◌, List, [], ◌∷◌, ◌++◌, length, Result, Ok, Err, refl, sym, ap, ◌∙◌, arith, append_assoc}
+use Rattle.std.proofs.Common.{◌≡◌, ℕ, suc, ◌+◌, ◌-◌, ◌<◌, List, [], ◌∷◌, ◌++◌, length, map, Result, Ok, Err, refl, sym, ap, subst, ◌∙◌, arith, append_assoc}
+use Rattle.std.specs.Prelude.{replicate}
 use Rattle.std.specs.List.{AllByRecursion}
 use Rattle.ndr_codec.specs.declared.refused.NdrRefused.{NdrRefused}
 use Rattle.ndr_codec.specs.Cursor.{Cursor}
@@ -7,7 +8,7 @@ use Rattle.ndr_codec.specs.Reading.{read_on}
 use Rattle.ndr_codec.specs.Layout.{long}
 use Rattle.ndr_codec.specs.Writing.{Written, put}
 use Rattle.ndr_codec.specs.Parts.{reserved, put_reserved}
-use Rattle.ndr_codec.specs.Stub.{LayoutOf, item, reading_by, WritesBy, times, put_all, size_of_all, behind}
+use Rattle.ndr_codec.specs.Stub.{LayoutOf, item, reading_by, WritesBy, each, times, put_all, size_of_all, behind}
 use Rattle.ndr_codec.proofs.WritesLaws.{writes_then, writes_done, writes_within}
 
 abbrev same : NdrRefused → NdrRefused
@@ -78,9 +79,24 @@ pub ruleset reserving = (reserved_step, reserved_refused, put_reserved_step)
 
 -- ---- putting
 
+-- what is put one by one is of the layout of each; of each value that is put the layout is that of `front`, and what is read is `seen`
+pub writes_each : {E A S T : Type 0} (layout : A → LayoutOf E T) (front : S → A) (seen : S → T) (putting : S → Written → Written) (size : S → ℕ) (Is : S → Type 0) → ((value : S) (old : Written) → Is value → WritesBy (layout (front value)) (seen value) (size value) old (putting value old)) → (list : List S) (old : Written) → AllByRecursion Is list → WritesBy (each layout (map front list)) (map seen list) (size_of_all size list) old (put_all putting list old)
+writes_each layout front seen putting size Is law [] old all = record { writes = writes_done [] old }
+writes_each layout front seen putting size Is law (first ∷ others) old all =
+    let rest = writes_each layout front seen putting size Is law others (putting first old) all.1 in
+    record { writes = writes_within (size first + size_of_all size others) (omega arith) (writes_then (law first old all.0).writes (writes_then rest.writes (writes_done (seen first ∷ map seen others) _))) }
+
 -- what is put one by one is of the layout that many times
 pub writes_times : {E T : Type 0} (layout : LayoutOf E T) (putting : T → Written → Written) (size : T → ℕ) (Is : T → Type 0) → ((value : T) (old : Written) → Is value → WritesBy layout value (size value) old (putting value old)) → (list : List T) (old : Written) → AllByRecursion Is list → WritesBy (times (length list) layout) list (size_of_all size list) old (put_all putting list old)
-writes_times layout putting size Is law [] old all = record { writes = writes_done [] old }
-writes_times layout putting size Is law (first ∷ more) old all =
-    let rest = writes_times layout putting size Is law more (putting first old) all.1 in
-    record { writes = writes_within (size first + size_of_all size more) (omega arith) (writes_then (law first old all.0).writes (writes_then rest.writes (writes_done (first ∷ more) _))) }
+writes_times {E = E} {T = T} layout putting size Is law list old all =
+    subst (λ (fronts : List (Unit {0})). WritesBy {E = E} (each {A = Unit {0}} (λ _. layout) fronts) list (size_of_all size list) old (put_all putting list old)) (units list)
+    (subst (λ (seen : List T). WritesBy {E = E} (each {A = Unit {0}} (λ _. layout) (map (λ _. tt) list)) seen (size_of_all size list) old (put_all putting list old)) (same_list list)
+    (writes_each {A = Unit {0}} (λ _. layout) (λ _. tt) (λ value. value) putting size Is law list old all))
+  where
+    units : {T : Type 0} (list : List T) → map {B = Unit {0}} (λ _. tt) list ≡ replicate (length list) tt
+    units [] = refl
+    units (first ∷ more) = ap (λ (l : List (Unit {0})). tt ∷ l) (units more)
+
+    same_list : {T : Type 0} (list : List T) → map (λ value. value) list ≡ list
+    same_list [] = refl
+    same_list {T = T} (first ∷ more) = ap (λ (l : List T). first ∷ l) (same_list more)

@@ -1,6 +1,6 @@
 -- A layout of parameters in a stub, described once for both of its meanings: the bytes that have it, and how they are read. The parts stand one after
 -- the other, and a refusal, of a type E, is told where a test of what was read fails (C706 14.4).
-use Rattle.std.specs.Prelude.{ℕ, zero, suc, ◌≡◌, ◌+◌, ◌⊎◌, Bool, List, [], ◌∷◌, ◌++◌, Option, Some, None, Result, Ok, Err}
+use Rattle.std.specs.Prelude.{ℕ, ◌≡◌, ◌+◌, ◌⊎◌, Bool, List, [], ◌∷◌, ◌++◌, Option, Some, None, Result, Ok, Err, replicate}
 use Rattle.std.specs.Option.{option_map, unwrap_or}
 use Rattle.ndr_codec.specs.declared.refused.NdrRefused.{NdrRefused}
 use Rattle.ndr_codec.specs.declared.refused.NdrRefused.TheVariants.{Ends, BadCount, NoFinalZero, BadPart, Memory}
@@ -77,10 +77,14 @@ ReadsPartUpToMemory = ReadsBy Memory (λ refused. refused)
 pub record WritesBy {E T : Type 0} (layout : LayoutOf E T) (value : T) (size : ℕ) (old new : Written) : Type 0 where
   pub writes : Writes (HasLayout layout) value size old new
 
+-- a layout for each of some values, one after the other
+abbrev pub each : {E A T : Type 0} → (A → LayoutOf E T) → List A → LayoutOf E (List T)
+each layout [] = done []
+each layout (one ∷ others) = after (layout one) (λ first. after (each layout others) (λ more. done (first ∷ more)))
+
 -- that many of the same
 abbrev pub times : {E T : Type 0} → ℕ → LayoutOf E T → LayoutOf E (List T)
-times zero layout = done []
-times (suc count) layout = after layout (λ first. after (times count layout) (λ more. done (first ∷ more)))
+times count layout = each {A = Unit {0}} (λ _. layout) (replicate count tt)
 
 -- one after the other
 abbrev pub put_all : {T : Type 0} → (T → Written → Written) → List T → Written → Written
