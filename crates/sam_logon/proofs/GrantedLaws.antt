@@ -73,22 +73,8 @@ module _ (table : AccountTable) (controller : List ℕ) (account : Account) (key
   pub sam_info-InRange : InRangeSid table.sid → IsBlock 16 key → now < 2 ^ 64 → InRangeSamInfo (sam_info_of table controller account key now)
   unfolding sam_info_of
   sam_info-InRange sid key_is below = record {
-    times = record {
-      logon_time = below;
-      logoff_time = omega arith;
-      kickoff_time = omega arith;
-      password_set = of.password_set;
-      password_can_change = of.password_set;
-      password_must_change = moment_in_range account.password_expires of.password_expires;
-    };
-    texts = record {
-      effective_name = name_units account.name of.name;
-      full_name = name_units account.full_name of.full_name;
-      script = no_units;
-      profile = no_units;
-      home = no_units;
-      home_drive = no_units;
-    };
+    times = (below, (omega arith, (omega arith, (of.password_set, (of.password_set, (moment_in_range account.password_expires of.password_expires, tt))))));
+    texts = (name_units account.name of.name, (name_units account.full_name of.full_name, (no_units, (no_units, (no_units, (no_units, tt))))));
     numbers = record { logon_count = omega arith; bad_count = omega arith; user_id = of.rid; group_id = of.group };
     groups = groups_in_range account.groups of.groups;
     user_flags = omega arith;
@@ -122,22 +108,8 @@ module _ (returned : Option Authenticator) (info : SamInfo) (key : List ℕ) (au
     returned = returned_is;
     level = omega arith;
     info = record {
-      times = record {
-        logon_time = is.times.logon_time;
-        logoff_time = is.times.logoff_time;
-        kickoff_time = is.times.kickoff_time;
-        password_set = is.times.password_set;
-        password_can_change = is.times.password_can_change;
-        password_must_change = is.times.password_must_change;
-      };
-      texts = record {
-        effective_name = is.texts.effective_name;
-        full_name = is.texts.full_name;
-        script = is.texts.script;
-        profile = is.texts.profile;
-        home = is.texts.home;
-        home_drive = is.texts.home_drive;
-      };
+      times = is.times;
+      texts = is.texts;
       numbers = record {
         logon_count = is.numbers.logon_count;
         bad_count = is.numbers.bad_count;
