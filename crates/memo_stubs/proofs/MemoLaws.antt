@@ -1,13 +1,13 @@
 -- What is put of each stub is of its layout, and what is written is read.
-use Rattle.std.proofs.Common.{◌≡◌, ℕ, ◌+◌, ◌*◌, List, length, Result, Ok, IfOk, refl, arith}
-use Rattle.std.proofs.lemmas.Bool.{le-leb}
+use Rattle.std.proofs.Common.{◌≡◌, ℕ, ◌+◌, ◌*◌, List, length, Result, Ok, IfOk, refl, sym, subst, arith}
+use Rattle.std.proofs.lemmas.Bool.{le-leb, leb-true}
 use Rattle.wire_base.specs.Memory.{UpToMemory}
 use Rattle.wire_base.specs.Numbers.{AreBytes}
 use Rattle.wire_base.specs.Units.{AreUnits}
 use Rattle.wire_base.proofs.MemoryLaws.{UpToMemory-found, UpToMemory-same}
 use Rattle.ndr_codec.specs.Layout.{long, raw}
 use Rattle.ndr_codec.specs.Parts.{FitsText}
-use Rattle.ndr_codec.specs.Stub.{Begins, WritesBy, parsed_by}
+use Rattle.ndr_codec.specs.Stub.{Begins, HasLayout, WritesBy, parsed_by}
 use Rattle.ndr_codec.specs.Writing.{Written, nothing, put}
 use Rattle.ndr_codec.proofs.PartLaws.{it, then, end, where_true, from_place, within, text_law, IsStub, stub_of}
 use Rattle.ndr_codec.proofs.StubLaws.{parsed-Is, parsed_again}
@@ -24,13 +24,33 @@ module _ {T : Type 0} (layout : Layout T) (stub : List ℕ) (are : AreBytes stub
   pub Begins-parsed : (value : T) → Begins layout value stub → parsed_by memo_refused (λ v. v) layout stub ≡ Ok value
   Begins-parsed value begins = parsed_again memo_refused (λ v. v) layout stub value are begins
 
+  -- what holds of all that lies there by the layout holds of what is read
+  pub answer_holds : (Is : T → Type 0) → ((value : T) → Begins layout value stub → Is value) → (answer : Result T MemoRefused) → UpToMemory Memory answer (parsed_by memo_refused (λ v. v) layout stub) → IfOk answer Is
+  answer_holds Is holds answer exact = UpToMemory-found Memory answer _ Is (λ value e. holds value (parsed-Begins value e)) exact
+
   -- what is read lies in front of the stub by the layout
   pub answer_found : (answer : Result T MemoRefused) → UpToMemory Memory answer (parsed_by memo_refused (λ v. v) layout stub) → IfOk answer (λ value. Begins layout value stub)
-  answer_found answer exact = UpToMemory-found Memory answer _ (λ value. Begins layout value stub) parsed-Begins exact
+  answer_found answer exact = answer_holds (λ value. Begins layout value stub) (λ value begins. begins) answer exact
 
   -- what lies there by the layout is read, unless memory runs out
   pub answer_only : (answer : Result T MemoRefused) → UpToMemory Memory answer (parsed_by memo_refused (λ v. v) layout stub) → (value : T) → Begins layout value stub → UpToMemory Memory answer (Ok value)
   answer_only answer exact value begins = UpToMemory-same Memory answer _ _ (Begins-parsed value begins) exact
+
+-- ---- what lies there by the layout of an Echo can be written as an Echo
+
+request_has : (place : ℕ) (bytes found : List ℕ) → HasLayout echo_request place bytes found → FitsEcho bytes
+unfolding echo_request
+request_has place bytes found is = omega (arith, leb-true is.head 4096 is.rest_is.0, is.rest_is.1.0)
+
+reply_has : (place : ℕ) (bytes found : List ℕ) → HasLayout echo_reply place bytes found → FitsEcho bytes
+unfolding echo_reply
+reply_has place bytes found is = subst FitsEcho (sym is.rest_is.rest_is.0) (request_has _ _ _ is.head_is)
+
+pub request_fits : (stub bytes : List ℕ) → Begins echo_request bytes stub → FitsEcho bytes
+request_fits stub bytes begins = request_has 0 bytes _ begins.has_layout
+
+pub reply_fits : (stub bytes : List ℕ) → Begins echo_reply bytes stub → FitsEcho bytes
+reply_fits stub bytes begins = reply_has 0 bytes _ begins.has_layout
 
 -- ---- what is put is of its layout
 

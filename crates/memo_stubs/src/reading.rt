@@ -4,7 +4,7 @@ ghost use Rattle.std.specs.Prelude.{ℕ, List, ◌≡◌, IfOk, Ok, Err, MatchRe
 ghost use Rattle.wire_base.specs.Memory.{UpToMemory};
 ghost use Rattle.ndr_codec.specs.Layout.{start_of, long};
 ghost use Rattle.ndr_codec.specs.Stub.{ReadsBy, Begins, reading_by, item};
-ghost use Rattle.memo_stubs.specs.Memo.{memo_refused, status_zero, who_reply, echo_request, echo_reply, who_of, echo_request_of, echo_reply_of};
+ghost use Rattle.memo_stubs.specs.Memo.{FitsEcho, memo_refused, status_zero, who_reply, echo_request, echo_reply, who_of, echo_request_of, echo_reply_of};
 
 use crate::refused::MemoRefused;
 use ndr_codec::Reader;
@@ -101,6 +101,8 @@ pub fn read_echo_request(alloc: Global, stub: &[u8]) -> Result<Blob, MemoRefused
     ensures exact { UpToMemory MemoRefused.Memory result (echo_request_of stub.now) }
     // What is read lies in front of the stub by its layout.
     ensures found { IfOk result (λ bytes. Begins echo_request bytes stub.now) }
+    // It can be written again.
+    ensures fits { IfOk result FitsEcho }
     // What lies there by the layout is read, unless memory runs out.
     ensures only { (bytes : List ℕ) → Begins echo_request bytes stub.now →
         UpToMemory MemoRefused.Memory result (Ok bytes) }
@@ -115,6 +117,8 @@ pub fn read_echo_reply(alloc: Global, stub: &[u8]) -> Result<Blob, MemoRefused>
     ensures exact { UpToMemory MemoRefused.Memory result (echo_reply_of stub.now) }
     // What is read lies in front of the stub by its layout.
     ensures found { IfOk result (λ bytes. Begins echo_reply bytes stub.now) }
+    // It can be written again.
+    ensures fits { IfOk result FitsEcho }
     // What lies there by the layout is read, unless memory runs out.
     ensures only { (bytes : List ℕ) → Begins echo_reply bytes stub.now →
         UpToMemory MemoRefused.Memory result (Ok bytes) }

@@ -1,11 +1,15 @@
 use Rattle.std.proofs.Common.{arith}
 use Rattle.memo_stubs.specs.Memo.{echo_request, echo_request_of}
-use Rattle.memo_stubs.proofs.MemoLaws.{answer_found, answer_only}
+use Rattle.memo_stubs.proofs.MemoLaws.{answer_found, answer_holds, answer_only, request_fits}
 use Rattle.memo_stubs.proofs.reading.read_echo_request.Goals as goal
 
 pub returns-clause-found : goal.returns-clause-found
 unfolding echo_request_of
 returns-clause-found c = answer_found echo_request c.args.stub.now (λ i. omega (arith, c.type_inv.stub i)) _ c.echo_request_in.ensures
+
+pub returns-clause-fits : goal.returns-clause-fits
+unfolding echo_request_of
+returns-clause-fits c = answer_holds echo_request c.args.stub.now (λ i. omega (arith, c.type_inv.stub i)) _ (request_fits c.args.stub.now) _ c.echo_request_in.ensures
 
 pub returns-clause-only : goal.returns-clause-only
 unfolding echo_request_of
