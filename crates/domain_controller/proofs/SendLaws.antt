@@ -1,0 +1,377 @@
+-- What is sent.
+use Rattle.std.proofs.Common.{◌≡◌, ◌==◌, ◌&&◌, inl, inr, ℕ, suc, Bool, true, false, List, [], ◌∷◌, ◌++◌, nat_le, Option, Some, None, Result, Ok, Err, refl, sym, ap, subst, ◌∙◌, bytes_eq, arith, append_assoc, append-nil}
+use Rattle.std.proofs.lemmas.Bool.Decides.{Decides-eqb}
+use Rattle.std.specs.Prelude.{not}
+use Rattle.std.specs.List.{AllByRecursion, Contains}
+use Rattle.wire_base.specs.Maps.{lookup, take_out, same_number}
+use Rattle.wire_base.specs.Names.{same_name}
+use Rattle.wire_base.specs.declared.authenticator.Authenticator.{Authenticator}
+use Rattle.ntlm_flags.specs.Flags.{has_flag}
+use Rattle.channel_keys.specs.Credentials.{cred_of}
+use Rattle.channel_keys.specs.Flags.{rc4_flag}
+use Rattle.outside.specs.declared.action.Action.{Action}
+use Rattle.outside.specs.declared.action.Action.TheVariants as action
+use Rattle.outside.specs.declared.action.CloseCause.{CloseCause}
+use Rattle.outside.specs.declared.action.CloseCause.TheVariants as close
+use Rattle.outside.specs.declared.action.Judged.{Judged}
+use Rattle.outside.specs.declared.event.Event.TheVariants as event
+use Rattle.outside.specs.Machine.{step_by, then_part}
+use Rattle.rpc_units.specs.declared.refused.JoinRefused.{JoinRefused}
+use Rattle.rpc_units.specs.declared.refused.UnitRefused.{UnitRefused}
+use Rattle.rpc_units.specs.declared.unit.Unit.{Unit as RpcUnit}
+use Rattle.rpc_units.specs.declared.unit.Body.{Body}
+use Rattle.rpc_units.specs.declared.unit.Body.TheVariants.{Bind, BindAck, BindNak, Auth3, Request, Response, Fault}
+use Rattle.rpc_units.specs.declared.unit.Trailer.{Trailer}
+use Rattle.rpc_units.specs.Calls.{bytes_of_call}
+use Rattle.rpc_units.specs.Joining.{stub_of, with_stub, context_of, opnum_of, key_of, same_key, same_call, in_place, grown, joined_by, joined_of, stub_len, answer_by, answer_of, open_after}
+use Rattle.rpc_units.specs.Layout.{kind_by, type_by}
+use Rattle.rpc_units.specs.Reading.{unit_of}
+use Rattle.rpc_units.specs.Stream.{cut_stream}
+use Rattle.rpc_units.specs.Writing.{written}
+use Rattle.logon_stubs.specs.declared.calls.Call.{Call}
+use Rattle.logon_stubs.specs.declared.calls.Call.TheVariants as call
+use Rattle.logon_stubs.specs.declared.calls.AuthCall.{AuthCall}
+use Rattle.logon_stubs.specs.declared.calls.ChallengeCall.{ChallengeCall}
+use Rattle.logon_stubs.specs.declared.calls.Reply.{Reply}
+use Rattle.logon_stubs.specs.declared.info.NetworkInfo.{NetworkInfo}
+use Rattle.logon_stubs.specs.declared.refused.StubRefused.{StubRefused}
+use Rattle.logon_stubs.specs.Calls.{call_of}
+use Rattle.logon_stubs.specs.Writing.{written_reply}
+use Rattle.account_table.specs.LookUps.{knows_in}
+use Rattle.account_table.specs.declared.account.Account.{Account}
+use Rattle.end_links.specs.Agreed.{Agreed, accepts}
+use Rattle.end_links.specs.Links.{LinkState}
+use Rattle.end_links.specs.Sending.{fault_of, response_of}
+use Rattle.end_links.specs.Serving.{ServedPart, Service, then_open, then_talk, served_by, served_cut}
+use Rattle.end_loop.specs.Runs.{actions_of}
+use Rattle.domain_controller.specs.Channels.{ChannelState, key_of_channel, passes_on, return_by, channel_by}
+use Rattle.domain_controller.specs.Hearing.{bound_talk, hear_fresh, is_served, hear_stub, hear_opnum, hear_context, hear_whole, hear_joined, hear_bound, hear_on, hear_read, hear}
+use Rattle.domain_controller.specs.Laws.{IsAnswerTo, IsActionOn, AnswersUnits}
+use Rattle.domain_controller.specs.Machine.{Desk, desk, put_pair_if, take_pair, put_channel, take_channel, channel_for, open_channel, judge_pair, judge_offer, judge_account, account_for, judge_return, judge_channel, answer_logon, draw_challenge, by_call, by_heard, controller_server}
+use Rattle.domain_controller.specs.State.{State}
+use Rattle.domain_controller.specs.Step.{LinkMap, StepPart, after_units, serve_on, by_event, start_turn, halted, state_after, first_desk, step_on}
+use Rattle.domain_controller.specs.declared.line.Line.{Line}
+use Rattle.domain_controller.specs.declared.state.Pending.{Pending}
+use Rattle.domain_controller.specs.declared.state.Running.{Running}
+use Rattle.domain_controller.specs.declared.state.Talk.{Talk}
+use Rattle.domain_controller.specs.declared.state.Work.{Work}
+use Rattle.domain_controller.specs.declared.hearing.Heard.{Heard}
+use Rattle.domain_controller.specs.declared.hearing.Heard.TheVariants as heard
+
+-- ---- a whole call is of its last fragment's number and context
+
+and_first : (one other : Bool) → (one && other) ≡ true → one ≡ true
+and_first true other is = refl
+and_first false other is = absurd cc
+
+and_second : (one other : Bool) → (one && other) ≡ true → other ≡ true
+and_second true other is = is
+and_second false other is = absurd cc
+
+same_context : (body : Body) (stub : List ℕ) → context_of (with_stub body stub) ≡ context_of body
+same_context (Bind send receive group contexts) stub = refl
+same_context (BindAck send receive group results) stub = refl
+same_context (BindNak reason) stub = refl
+same_context Auth3 stub = refl
+same_context (Request hint context opnum own) stub = refl
+same_context (Response hint context own) stub = refl
+same_context (Fault hint context status) stub = refl
+
+abbrev pub IsOf : RpcUnit → RpcUnit → Type 0
+IsOf whole unit = (whole.call ≡ unit.call) × (context_of whole.body ≡ context_of unit.body)
+
+grown_of : (joiner : Option RpcUnit) (unit : RpcUnit) → in_place joiner unit ≡ true → IsOf (grown joiner unit) unit
+grown_of None unit place = (refl, refl)
+grown_of (Some so_far) unit place =
+    let call : same_call so_far unit ≡ true = and_second (not unit.first) (same_call so_far unit) place in
+    let key = and_second (so_far.call == unit.call) (same_key (key_of so_far.body) (key_of unit.body)) call in
+    let front = and_first (type_by (kind_by so_far.body) == type_by (kind_by unit.body) && context_of so_far.body == context_of unit.body) (opnum_of so_far.body == opnum_of unit.body) key in (
+      (Decides-eqb so_far.call unit.call).0 (and_first (so_far.call == unit.call) (same_key (key_of so_far.body) (key_of unit.body)) call),
+      same_context so_far.body (stub_of so_far.body ++ stub_of unit.body)
+          ∙ (Decides-eqb (context_of so_far.body) (context_of unit.body)).0 (and_second (type_by (kind_by so_far.body) == type_by (kind_by unit.body)) (context_of so_far.body == context_of unit.body) front),
+    )
+
+joined_is : (placed fits last : Bool) (grown_unit whole : RpcUnit) → answer_by (joined_by placed fits grown_unit) last ≡ Ok (Some whole) → (placed ≡ true) × (whole ≡ grown_unit)
+joined_is true true true grown_unit whole is = let same : grown_unit ≡ whole = cc in (refl, sym same)
+joined_is true true false grown_unit whole is = absurd cc
+joined_is true false last grown_unit whole is = absurd cc
+joined_is false fits last grown_unit whole is = absurd cc
+
+whole_of : (joiner : Option RpcUnit) (unit whole : RpcUnit) → answer_of joiner unit ≡ Ok (Some whole) → IsOf whole unit
+unfolding joined_of
+whole_of joiner unit whole is =
+    let parts = joined_is (in_place joiner unit) (nat_le (stub_len joiner unit) 65536) unit.last (grown joiner unit) whole is in
+    subst (λ w. IsOf w unit) (sym parts.1) (grown_of joiner unit parts.0)
+
+-- ---- what is heard of a unit
+
+abbrev pub IsHeardOf : ℕ → RpcUnit → Heard → Type 0
+IsHeardOf link unit (heard.Close cause) = Unit {0}
+IsHeardOf link unit (heard.Answer bytes talk) = IsAnswerTo unit bytes
+IsHeardOf link unit (heard.Waits talk) = Unit {0}
+IsHeardOf link unit (heard.Asked line c talk) = (line.link ≡ link) × (line.call ≡ unit.call) × (line.context ≡ context_of unit.body)
+
+fault_to : (unit : RpcUnit) (call context status : ℕ) → call ≡ unit.call → context ≡ context_of unit.body → IsAnswerTo unit (written (fault_of call context status))
+fault_to unit call context status one other =
+    inr (inr (inl (status, ap (λ n. written (fault_of n context status)) one ∙ ap (λ n. written (fault_of unit.call n status)) other)))
+
+fresh_heard : (unit : RpcUnit) (link : ℕ) (body : Body) (trailer : Option Trailer) (joiner : Option RpcUnit) → unit.body ≡ body → IsHeardOf link unit (hear_fresh body trailer unit.call joiner)
+fresh_heard unit link (Bind send receive group contexts) None joiner is = inl (receive, contexts, refl)
+fresh_heard unit link (Bind send receive group contexts) (Some trailer) joiner is = inr (inl refl)
+fresh_heard unit link (Request hint context opnum stub) trailer joiner is =
+    let same : context_of unit.body ≡ context = ap context_of is in fault_to unit unit.call context _ refl (sym same)
+fresh_heard unit link (BindAck send receive group results) trailer joiner is = tt
+fresh_heard unit link (BindNak reason) trailer joiner is = tt
+fresh_heard unit link Auth3 trailer joiner is = tt
+fresh_heard unit link (Response hint context stub) trailer joiner is = tt
+fresh_heard unit link (Fault hint context status) trailer joiner is = tt
+
+stub_heard : (read : Result Call StubRefused) (unit : RpcUnit) (link : ℕ) (line : Line) (talk : Talk) → line.link ≡ link → line.call ≡ unit.call → line.context ≡ context_of unit.body →
+    IsHeardOf link unit (hear_stub read line talk)
+stub_heard (Err why) unit link line talk on number context = fault_to unit line.call line.context _ number context
+stub_heard (Ok c) unit link line talk on number context = (on, number, context)
+
+opnum_heard : (served : Bool) (opnum : ℕ) (stub : List ℕ) (unit : RpcUnit) (link : ℕ) (line : Line) (talk : Talk) → line.link ≡ link → line.call ≡ unit.call → line.context ≡ context_of unit.body →
+    IsHeardOf link unit (hear_opnum served opnum stub line talk)
+opnum_heard false opnum stub unit link line talk on number context = fault_to unit line.call line.context _ number context
+opnum_heard true opnum stub unit link line talk on number context = stub_heard (call_of opnum stub) unit link line talk on number context
+
+context_heard : (accepted : Bool) (opnum : ℕ) (stub : List ℕ) (unit : RpcUnit) (link : ℕ) (line : Line) (talk : Talk) → line.link ≡ link → line.call ≡ unit.call → line.context ≡ context_of unit.body →
+    IsHeardOf link unit (hear_context accepted opnum stub line talk)
+context_heard false opnum stub unit link line talk on number context = fault_to unit line.call line.context _ number context
+context_heard true opnum stub unit link line talk on number context = opnum_heard (is_served opnum) opnum stub unit link line talk on number context
+
+whole_heard : (body : Body) (number link : ℕ) (unit : RpcUnit) (agreed : Agreed) (talk : Talk) → number ≡ unit.call → context_of body ≡ context_of unit.body → IsHeardOf link unit (hear_whole body number link agreed talk)
+whole_heard (Request hint context opnum stub) number link unit agreed talk one other =
+    context_heard (accepts agreed context) opnum stub unit link (record { link = link; call = number; context = context; limit = agreed.limit }) talk refl one other
+whole_heard (Bind send receive group contexts) number link unit agreed talk one other = tt
+whole_heard (BindAck send receive group results) number link unit agreed talk one other = tt
+whole_heard (BindNak reason) number link unit agreed talk one other = tt
+whole_heard Auth3 number link unit agreed talk one other = tt
+whole_heard (Response hint context stub) number link unit agreed talk one other = tt
+whole_heard (Fault hint context status) number link unit agreed talk one other = tt
+
+joined_heard : (answer : Result (Option RpcUnit) JoinRefused) (joiner after : Option RpcUnit) (link : ℕ) (unit : RpcUnit) (agreed : Agreed) → answer_of joiner unit ≡ answer → IsHeardOf link unit (hear_joined answer after link agreed)
+joined_heard (Err why) joiner after link unit agreed is = tt
+joined_heard (Ok None) joiner after link unit agreed is = tt
+joined_heard (Ok (Some whole)) joiner after link unit agreed is =
+    let of = whole_of joiner unit whole is in whole_heard whole.body whole.call link unit agreed (bound_talk after agreed) of.0 of.1
+
+bound_heard : (body : Body) (trailer : Option Trailer) (unit : RpcUnit) (link : ℕ) (joiner : Option RpcUnit) (agreed : Agreed) → IsHeardOf link unit (hear_bound body trailer unit link joiner agreed)
+bound_heard (Request hint context opnum stub) (Some trailer) unit link joiner agreed = tt
+bound_heard (Request hint context opnum stub) None unit link joiner agreed = joined_heard (answer_of joiner unit) joiner (open_after joiner unit) link unit agreed refl
+bound_heard (Bind send receive group contexts) trailer unit link joiner agreed = tt
+bound_heard (BindAck send receive group results) trailer unit link joiner agreed = tt
+bound_heard (BindNak reason) trailer unit link joiner agreed = tt
+bound_heard Auth3 trailer unit link joiner agreed = tt
+bound_heard (Response hint context stub) trailer unit link joiner agreed = tt
+bound_heard (Fault hint context status) trailer unit link joiner agreed = tt
+
+unit_heard : (binding : Option Agreed) (unit : RpcUnit) (link : ℕ) (joiner : Option RpcUnit) → IsHeardOf link unit (hear_on binding unit link joiner)
+unit_heard None unit link joiner = fresh_heard unit link unit.body unit.trailer joiner refl
+unit_heard (Some agreed) unit link joiner = bound_heard unit.body unit.trailer unit link joiner agreed
+
+-- ---- the actions of what is heard
+
+-- actions that have P were added
+abbrev pub Adds : (Action → Type 0) → List Action → List Action → Type 0
+Adds P old new = (more : List Action) × (new ≡ old ++ more) × AllByRecursion P more
+
+abbrev pub PartAdds : (Action → Type 0) → List Action → ServedPart Desk Talk → Type 0
+PartAdds P old (Err why) = Unit {0}
+PartAdds P old (Ok part) = Adds P old part.value.0.work.actions
+
+adds_none : (P : Action → Type 0) (old : List Action) → Adds P old old
+adds_none P old = ([], sym (append-nil old), tt)
+
+adds_one : (P : Action → Type 0) (old : List Action) (what : Action) → P what → Adds P old (old ++ what ∷ [])
+adds_one P old what has = (what ∷ [], refl, (has, tt))
+
+all_both : (P : Action → Type 0) (one other : List Action) → AllByRecursion P one → AllByRecursion P other → AllByRecursion P (one ++ other)
+all_both P [] other have more = more
+all_both P (what ∷ one) other have more = (have.0, all_both P one other have.1 more)
+
+adds_both : (P : Action → Type 0) (one other third : List Action) → Adds P one other → Adds P other third → Adds P one third
+adds_both P one other third first second = (
+  first.0 ++ second.0,
+  second.1 ∙ ap (λ (x : List Action). x ++ second.0) first.1 ∙ append_assoc one first.0 second.0,
+  all_both P first.0 second.0 first.2 second.2,
+)
+
+-- what may be done for a call on that line
+pub record Answering (P : Action → Type 0) (line : Line) : Type 0 where
+  pub reply : (answer : Reply) → P (action.Send line.link (bytes_of_call (response_of line.call line.context (written_reply answer)) line.limit))
+  pub fault : (status : ℕ) → P (action.Send line.link (written (fault_of line.call line.context status)))
+  pub judged : (how : Judged) → P (action.Judged how)
+
+replies : (P : Action → Type 0) (line : Line) (old : List Action) (answer : Reply) → Answering P line →
+    Adds P old (old ++ action.Send line.link (bytes_of_call (response_of line.call line.context (written_reply answer)) line.limit) ∷ [])
+replies P line old answer can = adds_one P old _ (can.reply answer)
+
+judges : (P : Action → Type 0) (line : Line) (old : List Action) (how : Judged) (answer : Reply) → Answering P line →
+    Adds P old ((old ++ action.Judged how ∷ []) ++ action.Send line.link (bytes_of_call (response_of line.call line.context (written_reply answer)) line.limit) ∷ [])
+judges P line old how answer can =
+    adds_both P old (old ++ action.Judged how ∷ []) _ (adds_one P old (action.Judged how) (can.judged how)) (replies P line (old ++ action.Judged how ∷ []) answer can)
+
+pair_put_if : (P : Action → Type 0) (knows : Bool) (computer : List ℕ) (pair : Pending) (work : Work) → Adds P work.actions (put_pair_if knows computer pair work).actions
+pair_put_if P false computer pair work = adds_none P work.actions
+pair_put_if P true computer pair work = adds_none P work.actions
+
+opens : (P : Action → Type 0) (right : Bool) (channel : ChannelState) (line : Line) (c : AuthCall) (work : Work) → Answering P line → Adds P work.actions (open_channel right channel line c work).actions
+opens P false channel line c work can = replies P line work.actions _ can
+opens P true channel line c work can = replies P line work.actions _ can
+
+pairs : (P : Action → Type 0) (pair : Option Pending) (account : Account) (line : Line) (c : AuthCall) (work : Work) → Answering P line → Adds P work.actions (judge_pair pair account line c work).actions
+pairs P None account line c work can = replies P line work.actions _ can
+pairs P (Some pair) account line c work can =
+    let channel = channel_for account pair c in
+    opens P (bytes_eq c.credential (cred_of (key_of_channel channel) channel.client)) channel line c work can
+
+offers : (P : Action → Type 0) (offered : Bool) (pair : Option Pending) (account : Account) (line : Line) (c : AuthCall) (work : Work) → Answering P line → Adds P work.actions (judge_offer offered pair account line c work).actions
+offers P false pair account line c work can = replies P line work.actions _ can
+offers P true pair account line c work can = pairs P pair account line c work can
+
+accounts : (P : Action → Type 0) (account : Option Account) (pair : Option Pending) (line : Line) (c : AuthCall) (work : Work) → Answering P line → Adds P work.actions (judge_account account pair line c work).actions
+accounts P None pair line c work can = replies P line work.actions _ can
+accounts P (Some account) pair line c work can = offers P (has_flag c.flags rc4_flag) pair account line c work can
+
+returns : (P : Action → Type 0) (credential : Option (List ℕ)) (key name : List ℕ) (now : ℕ) (line : Line) (info : NetworkInfo) (validation : ℕ) (d : Desk) → Answering P line →
+    Adds P d.work.actions (judge_return credential key name now line info validation d).work.actions
+returns P None key name now line info validation d can = judges P line d.work.actions _ _ can
+returns P (Some credential) key name now line info validation d can = judges P line d.work.actions _ _ can
+
+channels : (P : Action → Type 0) (found : Option ChannelState) (computer : List ℕ) (given : Authenticator) (name : List ℕ) (now : ℕ) (line : Line) (info : NetworkInfo) (validation : ℕ) (d : Desk) → Answering P line →
+    Adds P d.work.actions (judge_channel found computer given name now line info validation d).work.actions
+channels P None computer given name now line info validation d can = judges P line d.work.actions _ _ can
+channels P (Some channel) computer given name now line info validation d can =
+    returns P (return_by (passes_on channel given) channel given) (key_of_channel channel) name now line info validation
+    (desk d.table (put_channel computer (channel_by (passes_on channel given) channel given) d.work)) can
+
+logons : (P : Action → Type 0) (computer : Option (List ℕ)) (given : Option Authenticator) (name : List ℕ) (now : ℕ) (line : Line) (info : NetworkInfo) (validation : ℕ) (d : Desk) → Answering P line →
+    Adds P d.work.actions (answer_logon computer given name now line info validation d).work.actions
+logons P None given name now line info validation d can = judges P line d.work.actions _ _ can
+logons P (Some computer) None name now line info validation d can = judges P line d.work.actions _ _ can
+logons P (Some computer) (Some given) name now line info validation d can =
+    channels P (lookup same_name computer d.work.computers.channels) computer given name now line info validation (desk d.table (take_channel computer d.work)) can
+
+draws : (P : Action → Type 0) (left : List (List ℕ)) (line : Line) (c : ChallengeCall) (talk : Talk) (d : Desk) → Answering P line → PartAdds P d.work.actions (draw_challenge left line c talk d)
+draws P [] line c talk d can = tt
+draws P (server ∷ left) line c talk d can =
+    let pair : Pending = record { client = c.challenge; server = server } in
+    let work = put_pair_if (knows_in d.table.accounts c.computer) c.computer pair d.work in
+    adds_both P d.work.actions work.actions _ (pair_put_if P (knows_in d.table.accounts c.computer) c.computer pair d.work) (replies P line work.actions _ can)
+
+calls : (P : Action → Type 0) (c : Call) (line : Line) (talk : Talk) (name : List ℕ) (now : ℕ) (d : Desk) (left : List (List ℕ)) → Answering P line → PartAdds P d.work.actions (by_call c line talk name now d left)
+calls P (call.Challenge c) line talk name now d left can = draws P left line c talk d can
+calls P (call.Authenticate c) line talk name now d left can =
+    accounts P (account_for d.table c) (lookup same_name c.computer d.work.computers.pending) line c (take_pair c.computer d.work) can
+calls P (call.Logon c) line talk name now d left can = logons P c.computer c.authenticator name now line c.info c.validation d can
+calls P (call.Logoff c) line talk name now d left can = adds_one P d.work.actions _ (can.fault _)
+
+heard_adds : (P : Action → Type 0) (h : Heard) (link : ℕ) (unit : RpcUnit) (name : List ℕ) (now : ℕ) (d : Desk) (left : List (List ℕ)) → IsHeardOf link unit h →
+    ((cause : CloseCause) → P (action.Close link cause)) → ((bytes : List ℕ) → IsAnswerTo unit bytes → P (action.Send link bytes)) → ((how : Judged) → P (action.Judged how)) →
+    PartAdds P d.work.actions (by_heard h link name now d left)
+heard_adds P (heard.Close cause) link unit name now d left is closes sends judged = adds_one P d.work.actions _ (closes cause)
+heard_adds P (heard.Answer bytes talk) link unit name now d left is closes sends judged = adds_one P d.work.actions _ (sends bytes is)
+heard_adds P (heard.Waits talk) link unit name now d left is closes sends judged = adds_none P d.work.actions
+heard_adds P (heard.Asked line c talk) link unit name now d left is closes sends judged =
+    calls P c line talk name now d left (record {
+      reply = λ answer. subst (λ to. P (action.Send to (bytes_of_call (response_of line.call line.context (written_reply answer)) line.limit))) (sym is.0)
+          (sends _ (inr (inr (inr (
+            answer,
+            line.limit,
+            ap (λ n. bytes_of_call (response_of n line.context (written_reply answer)) line.limit) is.1 ∙ ap (λ n. bytes_of_call (response_of unit.call n (written_reply answer)) line.limit) is.2,
+          )))));
+      fault = λ status. subst (λ to. P (action.Send to (written (fault_of line.call line.context status)))) (sym is.0)
+          (sends _ (fault_to unit line.call line.context status is.1 is.2));
+      judged = judged;
+    })
+
+-- ---- the units of a stream
+
+read_adds : (read : Result RpcUnit UnitRefused) (bytes : List ℕ) (all : List (List ℕ)) (link : ℕ) (name : List ℕ) (now : ℕ) (d : Desk) (talk : Talk) (left : List (List ℕ)) → unit_of bytes ≡ read → Contains all bytes →
+    PartAdds (IsActionOn link all) d.work.actions (by_heard (hear_read read link talk) link name now d left)
+read_adds (Err why) bytes all link name now d talk left is has = adds_one (IsActionOn link all) d.work.actions (action.Close link close.BadUnit) refl
+read_adds (Ok unit) bytes all link name now d talk left is has =
+    heard_adds (IsActionOn link all) (hear_on talk.binding unit link talk.joiner) link unit name now d left (unit_heard talk.binding unit link talk.joiner)
+    (λ cause. refl) (λ answer answers. (refl, (has.0, bytes, has.1, has.2, (unit, is, answers)))) (λ how. tt)
+
+-- all units of the rest are among all units
+abbrev pub Within : List (List ℕ) → List (List ℕ) → Type 0
+Within units all = (bytes : List ℕ) → Contains units bytes → Contains all bytes
+
+first_of : (bytes : List ℕ) (units : List (List ℕ)) → Contains (bytes ∷ units) bytes
+first_of bytes units = (0, omega arith, refl)
+
+later_of : (bytes : List ℕ) (units : List (List ℕ)) → Within units (bytes ∷ units)
+later_of bytes units other has = (suc has.0, (let less = has.1 in omega arith), has.2)
+
+from_adds : (P : Action → Type 0) (one other : List Action) (part : ServedPart Desk Talk) → Adds P one other → PartAdds P other part → PartAdds P one part
+from_adds P one other (Err why) adds later = tt
+from_adds P one other (Ok part) adds later = adds_both P one other part.value.0.work.actions adds later
+
+said_adds : (P : Action → Type 0) (old : List Action) (d : Desk) (said : Option Talk) (left : List (List ℕ)) (later : Service Desk Talk) → Adds P old d.work.actions →
+    ((d : Desk) (talk : Talk) (left : List (List ℕ)) → PartAdds P d.work.actions (later d talk left)) → PartAdds P old (then_talk d said left later)
+said_adds P old d None left later adds each = adds
+said_adds P old d (Some talk) left later adds each = from_adds P old d.work.actions (later d talk left) adds (each d talk left)
+
+then_adds : (P : Action → Type 0) (part : ServedPart Desk Talk) (old : List Action) (later : Service Desk Talk) → PartAdds P old part →
+    ((d : Desk) (talk : Talk) (left : List (List ℕ)) → PartAdds P d.work.actions (later d talk left)) → PartAdds P old (then_open part later)
+then_adds P (Err why) old later adds each = tt
+then_adds P (Ok part) old later adds each = said_adds P old part.value.0 part.value.1 part.left later adds each
+
+units_add : (units : List (List ℕ)) (why : Option UnitRefused) (all : List (List ℕ)) (link : ℕ) (name : List ℕ) (now : ℕ) (d : Desk) (talk : Talk) (left : List (List ℕ)) → Within units all →
+    PartAdds (IsActionOn link all) d.work.actions (served_by (controller_server name now link) units why d talk left)
+units_add [] None all link name now d talk left within = adds_none (IsActionOn link all) d.work.actions
+units_add [] (Some why) all link name now d talk left within = adds_one (IsActionOn link all) d.work.actions (action.Close link close.BadUnit) refl
+units_add (bytes ∷ units) why all link name now d talk left within =
+    then_adds (IsActionOn link all) (by_heard (hear link bytes talk) link name now d left) d.work.actions
+    (λ later said rest. served_by (controller_server name now link) units why later said rest)
+    (read_adds (unit_of bytes) bytes all link name now d talk left refl (within bytes (first_of bytes units)))
+    (λ later said rest. units_add units why all link name now later said rest (λ other has. within other (later_of bytes units other has)))
+
+-- ---- a step
+
+abbrev pub StepAdds : (Action → Type 0) → StepPart → Type 0
+StepAdds P (Err why) = Unit {0}
+StepAdds P (Ok part) = Adds P [] part.value.0.work.actions
+
+after_link : (P : Action → Type 0) (part : ServedPart Desk Talk) (rest : List ℕ) (number : ℕ) (links : LinkMap) → PartAdds P [] part → StepAdds P (after_units part rest number links)
+after_link P (Err why) rest number links adds = tt
+after_link P (Ok part) rest number links adds = adds
+
+after_event : (P : Action → Type 0) (part : StepPart) (s : State) (left : List (List ℕ)) → StepAdds P part →
+    AllByRecursion P (actions_of (step_by (λ (after : Desk × LinkMap). after.0.work.actions) (λ (after : Desk × LinkMap). state_after s after) (halted s) left (then_part part (λ after rest. start_turn after rest))))
+after_event P (Err why) s left adds = tt
+after_event P (Ok part) s left adds = subst (λ actions. AllByRecursion P actions) (sym adds.1) adds.2
+
+on_link : (s : State) (running : Running) (number : ℕ) (link : LinkState Talk) (piece : List ℕ) (now : ℕ) (left : List (List ℕ)) (found : Option (LinkState Talk)) → found ≡ Some link →
+    StepAdds (IsActionOn number (cut_stream (link.rest ++ piece)).units)
+    (serve_on found number piece s.name now (first_desk s.table running) (take_out same_number number running.links) left)
+on_link s running number link piece now left found is =
+    let cut = cut_stream (link.rest ++ piece) in
+    subst (λ (f : Option (LinkState Talk)). StepAdds (IsActionOn number cut.units) (serve_on f number piece s.name now (first_desk s.table running) (take_out same_number number running.links) left)) (sym is)
+    (after_link (IsActionOn number cut.units) (served_cut (controller_server s.name now number) cut (first_desk s.table running) link.talk left) cut.rest number (take_out same_number number running.links)
+    (units_add cut.units cut.refused cut.units number s.name now (first_desk s.table running) link.talk left (λ bytes has. has)))
+
+bytes_add : (s : State) (running : Running) (number : ℕ) (link : LinkState Talk) (piece : List ℕ) (now : ℕ) (left : List (List ℕ)) → lookup same_number number running.links ≡ Some link →
+    AllByRecursion (IsActionOn number (cut_stream (link.rest ++ piece)).units) (actions_of (step_on (Some running) s (event.Bytes number piece) now left))
+bytes_add s running number link piece now left is =
+    after_event (IsActionOn number (cut_stream (link.rest ++ piece)).units) (by_event (event.Bytes number piece) s.name now (first_desk s.table running) running.links left) s left
+    (on_link s running number link piece now left (lookup same_number number running.links) is)
+
+no_link : (s : State) (running : Running) (number : ℕ) (piece : List ℕ) (now : ℕ) (left : List (List ℕ)) (found : Option (LinkState Talk)) → found ≡ None →
+    actions_of (step_by (λ (after : Desk × LinkMap). after.0.work.actions) (λ (after : Desk × LinkMap). state_after s after) (halted s) left
+    (then_part (serve_on found number piece s.name now (first_desk s.table running) (take_out same_number number running.links) left) (λ after rest. start_turn after rest))) ≡ []
+no_link s running number piece now left None is = refl
+no_link s running number piece now left (Some link) is = absurd cc
+
+pub answers_units : AnswersUnits
+answers_units = record {
+  bytes = λ s running number link piece now left is found.
+      subst (λ (r : Option Running). AllByRecursion (IsActionOn number (cut_stream (link.rest ++ piece)).units) (actions_of (step_on r s (event.Bytes number piece) now left))) (sym is)
+      (bytes_add s running number link piece now left found);
+  other = λ s running number piece now left is found.
+      ap (λ (r : Option Running). actions_of (step_on r s (event.Bytes number piece) now left)) is
+      ∙ no_link s running number piece now left (lookup same_number number running.links) found;
+}

@@ -1,0 +1,183 @@
+-- What holds of a controller's steps, whatever comes, from whomever (this project's own choice, but for when an authenticator passes: MS-NRPC 3.1.4.5).
+use Rattle.std.specs.Prelude.{ℕ, ◌≡◌, ◌⊎◌, ◌↔◌, Bool, true, false, List, [], ◌∷◌, ◌++◌, Option, Some, None, Ok}
+use Rattle.std.specs.List.{AllByRecursion, Any}
+use Rattle.wire_base.specs.Maps.{lookup, same_number}
+use Rattle.wire_base.specs.Names.{same_name}
+use Rattle.wire_base.specs.declared.authenticator.Authenticator.{Authenticator}
+use Rattle.authenticators.specs.Sequences.{Passes}
+use Rattle.outside.specs.declared.action.Action.{Action}
+use Rattle.outside.specs.declared.action.Action.TheVariants as action
+use Rattle.outside.specs.declared.action.Judged.{Judged}
+use Rattle.outside.specs.declared.action.Judged.TheVariants as judged
+use Rattle.outside.specs.declared.event.Event.{Event}
+use Rattle.outside.specs.declared.event.Event.TheVariants as event
+use Rattle.rpc_units.specs.declared.unit.Unit.{Unit as RpcUnit}
+use Rattle.rpc_units.specs.declared.unit.Syntax.{Syntax}
+use Rattle.rpc_units.specs.Calls.{bytes_of_call}
+use Rattle.rpc_units.specs.Joining.{context_of}
+use Rattle.rpc_units.specs.Reading.{unit_of}
+use Rattle.rpc_units.specs.Stream.{cut_stream}
+use Rattle.rpc_units.specs.Writing.{written}
+use Rattle.logon_stubs.specs.declared.calls.Call.{Call}
+use Rattle.logon_stubs.specs.declared.calls.Call.TheVariants as call
+use Rattle.logon_stubs.specs.declared.calls.LogonCall.{LogonCall}
+use Rattle.logon_stubs.specs.declared.calls.Reply.{Reply}
+use Rattle.logon_stubs.specs.Writing.{written_reply}
+use Rattle.end_links.specs.Binding.{ack_of, nak_of}
+use Rattle.end_links.specs.Links.{LinkState}
+use Rattle.end_links.specs.Sending.{fault_of, response_of}
+use Rattle.end_loop.specs.Acts.{is_made}
+use Rattle.end_loop.specs.Runs.{actions_of}
+use Rattle.channel_client.specs.Machine.{netlogon_syntax}
+use Rattle.domain_controller.specs.Channels.{ChannelState, key_of_channel}
+use Rattle.domain_controller.specs.Hearing.{hear}
+use Rattle.domain_controller.specs.Machine.{Desk, answer_logon}
+use Rattle.domain_controller.specs.State.{State}
+use Rattle.domain_controller.specs.Step.{LinkMap, step_of}
+use Rattle.domain_controller.specs.declared.line.Line.{Line}
+use Rattle.domain_controller.specs.declared.state.Computers.{Computers}
+use Rattle.domain_controller.specs.declared.state.Running.{Running}
+use Rattle.domain_controller.specs.declared.state.Talk.{Talk}
+use Rattle.domain_controller.specs.declared.hearing.Heard.{Heard}
+use Rattle.domain_controller.specs.declared.hearing.Heard.TheVariants as heard
+
+-- ---- what follows a link that was closed
+
+-- A step for a link that was closed, or for a dial's answer, has no actions: so it closes nothing.
+pub record ClosesNothing : Type 0 where
+  pub made : (s : State) (what : Event) (now : ℕ) (left : List (List ℕ)) → is_made what ≡ true → actions_of (step_of s what now left) ≡ []
+
+-- ---- what is sent
+
+-- the bytes are a bind_ack or a bind_nak with the unit's call number
+abbrev pub IsAckTo : RpcUnit → List ℕ → Type 0
+IsAckTo unit bytes =
+    (receive : ℕ) × (contexts : List (ℕ × Syntax × List Syntax)) × (bytes ≡ written (ack_of netlogon_syntax unit.call receive contexts))
+
+abbrev pub IsNakTo : RpcUnit → List ℕ → Type 0
+IsNakTo unit bytes = bytes ≡ written (nak_of unit.call)
+
+-- they are a fault, or the frames of a response, with the unit's call number and context
+abbrev pub IsFaultTo : RpcUnit → List ℕ → Type 0
+IsFaultTo unit bytes = (status : ℕ) × (bytes ≡ written (fault_of unit.call (context_of unit.body) status))
+
+abbrev pub IsReplyTo : RpcUnit → List ℕ → Type 0
+IsReplyTo unit bytes =
+    (answer : Reply) × (limit : ℕ) × (bytes ≡ bytes_of_call (response_of unit.call (context_of unit.body) (written_reply answer)) limit)
+
+abbrev pub IsAnswerTo : RpcUnit → List ℕ → Type 0
+IsAnswerTo unit bytes = IsAckTo unit bytes ⊎ (IsNakTo unit bytes ⊎ (IsFaultTo unit bytes ⊎ IsReplyTo unit bytes))
+
+-- the bytes answer a unit that one of these byte strings is
+abbrev pub AnswersOne : List (List ℕ) → List ℕ → Type 0
+AnswersOne units bytes = Any (λ (read : List ℕ). (unit : RpcUnit) × (unit_of read ≡ Ok unit) × IsAnswerTo unit bytes) units
+
+-- what may be done on a link on which these units were read
+abbrev pub IsActionOn : ℕ → List (List ℕ) → Action → Type 0
+IsActionOn link units (action.Send to bytes) = (to ≡ link) × AnswersOne units bytes
+IsActionOn link units (action.Close to cause) = to ≡ link
+IsActionOn link units (action.Judged how) = Unit {0}
+IsActionOn link units (action.Dial peer) = ⊥
+IsActionOn link units (action.Told to outcome) = ⊥
+
+-- What bytes on an open link make is done on that link, and each send answers a unit read on it.
+pub record AnswersUnits : Type 0 where
+  pub bytes : (s : State) (running : Running) (number : ℕ) (link : LinkState Talk) (piece : List ℕ) (now : ℕ) (left : List (List ℕ)) →
+      s.running ≡ Some running → lookup same_number number running.links ≡ Some link →
+      AllByRecursion (IsActionOn number (cut_stream (link.rest ++ piece)).units) (actions_of (step_of s (event.Bytes number piece) now left))
+  -- bytes on a link that isn't open make nothing
+  pub other : (s : State) (running : Running) (number : ℕ) (piece : List ℕ) (now : ℕ) (left : List (List ℕ)) →
+      s.running ≡ Some running → lookup same_number number running.links ≡ None →
+      actions_of (step_of s (event.Bytes number piece) now left) ≡ []
+
+-- ---- whose channel is changed
+
+-- the call that is heard, if a whole one is
+abbrev pub call_in : Heard → List Call
+call_in (heard.Asked line call talk) = call ∷ []
+call_in (heard.Close cause) = []
+call_in (heard.Answer bytes talk) = []
+call_in (heard.Waits talk) = []
+
+-- what is said on the link then, where it stays open
+abbrev pub talk_after : Heard → Option Talk
+talk_after (heard.Asked line call talk) = Some talk
+talk_after (heard.Close cause) = None
+talk_after (heard.Answer bytes talk) = Some talk
+talk_after (heard.Waits talk) = Some talk
+
+abbrev pub calls_then : Option Talk → (Talk → List Call) → List Call
+calls_then None later = []
+calls_then (Some talk) later = later talk
+
+-- the calls that are heard of these units on the link, in order
+abbrev pub calls_heard : ℕ → List (List ℕ) → Talk → List Call
+calls_heard link [] talk = []
+calls_heard link (bytes ∷ units) talk =
+    call_in (hear link bytes talk) ++ calls_then (talk_after (hear link bytes talk)) (λ later. calls_heard link units later)
+
+abbrev pub calls_on : Option (LinkState Talk) → ℕ → List ℕ → List Call
+calls_on None number piece = []
+calls_on (Some link) number piece = calls_heard number (cut_stream (link.rest ++ piece)).units link.talk
+
+-- those of an event
+abbrev pub calls_of : Event → LinkMap → List Call
+calls_of (event.Bytes number piece) links = calls_on (lookup same_number number links) number piece
+calls_of _ links = []
+
+-- the computer that a call names
+abbrev pub computer_of : Call → Option (List ℕ)
+computer_of (call.Logon c) = c.computer
+computer_of (call.Logoff c) = c.computer
+computer_of (call.Challenge c) = Some c.computer
+computer_of (call.Authenticate c) = Some c.computer
+
+abbrev pub names_by : Option (List ℕ) → List ℕ → Bool
+names_by None computer = false
+names_by (Some name) computer = same_name name computer
+
+-- a call names that computer
+abbrev pub names : Call → List ℕ → Bool
+names c computer = names_by (computer_of c) computer
+
+-- what is kept of that computer is the same
+pub record KeepsComputer (computer : List ℕ) (old new : Computers) : Type 0 where
+  pub pair : lookup same_name computer new.pending ≡ lookup same_name computer old.pending
+  pub channel : lookup same_name computer new.channels ≡ lookup same_name computer old.channels
+
+-- unless the controller has stopped then
+abbrev pub KeepsUnlessStopped : List ℕ → Computers → Option Running → Type 0
+KeepsUnlessStopped computer old None = Unit {0}
+KeepsUnlessStopped computer old (Some running) = KeepsComputer computer old running.computers
+
+-- A step leaves the challenges and the channel of every computer that no call of the event names.
+pub record KeepsOthers : Type 0 where
+  pub keeps : (s : State) (running : Running) (what : Event) (now : ℕ) (left : List (List ℕ)) (computer : List ℕ) → s.running ≡ Some running →
+      AllByRecursion (λ (c : Call). names c computer ≡ false) (calls_of what running.links) →
+      KeepsUnlessStopped computer running.computers (step_of s what now left).state.running
+
+-- ---- which authenticator passes
+
+-- the call names a computer and has an authenticator, the computer has a channel, and the authenticator is the next one of its sequence
+pub record IsNext (computers : Computers) (c : LogonCall) : Type 0 where
+  pub computer : List ℕ
+  pub given : Authenticator
+  pub channel : ChannelState
+  pub named : c.computer ≡ Some computer
+  pub there : c.authenticator ≡ Some given
+  pub stands : lookup same_name computer computers.channels ≡ Some channel
+  pub passes : Passes (key_of_channel channel) channel.seed given
+
+abbrev pub is_passed : Judged → Bool
+is_passed (judged.Passed status) = true
+is_passed judged.Barred = false
+is_passed judged.NoChannel = false
+
+-- A logon call is judged once, and answered once. It passes exactly where its authenticator is the next one of the channel of the computer that it
+-- names.
+pub record PassesTheNext : Type 0 where
+  pub logon : (c : LogonCall) (name : List ℕ) (now : ℕ) (line : Line) (d : Desk) →
+      (how : Judged) × (answer : List ℕ)
+      × ((answer_logon c.computer c.authenticator name now line c.info c.validation d).work.actions
+      ≡ d.work.actions ++ action.Judged how ∷ action.Send line.link answer ∷ [])
+      × ((is_passed how ≡ true) ↔ IsNext d.work.computers c)

@@ -1,0 +1,106 @@
+//! What is heard on a link, answered.
+
+ghost use Rattle.std.specs.Prelude.{◌≡◌};
+ghost use Rattle.outside.specs.Drawing.{DrawsSome};
+ghost use Rattle.outside.specs.Machine.{AnswersBy};
+ghost use Rattle.domain_controller.specs.Hearing.{IsLine, HasLine};
+ghost use Rattle.domain_controller.specs.Machine.{desk, at_desk, draw_challenge, by_call, by_heard};
+
+use crate::authenticating::answer_authenticate;
+use crate::challenging::answer_challenge;
+use crate::hearing::Heard;
+use crate::line::Line;
+use crate::logon::answer_logon;
+use crate::replying::{send_fault, tell};
+use crate::state::{Talk, Work};
+use account_table::Table;
+use logon_stubs::{Call, ChallengeCall};
+use outside::{Action, Chances, StepRefused};
+use rpc_units::OPERATION_OUT_OF_RANGE;
+use std::alloc::Global;
+use wire_base::Name;
+
+/// Answers what is heard on the link: what the controller has then, and what is said on the link, or None where it is closed.
+pub(crate) fn answer_heard<Q: Chances>(
+    alloc: Global,
+    table: &mut Table,
+    name: &Name,
+    now: u64,
+    link: u32,
+    heard: Heard,
+    work: Work,
+    chances: &mut Q,
+) -> Result<(Work, Option<Talk>), StepRefused>
+    requires { HasLine heard }
+    ensures draws { DrawsSome (Q.drawing chances.old) (Q.drawing chances.new) }
+    ensures answer { AnswersBy (at_desk table.new result)
+        (by_heard heard link name.now now (desk table.old work) (Q.drawing chances.old).left)
+        (Q.drawing chances.new).left }
+    ensures stays { table.new ≡ table.old }
+{
+    match heard {
+        Heard::Close(cause) => Ok((tell(work, Action::Close(link, cause))?, None)),
+        Heard::Answer(bytes, talk) => Ok((tell(work, Action::Send(link, bytes))?, Some(talk))),
+        Heard::Waits(talk) => Ok((work, Some(talk))),
+        Heard::Asked(line, call, talk) => {
+            answer_call(alloc, table, name, now, line, call, talk, work, chances)
+        }
+    }
+}
+
+/// Answers a call.
+fn answer_call<Q: Chances>(
+    alloc: Global,
+    table: &mut Table,
+    name: &Name,
+    now: u64,
+    line: Line,
+    call: Call,
+    talk: Talk,
+    work: Work,
+    chances: &mut Q,
+) -> Result<(Work, Option<Talk>), StepRefused>
+    requires { IsLine line }
+    ensures draws { DrawsSome (Q.drawing chances.old) (Q.drawing chances.new) }
+    ensures answer { AnswersBy (at_desk table.new result)
+        (by_call call line talk name.now now (desk table.old work) (Q.drawing chances.old).left)
+        (Q.drawing chances.new).left }
+    ensures stays { table.new ≡ table.old }
+{
+    match call {
+        Call::Challenge(call) => draw_challenge(alloc, table, line, call, talk, work, chances),
+        Call::Authenticate(call) => {
+            let work = answer_authenticate(alloc, table, line, call, work)?;
+            Ok((work, Some(talk)))
+        }
+        Call::Logon(call) => {
+            let work = answer_logon(alloc, table, name, now, line, call, work)?;
+            Ok((work, Some(talk)))
+        }
+        Call::Logoff(_) => {
+            let work = send_fault(alloc, work, line, OPERATION_OUT_OF_RANGE)?;
+            Ok((work, Some(talk)))
+        }
+    }
+}
+
+/// Draws the server challenge of NetrServerReqChallenge, and answers the call.
+fn draw_challenge<Q: Chances>(
+    alloc: Global,
+    table: &Table,
+    line: Line,
+    call: ChallengeCall,
+    talk: Talk,
+    work: Work,
+    chances: &mut Q,
+) -> Result<(Work, Option<Talk>), StepRefused>
+    requires { IsLine line }
+    ensures draws { DrawsSome (Q.drawing chances.old) (Q.drawing chances.new) }
+    ensures answer { AnswersBy (at_desk table.now result)
+        (draw_challenge (Q.drawing chances.old).left line call talk (desk table.now work))
+        (Q.drawing chances.new).left }
+{
+    let server = chances.next()?;
+    let work = answer_challenge(alloc, table, line, call, server, work)?;
+    Ok((work, Some(talk)))
+}

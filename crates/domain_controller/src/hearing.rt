@@ -1,0 +1,250 @@
+//! What a unit on a link comes to.
+
+ghost use Rattle.std.specs.Prelude.{◌≡◌, IfOk, None, Some, option_map};
+ghost use Rattle.rpc_units.specs.Joining.{HasStub, answer_of, open_after};
+ghost use Rattle.rpc_units.specs.Reading.{unit_of};
+ghost use Rattle.rpc_units.specs.Views.{body_shown, trailer_shown, unit_shown};
+ghost use Rattle.rpc_units.specs.Writing.{ContextsFit, written};
+ghost use Rattle.end_links.specs.Sending.{fault_of};
+ghost use Rattle.channel_client.specs.Machine.{netlogon_syntax};
+ghost use Rattle.domain_controller.specs.Hearing.{IsLine, HasLine, bound_talk, hear, hear_unbound, hear_fresh, is_served, hear_fault, hear_opnum, hear_context, hear_whole, hear_joined, hear_bound};
+
+use crate::line::Line;
+use crate::state::Talk;
+use end_links::{Binding, bind_ack, bind_nak, fault, short_unit_bytes};
+use logon_stubs::{Call, NETLOGON_UUID, NETLOGON_VERSION, StubRefused, read_call};
+use outside::CloseCause;
+use rpc_units::{
+    BAD_STUB_DATA, Body, BodyView, JoinRefused, Joiner, OPERATION_OUT_OF_RANGE, PROTOCOL_ERROR,
+    Syntax, Unit, UnitRefused, UnitView, read_unit, view_unit,
+};
+use std::alloc::Global;
+use wire_base::{Blob, NoMemory};
+
+/// The interface that is served (MS-NRPC 2.1).
+const NETLOGON: Syntax = Syntax {
+    uuid: NETLOGON_UUID,
+    version: NETLOGON_VERSION,
+};
+
+/// What a unit on a link comes to.
+#[derive(Drop)]
+pub enum Heard {
+    /// The link is closed.
+    Close(CloseCause),
+    /// The bytes, a unit, are sent, and that is said on the link then.
+    Answer(Blob, Talk),
+    /// Nothing is sent before more comes.
+    Waits(Talk),
+    /// A call that is served is whole.
+    Asked(Line, Call, Talk),
+}
+
+/// What the bytes of a unit on the link come to, by what was said on it before.
+pub(crate) fn hear(alloc: Global, link: u32, bytes: &[u8], talk: Talk) -> Result<Heard, NoMemory>
+    ensures value { IfOk result (λ heard. heard ≡ hear link bytes.now talk) }
+    ensures line { IfOk result HasLine }
+{
+    let Talk { joiner, binding } = talk;
+    match binding {
+        None => match read_unit(alloc, bytes) {
+            Ok(unit) => hear_fresh(alloc, unit, joiner),
+            Err(UnitRefused::Memory) => Err(NoMemory),
+            Err(_) => Ok(Heard::Close(CloseCause::BadUnit)),
+        },
+        Some(binding) => match view_unit(bytes) {
+            Ok(unit) => hear_bound(alloc, link, &unit, joiner, binding),
+            Err(_) => Ok(Heard::Close(CloseCause::BadUnit)),
+        },
+    }
+}
+
+/// What a unit comes to on a link that isn't bound.
+fn hear_fresh(alloc: Global, unit: Unit, joiner: Joiner) -> Result<Heard, NoMemory>
+    requires { ContextsFit unit.body }
+    ensures value { IfOk result (λ heard.
+        heard ≡ hear_fresh unit.body unit.trailer unit.call joiner) }
+    ensures line { IfOk result HasLine }
+{
+    match (unit.body, unit.trailer) {
+        (
+            Body::Bind {
+                receive,
+                contexts,
+                ..
+            },
+            None,
+        ) => {
+            let answer = bind_ack(alloc, &NETLOGON, unit.call, receive, &contexts)?;
+            let bytes = short_unit_bytes(alloc, &answer)?;
+            let binding = Binding::new(alloc, &NETLOGON, receive, &contexts)?;
+            Ok(Heard::Answer(bytes, bound_talk(joiner, binding)))
+        }
+        (Body::Bind { .. }, Some(_)) => {
+            let bytes = short_unit_bytes(alloc, &bind_nak(unit.call))?;
+            Ok(Heard::Answer(bytes, fresh_talk(joiner)))
+        }
+        (Body::Request { context, .. }, _) => hear_unbound(alloc, unit.call, context, joiner),
+        _ => Ok(Heard::Close(CloseCause::OutOfPlace)),
+    }
+}
+
+/// A request on a link that isn't bound is answered by a fault.
+fn hear_unbound(alloc: Global, call: u32, context: u16, joiner: Joiner) -> Result<Heard, NoMemory>
+    ensures value { IfOk result (λ heard. heard ≡ hear_unbound call context joiner) }
+    ensures line { IfOk result HasLine }
+{
+    let bytes = fault_bytes(alloc, call, context, PROTOCOL_ERROR)?;
+    Ok(Heard::Answer(bytes, fresh_talk(joiner)))
+}
+
+/// What is said on a bound link.
+fn bound_talk(joiner: Joiner, binding: Binding) -> Talk
+    ensures { result ≡ bound_talk joiner binding }
+{
+    Talk {
+        joiner,
+        binding: Some(binding),
+    }
+}
+
+/// What is said on a link that isn't bound.
+fn fresh_talk(joiner: Joiner) -> Talk
+    ensures { result ≡ record { joiner = joiner; binding = None } }
+{
+    Talk {
+        joiner,
+        binding: None,
+    }
+}
+
+/// The bytes of a fault.
+pub(crate) fn fault_bytes(
+    alloc: Global,
+    call: u32,
+    context: u16,
+    status: u32,
+) -> Result<Blob, NoMemory>
+    ensures { IfOk result (λ bytes. bytes ≡ written (fault_of call context status)) }
+{
+    short_unit_bytes(alloc, &fault(call, context, status))
+}
+
+/// What a unit comes to on a bound link.
+fn hear_bound(
+    alloc: Global,
+    link: u32,
+    unit: &UnitView,
+    joiner: Joiner,
+    binding: Binding,
+) -> Result<Heard, NoMemory>
+    ensures value { IfOk result (λ heard. heard ≡ hear_bound (body_shown unit.now.body)
+        (option_map trailer_shown unit.now.trailer) (unit_shown unit.now) link joiner binding) }
+    ensures line { IfOk result HasLine }
+{
+    match (&unit.body, &unit.trailer) {
+        (BodyView::Request { .. }, Some(_)) => Ok(Heard::Close(CloseCause::BadAuthentication)),
+        (BodyView::Request { .. }, None) => hear_fragment(alloc, link, unit, joiner, binding),
+        _ => Ok(Heard::Close(CloseCause::OutOfPlace)),
+    }
+}
+
+/// What a fragment of a request comes to.
+fn hear_fragment(
+    alloc: Global,
+    link: u32,
+    unit: &UnitView,
+    joiner: Joiner,
+    binding: Binding,
+) -> Result<Heard, NoMemory>
+    requires { HasStub (body_shown unit.now.body) }
+    ensures value { IfOk result (λ heard. heard ≡ hear_joined
+        (answer_of joiner (unit_shown unit.now)) (open_after joiner (unit_shown unit.now))
+        link binding) }
+    ensures line { IfOk result HasLine }
+{
+    let mut joiner = joiner;
+    match joiner.add_view(alloc, unit) {
+        Ok(Some(whole)) => hear_whole(alloc, link, &whole, joiner, binding),
+        Ok(None) => Ok(Heard::Waits(bound_talk(joiner, binding))),
+        Err(JoinRefused::OutOfPlace) => Ok(Heard::Close(CloseCause::OutOfPlace)),
+        Err(JoinRefused::CallTooLong) => Ok(Heard::Close(CloseCause::TooMuchHeld)),
+        Err(JoinRefused::Memory) => Err(NoMemory),
+    }
+}
+
+/// What a whole request comes to.
+fn hear_whole(
+    alloc: Global,
+    link: u32,
+    unit: &Unit,
+    joiner: Joiner,
+    binding: Binding,
+) -> Result<Heard, NoMemory>
+    ensures value { IfOk result (λ heard. heard ≡ hear_whole unit.now.body unit.now.call link
+        binding (bound_talk joiner binding)) }
+    ensures line { IfOk result HasLine }
+{
+    match &unit.body {
+        Body::Request {
+            context,
+            opnum,
+            stub,
+            ..
+        } => {
+            let line = Line {
+                link,
+                call: unit.call,
+                context: *context,
+                limit: binding.limit(),
+            };
+            let accepted = binding.accepts(*context);
+            let talk = bound_talk(joiner, binding);
+            hear_call(alloc, accepted, *opnum, stub.bytes(), line, talk)
+        }
+        _ => Ok(Heard::Waits(bound_talk(joiner, binding))),
+    }
+}
+
+/// What a call comes to, on a context that was accepted or wasn't.
+fn hear_call(
+    alloc: Global,
+    accepted: bool,
+    opnum: u16,
+    stub: &[u8],
+    line: Line,
+    talk: Talk,
+) -> Result<Heard, NoMemory>
+    requires { IsLine line }
+    ensures value { IfOk result (λ heard.
+        heard ≡ hear_context accepted opnum stub.now line talk) }
+    ensures line { IfOk result HasLine }
+{
+    if !accepted {
+        return hear_fault(alloc, line, PROTOCOL_ERROR, talk);
+    }
+    if !is_served(opnum) {
+        return hear_fault(alloc, line, OPERATION_OUT_OF_RANGE, talk);
+    }
+    match read_call(alloc, opnum, stub) {
+        Ok(call) => Ok(Heard::Asked(line, call, talk)),
+        Err(StubRefused::Memory) => Err(NoMemory),
+        Err(_) => hear_fault(alloc, line, BAD_STUB_DATA, talk),
+    }
+}
+
+/// Whether calls of the number are served.
+fn is_served(opnum: u16) -> bool
+    ensures { result ≡ is_served opnum }
+{
+    matches!(opnum, 2 | 4 | 15)
+}
+
+/// A call that isn't served is answered by a fault.
+fn hear_fault(alloc: Global, line: Line, status: u32, talk: Talk) -> Result<Heard, NoMemory>
+    ensures value { IfOk result (λ heard. heard ≡ hear_fault line status talk) }
+    ensures line { IfOk result HasLine }
+{
+    let bytes = fault_bytes(alloc, line.call, line.context, status)?;
+    Ok(Heard::Answer(bytes, talk))
+}

@@ -1,0 +1,21 @@
+//! A domain controller as a machine over plain values (MS-NRPC 3.5): events of links come in, and what it sends, closes and tells goes out. It answers
+//! the calls that set up a secure channel, and judges the logons that come on one.
+#![tactic(auto)]
+
+mod answering;
+mod authenticating;
+mod challenging;
+mod channel;
+mod computers;
+mod controller;
+mod hearing;
+pub mod laws;
+mod line;
+mod lines;
+mod links;
+mod logon;
+mod replying;
+mod serving;
+mod state;
+
+pub use controller::Controller;

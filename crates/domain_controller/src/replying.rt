@@ -1,0 +1,75 @@
+//! Replies to calls.
+
+ghost use Rattle.std.specs.Prelude.{◌≡◌, ◌<◌, ◌^◌, IfOk, Ok, length};
+ghost use Rattle.logon_stubs.specs.Calls.{opnum_of_reply, reply_of};
+ghost use Rattle.logon_stubs.specs.Writing.{CanWriteReply, written_reply};
+ghost use Rattle.domain_controller.specs.Hearing.{IsLine};
+ghost use Rattle.domain_controller.specs.Machine.{tell, send_fault, send_reply};
+
+use crate::hearing::fault_bytes;
+use crate::line::Line;
+use crate::state::Work;
+use end_links::{call_bytes, response};
+use logon_stubs::{Reply, write_reply};
+use outside::Action;
+use std::alloc::Global;
+use wire_base::{Blob, NoMemory};
+
+/// One action more.
+pub(crate) fn tell(work: Work, what: Action) -> Result<Work, NoMemory>
+    ensures { IfOk result (λ w. w ≡ tell work what) }
+{
+    let mut work = work;
+    work.actions.push(what)?;
+    Ok(work)
+}
+
+/// The call is answered by a fault of that status.
+pub(crate) fn send_fault(
+    alloc: Global,
+    work: Work,
+    line: Line,
+    status: u32,
+) -> Result<Work, NoMemory>
+    ensures { IfOk result (λ w. w ≡ send_fault work line status) }
+{
+    let bytes = fault_bytes(alloc, line.call, line.context, status)?;
+    tell(work, Action::Send(line.link, bytes))
+}
+
+/// The call is answered by the reply, all of its frames in one send.
+pub(crate) fn send_reply(
+    alloc: Global,
+    work: Work,
+    line: Line,
+    answer: &Reply,
+) -> Result<Work, NoMemory>
+    requires writable { CanWriteReply answer.now }
+    requires line { IsLine line }
+    ensures { IfOk result (λ w. w ≡ send_reply work line answer.now) }
+{
+    let stub = reply_stub(alloc, answer)?;
+    let unit = response(line.call, line.context, stub);
+    let bytes = call_bytes(alloc, &unit, line.limit)?;
+    tell(work, Action::Send(line.link, bytes))
+}
+
+/// The stub of a reply, which is short enough for the hint of a response.
+fn reply_stub(alloc: Global, answer: &Reply) -> Result<Blob, NoMemory>
+    requires { CanWriteReply answer.now }
+    ensures exact { IfOk result (λ stub. stub ≡ written_reply answer.now) }
+    ensures short { IfOk result (λ stub. length stub < 2 ^ 32) }
+{
+    let stub = write_reply(alloc, answer)?;
+    read_stub(answer, stub.bytes());
+    Ok(stub)
+}
+
+/// The stub of a reply has fewer than 2^20 bytes. It reads them, so that this is known.
+#[tactic(auto, using(crate::proofs::StubLaws::stub_short))]
+fn read_stub(answer: &Reply, stub: &[u8])
+    requires writable { CanWriteReply answer.now }
+    requires again { reply_of (opnum_of_reply answer.now) stub.now ≡ Ok answer.now }
+    requires exact { stub.now ≡ written_reply answer.now }
+    ensures { length stub.now < 2 ^ 20 }
+{}

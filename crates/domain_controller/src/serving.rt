@@ -1,0 +1,101 @@
+//! The units of a link, served in order.
+
+ghost use Rattle.std.specs.Prelude.{◌≡◌, ◌++◌, length};
+ghost use Rattle.outside.specs.Drawing.{DrawsSome};
+ghost use Rattle.outside.specs.Machine.{AnswersBy};
+ghost use Rattle.rpc_units.specs.Stream.{cut_stream};
+ghost use Rattle.end_links.specs.Serving.{StreamsBy, served_cut};
+ghost use Rattle.domain_controller.specs.Hearing.{hear};
+ghost use Rattle.domain_controller.specs.Machine.{desk, at_desk, by_heard, controller_server};
+
+use crate::answering::answer_heard;
+use crate::hearing::hear;
+use crate::replying::tell;
+use crate::state::{Talk, Work};
+use account_table::Table;
+use end_links::Link;
+use outside::{Action, Chances, CloseCause, StepRefused};
+use rpc_units::{Came, Incoming};
+use std::alloc::Global;
+use wire_base::{Name, NoMemory};
+
+/// The units of the link with the piece that comes on it, one after the other, until the link is closed: what the controller has then, and the link, or
+/// None where it is closed. The table outlasts a step that is given up, so it is lent.
+#[tactic(auto, using(end_links::proofs::ServingLaws::serving, rpc_units::proofs::ComingLaws::front_done))]
+pub(crate) fn serve_piece<Q: Chances>(
+    alloc: Global,
+    table: &mut Table,
+    name: &Name,
+    now: u64,
+    number: u32,
+    link: Link<Talk>,
+    piece: &[u8],
+    work: Work,
+    chances: &mut Q,
+) -> Result<(Work, Option<Link<Talk>>), StepRefused>
+    ensures draws { DrawsSome (Q.drawing chances.old) (Q.drawing chances.new) }
+    ensures answer { StreamsBy (at_desk table.new result)
+        (served_cut (controller_server name.now now number) (cut_stream (link.rest ++ piece.now))
+        (desk table.old work) link.talk (Q.drawing chances.old).left)
+        (cut_stream (link.rest ++ piece.now)).rest (Q.drawing chances.new).left }
+    ensures stays { table.new ≡ table.old }
+{
+    let (flow, said) = link.parts();
+    let mut coming = Incoming::new(flow, piece);
+    let mut talk = said;
+    let mut work = work;
+    'units: loop {
+        match coming.next() {
+            Came::Unit(_) => {
+                let (after, open) = serve_unit(
+                    alloc,
+                    table,
+                    name,
+                    now,
+                    number,
+                    coming.unit(),
+                    talk,
+                    work,
+                    chances,
+                )?;
+                coming.done();
+                work = after;
+                match open {
+                    Some(still) => talk = still,
+                    None => return Ok((work, None)),
+                }
+            }
+            Came::Waits => return Ok((work, Some(Link::again(coming.into_flow(), talk)))),
+            Came::Refused(_) => {
+                let work = tell(work, Action::Close(number, CloseCause::BadUnit))?;
+                return Ok((work, None));
+            }
+        }
+    }
+}
+
+/// Serves the bytes of a unit, which stay as they are.
+fn serve_unit<Q: Chances>(
+    alloc: Global,
+    table: &mut Table,
+    name: &Name,
+    now: u64,
+    link: u32,
+    bytes: &mut [u8],
+    talk: Talk,
+    work: Work,
+    chances: &mut Q,
+) -> Result<(Work, Option<Talk>), StepRefused>
+    ensures len { length bytes.new ≡ length bytes.old }
+    ensures draws { DrawsSome (Q.drawing chances.old) (Q.drawing chances.new) }
+    ensures answer { AnswersBy (at_desk table.new result)
+        (by_heard (hear link bytes.old talk) link name.now now (desk table.old work)
+        (Q.drawing chances.old).left)
+        (Q.drawing chances.new).left }
+    ensures stays { table.new ≡ table.old }
+{
+    match hear(alloc, link, bytes, talk) {
+        Ok(heard) => answer_heard(alloc, table, name, now, link, heard, work, chances),
+        Err(NoMemory) => Err(StepRefused::Memory),
+    }
+}
