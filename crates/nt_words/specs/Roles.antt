@@ -1,0 +1,65 @@
+-- What the words of a command line ask for (this project's own choice). The first word is the command, and is judged first.
+use Rattle.std.specs.Prelude.{Bool, true, false, List, [], ◌∷◌, Option, Some, None, Result, Ok, Err, codes}
+use Rattle.clap.specs.Words.{Text}
+use Rattle.nt_words.specs.Jobs.{ControllerJob, MemberJob, LogonJob, controller_job, member_job, logon_job, drill_job, is_led_by}
+use Rattle.nt_words.specs.declared.job.Job.{Job}
+use Rattle.nt_words.specs.declared.job.Job.TheVariants as jobs
+use Rattle.nt_words.specs.declared.job.Role.{Role}
+use Rattle.nt_words.specs.declared.job.Role.TheVariants.{Controller, Member, Logon}
+use Rattle.nt_words.specs.declared.options.WordsRefused.{WordsRefused}
+use Rattle.nt_words.specs.declared.options.WordsRefused.TheVariants.{BadWords}
+
+abbrev pub check : List Text → Result Job WordsRefused
+check (command ∷ hash ∷ challenge ∷ message ∷ []) = Ok (jobs.Check (record { hash = hash; challenge = challenge; message = message }))
+check words = Err (BadWords 0)
+
+abbrev pub show : List Text → Result Job WordsRefused
+show (command ∷ message ∷ []) = Ok (jobs.Show (record { message = message }))
+show words = Err (BadWords 0)
+
+-- what a program does with the words: its job, or the refusal
+abbrev pub job_from : {X : Type 0} → (X → Job) → Result X WordsRefused → Result Job WordsRefused
+job_from wrap (Ok job) = Ok (wrap job)
+job_from wrap (Err refused) = Err refused
+
+abbrev pub member_by : Bool → List Text → Result Job WordsRefused
+member_by true words = check words
+member_by false words = job_from jobs.Member (member_job words)
+
+abbrev pub drill_by : Bool → List Text → Result Job WordsRefused
+drill_by true words = job_from jobs.Drill (drill_job words)
+drill_by false words = job_from jobs.Logon (logon_job words)
+
+abbrev pub logon_by : Bool → List Text → Result Job WordsRefused
+logon_by true words = show words
+logon_by false words = drill_by (is_led_by (codes "drill") words) words
+
+abbrev pub job_of : Role → List Text → Result Job WordsRefused
+job_of Controller words = job_from jobs.Controller (controller_job words)
+job_of Member words = member_by (is_led_by (codes "check") words) words
+job_of Logon words = logon_by (is_led_by (codes "show") words) words
+
+-- ---- what is seen without memory
+
+-- another first word than the command is seen without memory
+abbrev pub unless_led : Bool → Option (Result Job WordsRefused)
+unless_led true = None
+unless_led false = Some (Err (BadWords 0))
+
+abbrev pub member_at_once : Bool → List Text → Option (Result Job WordsRefused)
+member_at_once true words = Some (check words)
+member_at_once false words = unless_led (is_led_by (codes "serve") words)
+
+abbrev pub drill_at_once : Bool → List Text → Option (Result Job WordsRefused)
+drill_at_once true words = None
+drill_at_once false words = unless_led (is_led_by (codes "logon") words)
+
+abbrev pub logon_at_once : Bool → List Text → Option (Result Job WordsRefused)
+logon_at_once true words = Some (show words)
+logon_at_once false words = drill_at_once (is_led_by (codes "drill") words) words
+
+-- what the words come to where no memory is looked for
+abbrev pub job_at_once : Role → List Text → Option (Result Job WordsRefused)
+job_at_once Controller words = unless_led (is_led_by (codes "serve") words)
+job_at_once Member words = member_at_once (is_led_by (codes "check") words) words
+job_at_once Logon words = logon_at_once (is_led_by (codes "show") words) words

@@ -1,0 +1,83 @@
+//! The words of `nt_controller serve`.
+
+ghost use Rattle.std.specs.Prelude.{◌≡◌, Err, codes, false, map};
+ghost use Rattle.std.specs.String.{string_bytes};
+ghost use Rattle.wire_base.specs.Memory.{UpToMemory};
+ghost use Rattle.nt_words.specs.Jobs.{is_led_by, controller_form, controller_job};
+
+use crate::options::{Kind, OptionForm, WordsRefused, number, text};
+use crate::words::read_words;
+use std::alloc::Global;
+use std::marker::Model;
+
+/// What `nt_controller serve` is asked for.
+#[derive(Debug, Drop)]
+pub struct ControllerWords<'a> {
+    listen: &'a str,
+    name: &'a str,
+    table: &'a str,
+    seed: &'a str,
+    boot: u32,
+    events: u32,
+}
+
+impl<'a> Model for ControllerWords<'a> {
+    ghost use Rattle.nt_words.specs.Jobs.{ControllerJob};
+
+    ghost Value = { ControllerJob };
+
+    ghost view = { λ j. record { listen = j.listen.now; name = j.name.now; table = j.table.now; seed = j.seed.now; boot = j.boot; events = j.events } };
+}
+
+impl<'a> ControllerWords<'a> {
+    /// The name of the file that is read first.
+    pub(crate) fn first_file(&self) -> &'a str
+        ensures { result.now ≡ self.now.table }
+    {
+        self.table
+    }
+
+    /// The name of the seed's file.
+    pub(crate) fn seed_file(&self) -> &'a str
+        ensures { result.now ≡ self.now.seed }
+    {
+        self.seed
+    }
+}
+
+/// The job of `nt_controller serve`.
+#[tactic(auto, using(crate::proofs::Commands::controller_is_simple), unfolding(crate::specs::Jobs::controller_job))]
+pub(crate) fn controller_words<'a>(
+    alloc: Global,
+    words: &'a [String],
+) -> Result<ControllerWords<'a>, WordsRefused>
+    ensures job { UpToMemory WordsRefused.Memory result
+        (controller_job (map string_bytes words.now)) }
+    ensures other { is_led_by (codes "serve") (map string_bytes words.now) ≡ false →
+        result ≡ Err (WordsRefused.BadWords 0) }
+{
+    let options = controller_options();
+    let matches = read_words(alloc, "serve", &options, words)?;
+    Ok(ControllerWords {
+        listen: text(&matches, "listen"),
+        name: text(&matches, "name"),
+        table: text(&matches, "table"),
+        seed: text(&matches, "seed"),
+        boot: number(&matches, "boot", 0),
+        events: number(&matches, "events", 4294967295),
+    })
+}
+
+/// The options of `nt_controller serve`.
+fn controller_options() -> [OptionForm<'static>; 6]
+    ensures { result ≡ controller_form.choices }
+{
+    [
+        OptionForm::new("listen", Kind::Address, true),
+        OptionForm::new("name", Kind::Name, true),
+        OptionForm::new("table", Kind::File, true),
+        OptionForm::new("seed", Kind::File, true),
+        OptionForm::new("boot", Kind::Number(4294967295), true),
+        OptionForm::new("events", Kind::Number(4294967295), false),
+    ]
+}

@@ -1,0 +1,235 @@
+//! The files that a job names.
+
+ghost use Rattle.std.specs.Prelude.{◌≡◌, [], ◌∷◌};
+ghost use Rattle.hex.specs.Hex.{decode_sized};
+ghost use Rattle.nt_words.specs.Files.{shelf_of, ReadsFiles, Judges, content_due, file_due, table_refused, file_refused, seed_in, secret_in, table_in, digits_by, is_end, controller_files, secret_files};
+
+use account_table::{Table, TableRefused};
+use hex::FromHex;
+use outside::{FileRefused, Files};
+use std::alloc::Global;
+use std::marker::Model;
+use wire_base::Blob;
+
+/// Why the files of a job weren't taken.
+#[derive(Debug, Drop)]
+pub enum FilesRefused {
+    /// A file wasn't read.
+    FileFault,
+    /// The account table was refused.
+    BadTable(TableRefused),
+    /// The file of the option of that number is too long or not of its form.
+    BadInput(u32),
+    /// No memory was found.
+    NoMemory,
+}
+
+/// What `nt_controller serve` starts from.
+#[derive(Drop)]
+pub struct ControllerSetup {
+    table: Table,
+    seed: [u8; 32],
+}
+
+impl Model for ControllerSetup {
+    ghost use Rattle.nt_words.specs.Files.{ControllerFiles};
+
+    ghost Value = { ControllerFiles };
+
+    ghost view = { λ s. record { table = s.table; seed = s.seed } };
+}
+
+/// A secret and a seed.
+#[derive(Drop)]
+pub struct SecretSetup {
+    secret: [u8; 16],
+    seed: [u8; 32],
+}
+
+impl Model for SecretSetup {
+    ghost use Rattle.nt_words.specs.Files.{SecretFiles};
+
+    ghost Value = { SecretFiles };
+
+    ghost view = { λ s. record { secret = s.secret; seed = s.seed } };
+}
+
+/// The files of `nt_controller serve`: the table, then the seed.
+pub(crate) fn read_controller_files<F: Files>(
+    alloc: Global,
+    files: &mut F,
+    table: &str,
+    seed: &str,
+) -> Result<ControllerSetup, FilesRefused>
+    ensures { let shelf = shelf_of F.faults F.contents F.reads in
+        ReadsFiles (table.now ∷ seed.now ∷ []) (controller_files table.now seed.now) result (shelf files.old) (shelf files.new) }
+{
+    let table = match read_table(alloc, files, 3, table) {
+        Ok(table) => table,
+        Err(refused) => return Err(refused),
+    };
+    match read_seed(alloc, files, 4, seed) {
+        Ok(seed) => Ok(ControllerSetup { table, seed }),
+        Err(refused) => Err(refused),
+    }
+}
+
+/// A file with a secret, then one with a seed.
+pub(crate) fn read_secret_files<F: Files>(
+    alloc: Global,
+    files: &mut F,
+    number: u32,
+    secret: &str,
+    later: u32,
+    seed: &str,
+) -> Result<SecretSetup, FilesRefused>
+    ensures { let shelf = shelf_of F.faults F.contents F.reads in
+        ReadsFiles (secret.now ∷ seed.now ∷ []) (secret_files number secret.now later seed.now) result (shelf files.old) (shelf files.new) }
+{
+    let secret = match read_secret(alloc, files, number, secret) {
+        Ok(secret) => secret,
+        Err(refused) => return Err(refused),
+    };
+    match read_seed(alloc, files, later, seed) {
+        Ok(seed) => Ok(SecretSetup { secret, seed }),
+        Err(refused) => Err(refused),
+    }
+}
+
+/// The account table that the file of this name holds.
+fn read_table<F: Files>(
+    alloc: Global,
+    files: &mut F,
+    number: u32,
+    name: &str,
+) -> Result<Table, FilesRefused>
+    ensures { let shelf = shelf_of F.faults F.contents F.reads in
+        ReadsFiles (name.now ∷ []) (file_due number name.now table_in) result (shelf files.old) (shelf files.new) }
+{
+    match read_file(alloc, files, number, name) {
+        Ok(content) => table_from(alloc, content.bytes()),
+        Err(refused) => Err(refused),
+    }
+}
+
+/// The secret that the file of this name holds.
+fn read_secret<F: Files>(
+    alloc: Global,
+    files: &mut F,
+    number: u32,
+    name: &str,
+) -> Result<[u8; 16], FilesRefused>
+    ensures { let shelf = shelf_of F.faults F.contents F.reads in
+        ReadsFiles (name.now ∷ []) (file_due number name.now (secret_in number)) result (shelf files.old) (shelf files.new) }
+{
+    match read_file(alloc, files, number, name) {
+        Ok(content) => secret_from(number, content.bytes()),
+        Err(refused) => Err(refused),
+    }
+}
+
+/// The seed that the file of this name holds.
+fn read_seed<F: Files>(
+    alloc: Global,
+    files: &mut F,
+    number: u32,
+    name: &str,
+) -> Result<[u8; 32], FilesRefused>
+    ensures { let shelf = shelf_of F.faults F.contents F.reads in
+        ReadsFiles (name.now ∷ []) (file_due number name.now (seed_in number)) result (shelf files.old) (shelf files.new) }
+{
+    match read_file(alloc, files, number, name) {
+        Ok(content) => seed_from(number, content.bytes()),
+        Err(refused) => Err(refused),
+    }
+}
+
+/// The content of the file of this name.
+fn read_file<F: Files>(
+    alloc: Global,
+    files: &mut F,
+    number: u32,
+    name: &str,
+) -> Result<Blob, FilesRefused>
+    ensures { let shelf = shelf_of F.faults F.contents F.reads in
+        ReadsFiles (name.now ∷ []) (content_due number name.now) result (shelf files.old) (shelf files.new) }
+{
+    match files.read(alloc, name.as_bytes()) {
+        Ok(content) => Ok(content),
+        Err(refused) => Err(file_refused(number, refused)),
+    }
+}
+
+/// What a read that failed comes to.
+fn file_refused(number: u32, refused: FileRefused) -> FilesRefused
+    ensures { result ≡ file_refused number refused }
+{
+    match refused {
+        FileRefused::Failed => FilesRefused::FileFault,
+        FileRefused::TooLong => FilesRefused::BadInput(number),
+        FileRefused::Memory => FilesRefused::NoMemory,
+    }
+}
+
+/// The seed that the bytes are.
+fn seed_from(number: u32, content: &[u8]) -> Result<[u8; 32], FilesRefused>
+    ensures { Judges result (seed_in number content.now) }
+{
+    match <[u8; 32]>::try_from(content) {
+        Ok(seed) => Ok(seed),
+        Err(_) => Err(FilesRefused::BadInput(number)),
+    }
+}
+
+/// The secret that the bytes write.
+#[tactic(auto, unfolding(crate::specs::Files::secret_in))]
+fn secret_from(number: u32, content: &[u8]) -> Result<[u8; 16], FilesRefused>
+    ensures { Judges result (secret_in number content.now) }
+{
+    if content.len() < 32 {
+        return Err(FilesRefused::BadInput(number));
+    }
+    let (digits, end) = content.split_at(32);
+    if is_end(end) {
+        digits_from(number, digits)
+    } else {
+        Err(FilesRefused::BadInput(number))
+    }
+}
+
+/// The secret that hex digits write.
+fn digits_from(number: u32, digits: &[u8]) -> Result<[u8; 16], FilesRefused>
+    ensures { Judges result (digits_by number (decode_sized digits.now 16)) }
+{
+    match <[u8; 16]>::from_hex(digits) {
+        Ok(secret) => Ok(secret),
+        Err(_) => Err(FilesRefused::BadInput(number)),
+    }
+}
+
+/// Whether nothing or one newline is left.
+fn is_end(rest: &[u8]) -> bool
+    ensures { result ≡ is_end rest.now }
+{
+    matches!(rest, [] | [b'\n'])
+}
+
+/// The account table that the bytes write.
+fn table_from(alloc: Global, content: &[u8]) -> Result<Table, FilesRefused>
+    ensures { Judges result (table_in content.now) }
+{
+    match Table::read(alloc, content) {
+        Ok(table) => Ok(table),
+        Err(refused) => Err(table_refused(refused)),
+    }
+}
+
+/// Why an account table wasn't taken.
+fn table_refused(refused: TableRefused) -> FilesRefused
+    ensures { result ≡ table_refused refused }
+{
+    match refused {
+        TableRefused::Memory => FilesRefused::NoMemory,
+        _ => FilesRefused::BadTable(refused),
+    }
+}

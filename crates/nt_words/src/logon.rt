@@ -1,0 +1,142 @@
+//! The words of `nt_logon logon`.
+
+ghost use Rattle.std.specs.Prelude.{◌≡◌, Err, codes, false, map, option_map};
+ghost use Rattle.std.specs.String.{string_bytes};
+ghost use Rattle.wire_base.specs.Memory.{UpToMemory};
+ghost use Rattle.nt_words.specs.Jobs.{is_led_by, level_in, auth_in, logon_form, logon_job};
+
+use crate::options::{Kind, OptionForm, WordsRefused, number, text, value};
+use crate::words::read_words;
+use std::alloc::Global;
+use std::marker::Model;
+
+/// Which response a client sends.
+#[derive(Clone, Copy, Debug, PartialEq, Eq)]
+pub enum AuthKind {
+    /// Version 1.
+    V1,
+    /// Version 1 with extended session security.
+    V1Ess,
+    /// Version 2.
+    V2,
+}
+
+/// What `nt_logon logon` is asked for.
+#[derive(Debug, Drop)]
+pub struct LogonWords<'a> {
+    server: &'a str,
+    domain: &'a str,
+    user: &'a str,
+    workstation: &'a str,
+    hash: &'a str,
+    level: u8,
+    auth: AuthKind,
+    echo: u32,
+    seed: &'a str,
+    boot: u32,
+}
+
+impl<'a> Model for LogonWords<'a> {
+    ghost use Rattle.nt_words.specs.Jobs.{LogonJob};
+
+    ghost Value = { LogonJob };
+
+    ghost view = { λ j. record { server = j.server.now; domain = j.domain.now; user = j.user.now; workstation = j.workstation.now; hash = j.hash.now; level = j.level; auth = j.auth; echo = j.echo; seed = j.seed.now; boot = j.boot } };
+}
+
+impl<'a> LogonWords<'a> {
+    /// The name of the file that is read first.
+    pub(crate) fn first_file(&self) -> &'a str
+        ensures { result.now ≡ self.now.hash }
+    {
+        self.hash
+    }
+
+    /// The name of the seed's file.
+    pub(crate) fn seed_file(&self) -> &'a str
+        ensures { result.now ≡ self.now.seed }
+    {
+        self.seed
+    }
+}
+
+/// The job of `nt_logon logon`.
+#[tactic(auto, using(crate::proofs::Commands::logon_is_simple), unfolding(crate::specs::Jobs::logon_job))]
+pub(crate) fn logon_words<'a>(
+    alloc: Global,
+    words: &'a [String],
+) -> Result<LogonWords<'a>, WordsRefused>
+    ensures job { UpToMemory WordsRefused.Memory result
+        (logon_job (map string_bytes words.now)) }
+    ensures other { is_led_by (codes "logon") (map string_bytes words.now) ≡ false →
+        result ≡ Err (WordsRefused.BadWords 0) }
+{
+    let options = logon_options();
+    let matches = read_words(alloc, "logon", &options, words)?;
+    Ok(LogonWords {
+        server: text(&matches, "server"),
+        domain: text(&matches, "domain"),
+        user: text(&matches, "user"),
+        workstation: text(&matches, "workstation"),
+        hash: text(&matches, "hash"),
+        level: level(value(&matches, "level")),
+        auth: auth(value(&matches, "auth")),
+        echo: number(&matches, "echo", 0),
+        seed: text(&matches, "seed"),
+        boot: number(&matches, "boot", 0),
+    })
+}
+
+/// The options of `nt_logon logon`.
+fn logon_options() -> [OptionForm<'static>; 10]
+    ensures { result ≡ logon_form.choices }
+{
+    [
+        OptionForm::new("server", Kind::Address, true),
+        OptionForm::new("domain", Kind::Name, true),
+        OptionForm::new("user", Kind::Name, true),
+        OptionForm::new("workstation", Kind::Name, true),
+        OptionForm::new("hash", Kind::File, true),
+        OptionForm::new("level", Kind::Level, false),
+        OptionForm::new("auth", Kind::Auth, false),
+        OptionForm::new("echo", Kind::Number(4096), false),
+        OptionForm::new("seed", Kind::File, true),
+        OptionForm::new("boot", Kind::Number(4294967295), true),
+    ]
+}
+
+/// The level of authentication that a word names.
+fn level(word: Option<&str>) -> u8
+    ensures { result ≡ level_in (option_map (λ s. s.now) word.entry) }
+{
+    match word {
+        Some(word) => {
+            if word == "connect" {
+                2
+            } else if word == "integrity" {
+                5
+            } else {
+                6
+            }
+        }
+        None => 6,
+    }
+}
+
+/// The response that a word names.
+fn auth(word: Option<&str>) -> AuthKind
+    ensures { result ≡ auth_in (option_map (λ s. s.now) word.entry) }
+{
+    match word {
+        Some(word) => {
+            if word == "v1" {
+                AuthKind::V1
+            } else if word == "v1ess" {
+                AuthKind::V1Ess
+            } else {
+                AuthKind::V2
+            }
+        }
+        None => AuthKind::V2,
+    }
+}

@@ -1,0 +1,89 @@
+//! The words of `nt_member serve`.
+
+ghost use Rattle.std.specs.Prelude.{◌≡◌, Err, codes, false, map};
+ghost use Rattle.std.specs.String.{string_bytes};
+ghost use Rattle.wire_base.specs.Memory.{UpToMemory};
+ghost use Rattle.nt_words.specs.Jobs.{is_led_by, member_form, member_job};
+
+use crate::options::{Kind, OptionForm, WordsRefused, number, text};
+use crate::words::read_words;
+use std::alloc::Global;
+use std::marker::Model;
+
+/// What `nt_member serve` is asked for.
+#[derive(Debug, Drop)]
+pub struct MemberWords<'a> {
+    listen: &'a str,
+    computer: &'a str,
+    domain: &'a str,
+    secret: &'a str,
+    controller: &'a str,
+    seed: &'a str,
+    boot: u32,
+    events: u32,
+}
+
+impl<'a> Model for MemberWords<'a> {
+    ghost use Rattle.nt_words.specs.Jobs.{MemberJob};
+
+    ghost Value = { MemberJob };
+
+    ghost view = { λ j. record { listen = j.listen.now; computer = j.computer.now; domain = j.domain.now; secret = j.secret.now; controller = j.controller.now; seed = j.seed.now; boot = j.boot; events = j.events } };
+}
+
+impl<'a> MemberWords<'a> {
+    /// The name of the file that is read first.
+    pub(crate) fn first_file(&self) -> &'a str
+        ensures { result.now ≡ self.now.secret }
+    {
+        self.secret
+    }
+
+    /// The name of the seed's file.
+    pub(crate) fn seed_file(&self) -> &'a str
+        ensures { result.now ≡ self.now.seed }
+    {
+        self.seed
+    }
+}
+
+/// The job of `nt_member serve`.
+#[tactic(auto, using(crate::proofs::Commands::member_is_simple), unfolding(crate::specs::Jobs::member_job))]
+pub(crate) fn member_words<'a>(
+    alloc: Global,
+    words: &'a [String],
+) -> Result<MemberWords<'a>, WordsRefused>
+    ensures job { UpToMemory WordsRefused.Memory result
+        (member_job (map string_bytes words.now)) }
+    ensures other { is_led_by (codes "serve") (map string_bytes words.now) ≡ false →
+        result ≡ Err (WordsRefused.BadWords 0) }
+{
+    let options = member_options();
+    let matches = read_words(alloc, "serve", &options, words)?;
+    Ok(MemberWords {
+        listen: text(&matches, "listen"),
+        computer: text(&matches, "computer"),
+        domain: text(&matches, "domain"),
+        secret: text(&matches, "secret"),
+        controller: text(&matches, "controller"),
+        seed: text(&matches, "seed"),
+        boot: number(&matches, "boot", 0),
+        events: number(&matches, "events", 4294967295),
+    })
+}
+
+/// The options of `nt_member serve`.
+fn member_options() -> [OptionForm<'static>; 8]
+    ensures { result ≡ member_form.choices }
+{
+    [
+        OptionForm::new("listen", Kind::Address, true),
+        OptionForm::new("computer", Kind::Name, true),
+        OptionForm::new("domain", Kind::Name, true),
+        OptionForm::new("secret", Kind::File, true),
+        OptionForm::new("controller", Kind::Address, true),
+        OptionForm::new("seed", Kind::File, true),
+        OptionForm::new("boot", Kind::Number(4294967295), true),
+        OptionForm::new("events", Kind::Number(4294967295), false),
+    ]
+}

@@ -1,0 +1,67 @@
+//! What a job starts from: its words and what its files hold.
+
+ghost use Rattle.std.specs.Prelude.{◌≡◌};
+ghost use Rattle.nt_words.specs.Files.{shelf_of, ReadsFiles};
+ghost use Rattle.nt_words.specs.Setups.{file_names, setup_due};
+
+use crate::controller::ControllerWords;
+use crate::drill::DrillWords;
+use crate::files::{
+    ControllerSetup, FilesRefused, SecretSetup, read_controller_files, read_secret_files,
+};
+use crate::job::{CheckWords, Job, ShowWords};
+use crate::logon::LogonWords;
+use crate::member::MemberWords;
+use outside::Files;
+use std::alloc::Global;
+
+/// A job with what its files hold.
+#[derive(Drop)]
+pub enum Setup<'a> {
+    /// `nt_controller serve`.
+    Controller(ControllerWords<'a>, ControllerSetup),
+    /// `nt_member serve`.
+    Member(MemberWords<'a>, SecretSetup),
+    /// `nt_member check`.
+    Check(CheckWords<'a>),
+    /// `nt_logon logon`.
+    Logon(LogonWords<'a>, SecretSetup),
+    /// `nt_logon show`.
+    Show(ShowWords<'a>),
+    /// `nt_logon drill`.
+    Drill(DrillWords),
+}
+
+/// Reads the files of a job, in the order of its options.
+pub fn set_up<'a, F: Files>(
+    alloc: Global,
+    files: &mut F,
+    job: Job<'a>,
+) -> Result<Setup<'a>, FilesRefused>
+    ensures { let shelf = shelf_of F.faults F.contents F.reads in
+        ReadsFiles (file_names job.entry) (setup_due job.entry) result (shelf files.old) (shelf files.new) }
+{
+    match job {
+        Job::Controller(words) => {
+            match read_controller_files(alloc, files, words.first_file(), words.seed_file()) {
+                Ok(setup) => Ok(Setup::Controller(words, setup)),
+                Err(refused) => Err(refused),
+            }
+        }
+        Job::Member(words) => {
+            match read_secret_files(alloc, files, 4, words.first_file(), 6, words.seed_file()) {
+                Ok(setup) => Ok(Setup::Member(words, setup)),
+                Err(refused) => Err(refused),
+            }
+        }
+        Job::Logon(words) => {
+            match read_secret_files(alloc, files, 5, words.first_file(), 9, words.seed_file()) {
+                Ok(setup) => Ok(Setup::Logon(words, setup)),
+                Err(refused) => Err(refused),
+            }
+        }
+        Job::Check(words) => Ok(Setup::Check(words)),
+        Job::Show(words) => Ok(Setup::Show(words)),
+        Job::Drill(words) => Ok(Setup::Drill(words)),
+    }
+}
