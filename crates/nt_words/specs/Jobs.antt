@@ -1,5 +1,5 @@
--- The jobs of the commands that serve (this project's own choice): what their words ask for, or the number of the option whose value isn't
--- of its kind; 0 where the words aren't those of the command.
+-- The jobs of the commands with options (this project's own choice): what their words ask for, or the number of the option whose value isn't
+-- of its kind; 0 where the words aren't those of the command. Texts are lists of bytes, numbers have 32 bits.
 use Rattle.std.specs.Prelude.{ℕ, ◌≡◌, Bool, true, false, List, [], ◌∷◌, Option, Some, None, Result, Ok, Err, codes, if◌then◌else◌}
 use Rattle.std.specs.Str.{bytes_eq}
 use Rattle.clap.specs.Words.{App, Row, Text, first_of, matches_of, fault_of}

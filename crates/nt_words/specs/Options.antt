@@ -47,7 +47,9 @@ fits rows Name text = is_in_range 1 64 (length text) && is_name text
 fits rows File text = is_in_range 1 4096 (length text)
 fits rows (Number most) text = is_at_most most (number_of text)
 fits rows Level text = is_one_of (codes "connect" ∷ codes "integrity" ∷ codes "privacy" ∷ []) text
-fits rows Auth text = if bytes_eq text (codes "v1") then is_text (codes "connect") (first_of (codes "level") rows) else is_one_of (codes "v1ess" ∷ codes "v2" ∷ []) text
+fits rows Auth text =
+    if bytes_eq text (codes "v1") then is_text (codes "connect") (first_of (codes "level") rows)
+    else is_one_of (codes "v1ess" ∷ codes "v2" ∷ []) text
 
 -- an option: its name after the two minus signs, the kind of its value, and whether it must be given
 pub record Choice : Type 0 where
@@ -89,7 +91,8 @@ pub record IsFirstMisfit (first : ℕ) (choices : List Choice) (rows : List Row)
   pub place : number ≡ first + length front
 
 abbrev pub NumbersTheFirstMisfit : Type 0
-NumbersTheFirstMisfit = (first number : ℕ) (choices : List Choice) (rows : List Row) → first_misfit first choices rows ≡ Some number → IsFirstMisfit first choices rows number
+NumbersTheFirstMisfit = (first number : ℕ) (choices : List Choice) (rows : List Row) → first_misfit first choices rows ≡ Some number →
+    IsFirstMisfit first choices rows number
 
 -- where there is none, each value is right
 abbrev pub MissesNone : Type 0

@@ -26,12 +26,19 @@ impl<'a> Model for ControllerWords<'a> {
 
     ghost Value = { ControllerJob };
 
-    ghost view = { λ j. record { listen = j.listen.now; name = j.name.now; table = j.table.now; seed = j.seed.now; boot = j.boot; events = j.events } };
+    ghost view = { λ j. record {
+      listen = j.listen.now;
+      name = j.name.now;
+      table = j.table.now;
+      seed = j.seed.now;
+      boot = j.boot;
+      events = j.events;
+    } };
 }
 
 impl<'a> ControllerWords<'a> {
-    /// The name of the file that is read first.
-    pub(crate) fn first_file(&self) -> &'a str
+    /// The name of the table's file.
+    pub(crate) fn table_file(&self) -> &'a str
         ensures { result.now ≡ self.now.table }
     {
         self.table

@@ -2,7 +2,8 @@
 
 ghost use Rattle.std.specs.Prelude.{◌≡◌, [], ◌∷◌};
 ghost use Rattle.hex.specs.Hex.{decode_sized};
-ghost use Rattle.nt_words.specs.Files.{shelf_of, ReadsFiles, Judges, content_due, file_due, table_refused, file_refused, seed_in, secret_in, table_in, digits_by, is_end, controller_files, secret_files};
+ghost use Rattle.nt_words.specs.Files.{shelf_of, ReadsFiles, Judges, content_due, file_due, table_refused, file_refused};
+ghost use Rattle.nt_words.specs.Files.{seed_in, secret_in, table_in, digits_by, is_end, controller_files, secret_files};
 
 use account_table::{Table, TableRefused};
 use hex::FromHex;
@@ -62,7 +63,8 @@ pub(crate) fn read_controller_files<F: Files>(
     seed: &str,
 ) -> Result<ControllerSetup, FilesRefused>
     ensures { let shelf = shelf_of F.faults F.contents F.reads in
-        ReadsFiles (table.now ∷ seed.now ∷ []) (controller_files table.now seed.now) result (shelf files.old) (shelf files.new) }
+        ReadsFiles (table.now ∷ seed.now ∷ []) (controller_files table.now seed.now)
+        result (shelf files.old) (shelf files.new) }
 {
     let table = match read_table(alloc, files, 3, table) {
         Ok(table) => table,
@@ -84,7 +86,8 @@ pub(crate) fn read_secret_files<F: Files>(
     seed: &str,
 ) -> Result<SecretSetup, FilesRefused>
     ensures { let shelf = shelf_of F.faults F.contents F.reads in
-        ReadsFiles (secret.now ∷ seed.now ∷ []) (secret_files number secret.now later seed.now) result (shelf files.old) (shelf files.new) }
+        ReadsFiles (secret.now ∷ seed.now ∷ []) (secret_files number secret.now later seed.now)
+        result (shelf files.old) (shelf files.new) }
 {
     let secret = match read_secret(alloc, files, number, secret) {
         Ok(secret) => secret,
@@ -104,7 +107,8 @@ fn read_table<F: Files>(
     name: &str,
 ) -> Result<Table, FilesRefused>
     ensures { let shelf = shelf_of F.faults F.contents F.reads in
-        ReadsFiles (name.now ∷ []) (file_due number name.now table_in) result (shelf files.old) (shelf files.new) }
+        ReadsFiles (name.now ∷ []) (file_due number name.now table_in)
+        result (shelf files.old) (shelf files.new) }
 {
     match read_file(alloc, files, number, name) {
         Ok(content) => table_from(alloc, content.bytes()),
@@ -120,7 +124,8 @@ fn read_secret<F: Files>(
     name: &str,
 ) -> Result<[u8; 16], FilesRefused>
     ensures { let shelf = shelf_of F.faults F.contents F.reads in
-        ReadsFiles (name.now ∷ []) (file_due number name.now (secret_in number)) result (shelf files.old) (shelf files.new) }
+        ReadsFiles (name.now ∷ []) (file_due number name.now (secret_in number))
+        result (shelf files.old) (shelf files.new) }
 {
     match read_file(alloc, files, number, name) {
         Ok(content) => secret_from(number, content.bytes()),
@@ -136,7 +141,8 @@ fn read_seed<F: Files>(
     name: &str,
 ) -> Result<[u8; 32], FilesRefused>
     ensures { let shelf = shelf_of F.faults F.contents F.reads in
-        ReadsFiles (name.now ∷ []) (file_due number name.now (seed_in number)) result (shelf files.old) (shelf files.new) }
+        ReadsFiles (name.now ∷ []) (file_due number name.now (seed_in number))
+        result (shelf files.old) (shelf files.new) }
 {
     match read_file(alloc, files, number, name) {
         Ok(content) => seed_from(number, content.bytes()),
@@ -152,7 +158,8 @@ fn read_file<F: Files>(
     name: &str,
 ) -> Result<Blob, FilesRefused>
     ensures { let shelf = shelf_of F.faults F.contents F.reads in
-        ReadsFiles (name.now ∷ []) (content_due number name.now) result (shelf files.old) (shelf files.new) }
+        ReadsFiles (name.now ∷ []) (content_due number name.now)
+        result (shelf files.old) (shelf files.new) }
 {
     match files.read(alloc, name.as_bytes()) {
         Ok(content) => Ok(content),

@@ -41,12 +41,23 @@ impl<'a> Model for LogonWords<'a> {
 
     ghost Value = { LogonJob };
 
-    ghost view = { λ j. record { server = j.server.now; domain = j.domain.now; user = j.user.now; workstation = j.workstation.now; hash = j.hash.now; level = j.level; auth = j.auth; echo = j.echo; seed = j.seed.now; boot = j.boot } };
+    ghost view = { λ j. record {
+      server = j.server.now;
+      domain = j.domain.now;
+      user = j.user.now;
+      workstation = j.workstation.now;
+      hash = j.hash.now;
+      level = j.level;
+      auth = j.auth;
+      echo = j.echo;
+      seed = j.seed.now;
+      boot = j.boot;
+    } };
 }
 
 impl<'a> LogonWords<'a> {
-    /// The name of the file that is read first.
-    pub(crate) fn first_file(&self) -> &'a str
+    /// The name of the hash's file.
+    pub(crate) fn hash_file(&self) -> &'a str
         ensures { result.now ≡ self.now.hash }
     {
         self.hash

@@ -28,12 +28,21 @@ impl<'a> Model for MemberWords<'a> {
 
     ghost Value = { MemberJob };
 
-    ghost view = { λ j. record { listen = j.listen.now; computer = j.computer.now; domain = j.domain.now; secret = j.secret.now; controller = j.controller.now; seed = j.seed.now; boot = j.boot; events = j.events } };
+    ghost view = { λ j. record {
+      listen = j.listen.now;
+      computer = j.computer.now;
+      domain = j.domain.now;
+      secret = j.secret.now;
+      controller = j.controller.now;
+      seed = j.seed.now;
+      boot = j.boot;
+      events = j.events;
+    } };
 }
 
 impl<'a> MemberWords<'a> {
-    /// The name of the file that is read first.
-    pub(crate) fn first_file(&self) -> &'a str
+    /// The name of the secret's file.
+    pub(crate) fn secret_file(&self) -> &'a str
         ensures { result.now ≡ self.now.secret }
     {
         self.secret

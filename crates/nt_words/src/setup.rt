@@ -39,23 +39,24 @@ pub fn set_up<'a, F: Files>(
     job: Job<'a>,
 ) -> Result<Setup<'a>, FilesRefused>
     ensures { let shelf = shelf_of F.faults F.contents F.reads in
-        ReadsFiles (file_names job.entry) (setup_due job.entry) result (shelf files.old) (shelf files.new) }
+        ReadsFiles (file_names job.entry) (setup_due job.entry) result
+        (shelf files.old) (shelf files.new) }
 {
     match job {
         Job::Controller(words) => {
-            match read_controller_files(alloc, files, words.first_file(), words.seed_file()) {
+            match read_controller_files(alloc, files, words.table_file(), words.seed_file()) {
                 Ok(setup) => Ok(Setup::Controller(words, setup)),
                 Err(refused) => Err(refused),
             }
         }
         Job::Member(words) => {
-            match read_secret_files(alloc, files, 4, words.first_file(), 6, words.seed_file()) {
+            match read_secret_files(alloc, files, 4, words.secret_file(), 6, words.seed_file()) {
                 Ok(setup) => Ok(Setup::Member(words, setup)),
                 Err(refused) => Err(refused),
             }
         }
         Job::Logon(words) => {
-            match read_secret_files(alloc, files, 5, words.first_file(), 9, words.seed_file()) {
+            match read_secret_files(alloc, files, 5, words.hash_file(), 9, words.seed_file()) {
                 Ok(setup) => Ok(Setup::Logon(words, setup)),
                 Err(refused) => Err(refused),
             }
