@@ -1,3 +1,5 @@
+pub mod NeedsLaws
 pub mod CheckLaws
-pub mod AskedLaws
 pub mod ShownLaws
+pub mod JobLaws
+pub mod EndLaws

@@ -1,25 +1,43 @@
--- What the words of a command line come to (this project's own choice): an answer, or an exit at which nothing is put. The first word
--- names the command. Words are lists of bytes.
-use Rattle.std.specs.Prelude.{ℕ, List, [], ◌∷◌, Result, Err, codes, if◌then◌else◌}
-use Rattle.std.specs.Str.{bytes_eq}
+-- What the words of a command line come to (this project's own choice): an answer, or an exit at which nothing is put. Words are lists
+-- of bytes.
+use Rattle.std.specs.Prelude.{ℕ, List, Option, Some, None, Result, Ok, Err}
+use Rattle.nt_words.specs.Roles.{job_of, job_at_once}
+use Rattle.nt_words.specs.declared.job.Job.{Job}
+use Rattle.nt_words.specs.declared.job.Job.TheVariants as jobs
+use Rattle.nt_words.specs.declared.job.Role.{Role}
+use Rattle.nt_words.specs.declared.options.WordsRefused.{WordsRefused}
 use Rattle.nt_top.specs.declared.answer.Answer.{Answer}
 use Rattle.nt_top.specs.declared.exit.Exit.{Exit}
 use Rattle.nt_top.specs.declared.exit.Exit.TheVariants.{BadWords}
-use Rattle.nt_top.specs.declared.exit.Role.{Role}
-use Rattle.nt_top.specs.declared.exit.Role.TheVariants.{Controller, Member, Logon}
-use Rattle.nt_top.specs.Check.{check_answer}
+use Rattle.nt_top.specs.Check.{check_answer, texts_at_once}
+use Rattle.nt_top.specs.Refusals.{words_exit}
 use Rattle.nt_top.specs.Show.{show_answer}
 
-abbrev pub member_answer : List (List ℕ) → Result Answer Exit
-member_answer (command ∷ hash ∷ challenge ∷ message ∷ []) =
-    if bytes_eq command (codes "check") then check_answer hash challenge message else Err (BadWords 0)
-member_answer _ = Err (BadWords 0)
+-- what a job comes to; one whose end isn't built yet is no command
+abbrev pub job_answer : Job → Result Answer Exit
+job_answer (jobs.Check job) = check_answer job.hash job.challenge job.message
+job_answer (jobs.Show job) = show_answer job.message
+job_answer _ = Err (BadWords 0)
 
-abbrev pub logon_answer : List (List ℕ) → Result Answer Exit
-logon_answer (command ∷ message ∷ []) = if bytes_eq command (codes "show") then show_answer message else Err (BadWords 0)
-logon_answer _ = Err (BadWords 0)
+abbrev pub answer_from : Result Job WordsRefused → Result Answer Exit
+answer_from (Ok job) = job_answer job
+answer_from (Err refused) = Err (words_exit refused)
 
 abbrev pub answer_of : Role → List (List ℕ) → Result Answer Exit
-answer_of Controller words = Err (BadWords 0)
-answer_of Member words = member_answer words
-answer_of Logon words = logon_answer words
+answer_of role words = answer_from (job_of role words)
+
+-- ---- exits for which no memory is looked for
+
+-- the exit that is seen in a job without memory
+abbrev pub job_exit_at_once : Job → Option Exit
+job_exit_at_once (jobs.Check job) = texts_at_once job.hash job.challenge
+job_exit_at_once _ = None
+
+abbrev pub from_at_once : Option (Result Job WordsRefused) → Option Exit
+from_at_once None = None
+from_at_once (Some (Ok job)) = job_exit_at_once job
+from_at_once (Some (Err refused)) = Some (words_exit refused)
+
+-- the exit that is seen in the words without memory
+abbrev pub exit_at_once : Role → List (List ℕ) → Option Exit
+exit_at_once role words = from_at_once (job_at_once role words)

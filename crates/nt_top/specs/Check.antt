@@ -1,14 +1,15 @@
 -- The command `check`: whether the response of an AUTHENTICATE message is that of a hash to a challenge (this project's own choice).
-use Rattle.std.specs.Prelude.{◌≡◌, ℕ, Bool, true, false, List, [], ◌∷◌, Some, None, Result, Ok, codes}
+use Rattle.std.specs.Prelude.{◌≡◌, ℕ, Bool, true, false, List, [], ◌∷◌, Option, Some, None, Result, Ok, Err, codes}
 use Rattle.hex.specs.Hex.{decode_of, decode_sized}
 use Rattle.ntlm_messages.specs.Authenticate.{authenticate_of, IsAuthenticate}
 use Rattle.ntlm_messages.specs.declared.messages.Authenticate.{Authenticate}
 use Rattle.ntlm_responses.specs.Verification.{MessageVerifies, message_verifies}
 use Rattle.nt_top.specs.declared.answer.Answer.{Answer}
 use Rattle.nt_top.specs.declared.exit.Exit.{Exit}
+use Rattle.nt_top.specs.declared.exit.Exit.TheVariants.{BadInput}
 use Rattle.nt_top.specs.declared.exit.RefusedCause.TheVariants.{Response}
-use Rattle.nt_top.specs.declared.exit.Role.{Role}
-use Rattle.nt_top.specs.declared.exit.Role.TheVariants.{Member}
+use Rattle.nt_words.specs.declared.job.Role.{Role}
+use Rattle.nt_words.specs.declared.job.Role.TheVariants.{Member}
 use Rattle.nt_top.specs.Needs.{needs}
 
 -- whether the NT response is the one of the hash, under the message's names, to the challenge that its flags and responses make
@@ -34,6 +35,15 @@ unfoldable pub check_answer : List ℕ → List ℕ → List ℕ → Result Answ
 check_answer hash_text challenge_text message_text =
     needs 1 (decode_sized hash_text 16) (λ hash. needs 2 (decode_sized challenge_text 8) (λ challenge.
     needs 3 (decode_of message_text) (λ bytes. judged hash challenge bytes)))
+
+-- the exit where a text isn't hex of its length, else the later one
+abbrev pub unless_read : {X E : Type 0} → ℕ → Result X E → Option Exit → Option Exit
+unless_read number (Ok x) later = later
+unless_read number (Err refused) later = Some (BadInput number)
+
+-- The exit that is seen without memory: that of the hash, and then of the challenge.
+abbrev pub texts_at_once : List ℕ → List ℕ → Option Exit
+texts_at_once hash challenge = unless_read 1 (decode_sized hash 16) (unless_read 2 (decode_sized challenge 8) None)
 
 -- The words ask this program, a member server, to check these: a hash, a challenge and a message that the third word holds.
 pub record AsksCheck (role : Role) (words : List (List ℕ)) (hash challenge : List ℕ) (message : Authenticate) : Type 0 where

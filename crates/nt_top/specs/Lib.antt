@@ -1,7 +1,9 @@
 pub mod Answers
+pub mod Causes
 pub mod Check
 pub mod Ends
 pub mod Exits
+pub mod Lines
 pub mod Needs
 pub mod Refusals
 pub mod Show

@@ -8,7 +8,7 @@ use Rattle.wire_base.specs.Numbers.{u32_of}
 use Rattle.ntlm_messages.specs.Authenticate.{authenticate_of, IsAuthenticate}
 use Rattle.ntlm_messages.specs.Challenge.{challenge_of, IsChallenge}
 use Rattle.ntlm_messages.specs.Negotiate.{negotiate_of, IsNegotiate}
-use Rattle.ntlm_messages.specs.Pairs.{pairs_of}
+use Rattle.ntlm_messages.specs.Pairs.{pairs_of, IsPairs}
 use Rattle.ntlm_messages.specs.declared.messages.Authenticate.{Authenticate}
 use Rattle.ntlm_messages.specs.declared.messages.Challenge.{Challenge}
 use Rattle.ntlm_messages.specs.declared.messages.Negotiate.{Negotiate}
@@ -16,8 +16,8 @@ use Rattle.ntlm_messages.specs.declared.pairs.PairsRefused.{PairsRefused}
 use Rattle.nt_top.specs.declared.answer.Answer.{Answer}
 use Rattle.nt_top.specs.declared.exit.Exit.{Exit}
 use Rattle.nt_top.specs.declared.exit.Exit.TheVariants.{BadInput}
-use Rattle.nt_top.specs.declared.exit.Role.{Role}
-use Rattle.nt_top.specs.declared.exit.Role.TheVariants.{Logon}
+use Rattle.nt_words.specs.declared.job.Role.{Role}
+use Rattle.nt_words.specs.declared.job.Role.TheVariants.{Logon}
 use Rattle.nt_top.specs.Needs.{needs}
 
 -- the bytes in hex, or a dash where there are none
@@ -83,11 +83,15 @@ show_answer text = needs 1 (decode_of text) (λ bytes. shown_lines (lines_from (
 
 -- ---- the same in the grammar's own terms
 
+-- A target information is these pairs: it is empty and there are none, or it is their list (MS-NLMP 2.2.2.1).
+abbrev pub InfoPairs : List ℕ → List (ℕ × List ℕ) → Type 0
+InfoPairs info pairs = ((info ≡ []) × (pairs ≡ [])) ⊎ IsPairs info pairs
+
 -- The bytes are a message of one of the three types, a CHALLENGE's target information being empty or pairs, and these are its lines.
 abbrev pub ShowsAs : List ℕ → List ℕ → Type 0
 ShowsAs bytes lines =
     ((message : Negotiate) × IsNegotiate bytes message × (lines ≡ negotiate_lines message))
-    ⊎ (((message : Challenge) × (pairs : List (ℕ × List ℕ)) × IsChallenge bytes message × (info_pairs message.info ≡ Ok pairs) × (lines ≡ challenge_lines message pairs))
+    ⊎ (((message : Challenge) × (pairs : List (ℕ × List ℕ)) × IsChallenge bytes message × InfoPairs message.info pairs × (lines ≡ challenge_lines message pairs))
     ⊎ ((message : Authenticate) × IsAuthenticate bytes message × (lines ≡ authenticate_lines message)))
 
 -- The words ask this program, a logon client, to show these bytes.

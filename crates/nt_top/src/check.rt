@@ -1,9 +1,9 @@
 //! The command `check`.
 
-ghost use Rattle.std.specs.Prelude.{◌≡◌, IfOk};
+ghost use Rattle.std.specs.Prelude.{◌≡◌, IfOk, IfSome, Err};
 ghost use Rattle.wire_base.specs.Memory.{UpToMemory};
 ghost use Rattle.ntlm_messages.specs.Fields.{IsText};
-ghost use Rattle.nt_top.specs.Check.{accepts_of, check_answer, judged, verdict_answer};
+ghost use Rattle.nt_top.specs.Check.{accepts_of, check_answer, judged, texts_at_once, verdict_answer};
 
 use crate::answer::Answer;
 use crate::exit::{Exit, RefusedCause};
@@ -23,7 +23,10 @@ pub(crate) fn check(
     challenge: &str,
     message: &str,
 ) -> Result<Answer, Exit>
-    ensures { UpToMemory Exit.NoMemory result (check_answer hash.now challenge.now message.now) }
+    ensures answer { UpToMemory Exit.NoMemory result
+        (check_answer hash.now challenge.now message.now) }
+    // No memory is looked for before word 3.
+    ensures at_once { IfSome (texts_at_once hash.now challenge.now) (λ exit. result ≡ Err exit) }
 {
     let hash = <[u8; 16]>::from_hex(hash).map_err(|_| Exit::BadInput(1))?;
     let challenge = <[u8; 8]>::from_hex(challenge).map_err(|_| Exit::BadInput(2))?;

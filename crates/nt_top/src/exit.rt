@@ -1,20 +1,11 @@
-//! Roles, exits and their texts.
+//! Exits.
 
 ghost use Rattle.std.specs.Prelude.{◌≡◌};
 
+use account_table::TableRefused;
+use nt_words::{FilesRefused, WordsRefused};
 use std::alloc::AllocError;
 use wire_base::NoMemory;
-
-/// Which program runs.
-#[derive(Clone, Copy, Debug, PartialEq, Eq)]
-pub enum Role {
-    /// The domain controller.
-    Controller,
-    /// The member server.
-    Member,
-    /// The logon client.
-    Logon,
-}
 
 /// Why a logon was refused.
 #[derive(Clone, Copy, Debug, PartialEq, Eq)]
@@ -24,7 +15,7 @@ pub enum RefusedCause {
 }
 
 /// How a command ended.
-#[derive(Clone, Copy, Debug, PartialEq, Eq)]
+#[derive(Debug, Drop)]
 pub enum Exit {
     /// The command did its work.
     Done,
@@ -32,12 +23,20 @@ pub enum Exit {
     Refused(RefusedCause),
     /// The command line isn't of its form: 0, or the number of the first option whose value isn't.
     BadWords(u32),
-    /// The word of that number isn't of its form.
+    /// A file wasn't read.
+    FileFault,
+    /// The account table was refused.
+    BadTable(TableRefused),
+    /// The word of that number, or the file of the option of that number, isn't of its form or is too long.
     BadInput(u32),
+    /// The port failed to listen, or to give an event.
+    PortFault,
     /// Output failed.
     SinkFault,
     /// No memory was found.
     NoMemory,
+    /// The end draws a challenge and none is left.
+    Spent,
 }
 
 impl From<NoMemory> for Exit {
@@ -62,6 +61,36 @@ impl From<AllocError> for Exit {
     }
 }
 
+impl From<WordsRefused> for Exit {
+    ghost use Rattle.std.specs.Prelude.{◌≡◌};
+    ghost use Rattle.nt_top.specs.Refusals.{words_exit};
+
+    ghost from_gives = { λ refused exit. exit ≡ words_exit refused };
+
+    fn from(refused: WordsRefused) -> Exit {
+        match refused {
+            WordsRefused::BadWords(number) => Exit::BadWords(number),
+            WordsRefused::Memory => Exit::NoMemory,
+        }
+    }
+}
+
+impl From<FilesRefused> for Exit {
+    ghost use Rattle.std.specs.Prelude.{◌≡◌};
+    ghost use Rattle.nt_top.specs.Refusals.{files_exit};
+
+    ghost from_gives = { λ refused exit. exit ≡ files_exit refused };
+
+    fn from(refused: FilesRefused) -> Exit {
+        match refused {
+            FilesRefused::FileFault => Exit::FileFault,
+            FilesRefused::BadTable(cause) => Exit::BadTable(cause),
+            FilesRefused::BadInput(number) => Exit::BadInput(number),
+            FilesRefused::NoMemory => Exit::NoMemory,
+        }
+    }
+}
+
 impl Exit {
     ghost use Rattle.nt_top.specs.Exits.{status_of};
 
@@ -73,9 +102,12 @@ impl Exit {
             Exit::Done => 0,
             Exit::Refused(_) => 1,
             Exit::BadWords(_) => 2,
-            Exit::BadInput(_) => 4,
+            Exit::FileFault => 3,
+            Exit::BadTable(_) | Exit::BadInput(_) => 4,
+            Exit::PortFault => 5,
             Exit::SinkFault => 6,
             Exit::NoMemory => 7,
+            Exit::Spent => 10,
         }
     }
 }

@@ -1,11 +1,16 @@
 //! What a program does around the top call.
 
-ghost use Rattle.std.specs.Prelude.{◌≡◌};
+ghost use Rattle.std.specs.Prelude.{◌≡◌, map};
+ghost use Rattle.std.specs.String.{string_bytes};
+ghost use Rattle.nt_top.specs.Answers.{answer_of};
+ghost use Rattle.nt_top.specs.Ends.{IsExitOf};
 ghost use Rattle.nt_top.specs.Exits.{status_of, IsStatus};
 
-use crate::exit::{Exit, Role};
-use crate::texts::exit_line;
+use crate::exit::Exit;
+use crate::standard_error::ErrorSink;
+use crate::texts::say_exit;
 use crate::top::run;
+use nt_words::Role;
 use outside::{ListChances, ListClock, MapFiles, OutSink, ScriptPort};
 use std::alloc::Global;
 use std::env;
@@ -27,16 +32,12 @@ pub fn start<R: Env + Print + Eprint + AllocGlobal>(rt: &R, role: Role) -> u8
     report(rt, &exit)
 }
 
-/// Prints the line of the exit, where it isn't empty and memory for it is found, and gives the exit status.
+/// Says the exit on standard error, and gives its status.
 fn report<R: Eprint + AllocGlobal>(rt: &R, exit: &Exit) -> u8
     ensures { result ≡ status_of exit.now }
 {
-    if let Ok(line) = exit_line(rt.alloc(), exit)
-        && !line.bytes().is_empty()
-        && let Ok(text) = str::from_utf8(line.bytes())
-    {
-        let _ = eprintln!(rt; "{text}");
-    }
+    // Where standard error fails, or no memory is found, the status alone tells how the command ended.
+    let _ = say_exit(rt.alloc(), exit, &mut ErrorSink::new(rt));
     exit.status()
 }
 
@@ -50,7 +51,9 @@ fn arguments<R: Env + AllocGlobal>(rt: &R) -> Result<Vec<String>, Exit> {
 }
 
 /// Runs the command of the words.
-fn run_words<R: Print + AllocGlobal>(rt: &R, role: Role, words: &[String]) -> Exit {
+fn run_words<R: Print + AllocGlobal>(rt: &R, role: Role, words: &[String]) -> Exit
+    ensures { IsExitOf (answer_of role (map string_bytes words.now)) result }
+{
     let alloc = rt.alloc();
     run(
         alloc,

@@ -11,7 +11,9 @@ use std::alloc::Global;
 
 /// The bytes of the word of that number, a hex text in either case of its digits.
 pub(crate) fn bytes_from_hex(alloc: Global, number: u32, text: &str) -> Result<Vec<u8>, Exit>
-    ensures { MatchResult result (λ bytes. decode_of text.now ≡ Ok bytes.items) (λ exit. (exit ≡ Exit.NoMemory) ⊎ ((exit ≡ Exit.BadInput number) × IsErr (decode_of text.now))) }
+    ensures { MatchResult result (λ bytes. decode_of text.now ≡ Ok bytes.items)
+        (λ exit. (exit ≡ Exit.NoMemory) ⊎
+        ((exit ≡ Exit.BadInput number) × IsErr (decode_of text.now))) }
 {
     hex::decode(alloc, text).map_err(|refused| match refused {
         FromHexError::OutOfMemory => Exit::NoMemory,

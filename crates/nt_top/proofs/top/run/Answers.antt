@@ -1,24 +1,40 @@
-use Rattle.nt_top.proofs.AskedLaws.{done_asked, refused_asked}
-use Rattle.nt_top.proofs.CheckLaws.{accepted_ends, refused_ends}
-use Rattle.nt_top.proofs.ShownLaws.{shown_ends, done_shown}
+use Rattle.std.proofs.Common.{map}
+use Rattle.std.specs.String.{string_bytes}
+use Rattle.nt_top.proofs.EndLaws.{accepted_ends, refused_ends, shown_ends, done_is, refused_is, bad_words_come, words_only, bad_input_comes, input_only, others, fault_rose, work_done}
 use Rattle.nt_top.proofs.top.run.Goals as goal
 
 pub returns-clause-accepted : goal.returns-clause-accepted
-returns-clause-accepted g c hash challenge message asks accepts =
-    accepted_ends _ _ hash challenge message _ _ asks accepts c.perform.ensures.ends
+returns-clause-accepted g c asked = accepted_ends _ _ _ _ c.perform.ensures.ends asked
 
 pub returns-clause-refused : goal.returns-clause-refused
-returns-clause-refused g c hash challenge message asks wrong =
-    refused_ends _ _ hash challenge message _ _ asks wrong c.perform.ensures.ends
-
-pub returns-clause-done : goal.returns-clause-done
-returns-clause-done g c member is = done_asked _ _ _ _ c.perform.ensures.ends member is
-
-pub returns-clause-refused_only : goal.returns-clause-refused_only
-returns-clause-refused_only g c cause member is = refused_asked _ _ _ _ cause c.perform.ensures.ends member is
+returns-clause-refused g c asked = refused_ends _ _ _ _ c.perform.ensures.ends asked
 
 pub returns-clause-shown : goal.returns-clause-shown
-returns-clause-shown g c bytes lines asks shows = shown_ends _ _ bytes lines _ _ asks shows c.perform.ensures.ends
+returns-clause-shown g c asked = shown_ends _ _ _ _ c.perform.ensures.ends asked
 
-pub returns-clause-shown_only : goal.returns-clause-shown_only
-returns-clause-shown_only g c logon is = done_shown _ _ _ _ c.perform.ensures.ends logon is
+pub returns-clause-done : goal.returns-clause-done
+returns-clause-done g c is = done_is _ _ _ _ c.perform.ensures.ends is
+
+pub returns-clause-refused_only : goal.returns-clause-refused_only
+returns-clause-refused_only g c cause is = refused_is _ _ _ _ cause c.perform.ensures.ends is
+
+pub returns-clause-words : goal.returns-clause-words
+returns-clause-words g c number bad = bad_words_come _ _ _ _ number c.perform.ensures.ends bad
+
+pub returns-clause-words_only : goal.returns-clause-words_only
+returns-clause-words_only g c number is = words_only _ _ _ _ number c.perform.ensures.ends is
+
+pub returns-clause-input : goal.returns-clause-input
+returns-clause-input g c number bad = bad_input_comes _ _ _ _ number c.perform.ensures.ends bad
+
+pub returns-clause-input_only : goal.returns-clause-input_only
+returns-clause-input_only g c number is = input_only _ _ _ _ number c.perform.ensures.ends is
+
+pub returns-clause-others : goal.returns-clause-others
+returns-clause-others g c = others c.args.role (map string_bytes c.args.words.now) _ _ c.perform.ensures.ends
+
+pub returns-clause-sink_cause : goal.returns-clause-sink_cause
+returns-clause-sink_cause g c is = fault_rose c.args.role (map string_bytes c.args.words.now) _ _ c.perform.ensures.ends is
+
+pub returns-clause-complete : goal.returns-clause-complete
+returns-clause-complete g c form still = work_done _ _ _ _ c.perform.ensures.ends form still
