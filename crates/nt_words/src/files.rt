@@ -63,10 +63,10 @@ pub(crate) fn read_controller_files<F: Files>(
     seed: &str,
 ) -> Result<ControllerSetup, FilesRefused>
     ensures { let shelf = shelf_of F.faults F.contents F.reads in
-        ReadsFiles (table.now ∷ seed.now ∷ []) (controller_files table.now seed.now)
+        ReadsFiles ((3, table.now) ∷ (4, seed.now) ∷ []) (controller_files table.now seed.now)
         result (shelf files.old) (shelf files.new) }
 {
-    let table = match read_table(alloc, files, 3, table) {
+    let table = match read_table(alloc, files, table) {
         Ok(table) => table,
         Err(refused) => return Err(refused),
     };
@@ -86,7 +86,8 @@ pub(crate) fn read_secret_files<F: Files>(
     seed: &str,
 ) -> Result<SecretSetup, FilesRefused>
     ensures { let shelf = shelf_of F.faults F.contents F.reads in
-        ReadsFiles (secret.now ∷ seed.now ∷ []) (secret_files number secret.now later seed.now)
+        ReadsFiles ((number, secret.now) ∷ (later, seed.now) ∷ [])
+        (secret_files number secret.now later seed.now)
         result (shelf files.old) (shelf files.new) }
 {
     let secret = match read_secret(alloc, files, number, secret) {
@@ -100,17 +101,12 @@ pub(crate) fn read_secret_files<F: Files>(
 }
 
 /// The account table that the file of this name holds.
-fn read_table<F: Files>(
-    alloc: Global,
-    files: &mut F,
-    number: u32,
-    name: &str,
-) -> Result<Table, FilesRefused>
+fn read_table<F: Files>(alloc: Global, files: &mut F, name: &str) -> Result<Table, FilesRefused>
     ensures { let shelf = shelf_of F.faults F.contents F.reads in
-        ReadsFiles (name.now ∷ []) (file_due number name.now table_in)
+        ReadsFiles ((3, name.now) ∷ []) (file_due 3 name.now table_in)
         result (shelf files.old) (shelf files.new) }
 {
-    match read_file(alloc, files, number, name) {
+    match read_file(alloc, files, 3, name) {
         Ok(content) => table_from(alloc, content.bytes()),
         Err(refused) => Err(refused),
     }
@@ -124,7 +120,7 @@ fn read_secret<F: Files>(
     name: &str,
 ) -> Result<[u8; 16], FilesRefused>
     ensures { let shelf = shelf_of F.faults F.contents F.reads in
-        ReadsFiles (name.now ∷ []) (file_due number name.now (secret_in number))
+        ReadsFiles ((number, name.now) ∷ []) (file_due number name.now (secret_in number))
         result (shelf files.old) (shelf files.new) }
 {
     match read_file(alloc, files, number, name) {
@@ -141,7 +137,7 @@ fn read_seed<F: Files>(
     name: &str,
 ) -> Result<[u8; 32], FilesRefused>
     ensures { let shelf = shelf_of F.faults F.contents F.reads in
-        ReadsFiles (name.now ∷ []) (file_due number name.now (seed_in number))
+        ReadsFiles ((number, name.now) ∷ []) (file_due number name.now (seed_in number))
         result (shelf files.old) (shelf files.new) }
 {
     match read_file(alloc, files, number, name) {
@@ -158,7 +154,7 @@ fn read_file<F: Files>(
     name: &str,
 ) -> Result<Blob, FilesRefused>
     ensures { let shelf = shelf_of F.faults F.contents F.reads in
-        ReadsFiles (name.now ∷ []) (content_due number name.now)
+        ReadsFiles ((number, name.now) ∷ []) (content_due number name.now)
         result (shelf files.old) (shelf files.new) }
 {
     match files.read(alloc, name.as_bytes()) {
@@ -180,7 +176,7 @@ fn file_refused(number: u32, refused: FileRefused) -> FilesRefused
 
 /// The seed that the bytes are.
 fn seed_from(number: u32, content: &[u8]) -> Result<[u8; 32], FilesRefused>
-    ensures { Judges result (seed_in number content.now) }
+    ensures { Judges number result (seed_in number content.now) }
 {
     match <[u8; 32]>::try_from(content) {
         Ok(seed) => Ok(seed),
@@ -191,7 +187,7 @@ fn seed_from(number: u32, content: &[u8]) -> Result<[u8; 32], FilesRefused>
 /// The secret that the bytes write.
 #[tactic(auto, unfolding(crate::specs::Files::secret_in))]
 fn secret_from(number: u32, content: &[u8]) -> Result<[u8; 16], FilesRefused>
-    ensures { Judges result (secret_in number content.now) }
+    ensures { Judges number result (secret_in number content.now) }
 {
     if content.len() < 32 {
         return Err(FilesRefused::BadInput(number));
@@ -206,7 +202,7 @@ fn secret_from(number: u32, content: &[u8]) -> Result<[u8; 16], FilesRefused>
 
 /// The secret that hex digits write.
 fn digits_from(number: u32, digits: &[u8]) -> Result<[u8; 16], FilesRefused>
-    ensures { Judges result (digits_by number (decode_sized digits.now 16)) }
+    ensures { Judges number result (digits_by number (decode_sized digits.now 16)) }
 {
     match <[u8; 16]>::from_hex(digits) {
         Ok(secret) => Ok(secret),
@@ -223,7 +219,7 @@ fn is_end(rest: &[u8]) -> bool
 
 /// The account table that the bytes write.
 fn table_from(alloc: Global, content: &[u8]) -> Result<Table, FilesRefused>
-    ensures { Judges result (table_in content.now) }
+    ensures { Judges 3 result (table_in content.now) }
 {
     match Table::read(alloc, content) {
         Ok(table) => Ok(table),
