@@ -37,6 +37,34 @@ impl<'a> Model for ControllerWords<'a> {
 }
 
 impl<'a> ControllerWords<'a> {
+    /// The address to listen at.
+    pub fn listen(&self) -> &'a str
+        ensures { result.now ≡ self.now.listen }
+    {
+        self.listen
+    }
+
+    /// The controller's name.
+    pub fn name(&self) -> &'a str
+        ensures { result.now ≡ self.now.name }
+    {
+        self.name
+    }
+
+    /// The number of the boot.
+    pub fn boot(&self) -> u32
+        ensures { result ≡ self.now.boot }
+    {
+        self.boot
+    }
+
+    /// How many events are taken.
+    pub fn events(&self) -> u32
+        ensures { result ≡ self.now.events }
+    {
+        self.events
+    }
+
     /// The name of the table's file.
     pub(crate) fn table_file(&self) -> &'a str
         ensures { result.now ≡ self.now.table }

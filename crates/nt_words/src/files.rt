@@ -40,6 +40,16 @@ impl Model for ControllerSetup {
     ghost view = { λ s. record { table = s.table; seed = s.seed } };
 }
 
+impl ControllerSetup {
+    /// The table and the seed.
+    pub fn into_parts(self) -> (Table, [u8; 32])
+        ensures { result ≡ (self.table, self.seed) }
+    {
+        let ControllerSetup { table, seed } = self;
+        (table, seed)
+    }
+}
+
 /// A secret and a seed.
 #[derive(Drop)]
 pub struct SecretSetup {
@@ -53,6 +63,22 @@ impl Model for SecretSetup {
     ghost Value = { SecretFiles };
 
     ghost view = { λ s. record { secret = s.secret; seed = s.seed } };
+}
+
+impl SecretSetup {
+    /// The secret, or the hash.
+    pub fn secret(&self) -> [u8; 16]
+        ensures { result ≡ self.now.secret }
+    {
+        self.secret
+    }
+
+    /// The seed.
+    pub fn seed(&self) -> [u8; 32]
+        ensures { result ≡ self.now.seed }
+    {
+        self.seed
+    }
 }
 
 /// The files of `nt_controller serve`: the table, then the seed.

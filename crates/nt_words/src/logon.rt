@@ -56,6 +56,62 @@ impl<'a> Model for LogonWords<'a> {
 }
 
 impl<'a> LogonWords<'a> {
+    /// The member server's address.
+    pub fn server(&self) -> &'a str
+        ensures { result.now ≡ self.now.server }
+    {
+        self.server
+    }
+
+    /// The domain's name.
+    pub fn domain(&self) -> &'a str
+        ensures { result.now ≡ self.now.domain }
+    {
+        self.domain
+    }
+
+    /// The user's name.
+    pub fn user(&self) -> &'a str
+        ensures { result.now ≡ self.now.user }
+    {
+        self.user
+    }
+
+    /// The workstation's name.
+    pub fn workstation(&self) -> &'a str
+        ensures { result.now ≡ self.now.workstation }
+    {
+        self.workstation
+    }
+
+    /// The level of authentication (MS-RPCE 2.2.1.1.8): 2, 5 or 6.
+    pub fn level(&self) -> u8
+        ensures { result ≡ self.now.level }
+    {
+        self.level
+    }
+
+    /// Which response is sent.
+    pub fn auth(&self) -> AuthKind
+        ensures { result ≡ self.now.auth }
+    {
+        self.auth
+    }
+
+    /// How many bytes are echoed: 0 for none, at most 4,096.
+    pub fn echo(&self) -> u32
+        ensures { result ≡ self.now.echo }
+    {
+        self.echo
+    }
+
+    /// The number of the boot.
+    pub fn boot(&self) -> u32
+        ensures { result ≡ self.now.boot }
+    {
+        self.boot
+    }
+
     /// The name of the hash's file.
     pub(crate) fn hash_file(&self) -> &'a str
         ensures { result.now ≡ self.now.hash }

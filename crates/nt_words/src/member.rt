@@ -41,6 +41,48 @@ impl<'a> Model for MemberWords<'a> {
 }
 
 impl<'a> MemberWords<'a> {
+    /// The address to listen at.
+    pub fn listen(&self) -> &'a str
+        ensures { result.now ≡ self.now.listen }
+    {
+        self.listen
+    }
+
+    /// The computer's name.
+    pub fn computer(&self) -> &'a str
+        ensures { result.now ≡ self.now.computer }
+    {
+        self.computer
+    }
+
+    /// The domain's name.
+    pub fn domain(&self) -> &'a str
+        ensures { result.now ≡ self.now.domain }
+    {
+        self.domain
+    }
+
+    /// The controller's address.
+    pub fn controller(&self) -> &'a str
+        ensures { result.now ≡ self.now.controller }
+    {
+        self.controller
+    }
+
+    /// The number of the boot.
+    pub fn boot(&self) -> u32
+        ensures { result ≡ self.now.boot }
+    {
+        self.boot
+    }
+
+    /// How many events are taken.
+    pub fn events(&self) -> u32
+        ensures { result ≡ self.now.events }
+    {
+        self.events
+    }
+
     /// The name of the secret's file.
     pub(crate) fn secret_file(&self) -> &'a str
         ensures { result.now ≡ self.now.secret }
