@@ -4,6 +4,7 @@ use Rattle.std.specs.Prelude.{ℕ, ◌==◌, ◌≤◌, Bool, true, false, List,
 use Rattle.std.specs.List.{list_any}
 use Rattle.outside.specs.declared.action.CloseCause.{CloseCause}
 use Rattle.outside.specs.declared.action.CloseCause.TheVariants as close
+use Rattle.rpc_units.specs.declared.unit.Syntax.{Syntax}
 use Rattle.rpc_units.specs.declared.unit.Unit.{Unit as RpcUnit}
 use Rattle.rpc_units.specs.declared.unit.Body.{Body}
 use Rattle.rpc_units.specs.declared.unit.Body.TheVariants.{Bind, Request}
@@ -37,14 +38,21 @@ bound_talk joiner agreed = record { joiner = joiner; binding = Some agreed }
 
 -- ---- on a link that isn't bound
 
+-- a bind is answered by a bind_ack, and the link is bound by it
+abbrev pub hear_bind : ℕ → ℕ → List (ℕ × Syntax × List Syntax) → Option RpcUnit → Heard
+hear_bind call receive contexts joiner =
+    heard.Answer (written (ack_of netlogon_syntax call receive contexts)) (bound_talk joiner (binding_of netlogon_syntax receive contexts))
+
+-- one with a trailer is refused
+abbrev pub hear_sealed_bind : ℕ → Option RpcUnit → Heard
+hear_sealed_bind call joiner = heard.Answer (written (nak_of call)) (record { joiner = joiner; binding = None })
+
 abbrev pub hear_unbound : ℕ → ℕ → Option RpcUnit → Heard
 hear_unbound call context joiner = heard.Answer (written (fault_of call context nca_proto_error)) (record { joiner = joiner; binding = None })
 
 abbrev pub hear_fresh : Body → Option Trailer → ℕ → Option RpcUnit → Heard
-hear_fresh (Bind send receive group contexts) None call joiner =
-    heard.Answer (written (ack_of netlogon_syntax call receive contexts)) (bound_talk joiner (binding_of netlogon_syntax receive contexts))
-hear_fresh (Bind send receive group contexts) (Some trailer) call joiner =
-    heard.Answer (written (nak_of call)) (record { joiner = joiner; binding = None })
+hear_fresh (Bind send receive group contexts) None call joiner = hear_bind call receive contexts joiner
+hear_fresh (Bind send receive group contexts) (Some trailer) call joiner = hear_sealed_bind call joiner
 hear_fresh (Request hint context opnum stub) trailer call joiner = hear_unbound call context joiner
 hear_fresh _ trailer call joiner = heard.Close close.OutOfPlace
 

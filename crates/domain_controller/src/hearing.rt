@@ -1,13 +1,13 @@
 //! What a unit on a link comes to.
 
-ghost use Rattle.std.specs.Prelude.{◌≡◌, IfOk, None, Some, option_map};
+ghost use Rattle.std.specs.Prelude.{◌≡◌, ◌≤◌, IfOk, None, Some, length, option_map};
 ghost use Rattle.rpc_units.specs.Joining.{HasStub, answer_of, open_after};
 ghost use Rattle.rpc_units.specs.Reading.{unit_of};
 ghost use Rattle.rpc_units.specs.Views.{body_shown, trailer_shown, unit_shown};
 ghost use Rattle.rpc_units.specs.Writing.{ContextsFit, written};
 ghost use Rattle.end_links.specs.Sending.{fault_of};
 ghost use Rattle.channel_client.specs.Machine.{netlogon_syntax};
-ghost use Rattle.domain_controller.specs.Hearing.{IsLine, HasLine, bound_talk, hear, hear_unbound, hear_fresh, is_served, hear_fault, hear_opnum, hear_context, hear_whole, hear_joined, hear_bound};
+ghost use Rattle.domain_controller.specs.Hearing.{IsLine, HasLine, bound_talk, hear, hear_bind, hear_sealed_bind, hear_unbound, hear_fresh, is_served, hear_fault, hear_opnum, hear_context, hear_whole, hear_joined, hear_bound};
 
 use crate::line::Line;
 use crate::state::Talk;
@@ -15,8 +15,8 @@ use end_links::{Binding, bind_ack, bind_nak, fault, short_unit_bytes};
 use logon_stubs::{Call, NETLOGON_UUID, NETLOGON_VERSION, StubRefused, read_call};
 use outside::CloseCause;
 use rpc_units::{
-    BAD_STUB_DATA, Body, BodyView, JoinRefused, Joiner, OPERATION_OUT_OF_RANGE, PROTOCOL_ERROR,
-    Syntax, Unit, UnitRefused, UnitView, read_unit, view_unit,
+    BAD_STUB_DATA, Body, BodyView, Contexts, JoinRefused, Joiner, OPERATION_OUT_OF_RANGE,
+    PROTOCOL_ERROR, Syntax, Unit, UnitRefused, UnitView, read_unit, view_unit,
 };
 use std::alloc::Global;
 use wire_base::{Blob, NoMemory};
@@ -74,19 +74,38 @@ fn hear_fresh(alloc: Global, unit: Unit, joiner: Joiner) -> Result<Heard, NoMemo
                 ..
             },
             None,
-        ) => {
-            let answer = bind_ack(alloc, &NETLOGON, unit.call, receive, &contexts)?;
-            let bytes = short_unit_bytes(alloc, &answer)?;
-            let binding = Binding::new(alloc, &NETLOGON, receive, &contexts)?;
-            Ok(Heard::Answer(bytes, bound_talk(joiner, binding)))
-        }
-        (Body::Bind { .. }, Some(_)) => {
-            let bytes = short_unit_bytes(alloc, &bind_nak(unit.call))?;
-            Ok(Heard::Answer(bytes, fresh_talk(joiner)))
-        }
+        ) => hear_bind(alloc, unit.call, receive, &contexts, joiner),
+        (Body::Bind { .. }, Some(_)) => hear_sealed_bind(alloc, unit.call, joiner),
         (Body::Request { context, .. }, _) => hear_unbound(alloc, unit.call, context, joiner),
         _ => Ok(Heard::Close(CloseCause::OutOfPlace)),
     }
+}
+
+/// A bind is answered by a bind_ack, and the link is bound by it.
+fn hear_bind(
+    alloc: Global,
+    call: u32,
+    receive: u16,
+    contexts: &Contexts,
+    joiner: Joiner,
+) -> Result<Heard, NoMemory>
+    requires { length contexts.now ≤ 242 }
+    ensures value { IfOk result (λ heard. heard ≡ hear_bind call receive contexts.now joiner) }
+    ensures line { IfOk result HasLine }
+{
+    let answer = bind_ack(alloc, &NETLOGON, call, receive, contexts)?;
+    let bytes = short_unit_bytes(alloc, &answer)?;
+    let binding = Binding::new(alloc, &NETLOGON, receive, contexts)?;
+    Ok(Heard::Answer(bytes, bound_talk(joiner, binding)))
+}
+
+/// A bind with a trailer is answered by a bind_nak.
+fn hear_sealed_bind(alloc: Global, call: u32, joiner: Joiner) -> Result<Heard, NoMemory>
+    ensures value { IfOk result (λ heard. heard ≡ hear_sealed_bind call joiner) }
+    ensures line { IfOk result HasLine }
+{
+    let bytes = short_unit_bytes(alloc, &bind_nak(call))?;
+    Ok(Heard::Answer(bytes, fresh_talk(joiner)))
 }
 
 /// A request on a link that isn't bound is answered by a fault.
