@@ -1,6 +1,7 @@
 //! What the operations work on, and their turns.
 
 use crate::accounts::Accounts;
+use crate::calls::Calls;
 use crate::digests::{codes, digests, key_streams};
 use crate::keys::Keys;
 use crate::logon::{read_logons, write_replies};
@@ -25,6 +26,7 @@ pub struct Bench {
     stream: RunningStream,
     keys: Keys,
     packets: Packets,
+    calls: Calls,
     accounts: Accounts,
     sides: Sides,
 }
@@ -35,12 +37,14 @@ impl Bench {
         let long = Box::new(alloc, ramp())?;
         let keys = Keys::new(alloc)?;
         let packets = Packets::new(alloc)?;
+        let calls = Calls::new(alloc)?;
         let accounts = Accounts::new(alloc)?;
         Ok(Bench {
             long,
             stream: RunningStream::new(),
             keys,
             packets,
+            calls,
             accounts,
             sides: Sides::new(KEY),
         })
@@ -74,6 +78,7 @@ impl Bench {
             | Operation::ViewPlain => self.packets.perform(alloc, operation, turns),
             Operation::ReadLogonCall => read_logons(alloc, self.packets.logon(), turns),
             Operation::WriteLogonReply => write_replies(alloc, turns),
+            Operation::ControllerLogon => self.calls.log_on(alloc, turns),
             Operation::Seal => self.sides.carry(turns),
             Operation::ReadTable => self.accounts.read_tables(alloc, turns),
             Operation::FindAccount => Ok(self.accounts.find_all(turns)),

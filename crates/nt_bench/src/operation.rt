@@ -43,6 +43,8 @@ pub enum Operation {
     ReadLogonCall,
     /// Making the reply to a granted logon, with three texts and one group, and writing its stub.
     WriteLogonReply,
+    /// A request to log on at a controller, from its bytes to those of the reply that grants it.
+    ControllerLogon,
     /// Sealing a range of 1,024 bytes at one side, and opening it at the other.
     Seal,
     /// Reading a table of 10,000 accounts.
@@ -52,7 +54,7 @@ pub enum Operation {
 }
 
 /// All of them, in the order in which they are printed.
-pub const OPERATIONS: [Operation; 23] = [
+pub const OPERATIONS: [Operation; 24] = [
     Operation::Md4Short,
     Operation::Md4Long,
     Operation::DesBlock,
@@ -73,6 +75,7 @@ pub const OPERATIONS: [Operation; 23] = [
     Operation::ViewPlain,
     Operation::ReadLogonCall,
     Operation::WriteLogonReply,
+    Operation::ControllerLogon,
     Operation::Seal,
     Operation::ReadTable,
     Operation::FindAccount,
@@ -102,6 +105,7 @@ impl Operation {
             Operation::ViewPlain => "view-plain",
             Operation::ReadLogonCall => "read-logon-call",
             Operation::WriteLogonReply => "write-logon-reply",
+            Operation::ControllerLogon => "controller-logon",
             Operation::Seal => "seal-1k",
             Operation::ReadTable => "table-10k",
             Operation::FindAccount => "find-10k",
