@@ -43,7 +43,9 @@ PROGRAMS = {
         "outside",
     ],
     "end_cases": [
+        "end_links",
         "end_loop",
+        "channel_client",
     ],
     "top_cases": [
         "nt_top",

@@ -1,11 +1,14 @@
-//! Cases of ends and of the loop that serves them.
+//! Cases of ends, of what their links have in common, and of the loop that serves ends.
 //!
 //! Each line of the input is an operation, as `loop.serve`, and its values, as `words` has them; each line of the output is what the
 //! operation gives.
 #![tactic(auto)]
 
+mod hearing;
+mod links;
 mod serves;
 mod small;
+mod turns;
 mod words;
 
 use std::alloc::Global;
@@ -16,7 +19,9 @@ use words::{no_case, word};
 fn answer(alloc: Global, words: &[&str]) -> anyhow::Result<String> {
     let (part, operation) = word(words, 0).split_once('.').unwrap_or(("", ""));
     match part {
+        "links" => links::answer(alloc, operation, words),
         "loop" => serves::answer(alloc, operation, words),
+        "turns" => turns::answer(alloc, operation, words),
         _ => no_case(alloc),
     }
 }

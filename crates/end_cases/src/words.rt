@@ -2,7 +2,7 @@
 
 use hex::FromHex;
 use std::alloc::Global;
-use wire_base::Units;
+use wire_base::{Blob, Units};
 
 /// The word at a place; an empty one behind the last.
 pub(crate) fn word<'a>(words: &[&'a str], at: usize) -> &'a str {
@@ -20,6 +20,11 @@ pub(crate) fn bytes(alloc: Global, word: &str) -> anyhow::Result<Vec<u8>> {
     Ok(hex::decode(alloc, word)?)
 }
 
+/// The bytes of a word, kept.
+pub(crate) fn blob(alloc: Global, word: &str) -> anyhow::Result<Blob> {
+    Ok(Blob::from_vec(bytes(alloc, word)?))
+}
+
 /// The 16-bit units of a word, little-endian.
 pub(crate) fn units(alloc: Global, word: &str) -> anyhow::Result<Units> {
     let bytes = bytes(alloc, word)?;
@@ -29,6 +34,16 @@ pub(crate) fn units(alloc: Global, word: &str) -> anyhow::Result<Units> {
 /// Eight bytes.
 pub(crate) fn eight(word: &str) -> anyhow::Result<[u8; 8]> {
     Ok(<[u8; 8]>::from_hex(word)?)
+}
+
+/// Sixteen bytes.
+pub(crate) fn sixteen(word: &str) -> anyhow::Result<[u8; 16]> {
+    Ok(<[u8; 16]>::from_hex(word)?)
+}
+
+/// A number of 16 bits, in decimal digits.
+pub(crate) fn number16(word: &str) -> anyhow::Result<u16> {
+    Ok(word.parse::<u16>()?)
 }
 
 /// A number of 32 bits, in decimal digits.
@@ -52,6 +67,11 @@ pub(crate) fn text(alloc: Global, bytes: &[u8]) -> anyhow::Result<String> {
         return Ok("-".to_string(alloc)?);
     }
     Ok(hex::encode(alloc, bytes)?)
+}
+
+/// A truth value.
+pub(crate) fn truth(value: bool) -> &'static str {
+    if value { "true" } else { "false" }
 }
 
 /// Puts the answer to a further step of a line behind the others.
