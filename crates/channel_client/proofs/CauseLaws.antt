@@ -1,5 +1,5 @@
 -- A turn ends by the first cause that holds.
-use Rattle.std.proofs.Common.{◌≡◌, ◌==◌, ◌&&◌, ℕ, Bool, true, false, not, List, [], ◌∷◌, Option, Some, None, is_some, Result, Ok, Err, refl, ap, sym, subst, ◌∙◌, bytes_eq}
+use Rattle.std.proofs.Common.{◌≡◌, ◌==◌, ◌&&◌, ℕ, Bool, true, false, not, List, Option, Some, None, is_some, Result, Ok, Err, refl, sym, subst, ◌∙◌, bytes_eq}
 use Rattle.ntlm_flags.specs.Flags.{has_flag}
 use Rattle.channel_keys.specs.Flags.{rc4_flag}
 use Rattle.wire_base.specs.declared.authenticator.Authenticator.{Authenticator}
@@ -17,8 +17,8 @@ use Rattle.logon_stubs.specs.declared.calls.Reply.{Reply}
 use Rattle.logon_stubs.specs.declared.calls.Reply.TheVariants as reply
 use Rattle.channel_client.specs.Opened.{OpenState, is_awaited, after_return}
 use Rattle.channel_client.specs.State.{Requester}
-use Rattle.channel_client.specs.Machine.{is_accepting, level_asked, offered_flags, opnum_asked, server_credential, hear_ack, hear_reply, hear_stub, hear_body, hear_by, hear, judge_challenge, judge_flags, judge_credential, judge_auth, judge_level, judge_status, judge_awaited, judge_return, judge_logon, judge, settle, act, take_of}
-use Rattle.channel_client.specs.Causes.{refuses_bind, reply_if_read, reply_in, is_due, denies, is_of_server, is_return, is_next, is_lacking, cause_if, first_cause, tests_of, cause_of, cause_in, is_numbered, CausesInOrder}
+use Rattle.channel_client.specs.Machine.{is_accepting, level_asked, offered_flags, opnum_asked, server_credential, hear_ack, hear_reply, hear_body, hear_by, hear, judge_challenge, judge_flags, judge_credential, judge_auth, judge_level, judge_status, judge_awaited, judge_return, judge_logon, judge, settle, act, take_of}
+use Rattle.channel_client.specs.Causes.{reply_if_read, reply_in, is_due, denies, is_of_server, is_return, is_next, is_lacking, cause_if, cause_of, cause_in, is_numbered, CausesInOrder}
 use Rattle.channel_client.specs.declared.state.Standing.{Standing}
 use Rattle.channel_client.specs.declared.state.Standing.TheVariants as standing
 use Rattle.channel_client.specs.declared.state.Question.{Question}

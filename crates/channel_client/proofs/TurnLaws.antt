@@ -1,11 +1,9 @@
 -- One turn is out at a time.
 use Rattle.std.proofs.Common.{◌≡◌, ℕ, Bool, true, false, List, [], ◌∷◌, Option, Some, None, is_some, nat_le, length, refl, sym}
-use Rattle.rpc_units.specs.declared.unit.Unit.{Unit as RpcUnit}
 use Rattle.logon_stubs.specs.declared.info.NetworkInfo.{NetworkInfo}
 use Rattle.channel_client.specs.State.{Requester}
-use Rattle.channel_client.specs.Machine.{needs_challenge, can_start, ask_by, ask_of, begin_with, start_by, start_of, hear, judge, act, settle, take_of}
+use Rattle.channel_client.specs.Machine.{needs_challenge, can_start, ask_by, start_by, hear, judge, act, settle}
 use Rattle.channel_client.specs.Turns.{is_out, gives_right, OneTurn}
-use Rattle.channel_client.specs.declared.caller.Caller.{Caller}
 use Rattle.channel_client.specs.declared.state.Standing.{Standing}
 use Rattle.channel_client.specs.declared.state.Standing.TheVariants as standing
 use Rattle.channel_client.specs.declared.state.Pending.{Pending}

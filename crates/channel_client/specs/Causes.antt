@@ -7,7 +7,7 @@ use Rattle.outside.specs.declared.action.DropCause.{DropCause}
 use Rattle.outside.specs.declared.action.DropCause.TheVariants as drop_cause
 use Rattle.rpc_units.specs.declared.unit.Unit.{Unit as RpcUnit}
 use Rattle.rpc_units.specs.declared.unit.Body.{Body}
-use Rattle.rpc_units.specs.declared.unit.Body.TheVariants.{Bind, BindAck, BindNak, Auth3, Request, Response, Fault}
+use Rattle.rpc_units.specs.declared.unit.Body.TheVariants.{BindAck, BindNak, Response, Fault}
 use Rattle.logon_stubs.specs.Calls.{reply_of}
 use Rattle.logon_stubs.specs.Status.{access_denied}
 use Rattle.logon_stubs.specs.declared.refused.StubRefused.{StubRefused}

@@ -8,7 +8,6 @@ use Rattle.channel_keys.specs.Flags.{rc4_flag, supported_flags}
 use Rattle.channel_keys.specs.SessionKeys.{key_of}
 use Rattle.authenticators.specs.Sequences.{authenticator_of}
 use Rattle.wire_base.specs.declared.authenticator.Authenticator.{Authenticator}
-use Rattle.outside.specs.declared.action.DropCause.{DropCause}
 use Rattle.outside.specs.declared.action.DropCause.TheVariants as drop_cause
 use Rattle.rpc_units.specs.declared.unit.Unit.{Unit as RpcUnit}
 use Rattle.rpc_units.specs.declared.unit.Syntax.{Syntax}
@@ -21,7 +20,6 @@ use Rattle.logon_stubs.specs.Writing.{CanWriteCall, CanWriteNetworkInfo, written
 use Rattle.logon_stubs.specs.declared.refused.StubRefused.{StubRefused}
 use Rattle.logon_stubs.specs.declared.info.NetworkInfo.{NetworkInfo}
 use Rattle.logon_stubs.specs.declared.info.SamInfo.{SamInfo}
-use Rattle.logon_stubs.specs.declared.info.Verdict.{Verdict}
 use Rattle.logon_stubs.specs.declared.info.Verdict.TheVariants as verdict
 use Rattle.logon_stubs.specs.declared.calls.Call.{Call}
 use Rattle.logon_stubs.specs.declared.calls.Call.TheVariants as call

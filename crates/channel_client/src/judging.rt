@@ -8,10 +8,10 @@ use crate::hidden::crypt_key;
 use crate::opened::Opened;
 use crate::state::{Question, Standing};
 use channel_keys::{RC4, SUPPORTED_FLAGS, cred, session_key};
-use ntlm_flags::has_flag;
 use logon_stubs::{
     AuthReply, ChallengeReply, LogonReply, Reply, STATUS_ACCESS_DENIED, SamInfo, Verdict,
 };
+use ntlm_flags::has_flag;
 use outside::DropCause;
 use wire_base::Authenticator;
 
