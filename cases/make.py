@@ -46,6 +46,7 @@ PROGRAMS = {
         "end_links",
         "end_loop",
         "channel_client",
+        "domain_controller",
     ],
     "top_cases": [
         "nt_top",

@@ -2,7 +2,7 @@
 
 ghost use Rattle.std.specs.Prelude.{◌≡◌};
 
-use crate::words::{add_answer, bytes, text, word};
+use case_words::{add_answer, bytes, text, word};
 use end_links::{Link, ServesUnits, serve_piece};
 use outside::{Chances, Draws, ListChances, StepRefused};
 use rpc_units::UnitRefused;

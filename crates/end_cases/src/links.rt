@@ -4,9 +4,7 @@ ghost use Rattle.std.specs.Prelude.{◌≡◌, ◌≤◌, ◌<◌, ◌^◌, true
 ghost use Rattle.rpc_units.specs.Joining.{IsWholeCall};
 
 use crate::hearing;
-use crate::words::{
-    add_answer, blob, bytes, no_case, number, number16, sixteen, text, truth, word,
-};
+use case_words::{add_answer, blob, bytes, no_case, number, number16, sixteen, text, truth, word};
 use end_links::{
     Binding, Link, Links, SaysHeld, bind, bind_ack, bind_nak, call_bytes, call_frames, fault,
     fragment_limit, join_frames, request, response, short_unit_bytes, unit_bytes,

@@ -1,24 +1,25 @@
 //! Cases of ends, of what their links have in common, and of the loop that serves ends.
 //!
-//! Each line of the input is an operation, as `loop.serve`, and its values, as `words` has them; each line of the output is what the
+//! Each line of the input is an operation, as `loop.serve`, and its values, as `case_words` has them; each line of the output is what the
 //! operation gives.
 #![tactic(auto)]
 
+mod controllers;
 mod hearing;
 mod links;
+mod scenes;
 mod serves;
 mod small;
 mod turns;
-mod words;
 
+use case_words::{answer_lines, no_case, word};
 use std::alloc::Global;
-use std::io;
-use words::{no_case, word};
 
 /// What a line's operation gives: the part of its name before the point is the file that has it.
 fn answer(alloc: Global, words: &[&str]) -> anyhow::Result<String> {
     let (part, operation) = word(words, 0).split_once('.').unwrap_or(("", ""));
     match part {
+        "controller" => controllers::run(alloc, words),
         "links" => links::answer(alloc, operation, words),
         "loop" => serves::answer(alloc, operation, words),
         "turns" => turns::answer(alloc, operation, words),
@@ -26,17 +27,6 @@ fn answer(alloc: Global, words: &[&str]) -> anyhow::Result<String> {
     }
 }
 
-/// The answer to a line.
-fn line_of_answer(alloc: Global, line: &str) -> anyhow::Result<String> {
-    let words: Vec<&str> = line.split(' ').collect(alloc)?;
-    answer(alloc, &words)
-}
-
 fn main(rt: HostRuntime) -> anyhow::Result<()> {
-    let cases = io::read_to_string(rt.alloc(), rt.reader())?;
-    for line in cases.lines() {
-        let text = line_of_answer(rt.alloc(), line)?;
-        println!(rt; "{text}")?;
-    }
-    Ok(())
+    answer_lines(rt, answer)
 }

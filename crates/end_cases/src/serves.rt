@@ -3,7 +3,7 @@
 ghost use Rattle.std.specs.Prelude.{◌≡◌, false};
 
 use crate::small::Small;
-use crate::words::{add_answer, bytes, eight, long_number, no_case, number, text, word};
+use case_words::{add_answer, bytes, eight, no_case, number, number64, text, word};
 use end_loop::{Halt, begin_with, serve_at};
 use outside::{
     Action, Actions, Draws, Event, Events, ListChances, ListClock, Moments, ScriptPort, Sends,
@@ -120,7 +120,7 @@ fn port(alloc: Global, words: &[&str]) -> anyhow::Result<Option<ScriptPort>> {
 
 /// The clock of a line: its first moment, which repeats.
 fn clock(alloc: Global, words: &[&str]) -> anyhow::Result<ListClock> {
-    let first = long_number(word(words, 5))?;
+    let first = number64(word(words, 5))?;
     Ok(ListClock::new(alloc, first, Moments::new(alloc)))
 }
 

@@ -4,8 +4,8 @@ ghost use Rattle.std.specs.Prelude.{◌≡◌, ◌≤◌, true, length};
 ghost use Rattle.logon_stubs.specs.Parts.{FitsText, FitsBytes};
 ghost use Rattle.logon_stubs.specs.Writing.{CanWriteNetworkInfo};
 
-use crate::words::{
-    add_answer, bytes, eight, no_case, number, number16, sixteen, text, truth, units, word,
+use case_words::{
+    add_answer, bytes, eight, no_case, number, number16, sixteen, text, text_units, truth, word,
 };
 use channel_client::{Channel, TakeRefused, Taken, Turn};
 use logon_stubs::NetworkInfo;
@@ -53,11 +53,11 @@ fn is_account(units: &Units) -> bool
 /// A logon of a step `ask/DOMAIN/USER/WORKSTATION/CHALLENGE/NT/LM`.
 fn info(alloc: Global, parts: &[&str]) -> anyhow::Result<NetworkInfo> {
     Ok(NetworkInfo {
-        domain: units(alloc, word(parts, 1))?,
+        domain: text_units(alloc, word(parts, 1))?,
         control: 0,
         logon_id: 0,
-        user: units(alloc, word(parts, 2))?,
-        workstation: units(alloc, word(parts, 3))?,
+        user: text_units(alloc, word(parts, 2))?,
+        workstation: text_units(alloc, word(parts, 3))?,
         challenge: eight(word(parts, 4))?,
         nt: Blob::from_vec(bytes(alloc, word(parts, 5))?),
         lm: Blob::from_vec(bytes(alloc, word(parts, 6))?),
@@ -190,7 +190,7 @@ fn step(alloc: Global, scene: &mut Scene, step: &str) -> anyhow::Result<String> 
 fn channel(alloc: Global, words: &[&str]) -> anyhow::Result<Option<Channel>> {
     let secret = sixteen(word(words, 1))?;
     let computer = Name::read(alloc, &bytes(alloc, word(words, 2))?)?;
-    let account = units(alloc, word(words, 3))?;
+    let account = text_units(alloc, word(words, 3))?;
     let kind = number16(word(words, 4))?;
     if !is_account(&account) {
         return Ok(None);

@@ -1,0 +1,677 @@
+"""Cases of domain_controller.
+
+`controller.run DOCUMENT NAME CHALLENGES STEP ..`: a controller of this table and name, the challenges that may be drawn (16 hex digits each, joined
+by commas, or `-`), and its events one after the other: `opened/LINK`, `bytes/LINK/BYTES`, `closed/LINK`, `dialled/LINK`, `failed`, `stop`; `at/MOMENT`
+sets the moment, which is 0 before. An event is answered with its actions in order, joined by commas, `-` where there are none, or with the
+refusal; a moment with `-`. The last answer is the number of challenges that are left.
+
+The actions are worked out here by the rules of docs/FORMATS.md ("The controller"), MS-NRPC 3.1.4 and 3.5.4 and the layouts of C706 12.6; calls
+of the recorded link between Samba's client and its controller are among those that are answered.
+"""
+
+from channel_client import credential, crypted, frames_of, plus, strong_key
+from des import des, spread
+from documents import ANN, BOB, EVE, FILE1, FILE2, HEAD, PDC2, USER_DEFAULTS, document
+from end_links import MEMO, NDR64, answer_of, limit_of
+from forms import LIVE_SECRET, line, live_calls, values
+from logon_stubs import AUTHENTICATE, CHALLENGE, LOGOFF, LOGON, BadArm, plain_sam, read, write
+from md4 import md4
+from ndr_codec import Refused as NdrRefused
+from rpc_units import ACK, AUTH3, BIND, FAULT, LIMIT, NAK, NDR, NETLOGON, REQUEST, RESPONSE, Joiner, Refused, header, short, whole
+from rpc_units import read as read_unit
+from rpc_units import write as write_unit
+from sam_logon import NEVER, STATUS, hmac_md5, respond_v2
+from wire import changed, le, steps
+
+SUPPORTED, RC4_FLAG, STRONG_KEY = 0x41FF, 4, 0x4000
+ACCESS_DENIED, INVALID_INFO_CLASS, NO_TRUST_SAM_ACCOUNT, DOWNGRADE_DETECTED = 0xC0000022, 0xC0000003, 0xC000018B, 0xC0000388
+PROTOCOL_ERROR, OUT_OF_RANGE, BAD_STUB = 0x1C01000B, 0x1C010002, 0x6F7
+LINKS = 256
+ZEROS = bytes(8)
+NOW = 133_000_000_000_000_000
+CHANNELS = {"workstation": 2, "backup": 6}
+
+
+def utf16(text):
+    return text.encode("utf-16-le")
+
+
+def upper(units):
+    """The upper case of ASCII letters in a text of 16-bit units."""
+    return b"".join(unit.upper() if unit[1] == 0 and unit[0] < 0x80 else unit for unit in (units[at:at + 2] for at in range(0, len(units), 2)))
+
+
+def same(one, other):
+    return upper(one) == upper(other)
+
+
+# ---- keys and responses
+
+
+def des_key(secret, client, server):
+    """The DES key of MS-NRPC 3.1.4.3.3."""
+    total = b"".join(le((int.from_bytes(client[at:at + 4], "little") + int.from_bytes(server[at:at + 4], "little")) % 2**32, 4) for at in (0, 4))
+    return des(spread(secret[9:16]), des(spread(secret[:7]), total)) + bytes(8)
+
+
+def key_of(channel):
+    make = strong_key if channel["flags"] & STRONG_KEY else des_key
+    return make(channel["secret"], channel["client"], channel["server"])
+
+
+def response_v1(secret, challenge):
+    """DESL of MS-NLMP 3.3.1."""
+    padded = secret + bytes(5)
+    return b"".join(des(spread(padded[at:at + 7]), challenge) for at in (0, 7, 14))
+
+
+def base_key(secret, info):
+    """The session base key where the NT response is right; else None (MS-NLMP 3.3)."""
+    nt = info["nt"]
+    if len(nt) == 24:
+        return md4(secret) if nt == response_v1(secret, info["challenge"]) else None
+    if len(nt) < 44:
+        return None
+    key = hmac_md5(secret, upper(info["user"]) + info["domain"])
+    return hmac_md5(key, nt[:16]) if nt[:16] == hmac_md5(key, info["challenge"] + nt[16:]) else None
+
+
+# ---- the controller
+
+
+class Spent(Exception):
+    """No challenge is left."""
+
+
+class Shut(Exception):
+    """The link is closed for this cause."""
+
+
+class Controller:
+    """The controller by its rules, and the line that is written of its steps."""
+
+    def __init__(self, users=(ANN, BOB), machines=(FILE1, FILE2, PDC2), challenges=(), head=None, name="PDC1"):
+        self.head = HEAD if head is None else head
+        self.users, self.machines, self.name = users, machines, name
+        self.draws, self.now, self.stopped = [bytes.fromhex(text) for text in challenges], 0, False
+        self.pending, self.channels, self.links = {}, {}, {}
+        self.actions = []
+        text = document(users, machines, self.head)
+        self.words, self.answers = [text, name.encode(), ",".join(challenges) or "-"], []
+
+    def case(self):
+        return line("controller.run", *self.words), steps(self.answers + [str(len(self.draws))])
+
+    # the table
+
+    def secret(self, account, channel, computer):
+        """The hash of the machine's account, where it may open such a channel."""
+        for entry in self.machines:
+            if same(account, utf16(entry["name"])) and same(account, computer + utf16("$")) and not entry.get("disabled"):
+                if CHANNELS[entry["kind"]] == channel:
+                    return bytes.fromhex(entry["hash"])
+        return None
+
+    def knows(self, computer):
+        return any(same(utf16(entry["name"]), computer + utf16("$")) for entry in self.machines)
+
+    def verdict(self, info):
+        """The NTSTATUS, and what is granted."""
+        if info["domain"] and not same(info["domain"], utf16(self.head["domain"])):
+            return STATUS["no such domain"], None
+        for entry in self.machines:
+            if same(info["user"], utf16(entry["name"])):
+                return STATUS["workstation account" if entry["kind"] == "workstation" else "server account"], None
+        found = [entry for entry in self.users if same(info["user"], utf16(entry["name"]))]
+        if not found:
+            return STATUS["no such user"], None
+        entry = USER_DEFAULTS | found[0]
+        key = base_key(bytes.fromhex(entry["hash"]), info)
+        listed = [utf16(name) for name in entry["workstations"]]
+        for why, holds in [
+            ("locked", entry["locked"]),
+            ("wrong password", key is None),
+            ("disabled", entry["disabled"]),
+            ("expired", entry["expires"] and self.now >= entry["expires"]),
+            ("workstation", listed and not any(same(info["workstation"], name) for name in listed)),
+            ("must change", entry["must_change"]),
+            ("password expired", entry["password_expires"] and self.now >= entry["password_expires"]),
+        ]:
+            if holds:
+                return STATUS[why], None
+        return 0, self.granted(entry, key)
+
+    def granted(self, entry, key):
+        authority, *numbers = self.head["sid"].split("-")[2:]
+        return plain_sam(
+            logon_time=self.now, logoff_time=NEVER, kickoff_time=NEVER, password_set=entry["password_set"],
+            password_can_change=entry["password_set"], password_must_change=entry["password_expires"] or NEVER,
+            effective_name=utf16(entry["name"]), full_name=utf16(entry["full_name"]), user_id=entry["rid"], group_id=entry["group"],
+            groups=[(group, 7) for group in entry["groups"]], key=key, server=utf16(self.name), domain=utf16(self.head["domain"]),
+            sid=(int(authority), [int(number) for number in numbers]),
+        )
+
+    # calls
+
+    def challenge(self, call):
+        if not self.draws:
+            raise Spent
+        server = self.draws.pop(0)
+        if self.knows(call["computer"]):
+            self.pending[upper(call["computer"])] = call["challenge"], server
+        return {"challenge": server, "status": 0}
+
+    def authenticate(self, call):
+        pair = self.pending.pop(upper(call["computer"]), None)
+        flags = call["flags"] & SUPPORTED
+        refusal = {"credential": ZEROS, "flags": flags}
+        secret = self.secret(call["account"], call["channel"], call["computer"])
+        if secret is None:
+            return refusal | {"status": NO_TRUST_SAM_ACCOUNT}
+        if not call["flags"] & RC4_FLAG:
+            return refusal | {"status": DOWNGRADE_DETECTED}
+        if pair is None:
+            return refusal | {"status": ACCESS_DENIED}
+        channel = {"client": pair[0], "server": pair[1], "secret": secret, "flags": flags, "seed": call["credential"]}
+        if call["credential"] != credential(key_of(channel), pair[0]):
+            return refusal | {"status": ACCESS_DENIED}
+        self.channels[upper(call["computer"])] = channel
+        return {"credential": credential(key_of(channel), pair[1]), "flags": flags, "status": 0}
+
+    def logon(self, call):
+        denied = {"returned": None, "level": call["validation"], "info": None, "authoritative": 1, "status": ACCESS_DENIED}
+        given = call["authenticator"]
+        channel = None if call["computer"] is None else self.channels.get(upper(call["computer"]))
+        if channel is None or given is None:
+            self.actions.append("judged NoChannel")
+            return denied
+        key = key_of(channel)
+        if given[0] != credential(key, plus(channel["seed"], given[1])):
+            self.actions.append("judged Barred")
+            return denied
+        channel["seed"] = plus(channel["seed"], given[1] + 1)
+        status, info = self.verdict(call["info"]) if call["validation"] == 2 else (INVALID_INFO_CLASS, None)
+        self.actions.append(f"judged Passed({status})")
+        if info:
+            info["key"] = crypted(key, info["key"])
+        return denied | {"returned": (credential(key, channel["seed"]), 0), "info": info, "status": status}
+
+    # units
+
+    def send(self, link, data):
+        self.actions.append(f"send {link} {data.hex()}")
+
+    def fault(self, link, unit, status):
+        self.send(link, write_unit(fault_of(unit["call"], unit["context"], status)))
+
+    def whole_call(self, link, unit):
+        accepted, limit = self.links[link]["bound"]
+        if unit["context"] not in accepted:
+            return self.fault(link, unit, PROTOCOL_ERROR)
+        answer = {CHALLENGE: self.challenge, AUTHENTICATE: self.authenticate, LOGON: self.logon}.get(unit["opnum"])
+        if answer is None:
+            return self.fault(link, unit, OUT_OF_RANGE)
+        try:
+            call = read("call", unit["opnum"], unit["stub"])[0]
+        except (NdrRefused, BadArm):
+            return self.fault(link, unit, BAD_STUB)
+        stub = write("reply", unit["opnum"], answer(call)).stub
+        reply = whole(RESPONSE, call=unit["call"], hint=len(stub), context=unit["context"], stub=stub)
+        return self.send(link, b"".join(frames_of(reply, limit)))
+
+    def fresh(self, link, unit):
+        if unit["kind"] == REQUEST:
+            return self.fault(link, unit, PROTOCOL_ERROR)
+        if unit["kind"] != BIND:
+            raise Shut("OutOfPlace")
+        if unit["trailer"]:
+            return self.send(link, write_unit(whole(NAK, call=unit["call"], reason=0)))
+        results = [answer_of(NETLOGON, context) for context in unit["contexts"]]
+        accepted = [context[0] for context, result in zip(unit["contexts"], results) if result[0] == 0]
+        limit = limit_of(unit["receive"])
+        self.links[link]["bound"] = accepted, limit
+        return self.send(link, write_unit(whole(ACK, call=unit["call"], send=limit, receive=LIMIT, group=1, results=results)))
+
+    def unit(self, link, data):
+        try:
+            unit = read_unit(data)
+        except Refused:
+            raise Shut("BadUnit") from None
+        if self.links[link]["bound"] is None:
+            return self.fresh(link, unit)
+        if unit["kind"] != REQUEST:
+            raise Shut("OutOfPlace")
+        if unit["trailer"]:
+            raise Shut("BadAuthentication")
+        try:
+            call = self.links[link]["joiner"].add(unit)
+        except Refused as refused:
+            raise Shut("TooMuchHeld" if str(refused) == "CallTooLong" else "OutOfPlace") from None
+        return self.whole_call(link, call) if call else None
+
+    def piece(self, link, data):
+        self.links[link]["rest"] += data
+        while len(self.links[link]["rest"]) >= 16:
+            rest = self.links[link]["rest"]
+            try:
+                header(rest, False)
+            except Refused:
+                raise Shut("BadUnit") from None
+            size = short(rest, 8)
+            if len(rest) < size:
+                return
+            self.links[link]["rest"] = rest[size:]
+            self.unit(link, rest[:size])
+
+    # events
+
+    def open(self, link):
+        self.links.pop(link, None)
+        if len(self.links) >= LINKS:
+            self.actions.append(f"close {link} TooManyLinks")
+        else:
+            self.links[link] = {"rest": b"", "joiner": Joiner(), "bound": None}
+
+    def event(self, word, run=lambda: None):
+        self.words.append(word)
+        self.actions = []
+        if self.stopped:
+            self.answers.append("Err(Stopped)")
+            return self
+        try:
+            run()
+        except Spent:
+            self.stopped = True
+            self.answers.append("Err(Spent)")
+            return self
+        self.answers.append(",".join(self.actions) or "-")
+        return self
+
+    def at(self, moment):
+        self.now = moment
+        self.words.append(f"at/{moment}")
+        self.answers.append("-")
+        return self
+
+    def opened(self, link=1):
+        return self.event(f"opened/{link}", lambda: self.open(link))
+
+    def closed(self, link=1):
+        return self.event(f"closed/{link}", lambda: self.links.pop(link, None))
+
+    def bytes(self, data, link=1):
+        def run():
+            if link in self.links:
+                try:
+                    self.piece(link, data)
+                except Shut as cause:
+                    self.actions.append(f"close {link} {cause}")
+                    del self.links[link]
+
+        return self.event(f"bytes/{link}/{data.hex() or '-'}", run)
+
+    # what peers send
+
+    def bound(self, link=1, receive=LIMIT, contexts=None):
+        return self.opened(link).bytes(write_unit(bind(receive=receive, contexts=contexts)), link)
+
+    def call(self, opnum, fields, link=1, number=2, context=0):
+        stub = fields if isinstance(fields, bytes) else write("call", opnum, fields).stub
+        return self.bytes(b"".join(frames_of(request_of(opnum, stub, number, context), LIMIT)), link)
+
+    def asks(self, computer="FILE1", client="0102030405060708", **how):
+        return self.call(CHALLENGE, {"primary": None, "computer": utf16(computer), "challenge": bytes.fromhex(client)}, **how)
+
+    def auth_call(self, computer="FILE1", flags=SUPPORTED, **fields):
+        """The call with the right credential, as far as there is a pair."""
+        call = {"primary": None, "account": utf16(computer + "$"), "channel": 2, "computer": utf16(computer), "credential": b"\x55" * 8, "flags": flags}
+        call |= fields
+        pair = self.pending.get(upper(call["computer"]))
+        secret = self.secret(call["account"], call["channel"], call["computer"])
+        if pair and secret and "credential" not in fields:
+            channel = {"client": pair[0], "server": pair[1], "secret": secret, "flags": flags & SUPPORTED}
+            call["credential"] = credential(key_of(channel), pair[0])
+        return call
+
+    def authenticates(self, link=1, **fields):
+        return self.call(AUTHENTICATE, self.auth_call(**fields), link)
+
+    def channel_open(self, computer="FILE1", link=1, **fields):
+        return self.asks(computer, link=link).authenticates(link, computer=computer, **fields)
+
+    def logon_call(self, user="ann", computer="FILE1", timestamp=1_700_000_000, **fields):
+        """A logon of the user with the right response and the right authenticator, as far as there is a channel."""
+        given = [entry for entry in self.users if entry["name"].lower() == user.lower()]
+        challenge = bytes.fromhex("0123456789abcdef")
+        secret = bytes.fromhex((given or [ANN])[0]["hash"])
+        info = {"domain": utf16("CORP"), "control": 0, "logon_id": 7, "user": utf16(user), "workstation": utf16("WS"), "challenge": challenge,
+                "nt": response_v1(secret, challenge), "lm": b""}
+        info |= fields.pop("info", {})
+        channel = self.channels.get(upper(utf16(computer)))
+        made = (credential(key_of(channel), plus(channel["seed"], timestamp)), timestamp) if channel else (b"\x33" * 8, timestamp)
+        return {"server": None, "computer": utf16(computer), "authenticator": made, "returned": (ZEROS, 0), "info": info, "validation": 2} | fields
+
+    def logs_on(self, user="ann", link=1, number=2, **fields):
+        return self.call(LOGON, self.logon_call(user, **fields), link, number)
+
+
+def bind(receive=LIMIT, contexts=None, trailer=None, call=1):
+    contexts = [(0, NETLOGON, [NDR])] if contexts is None else contexts
+    return whole(BIND, call=call, send=LIMIT, receive=receive, group=0, contexts=contexts, trailer=trailer)
+
+
+def fault_of(call, context, status):
+    return whole(FAULT, call=call, hint=0, context=context, status=status)
+
+
+def request_of(opnum, stub, call=2, context=0, trailer=None):
+    return whole(REQUEST, call=call, hint=len(stub), context=context, opnum=opnum, stub=stub, trailer=trailer)
+
+
+def with_referent(call, referent):
+    """The stub of a logon, its authenticator's pointer with that referent; a null one has no target."""
+    without = write("call", LOGON, call | {"authenticator": None}).stub
+    if not referent:
+        return without
+    stub = write("call", LOGON, call).stub
+    place = next(at for at in range(0, len(stub), 4) if stub[at:at + 4] != without[at:at + 4])
+    return changed(stub, place, le(referent, 4))
+
+
+# ---- scenarios
+
+TRAILER = (10, 2, 0, bytes(16))
+DRAWS = ["1011121314151617", "2021222324252627", "3031323334353637", "4041424344454647"]
+# A bind as it stands in the worked example of docs/FORMATS.md, and its answer.
+PLAIN_BIND = bytes.fromhex(
+    "05000b031000000048000000" "01000000" "d016d0160000000001000000" "00000100785634123412cdabef0001234567cffb01000000"
+    "045d888aeb1cc9119fe808002b10486002000000"
+)
+PLAIN_ACK = (
+    "05000c031000000038000000" "01000000" "d016d01601000000" "0100000001000000" "00000000045d888aeb1cc9119fe808002b10486002000000"
+)
+
+
+def other_units():
+    """Units that no rule names on any link."""
+    yield whole(RESPONSE, call=1, hint=0, context=0, stub=b"")
+    yield fault_of(1, 0, 5)
+    yield whole(ACK, call=1, send=LIMIT, receive=LIMIT, group=0, results=[(0, 0, NDR)])
+    yield whole(NAK, call=1, reason=0)
+    yield whole(AUTH3, call=1)
+
+
+def link_cases():
+    out = []
+    worked = Controller().opened().bytes(PLAIN_BIND)
+    assert worked.answers[1] == f"send 1 {PLAIN_ACK}"
+    out.append(worked.case())
+    assert write_unit(bind()) == PLAIN_BIND
+    # a request on a fresh link: the fault, and the link stays as it is
+    request = bytes.fromhex("050000031000000018000000" "09000000" "0000000007000200")
+    fresh = Controller().opened().bytes(request)
+    assert fresh.answers[1] == "send 1 050003031000000020000000" "09000000" "0000000007000000" "0b00011c00000000"
+    out.append(fresh.bytes(request).bytes(PLAIN_BIND).case())
+    for unit in (request_of(4, b"", trailer=TRAILER), request_of(2, b"abcd", 7, 3), request_of(65535, bytes(100), 2**32 - 1, 65535)):
+        out.append(Controller().opened().bytes(write_unit(unit)).bytes(PLAIN_BIND).case())
+        for first, last in ((True, False), (False, True), (False, False)):
+            out.append(Controller().opened().bytes(write_unit(unit | {"first": first, "last": last})).bytes(PLAIN_BIND).case())
+    # a bind with a trailer is refused, and the link stays as it is
+    for trailer in (TRAILER, (10, 6, 1, b"NTLMSSP\0" + bytes(24))):
+        nak = Controller().opened().bytes(write_unit(bind(trailer=trailer, call=9)))
+        out.append(nak.bytes(request).bytes(PLAIN_BIND).asks().case())
+    for unit in other_units():
+        out.append(Controller().opened().bytes(write_unit(unit)).bytes(PLAIN_BIND).case())
+        out.append(Controller().bound().bytes(write_unit(unit)).bytes(request).case())
+    out.append(Controller().bound().bytes(PLAIN_BIND).bytes(PLAIN_BIND).case())
+    out.append(Controller().bound().bytes(write_unit(bind(trailer=TRAILER))).case())
+    # units that are refused
+    for place, byte in ((0, 4), (4, 0), (8, 0x0F), (2, 1), (10, 1), (3, 1), (24, 2), (9, 0x17)):
+        broken = changed(PLAIN_BIND, place, bytes([byte]))
+        out.append(Controller().opened().bytes(broken).bytes(PLAIN_BIND).case())
+        out.append(Controller().bound().bytes(broken).bytes(PLAIN_BIND).case())
+        out.append(Controller().opened().bytes(broken[:15]).bytes(broken[15:]).case())
+    # a trailer on a bound link
+    for unit in (request_of(4, b"", trailer=TRAILER), request_of(2, b"abcd", 2, 7, TRAILER)):
+        out.append(Controller().bound().bytes(write_unit(unit)).bytes(PLAIN_BIND).case())
+    # what is behind a close isn't read, what is before it is answered
+    bad = changed(PLAIN_BIND, 0, b"\x04")
+    out.append(Controller().opened().bytes(PLAIN_BIND + PLAIN_BIND + request).bytes(request).case())
+    out.append(Controller().opened().bytes(request + bad + request).bytes(request).opened().bytes(request).case())
+    return out
+
+
+def piece_cases():
+    out = []
+    request = write_unit(request_of(4, b"", 9, 7))
+    stream = request + PLAIN_BIND + request
+    for size in (1, 7, 15, 16, 17, 24, len(stream)):
+        end = Controller().opened()
+        for at in range(0, len(stream), size):
+            end.bytes(stream[at:at + size])
+        out.append(end.bytes(b"").case())
+    # two links hold their own bytes
+    end = Controller().opened(1).opened(2).bytes(stream[:20], 1).bytes(stream[:30], 2).bytes(stream[20:], 1).bytes(stream[30:], 2)
+    out.append(end.case())
+    # a link that is opened again begins anew
+    out.append(Controller().opened().bytes(stream[:20]).opened().bytes(stream).case())
+    out.append(Controller().opened().bytes(stream[:20]).closed().bytes(stream[20:]).opened().bytes(stream).case())
+    out.append(Controller().bound().opened().bytes(request).case())
+    out.append(Controller().bytes(stream).closed().opened(2).bytes(stream).closed(1).closed(3).bytes(request, 2).case())
+    # nothing is sent where a bind isn't whole
+    strangers = Controller()
+    for size in range(len(PLAIN_BIND)):
+        strangers.opened(size).bytes(PLAIN_BIND[:size], size).closed(size)
+    assert all(answer == "-" for answer in strangers.answers)
+    out.append(strangers.case())
+    quiet = Controller().opened().bytes(PLAIN_BIND[:40])
+    for word in ("dialled/7", "failed", "stop"):
+        quiet.event(word)
+    out.append(quiet.bytes(b"").bytes(PLAIN_BIND[40:]).case())
+    return out
+
+
+def many_links():
+    full = Controller()
+    for link in range(LINKS + 1):
+        full.opened(link)
+    full.bytes(PLAIN_BIND, LINKS).bytes(PLAIN_BIND, LINKS - 1).opened(3).bytes(PLAIN_BIND, 3).closed(0).opened(LINKS).bytes(PLAIN_BIND, LINKS)
+    return [full.case()]
+
+
+def context_cases():
+    out = []
+    good, other, bare = (0, NETLOGON, [NDR]), (1, MEMO, [NDR]), (2, NETLOGON, [NDR64])
+    for contexts in ([good], [other], [bare], [good, other, bare], [(7, NETLOGON, [NDR64, NDR]), (7, MEMO, [NDR])], []):
+        end = Controller(challenges=DRAWS).bound(contexts=contexts)
+        for context in (0, 1, 2, 7):
+            end.asks(context=context, number=context)
+        out.append(end.case())
+    # a context that isn't accepted comes before the operation, the operation before the stub
+    for context in (0, 5):
+        for opnum in (0, 1, 2, LOGOFF, 4, 5, 14, 15, 16, 21, 26, 65535):
+            for stub in (b"", b"\xff" * 12):
+                out.append(Controller(challenges=DRAWS).bound().call(opnum, stub, context=context).asks().case())
+    return out
+
+
+def fragment_cases():
+    out = []
+    long_name = utf16("n" * 3000)
+    stub = write("call", CHALLENGE, {"primary": long_name, "computer": utf16("FILE1"), "challenge": bytes(range(8))}).stub
+    frames = frames_of(request_of(CHALLENGE, stub), LIMIT)
+    assert len(frames) == 2
+    begun = lambda: Controller(challenges=DRAWS).bound().bytes(frames[0])
+    out.append(begun().bytes(frames[1]).authenticates().case())
+    out.append(begun().bytes(frames[0]).bytes(frames[1]).case())
+    out.append(Controller(challenges=DRAWS).bound().bytes(frames[1]).case())
+    out.append(begun().asks().case())
+    out.append(begun().bytes(write_unit(request_of(4, b"", trailer=TRAILER))).case())
+    for name, value in (("call", 3), ("context", 1), ("opnum", 15)):
+        unit = read_unit(frames[1]) | {name: value}
+        out.append(begun().bytes(write_unit(unit)).bytes(frames[1]).case())
+    # fragments of one call on two links are two calls
+    end = Controller(challenges=DRAWS).bound(1).bound(2).bytes(frames[0], 1).bytes(frames[0], 2).bytes(frames[1], 2).bytes(frames[1], 1)
+    out.append(end.case())
+    # 65,536 bytes are joined, one more isn't
+    for size in (65536, 65537):
+        end = Controller(challenges=DRAWS).bound()
+        for frame in frames_of(request_of(CHALLENGE, b"\xff" * size), LIMIT):
+            end.bytes(frame)
+        out.append(end.asks().case())
+    return out
+
+
+def opening_cases():
+    out = []
+    for flags, strong in ((0x1FF, False), (0x41FF, True), (0x1FB, None), (0xFFFFFFFF, True), (4, False), (0x4004, True), (0x01004004, True), (0, None)):
+        end = Controller(challenges=DRAWS).bound().channel_open(flags=flags)
+        out.append(end.logs_on().case())
+    # a wrong credential, then the right one with no new challenge
+    end = Controller(challenges=DRAWS).bound().asks()
+    right = end.auth_call()["credential"]
+    end.authenticates(credential=b"\x55" * 8).authenticates(credential=right).logs_on()
+    out.append(end.case())
+    for bit in (0, 7, 31, 32, 63):
+        end = Controller(challenges=DRAWS).bound().asks()
+        given = (int.from_bytes(end.auth_call()["credential"], "little") ^ 1 << bit).to_bytes(8, "little")
+        out.append(end.authenticates(credential=given).logs_on().case())
+    # the credential of the other key
+    end = Controller(challenges=DRAWS).bound().asks()
+    other = end.auth_call(flags=0x1FF)["credential"]
+    out.append(end.authenticates(credential=other).case())
+    # which account may open which channel; the order of the refusals
+    disabled = FILE1 | {"disabled": True}
+    for machines in ((FILE1, FILE2, PDC2), (disabled, FILE2, PDC2), ()):
+        for account, channel, computer in (
+            ("FILE1$", 2, "FILE1"), ("file1$", 2, "File1"), ("FILE1$", 6, "FILE1"), ("FILE1$", 4, "FILE1"), ("FILE2$", 2, "FILE1"), ("FILE1$", 2, "FILE2"),
+            ("FILE1", 2, "FILE1"), ("PDC2$", 6, "PDC2"), ("PDC2$", 2, "PDC2"), ("ann", 2, "FILE1"), ("", 2, ""), ("$", 2, ""), ("FILE9$", 2, "FILE9"),
+        ):
+            for flags in (SUPPORTED, 0x1FB):
+                end = Controller(machines=machines, challenges=DRAWS).bound().asks(computer)
+                fields = {"account": utf16(account), "channel": channel, "flags": flags}
+                out.append(end.call(AUTHENTICATE, end.auth_call(computer, **fields)).case())
+    # a pair for each computer; a newer one replaces the older, in any case of its letters
+    end = Controller(challenges=DRAWS).bound().asks("FILE1", "aa" * 8).asks("FILE2", "bb" * 8).asks("file1", "cc" * 8)
+    out.append(end.authenticates(computer="FILE2").authenticates(computer="FILE1").logs_on(computer="File1").case())
+    # a refusal leaves an older channel and takes the pair; an acceptance replaces the channel
+    for flags, given in ((0x1FB, None), (SUPPORTED, b"\x55" * 8)):
+        end = Controller(challenges=DRAWS).bound().channel_open().asks()
+        fields = {} if given is None else {"credential": given}
+        end.authenticates(flags=flags, **fields).logs_on().authenticates().logs_on(timestamp=1)
+        out.append(end.case())
+    end = Controller(challenges=DRAWS).bound().channel_open()
+    old = end.logon_call()
+    out.append(end.channel_open().call(LOGON, old).logs_on().case())
+    # a pair and a channel live on when their link closes, and serve on another
+    end = Controller(challenges=DRAWS).bound().asks().closed().bound(2).authenticates(2).closed(2).bound(3)
+    out.append(end.logs_on(link=3).case())
+    # no challenge is left
+    end = Controller(challenges=DRAWS[:1]).bound().asks().asks().authenticates().opened(2).bytes(PLAIN_BIND, 2).closed().event("stop")
+    out.append(end.case())
+    end = Controller().bound().asks("NOBODY").asks()
+    out.append(end.case())
+    out.append(Controller(challenges=DRAWS).bound().asks("NOBODY").asks("").asks("ann").asks("FILE1$").authenticates().case())
+    return out
+
+
+def logon_cases():
+    out = []
+    # no channel: none for the computer, no computer, no authenticator
+    end = Controller(challenges=DRAWS).bound().channel_open()
+    out.append(end.logs_on(computer="FILE2").logs_on().case())
+    for fields in ({"computer": None}, {"authenticator": None}, {"computer": None, "authenticator": None}):
+        end = Controller(challenges=DRAWS).bound().channel_open()
+        out.append(end.call(LOGON, end.logon_call() | fields).logs_on().case())
+    # an authenticator with another referent is read alike; with a null one there is none
+    for referent in (1, 0x00020000, 0xFFFFFFFF, 0):
+        end = Controller(challenges=DRAWS).bound().channel_open()
+        out.append(end.call(LOGON, with_referent(end.logon_call(), referent)).logs_on().case())
+    # wrong authenticators leave the channel as it stood
+    for bit in (0, 31, 32, 63):
+        end = Controller(challenges=DRAWS).bound().channel_open()
+        call = end.logon_call()
+        given, timestamp = call["authenticator"]
+        wrong = (int.from_bytes(given, "little") ^ 1 << bit).to_bytes(8, "little")
+        end.call(LOGON, call | {"authenticator": (wrong, timestamp)}).call(LOGON, call | {"authenticator": (given, timestamp + 1)})
+        out.append(end.call(LOGON, call).call(LOGON, call).logs_on(timestamp=3).case())
+    # the timestamps that bring the same seed again
+    for timestamps in ((2147483647, 2147483647, None), (4294967295, None), (0, None), (0, 0), (1, 2, 3)):
+        end = Controller(challenges=DRAWS).bound().channel_open()
+        first = end.logon_call(timestamp=timestamps[0])
+        for timestamp in timestamps:
+            end = end.call(LOGON, first) if timestamp is None else end.logs_on(timestamp=timestamp)
+        out.append(end.case())
+    # an authenticator of one computer's channel on another computer's
+    end = Controller(challenges=DRAWS).bound().channel_open("FILE1").channel_open("FILE2")
+    out.append(end.call(LOGON, end.logon_call(computer="FILE1") | {"computer": utf16("FILE2")}).logs_on(computer="FILE2").logs_on().case())
+    # levels of validation
+    for validation in (2, 3, 0, 1, 6, 65535):
+        end = Controller(challenges=DRAWS).bound().channel_open()
+        out.append(end.logs_on(validation=validation).logs_on("nobody", validation=validation, timestamp=1).logs_on(timestamp=2).case())
+    return out + verdict_cases()
+
+
+def verdict_cases():
+    out = []
+    users = [
+        ANN, BOB, EVE | {"locked": True}, ANN | {"name": "dis", "disabled": True}, ANN | {"name": "exp", "expires": NOW},
+        ANN | {"name": "wks", "workstations": ["WS2"]}, ANN | {"name": "must", "must_change": True}, ANN | {"name": "old", "password_expires": NOW + 1},
+        ANN | {"name": "many", "full_name": "f" * 64, "groups": list(range(1, 257))},
+    ]
+    for flags in (0x1FF, SUPPORTED):
+        end = Controller(users=users, challenges=DRAWS).at(NOW).bound().channel_open(flags=flags)
+        for place, entry in enumerate(users):
+            end.logs_on(entry["name"], number=place, timestamp=place)
+        end.at(NOW + 1).logs_on("old").logs_on("OLD", timestamp=77).logs_on("nobody", timestamp=1).logs_on("FILE1$", timestamp=2).logs_on("PDC2$", timestamp=3)
+        end.logs_on(info={"nt": b"\x11" * 24}, timestamp=4).logs_on(info={"domain": utf16("OTHER")}, timestamp=5).logs_on(info={"domain": b""}, timestamp=6)
+        nt, _ = respond_v2(ANN, "ann", "CORP", "0123456789abcdef", time=NOW)
+        out.append(end.logs_on(info={"nt": bytes.fromhex(nt)}, timestamp=7).case())
+    # a reply in fragments, by the size that the peer receives
+    for receive in (0, 1432, 2000, 5840, 65535):
+        end = Controller(users=users, challenges=DRAWS).bound(receive=receive).channel_open()
+        out.append(end.logs_on("many").logs_on("ann", timestamp=1).case())
+    return out
+
+
+def recorded_cases():
+    """The recorded link: the client's calls, behind a bind of Samba's, with the challenge that its controller drew. What is answered here has its
+    credentials, return credentials and verdicts."""
+    calls = live_calls()
+    bind_unit = next(bytes.fromhex(case["unit"]) for case in values("units")["units"] if case["name"].startswith("bind without trailer"))
+    end = Controller(challenges=[calls[1]["fields"]["challenge"]]).at(NOW).opened().bytes(bind_unit)
+    for number, (asked, replied) in enumerate(zip(calls[::2], calls[1::2])):
+        call = read("call", asked["opnum"], bytes.fromhex(asked["stub"]))[0]
+        end.call(asked["opnum"], bytes.fromhex(asked["stub"]), number=2 + number)
+        sent = read_unit(bytes.fromhex(end.answers[-1].split(" ")[-1]))
+        reply, fields = read("reply", asked["opnum"], sent["stub"])[0], replied["fields"]
+        if asked["opnum"] == LOGON:
+            assert reply["returned"][0].hex() == fields["returned"]["credential"]
+        elif asked["opnum"] == AUTHENTICATE:
+            assert reply["credential"].hex() == fields["credential"] and call["flags"] == reply["flags"]
+        else:
+            assert reply["challenge"].hex() == fields["challenge"]
+        assert reply["status"] == fields["status"]
+    return [end.case()]
+
+
+def published_cases():
+    """Channels of published secrets and challenges, and of published sequences of authenticators."""
+    out = []
+    for channel in values("netlogon")["channels"]:
+        client, server, secret = (bytes.fromhex(channel[name]) for name in ("client_challenge", "server_challenge", "secret"))
+        for flags, kind in ((SUPPORTED, "strong_key"), (0x1FF, "des_key")):
+            end = Controller(machines=[FILE1 | {"hash": secret.hex()}], challenges=[server.hex()]).bound().asks(client=client.hex())
+            right = bytes.fromhex(channel[f"client_credential_{kind}"])
+            end.authenticates(flags=flags, credential=right)
+            assert channel[f"server_credential_{kind}"] in end.answers[-1]
+            out.append(end.case())
+    return out
+
+
+def cases():
+    """Each line and its answer."""
+    return (
+        link_cases() + piece_cases() + many_links() + context_cases() + fragment_cases() + opening_cases() + logon_cases() + recorded_cases()
+        + published_cases()
+    )
