@@ -50,6 +50,7 @@ PROGRAMS = {
     ],
     "top_cases": [
         "nt_top",
+        "nt_words",
     ],
 }
 

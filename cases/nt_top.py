@@ -2,7 +2,9 @@
 
 `top.run ROLE FAILING WORD..` (the exit, its status, its line, what was put as text, and that all that the outside in memory kept is still
 told; `-` is an empty word), `top.narrow ROLE FAILING WORD..` (the same over a sink that takes at most three bytes of a piece),
-`top.exit NAME NUMBER` (the exit, its status and its line). FAILING are the numbers of the sink's calls that fail.
+`top.exit NAME NUMBER` (the exit, its status and its line), `top.say FAILING NAME NUMBER` (whether the exit was said into a sink of errors, and
+what was put). FAILING are the numbers of the sink's calls that fail. `lines.in LINK DOMAIN USER`, `lines.out LINK STATUS`, `lines.none LINK` and
+`lines.judged STATUS`, `barred` or `none` are the lines of a serving program: a link is a decimal number, a status eight hex digits.
 
 The commands, exits and lines are this project's own choice (docs/FORMATS.md, "Commands, exits and what is printed"); whether a response
 stands is a published value.
@@ -59,9 +61,13 @@ EXITS = {
     "Done": ("Done", 0, ""),
     "Refused": ("Refused(Response)", 1, "refused"),
     "BadWords": ("BadWords({0})", 2, "bad words: {0}"),
+    "FileFault": ("FileFault", 3, "file not read"),
+    "BadTable": ("BadTable(TooMany)", 4, "bad table"),
     "BadInput": ("BadInput({0})", 4, "bad input: {0}"),
+    "PortFault": ("PortFault", 5, "port failed"),
     "SinkFault": ("SinkFault", 6, "output failed"),
     "NoMemory": ("NoMemory", 7, "no memory"),
+    "Spent": ("Spent", 10, "challenges spent"),
 }
 
 
@@ -294,8 +300,33 @@ def of_exits():
     """The exits, their statuses and their lines."""
     out = []
     for name in EXITS:
-        numbers = [0, 3, 4294967295] if name.startswith("Bad") else [0]
+        numbers = [0, 3, 4294967295] if name in ["BadWords", "BadInput"] else [0]
         out += [(line("top.exit", name, number), ending(name, number)) for number in numbers]
+        said = EXITS[name][2].format(numbers[-1])
+        put = said and said + "\n"
+        out.append((line("top.say", "", name, numbers[-1]), f"Ok(());{text(put)};told"))
+        failed = "Err(Failed)" if put else "Ok(())"
+        out.append((line("top.say", "0", name, numbers[-1]), f'{failed};"";told'))
+    return out
+
+
+def of_lines():
+    """The lines of a serving program; a unit outside 0x20 to 0x7E is a question mark."""
+    out = []
+    for domain, user, shown_as in [
+        ("CORP", "ann", "CORP\\\\ann"),
+        ("", "", "\\\\"),
+        (" ~", "a\u007f\u001f\u00e9\U0001f600\n", " ~\\\\a??????"),
+        ("a?b", "\\", "a?b\\\\\\\\"),
+    ]:
+        words = [utf16(domain), utf16(user)]
+        out.append((line("lines.in", 4294967295, *words), f'"link 4294967295 in {shown_as}\\n"'))
+    for link, status in [(0, "c000006a"), (1, "00000000"), (1000, "C0000234")]:
+        out.append((line("lines.out", link, status), f'"link {link} out {status.lower()}\\n"'))
+        out.append((line("lines.judged", status), f'"passed {status.lower()}\\n"'))
+    out.append((line("lines.none", 7), '"link 7 no controller\\n"'))
+    out.append((line("lines.judged", "barred"), '"barred\\n"'))
+    out.append((line("lines.judged", "none"), '"no channel\\n"'))
     return out
 
 
@@ -309,4 +340,5 @@ def cases():
         + of_words()
         + of_sinks()
         + of_exits()
+        + of_lines()
     )

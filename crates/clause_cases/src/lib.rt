@@ -1,4 +1,4 @@
-//! What no line of a case program can show: clauses as a caller uses them, what standard output takes, and the status with which a
+//! What no line of a case program can show: clauses as a caller uses them, what standard output and standard error take, and the status with which a
 //! process ends. Tests alone, without tables of values.
 #![tactic(auto)]
 
@@ -6,5 +6,7 @@
 mod pieces;
 #[cfg(test)]
 mod process;
+#[cfg(test)]
+mod standard_error;
 #[cfg(test)]
 mod standard_output;

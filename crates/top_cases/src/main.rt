@@ -1,27 +1,30 @@
-//! Cases of the top call: what a command line comes to over an outside in memory.
+//! Cases of the top call: what a command line comes to over an outside in memory, what its words ask for, what its files come to, and the
+//! lines that are put.
 //!
-//! Each line of the input is an operation, as `top.run`, and its values, as `words` has them; each line of the output is what the
+//! Each line of the input is an operation, as `top.run`, and its values, as `case_words` has them; each line of the output is what the
 //! operation gives.
 #![tactic(auto)]
 
+mod jobs;
+mod line;
+mod lines;
 mod narrow;
 mod top;
-mod words;
 
+use case_words::{answer_lines, no_case, word};
 use std::alloc::Global;
-use std::io;
 
-/// The answer to a line.
-fn line_of_answer(alloc: Global, line: &str) -> anyhow::Result<String> {
-    let words: Vec<&str> = line.split(' ').collect(alloc)?;
-    top::answer(alloc, &words)
+/// What a line's operation gives: the part of its name before the point is the file that has it.
+fn answer(alloc: Global, words: &[&str]) -> anyhow::Result<String> {
+    let (part, operation) = word(words, 0).split_once('.').unwrap_or(("", ""));
+    match part {
+        "top" => top::answer(alloc, operation, words),
+        "jobs" => jobs::answer(alloc, operation, words),
+        "lines" => lines::answer(alloc, operation, words),
+        _ => no_case(alloc),
+    }
 }
 
 fn main(rt: HostRuntime) -> anyhow::Result<()> {
-    let cases = io::read_to_string(rt.alloc(), rt.reader())?;
-    for line in cases.lines() {
-        let text = line_of_answer(rt.alloc(), line)?;
-        println!(rt; "{text}")?;
-    }
-    Ok(())
+    answer_lines(rt, answer)
 }

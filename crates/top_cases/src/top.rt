@@ -1,41 +1,13 @@
 //! Cases of `nt_top`.
 
+use crate::line::{calls, command_line, role};
 use crate::narrow::NarrowSink;
-use crate::words::{no_case, number, word};
-use nt_top::{Exit, RefusedCause, Role, exit_line, run};
+use account_table::TableRefused;
+use case_words::{no_case, number, word};
+use nt_top::{Exit, RefusedCause, Role, exit_line, run, say_exit};
 use outside::{ListChances, ListClock, MapFiles, ScriptPort, Sink, VecSink};
 use std::alloc::Global;
-use wire_base::{Calls, List};
-
-/// Numbers between commas, or `-` for none.
-fn calls(alloc: Global, word: &str) -> anyhow::Result<Calls> {
-    let mut calls = Calls::new(alloc);
-    if word != "-" {
-        for part in word.split(',') {
-            calls.push(number(part)?)?;
-        }
-    }
-    Ok(calls)
-}
-
-/// The role of a name.
-fn role(name: &str) -> Role {
-    match name {
-        "controller" => Role::Controller,
-        "member" => Role::Member,
-        _ => Role::Logon,
-    }
-}
-
-/// The words of a command line, from the fourth word of a line on; `-` is an empty one.
-fn command_line(alloc: Global, words: &[&str]) -> anyhow::Result<Vec<String>> {
-    let mut owned = Vec::new(alloc);
-    for word in words.iter().skip(3) {
-        let word = if *word == "-" { "" } else { *word };
-        owned.push(String::from_str(alloc, word)?)?;
-    }
-    Ok(owned)
-}
+use wire_base::List;
 
 /// Runs a command over an outside in memory, of which the sink is given and the rest is empty.
 fn run_on<S: Sink>(alloc: Global, role: Role, words: &[String], out: &mut S) -> (Exit, bool) {
@@ -57,7 +29,7 @@ fn run_on<S: Sink>(alloc: Global, role: Role, words: &[String], out: &mut S) -> 
 }
 
 /// An exit: the status, and the line that is printed on standard error, as text.
-fn text_of_exit(alloc: Global, exit: &Exit) -> anyhow::Result<String> {
+pub(crate) fn text_of_exit(alloc: Global, exit: &Exit) -> anyhow::Result<String> {
     let status = exit.status();
     let line = exit_line(alloc, exit)?;
     let line = str::from_utf8(line.bytes()).unwrap_or("no text");
@@ -76,7 +48,7 @@ fn text_of_run(alloc: Global, exit: &Exit, put: &[u8], tells: bool) -> anyhow::R
 fn run_case(alloc: Global, words: &[&str]) -> anyhow::Result<String> {
     let role = role(word(words, 1));
     let mut out = VecSink::new(alloc, calls(alloc, word(words, 2))?);
-    let command = command_line(alloc, words)?;
+    let command = command_line(alloc, words, 3)?;
     let (exit, tells) = run_on(alloc, role, &command, &mut out);
     text_of_run(alloc, &exit, out.bytes(), tells && out.tells())
 }
@@ -85,7 +57,7 @@ fn run_case(alloc: Global, words: &[&str]) -> anyhow::Result<String> {
 fn narrow_case(alloc: Global, words: &[&str]) -> anyhow::Result<String> {
     let role = role(word(words, 1));
     let mut out = NarrowSink(VecSink::new(alloc, calls(alloc, word(words, 2))?));
-    let command = command_line(alloc, words)?;
+    let command = command_line(alloc, words, 3)?;
     let (exit, tells) = run_on(alloc, role, &command, &mut out);
     text_of_run(alloc, &exit, out.0.bytes(), tells && out.0.tells())
 }
@@ -96,8 +68,12 @@ fn exit_of(name: &str, number: u32) -> Exit {
         "Done" => Exit::Done,
         "Refused" => Exit::Refused(RefusedCause::Response),
         "BadWords" => Exit::BadWords(number),
+        "FileFault" => Exit::FileFault,
+        "BadTable" => Exit::BadTable(TableRefused::TooMany),
         "BadInput" => Exit::BadInput(number),
+        "PortFault" => Exit::PortFault,
         "SinkFault" => Exit::SinkFault,
+        "Spent" => Exit::Spent,
         _ => Exit::NoMemory,
     }
 }
@@ -108,12 +84,23 @@ fn exit_case(alloc: Global, words: &[&str]) -> anyhow::Result<String> {
     text_of_exit(alloc, &exit_of(word(words, 1), number))
 }
 
+/// `say FAILING NAME NUMBER`: whether the exit was said into a sink of which these calls fail, and what was put.
+fn say_case(alloc: Global, words: &[&str]) -> anyhow::Result<String> {
+    let exit = exit_of(word(words, 2), number(word(words, 3))?);
+    let mut errors = VecSink::new(alloc, calls(alloc, word(words, 1))?);
+    let said = say_exit(alloc, &exit, &mut errors);
+    let put = str::from_utf8(errors.bytes()).unwrap_or("no text");
+    let told = if errors.tells() { "told" } else { "not told" };
+    Ok(format!(in alloc; "{said:?};{put:?};{told}")?)
+}
+
 /// What an operation gives.
-pub(crate) fn answer(alloc: Global, words: &[&str]) -> anyhow::Result<String> {
-    match word(words, 0) {
-        "top.run" => run_case(alloc, words),
-        "top.narrow" => narrow_case(alloc, words),
-        "top.exit" => exit_case(alloc, words),
+pub(crate) fn answer(alloc: Global, operation: &str, words: &[&str]) -> anyhow::Result<String> {
+    match operation {
+        "run" => run_case(alloc, words),
+        "narrow" => narrow_case(alloc, words),
+        "exit" => exit_case(alloc, words),
+        "say" => say_case(alloc, words),
         _ => no_case(alloc),
     }
 }
