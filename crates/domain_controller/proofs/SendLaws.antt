@@ -1,5 +1,5 @@
 -- What is sent.
-use Rattle.std.proofs.Common.{◌≡◌, ◌==◌, ◌&&◌, inl, inr, ℕ, suc, Bool, true, false, List, [], ◌∷◌, ◌++◌, nat_le, Option, Some, None, Result, Ok, Err, refl, sym, ap, subst, ◌∙◌, bytes_eq, arith, append_assoc, append-nil}
+use Rattle.std.proofs.Common.{◌≡◌, ◌==◌, ◌&&◌, inl, inr, ℕ, suc, Bool, true, false, List, [], ◌∷◌, ◌++◌, length, nat_le, Option, Some, None, Result, Ok, Err, refl, sym, ap, subst, ◌∙◌, bytes_eq, arith, append_assoc, append-nil}
 use Rattle.std.proofs.lemmas.Bool.Decides.{Decides-eqb}
 use Rattle.std.specs.Prelude.{not}
 use Rattle.std.specs.List.{AllByRecursion, Contains}
@@ -37,6 +37,7 @@ use Rattle.logon_stubs.specs.declared.info.NetworkInfo.{NetworkInfo}
 use Rattle.logon_stubs.specs.declared.refused.StubRefused.{StubRefused}
 use Rattle.logon_stubs.specs.Calls.{call_of}
 use Rattle.logon_stubs.specs.Writing.{written_reply}
+use Rattle.account_table.specs.AccountTable.{AccountTable}
 use Rattle.account_table.specs.LookUps.{knows_in}
 use Rattle.account_table.specs.declared.account.Account.{Account}
 use Rattle.end_links.specs.Agreed.{Agreed, accepts}
@@ -46,10 +47,10 @@ use Rattle.end_links.specs.Serving.{ServedPart, Service, then_open, then_talk, s
 use Rattle.end_loop.specs.Runs.{actions_of}
 use Rattle.domain_controller.specs.Channels.{ChannelState, key_of_channel, passes_on, return_by, channel_by}
 use Rattle.domain_controller.specs.Hearing.{bound_talk, hear_fresh, is_served, hear_stub, hear_opnum, hear_context, hear_whole, hear_joined, hear_bound, hear_on, hear_read, hear}
-use Rattle.domain_controller.specs.Laws.{IsAnswerTo, IsActionOn, AnswersUnits}
+use Rattle.domain_controller.specs.Laws.{done_by_open, IsAnswerTo, IsActionOn, AnswersUnits}
 use Rattle.domain_controller.specs.Machine.{Desk, desk, put_pair_if, take_pair, put_channel, take_channel, channel_for, open_channel, judge_pair, judge_offer, judge_account, account_for, judge_return, judge_channel, answer_logon, draw_challenge, by_call, by_heard, controller_server}
 use Rattle.domain_controller.specs.State.{State}
-use Rattle.domain_controller.specs.Step.{LinkMap, StepPart, after_units, serve_on, by_event, start_turn, halted, state_after, first_desk, step_on}
+use Rattle.domain_controller.specs.Step.{open_by, with_open, LinkMap, StepPart, after_units, serve_on, by_event, start_turn, halted, state_after, first_desk, step_on}
 use Rattle.domain_controller.specs.declared.line.Line.{Line}
 use Rattle.domain_controller.specs.declared.state.Pending.{Pending}
 use Rattle.domain_controller.specs.declared.state.Running.{Running}
@@ -366,6 +367,23 @@ no_link : (s : State) (running : Running) (number : ℕ) (piece : List ℕ) (now
 no_link s running number piece now left None is = refl
 no_link s running number piece now left (Some link) is = absurd cc
 
+-- ---- other events
+
+full_open : (full : Bool) (s : State) (number : ℕ) (work : Work) (links : LinkMap) (table : AccountTable) (left : List (List ℕ)) → work.actions ≡ [] →
+    actions_of (step_by (λ (after : Desk × LinkMap). after.0.work.actions) (λ (after : Desk × LinkMap). state_after s after) (halted s) left
+    (then_part (with_open (open_by full number work links) table left) (λ after rest. start_turn after rest))) ≡ done_by_open full number
+full_open true s number work links table left none = ap (λ (actions : List Action). actions ++ action.Close number close.TooManyLinks ∷ []) none
+full_open false s number work links table left none = none
+
+opened : (s : State) (running : Running) (number now : ℕ) (left : List (List ℕ)) →
+    actions_of (step_on (Some running) s (event.Opened number) now left) ≡ done_by_open (nat_le 256 (length (take_out same_number number running.links))) number
+opened s running number now left =
+    full_open (nat_le 256 (length (take_out same_number number running.links))) s number (first_desk s.table running).work (take_out same_number number running.links) s.table left refl
+
+stopped : (running : Option Running) (s : State) (now : ℕ) (left : List (List ℕ)) → actions_of (step_on running s event.Stop now left) ≡ []
+stopped None s now left = refl
+stopped (Some running) s now left = refl
+
 pub answers_units : AnswersUnits
 answers_units = record {
   bytes = λ s running number link piece now left is found.
@@ -374,4 +392,7 @@ answers_units = record {
   other = λ s running number piece now left is found.
       ap (λ (r : Option Running). actions_of (step_on r s (event.Bytes number piece) now left)) is
       ∙ no_link s running number piece now left (lookup same_number number running.links) found;
+  opens = λ s running number now left is.
+      ap (λ (r : Option Running). actions_of (step_on r s (event.Opened number) now left)) is ∙ opened s running number now left;
+  stop = λ s now left. stopped s.running s now left;
 }

@@ -1,12 +1,13 @@
 -- What holds of a controller's steps, whatever comes, from whomever (this project's own choice, but for when an authenticator passes: MS-NRPC 3.1.4.5).
-use Rattle.std.specs.Prelude.{ℕ, ◌≡◌, ◌⊎◌, ◌↔◌, Bool, true, false, List, [], ◌∷◌, ◌++◌, Option, Some, None, Ok}
+use Rattle.std.specs.Prelude.{ℕ, ◌≡◌, ◌⊎◌, ◌↔◌, Bool, true, false, List, [], ◌∷◌, ◌++◌, length, nat_le, Option, Some, None, Ok}
 use Rattle.std.specs.List.{AllByRecursion, Any}
-use Rattle.wire_base.specs.Maps.{lookup, same_number}
+use Rattle.wire_base.specs.Maps.{lookup, take_out, same_number}
 use Rattle.wire_base.specs.Names.{same_name}
 use Rattle.wire_base.specs.declared.authenticator.Authenticator.{Authenticator}
 use Rattle.authenticators.specs.Sequences.{Passes}
 use Rattle.outside.specs.declared.action.Action.{Action}
 use Rattle.outside.specs.declared.action.Action.TheVariants as action
+use Rattle.outside.specs.declared.action.CloseCause.TheVariants as close
 use Rattle.outside.specs.declared.action.Judged.{Judged}
 use Rattle.outside.specs.declared.action.Judged.TheVariants as judged
 use Rattle.outside.specs.declared.event.Event.{Event}
@@ -80,6 +81,11 @@ IsActionOn link units (action.Judged how) = Unit {0}
 IsActionOn link units (action.Dial peer) = ⊥
 IsActionOn link units (action.Told to outcome) = ⊥
 
+-- what is done where a link opens; the argument: whether as many links are open as may be
+abbrev pub done_by_open : Bool → ℕ → List Action
+done_by_open true link = action.Close link close.TooManyLinks ∷ []
+done_by_open false link = []
+
 -- What bytes on an open link make is done on that link, and each send answers a unit read on it.
 pub record AnswersUnits : Type 0 where
   pub bytes : (s : State) (running : Running) (number : ℕ) (link : LinkState Talk) (piece : List ℕ) (now : ℕ) (left : List (List ℕ)) →
@@ -89,6 +95,11 @@ pub record AnswersUnits : Type 0 where
   pub other : (s : State) (running : Running) (number : ℕ) (piece : List ℕ) (now : ℕ) (left : List (List ℕ)) →
       s.running ≡ Some running → lookup same_number number running.links ≡ None →
       actions_of (step_of s (event.Bytes number piece) now left) ≡ []
+  -- a link that opens is closed where 256 others are open; `Stop` makes nothing
+  pub opens : (s : State) (running : Running) (number now : ℕ) (left : List (List ℕ)) → s.running ≡ Some running →
+      actions_of (step_of s (event.Opened number) now left)
+      ≡ done_by_open (nat_le 256 (length (take_out same_number number running.links))) number
+  pub stop : (s : State) (now : ℕ) (left : List (List ℕ)) → actions_of (step_of s event.Stop now left) ≡ []
 
 -- ---- whose channel is changed
 
