@@ -40,7 +40,13 @@ impl Channel {
         flags: u32,
         seed: [u8; 8],
     ) -> Channel
-        ensures { result ≡ record { secret = secret; client = client; server = server; flags = flags; seed = seed } }
+        ensures { result ≡ record {
+          secret = secret;
+          client = client;
+          server = server;
+          flags = flags;
+          seed = seed;
+        } }
     {
         let key = session_key(secret, client, server, flags);
         Channel {
@@ -62,7 +68,8 @@ impl Channel {
     /// Judges an authenticator: the credential that is returned, where it passes. Then the seed moves on; else nothing changes.
     pub(crate) fn judge(&mut self, given: &Authenticator) -> Option<[u8; 8]>
         ensures answer { result ≡ return_by (passes_on self.old given.now) self.old given.now }
-        ensures channel { self.new ≡ channel_by (passes_on self.old given.now) self.old given.now }
+        ensures channel { self.new
+            ≡ channel_by (passes_on self.old given.now) self.old given.now }
     {
         self.sequence.judge(given).ok()
     }
