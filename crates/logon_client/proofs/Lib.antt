@@ -1,0 +1,5 @@
+pub mod AnsweringLaws
+pub mod HearingLaws
+pub mod SecuringLaws
+pub mod ServingLaws
+pub mod StepLaws

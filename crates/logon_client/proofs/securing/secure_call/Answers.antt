@@ -1,0 +1,52 @@
+use Rattle.std.proofs.Common.{◌≡◌, ◌+◌, ◌≤◌, ◌++◌, Some, length, take, drop, sym, ap, subst, ◌∙◌, arith}
+use Rattle.std.proofs.Math.Seq.{take-append_seam}
+use Rattle.std.proofs.lemmas.List.{drop_all}
+use Rattle.std.specs.List.{AllByRecursion}
+use Rattle.rpc_units.specs.Writing.{IsWritable, value_len, written}
+use Rattle.logon_client.specs.Securing.{behind, secure_all, secure_unit, secured_if}
+use Rattle.logon_client.proofs.SecuringLaws.{front_of, secure_more, secure_stops, secure_ends}
+use Rattle.logon_client.proofs.securing.secure_call.Goals as goal
+
+pub returns-then-not-secure_unit : goal.returns-then-not-secure_unit
+returns-then-not-secure_unit c =
+    let items = c.items-unit-items.result.now in
+    let unit = c.unit-item.result in
+    let front = front_of items c.loop-unit.unit-index unit c.unit-item.is c.loop-unit-test.true in
+    let secured : secure_unit c.args.seals c.loop-unit.session (written unit) ≡ secured_if c.secure_unit.result c.secure_unit.new.bytes c.secure_unit.new.session =
+    ap (secure_unit c.args.seals c.loop-unit.session) (sym (c.deref_mut.ensures.value ∙ c.in_ok-one.ensures)) ∙ c.secure_unit.ensures in
+    ap (secure_all c.args.seals c.args.session.now) (sym (c.items-unit-items.ensures ∙ c.in_ok-units.ensures.cut))
+    ∙ sym c.loop-unit.invariant.so_far
+    ∙ ap (λ rest. behind c.loop-unit.bytes.items (secure_all c.args.seals c.loop-unit.session rest)) front
+    ∙ secure_stops c.args.seals c.loop-unit.session c.secure_unit.new.session c.loop-unit.bytes.items c.secure_unit.new.bytes c.secure_unit.result unit
+    (drop (c.loop-unit.unit-index + 1) items) secured c.if-not-secure_unit.true
+
+pub loop-unit-preserved : goal.loop-unit-preserved
+loop-unit-preserved c =
+    let items = c.items-unit-items.result.now in
+    let unit = c.unit-item.result in
+    let front = front_of items c.loop-unit.unit-index unit c.unit-item.is c.loop-unit-test.true in
+    let secured : secure_unit c.args.seals c.loop-unit.session (written unit) ≡ secured_if c.secure_unit.result c.secure_unit.new.bytes c.secure_unit.new.session =
+    ap (secure_unit c.args.seals c.loop-unit.session) (sym (c.deref_mut.ensures.value ∙ c.in_ok-one.ensures)) ∙ c.secure_unit.ensures in
+    let size : c.in_ok-one.one.len ≡ length c.secure_unit.new.bytes = omega (arith, c.secure_unit.auto.bytes, c.deref_mut.ensures.len, c.in_ok-one.one.ok) in
+    let put = c.deref.ensures.value ∙ ap (λ n. take n (c.secure_unit.new.bytes ++ drop (length c.secure_unit.new.bytes) c.in_ok-one.one.items)) size
+    ∙ take-append_seam c.secure_unit.new.bytes (drop (length c.secure_unit.new.bytes) c.in_ok-one.one.items) in
+    let out = c.in_ok-extend_from_slice.ensures.items ∙ ap (λ more. c.loop-unit.bytes.items ++ more) put in
+    record {
+      so_far =
+          ap (λ bytes. behind bytes (secure_all c.args.seals c.secure_unit.new.session (drop (c.loop-unit.unit-index + 1) items))) out
+          ∙ sym (secure_more c.args.seals c.loop-unit.session c.secure_unit.new.session c.loop-unit.bytes.items c.secure_unit.new.bytes c.secure_unit.result unit
+          (drop (c.loop-unit.unit-index + 1) items) secured c.if-not-secure_unit.false)
+          ∙ ap (λ rest. behind c.loop-unit.bytes.items (secure_all c.args.seals c.loop-unit.session rest)) (sym front)
+          ∙ c.loop-unit.invariant.so_far;
+      writable = (subst (AllByRecursion IsWritable) front c.loop-unit.invariant.writable).1;
+      short = (subst (AllByRecursion (λ u. length (written u) + 16 ≤ c.args.limit + value_len c.args.call.now.trailer)) front c.loop-unit.invariant.short).1;
+    }
+
+pub returns : goal.returns
+returns c =
+    let items = c.items-unit-items.result.now in
+    ap (secure_all c.args.seals c.args.session.now) (sym (c.items-unit-items.ensures ∙ c.in_ok-units.ensures.cut))
+    ∙ sym c.loop-unit.invariant.so_far
+    ∙ ap (λ rest. behind c.loop-unit.bytes.items (secure_all c.args.seals c.loop-unit.session rest)) (drop_all c.loop-unit.unit-index items c.loop-unit-test.false)
+    ∙ secure_ends c.args.seals c.loop-unit.session c.loop-unit.bytes.items
+    ∙ ap (λ bytes. Some (record { bytes = bytes; session = c.loop-unit.session })) (sym c.from_vec.ensures)

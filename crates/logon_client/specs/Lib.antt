@@ -1,0 +1,6 @@
+pub mod Answering
+pub mod Leaving
+pub mod Machine
+pub mod Plans
+pub mod Securing
+pub mod State

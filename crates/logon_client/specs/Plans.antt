@@ -1,0 +1,47 @@
+-- What a client can be told to do, and what it offers (this project's own choice). Names are lists of 16-bit units.
+use Rattle.std.specs.Prelude.{ℕ, ◌≡◌, ◌≤◌, ◌==◌, ◌||◌, Bool, true, false, length, IsTrue}
+use Rattle.ntlm_flags.specs.Flags.{offered_flags, offered_flags_v1}
+use Rattle.logon_client.specs.declared.plan.AuthKind.{AuthKind}
+use Rattle.logon_client.specs.declared.plan.AuthKind.TheVariants.{V1, V1Ess, V2}
+use Rattle.logon_client.specs.declared.plan.ClientPlan.{ClientPlan}
+
+-- ---- levels of authentication (MS-RPCE 2.2.1.1.8): connect 2, integrity 5 and privacy 6
+
+-- units are signed
+abbrev pub is_signed : ℕ → Bool
+is_signed level = level == 5 || level == 6
+
+-- their stubs are sealed too
+abbrev pub is_sealed : ℕ → Bool
+is_sealed level = level == 6
+
+abbrev pub is_level : ℕ → Bool
+is_level level = level == 2 || is_signed level
+
+-- A plan that a client can follow.
+pub record CanLogOn (plan : ClientPlan) : Type 0 where
+  pub level : IsTrue (is_level plan.level)
+  -- without extended session security nothing is signed
+  pub plain : plan.auth ≡ V1 → plan.level ≡ 2
+  pub echo : plan.echo ≤ 4096
+  pub domain : length plan.domain ≤ 64
+  pub user : length plan.user ≤ 64
+  pub workstation : length plan.workstation ≤ 64
+
+-- ---- what is offered and what is needed
+
+-- the flags of the NEGOTIATE
+abbrev pub offer_of : AuthKind → ℕ
+offer_of V1 = offered_flags_v1
+offer_of V1Ess = offered_flags
+offer_of V2 = offered_flags
+
+-- the responses are those of extended session security
+abbrev pub is_ess : AuthKind → Bool
+is_ess V1 = false
+is_ess V1Ess = true
+is_ess V2 = false
+
+-- extended session security is needed
+abbrev pub needs_ess : ℕ → AuthKind → Bool
+needs_ess level auth = is_signed level || is_ess auth

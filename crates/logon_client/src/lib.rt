@@ -1,0 +1,16 @@
+//! The client of a logon: it binds to a member server with NTLM, answers its CHALLENGE, asks who is logged on, and has bytes echoed.
+#![tactic(auto)]
+
+mod answering;
+mod client;
+mod end;
+mod hearing;
+mod outcome;
+mod plan;
+mod securing;
+mod serving;
+mod state;
+
+pub use client::Client;
+pub use outcome::{ClientOutcome, NoAnswerCause, PeerFault, RefusedCause};
+pub use plan::{AuthKind, ClientPlan};
