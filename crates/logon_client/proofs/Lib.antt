@@ -1,5 +1,6 @@
 pub mod AnsweringLaws
 pub mod HearingLaws
+pub mod OutcomeLaws
 pub mod SecuringLaws
 pub mod ServingLaws
 pub mod StepLaws

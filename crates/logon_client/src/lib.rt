@@ -5,6 +5,7 @@ mod answering;
 mod client;
 mod end;
 mod hearing;
+mod laws;
 mod outcome;
 mod plan;
 mod securing;
@@ -12,5 +13,6 @@ mod serving;
 mod state;
 
 pub use client::Client;
+pub use laws::an_outcome_closes_the_link;
 pub use outcome::{ClientOutcome, NoAnswerCause, PeerFault, RefusedCause};
 pub use plan::{AuthKind, ClientPlan};
