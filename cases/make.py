@@ -47,6 +47,7 @@ PROGRAMS = {
         "end_loop",
         "channel_client",
         "domain_controller",
+        "logon_client",
     ],
     "top_cases": [
         "nt_top",

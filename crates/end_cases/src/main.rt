@@ -4,6 +4,7 @@
 //! operation gives.
 #![tactic(auto)]
 
+mod clients;
 mod controllers;
 mod hearing;
 mod links;
@@ -19,6 +20,7 @@ use std::alloc::Global;
 fn answer(alloc: Global, words: &[&str]) -> anyhow::Result<String> {
     let (part, operation) = word(words, 0).split_once('.').unwrap_or(("", ""));
     match part {
+        "client" => clients::run(alloc, words),
         "controller" => controllers::run(alloc, words),
         "links" => links::answer(alloc, operation, words),
         "loop" => serves::answer(alloc, operation, words),

@@ -1,0 +1,91 @@
+//! Cases of `logon_client`: a client and its events, a scenario a line.
+
+ghost use Rattle.std.specs.Prelude.{◌≡◌, ◌≤◌, true, length, IsTrue};
+ghost use Rattle.logon_client.specs.Plans.{CanLogOn, is_level};
+ghost use Rattle.logon_client.specs.declared.plan.AuthKind.{AuthKind};
+
+use crate::scenes::{actions_text, add_left, chances, play};
+use case_words::{add_answer, blob, no_case, number, number8, sixteen, text_units, word};
+use logon_client::{AuthKind, Client, ClientPlan};
+use std::alloc::Global;
+use wire_base::Units;
+
+/// The kind of response of a word.
+fn kind(word: &str) -> AuthKind {
+    match word {
+        "v1" => AuthKind::V1,
+        "v1ess" => AuthKind::V1Ess,
+        _ => AuthKind::V2,
+    }
+}
+
+/// The plan of a line: the server's address, the domain, the user, the workstation, the hash, the level, the kind of response, and the bytes of the echo.
+fn plan(alloc: Global, words: &[&str]) -> anyhow::Result<ClientPlan> {
+    let hash = sixteen(word(words, 5))?;
+    let level = number8(word(words, 6))?;
+    let echo = number(word(words, 8))?;
+    let server = blob(alloc, word(words, 1))?;
+    let domain = text_units(alloc, word(words, 2))?;
+    let user = text_units(alloc, word(words, 3))?;
+    let workstation = text_units(alloc, word(words, 4))?;
+    Ok(ClientPlan {
+        server,
+        domain,
+        user,
+        workstation,
+        hash,
+        level,
+        auth: kind(word(words, 7)),
+        echo,
+    })
+}
+
+/// Whether a name is one that a plan may have.
+fn is_short(name: &Units) -> bool
+    ensures { result ≡ true → length name.now ≤ 64 }
+{
+    name.units().len() <= 64
+}
+
+/// Whether the level is one, and one at which the kind of response may be given.
+fn is_level(level: u8, auth: AuthKind) -> bool
+    ensures level { result ≡ true → IsTrue (is_level level) }
+    ensures plain { result ≡ true → auth ≡ AuthKind.V1 → level ≡ 2 }
+{
+    match auth {
+        AuthKind::V1 => level == 2,
+        AuthKind::V1Ess | AuthKind::V2 => level == 2 || level == 5 || level == 6,
+    }
+}
+
+/// Whether a client can follow the plan.
+fn can_log_on(plan: &ClientPlan) -> bool
+    ensures { result ≡ true → CanLogOn plan.now }
+{
+    let short = is_short(&plan.domain) && is_short(&plan.user) && is_short(&plan.workstation);
+    short && plan.echo <= 4096 && is_level(plan.level, plan.auth)
+}
+
+/// The outcome that a client has.
+fn outcome(alloc: Global, end: &Client) -> anyhow::Result<String> {
+    let outcome = end.outcome();
+    Ok(format!(in alloc; "{outcome:?}")?)
+}
+
+/// `client.run SERVER DOMAIN USER WORKSTATION HASH LEVEL KIND ECHO CHALLENGES STEP ..`: what the client begins with, the answers to the steps, its
+/// outcome, and the number of challenges that are left.
+pub(crate) fn run(alloc: Global, words: &[&str]) -> anyhow::Result<String> {
+    let (Some(steps), plan) = (words.get(10..), plan(alloc, words)?) else {
+        return no_case(alloc);
+    };
+    if !can_log_on(&plan) {
+        return no_case(alloc);
+    }
+    let mut end = Client::new(plan);
+    let mut answers = actions_text(alloc, &end.begin(alloc)?)?;
+    let mut chances = chances(alloc, word(words, 9))?;
+    add_answer(&mut answers, &play(alloc, &mut end, &mut chances, steps)?)?;
+    add_answer(&mut answers, &outcome(alloc, &end)?)?;
+    add_left(alloc, &mut answers, &mut chances)?;
+    Ok(answers)
+}
