@@ -7,6 +7,7 @@ ghost use Rattle.logon_client.specs.declared.plan.AuthKind.{AuthKind};
 use crate::scenes::{actions_text, add_left, chances, play};
 use case_words::{add_answer, blob, no_case, number, number8, sixteen, text_units, word};
 use logon_client::{AuthKind, Client, ClientPlan};
+use outside::ListChances;
 use std::alloc::Global;
 use wire_base::Units;
 
@@ -19,15 +20,27 @@ fn kind(word: &str) -> AuthKind {
     }
 }
 
-/// The plan of a line: the server's address, the domain, the user, the workstation, the hash, the level, the kind of response, and the bytes of the echo.
-fn plan(alloc: Global, words: &[&str]) -> anyhow::Result<ClientPlan> {
-    let hash = sixteen(word(words, 5))?;
-    let level = number8(word(words, 6))?;
-    let echo = number(word(words, 8))?;
-    let server = blob(alloc, word(words, 1))?;
+/// The domain, the user and the workstation of a line.
+fn names(alloc: Global, words: &[&str]) -> anyhow::Result<(Units, Units, Units)> {
     let domain = text_units(alloc, word(words, 2))?;
     let user = text_units(alloc, word(words, 3))?;
     let workstation = text_units(alloc, word(words, 4))?;
+    Ok((domain, user, workstation))
+}
+
+/// The hash, the level and the number of bytes that are echoed of a line.
+fn numbers(words: &[&str]) -> anyhow::Result<([u8; 16], u8, u32)> {
+    let hash = sixteen(word(words, 5))?;
+    let level = number8(word(words, 6))?;
+    let echo = number(word(words, 8))?;
+    Ok((hash, level, echo))
+}
+
+/// The plan of a line: the server's address, the names, the hash, the level, the kind of response, and the bytes of the echo.
+fn plan(alloc: Global, words: &[&str]) -> anyhow::Result<ClientPlan> {
+    let (hash, level, echo) = numbers(words)?;
+    let server = blob(alloc, word(words, 1))?;
+    let (domain, user, workstation) = names(alloc, words)?;
     Ok(ClientPlan {
         server,
         domain,
@@ -72,20 +85,37 @@ fn outcome(alloc: Global, end: &Client) -> anyhow::Result<String> {
     Ok(format!(in alloc; "{outcome:?}")?)
 }
 
+/// What a client of the plan begins with, its answers to the steps, and its outcome.
+fn play_all(
+    alloc: Global,
+    plan: ClientPlan,
+    chances: &mut ListChances,
+    steps: &[&str],
+) -> anyhow::Result<String>
+    requires { CanLogOn plan }
+{
+    let mut end = Client::new(plan);
+    let first = end.begin(alloc)?;
+    let mut answers = actions_text(alloc, &first)?;
+    let played = play(alloc, &mut end, chances, steps)?;
+    add_answer(&mut answers, &played)?;
+    let outcome = outcome(alloc, &end)?;
+    add_answer(&mut answers, &outcome)?;
+    Ok(answers)
+}
+
 /// `client.run SERVER DOMAIN USER WORKSTATION HASH LEVEL KIND ECHO CHALLENGES STEP ..`: what the client begins with, the answers to the steps, its
 /// outcome, and the number of challenges that are left.
 pub(crate) fn run(alloc: Global, words: &[&str]) -> anyhow::Result<String> {
-    let (Some(steps), plan) = (words.get(10..), plan(alloc, words)?) else {
+    let Some(steps) = words.get(10..) else {
         return no_case(alloc);
     };
+    let mut chances = chances(alloc, word(words, 9))?;
+    let plan = plan(alloc, words)?;
     if !can_log_on(&plan) {
         return no_case(alloc);
     }
-    let mut end = Client::new(plan);
-    let mut answers = actions_text(alloc, &end.begin(alloc)?)?;
-    let mut chances = chances(alloc, word(words, 9))?;
-    add_answer(&mut answers, &play(alloc, &mut end, &mut chances, steps)?)?;
-    add_answer(&mut answers, &outcome(alloc, &end)?)?;
+    let mut answers = play_all(alloc, plan, &mut chances, steps)?;
     add_left(alloc, &mut answers, &mut chances)?;
     Ok(answers)
 }

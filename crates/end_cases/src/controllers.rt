@@ -21,8 +21,8 @@ pub(crate) fn run(alloc: Global, words: &[&str]) -> anyhow::Result<String> {
     let Some(steps) = words.get(4..) else {
         return no_case(alloc);
     };
-    let mut end = controller(alloc, words)?;
     let mut chances = chances(alloc, word(words, 3))?;
+    let mut end = controller(alloc, words)?;
     let mut answers = play(alloc, &mut end, &mut chances, steps)?;
     add_left(alloc, &mut answers, &mut chances)?;
     Ok(answers)

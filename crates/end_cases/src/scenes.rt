@@ -102,6 +102,21 @@ fn count_left(chances: &mut ListChances) -> u32 {
     1000
 }
 
+/// The answer to a step that is no moment: `wants`, or an event.
+fn answer<E: End>(
+    alloc: Global,
+    end: &mut E,
+    chances: &mut ListChances,
+    now: u64,
+    word: &str,
+) -> anyhow::Result<String> {
+    if word == "wants" {
+        return wants(alloc, end);
+    }
+    let event = event(alloc, word)?;
+    step(alloc, end, &event, now, chances)
+}
+
 /// The answers to the steps of an end that may draw these challenges: `at/MOMENT`, `wants`, or an event.
 pub(crate) fn play<E: End>(
     alloc: Global,
@@ -112,15 +127,13 @@ pub(crate) fn play<E: End>(
     let mut answers = String::new(alloc);
     let mut now = 0;
     for each in steps {
-        let answer = match each.split_once('/') {
-            Some(("at", moment)) => {
-                now = number64(moment)?;
-                "-".to_string(alloc)?
-            }
-            None if *each == "wants" => wants(alloc, end)?,
-            _ => step(alloc, end, &event(alloc, each)?, now, chances)?,
-        };
-        add_answer(&mut answers, &answer)?;
+        if let Some(("at", moment)) = each.split_once('/') {
+            now = number64(moment)?;
+            add_answer(&mut answers, "-")?;
+        } else {
+            let answer = answer(alloc, end, chances, now, each)?;
+            add_answer(&mut answers, &answer)?;
+        }
     }
     Ok(answers)
 }
