@@ -1,4 +1,6 @@
+pub mod AnswerLaws
 pub mod AnsweringLaws
+pub mod FittingLaws
 pub mod HearingLaws
 pub mod OutcomeLaws
 pub mod SecuringLaws

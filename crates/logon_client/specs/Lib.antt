@@ -1,4 +1,5 @@
 pub mod Answering
+pub mod Answers
 pub mod Laws
 pub mod Leaving
 pub mod Machine

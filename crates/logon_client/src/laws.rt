@@ -1,5 +1,6 @@
-//! Laws of the steps of a client, over their definitions. The function does nothing, and its clauses are the laws.
+//! Laws of the steps of a client, over their definitions. Each function does nothing, and its clauses are the laws.
 
+ghost use Rattle.logon_client.specs.Answers.{OffersAgreed, DrawsKeys, AnswersVerify, AnswersFit, KeysFound};
 ghost use Rattle.logon_client.specs.Laws.{ClosesOnce, OutcomeStays};
 
 /// An outcome that comes while the link is open closes it, once, for its work done; one that comes otherwise closes nothing, nor does another step. A client
@@ -7,4 +8,15 @@ ghost use Rattle.logon_client.specs.Laws.{ClosesOnce, OutcomeStays};
 pub fn an_outcome_closes_the_link()
     ensures closes { ClosesOnce }
     ensures stays { OutcomeStays }
+{}
+
+/// An offer that is answered has the flags of both sides, and they are enough. What is drawn for it are the client's challenge, and a key exactly where keys are
+/// exchanged. The message verifies under the plan's hash, and whoever has the session base key of its NT response finds the client's key in it. It fits into a unit, where
+/// the server's target information has at most 4,096 bytes.
+pub fn what_is_answered_verifies()
+    ensures agreed { OffersAgreed }
+    ensures drawn { DrawsKeys }
+    ensures verifies { AnswersVerify }
+    ensures keys { KeysFound }
+    ensures fits { AnswersFit }
 {}
