@@ -8,5 +8,8 @@ fn standard_error_takes_text_alone(rt: HostRuntime) {
     assert_eq!(rt; ErrorSink::new(&rt).put(b"").ok(), Some(0));
     assert_eq!(rt; ErrorSink::new(&rt).put(b"\n").ok(), Some(1));
     assert_eq!(rt; ErrorSink::new(&rt).put(b"\xFF").ok(), None);
-    assert_eq!(rt; say_exit(rt.alloc(), &Exit::BadWords(7), &mut ErrorSink::new(&rt)), Ok(()));
+    assert_eq!(rt;
+        say_exit(rt.alloc(), &Exit::BadWords(7), &mut ErrorSink::new(&rt)),
+        Ok(())
+    );
 }
