@@ -85,8 +85,30 @@ fn outcome(alloc: Global, end: &Client) -> anyhow::Result<String> {
     Ok(format!(in alloc; "{outcome:?}")?)
 }
 
-/// What a client of the plan begins with, its answers to the steps, and its outcome.
+/// What a client begins with.
+fn begin(alloc: Global, end: &mut Client) -> anyhow::Result<String> {
+    let actions = end.begin(alloc)?;
+    actions_text(alloc, &actions)
+}
+
+/// What a client begins with, its answers to the steps, its outcome, and the number of challenges that are left.
 fn play_all(
+    alloc: Global,
+    end: &mut Client,
+    chances: &mut ListChances,
+    steps: &[&str],
+) -> anyhow::Result<String> {
+    let mut answers = begin(alloc, end)?;
+    let played = play(alloc, end, chances, steps)?;
+    add_answer(&mut answers, &played)?;
+    let outcome = outcome(alloc, end)?;
+    add_answer(&mut answers, &outcome)?;
+    add_left(alloc, &mut answers, chances)?;
+    Ok(answers)
+}
+
+/// The answers of a client of the plan.
+fn play_plan(
     alloc: Global,
     plan: ClientPlan,
     chances: &mut ListChances,
@@ -95,13 +117,7 @@ fn play_all(
     requires { CanLogOn plan }
 {
     let mut end = Client::new(plan);
-    let first = end.begin(alloc)?;
-    let mut answers = actions_text(alloc, &first)?;
-    let played = play(alloc, &mut end, chances, steps)?;
-    add_answer(&mut answers, &played)?;
-    let outcome = outcome(alloc, &end)?;
-    add_answer(&mut answers, &outcome)?;
-    Ok(answers)
+    play_all(alloc, &mut end, chances, steps)
 }
 
 /// `client.run SERVER DOMAIN USER WORKSTATION HASH LEVEL KIND ECHO CHALLENGES STEP ..`: what the client begins with, the answers to the steps, its
@@ -115,7 +131,5 @@ pub(crate) fn run(alloc: Global, words: &[&str]) -> anyhow::Result<String> {
     if !can_log_on(&plan) {
         return no_case(alloc);
     }
-    let mut answers = play_all(alloc, plan, &mut chances, steps)?;
-    add_left(alloc, &mut answers, &mut chances)?;
-    Ok(answers)
+    play_plan(alloc, plan, &mut chances, steps)
 }

@@ -1,6 +1,6 @@
 //! Cases of `domain_controller`: a controller and its events, a scenario a line.
 
-use crate::scenes::{add_left, chances, play};
+use crate::scenes::{chances, play_and_count};
 use account_table::Table;
 use case_words::{bytes, no_case, word};
 use domain_controller::Controller;
@@ -23,7 +23,5 @@ pub(crate) fn run(alloc: Global, words: &[&str]) -> anyhow::Result<String> {
     };
     let mut chances = chances(alloc, word(words, 3))?;
     let mut end = controller(alloc, words)?;
-    let mut answers = play(alloc, &mut end, &mut chances, steps)?;
-    add_left(alloc, &mut answers, &mut chances)?;
-    Ok(answers)
+    play_and_count(alloc, &mut end, &mut chances, steps)
 }

@@ -152,3 +152,15 @@ pub(crate) fn add_left(
     let left = count_left(chances);
     add_answer(answers, &format!(in alloc; "{left}")?)
 }
+
+/// The answers to the steps of an end, and the number of challenges that are left.
+pub(crate) fn play_and_count<E: End>(
+    alloc: Global,
+    end: &mut E,
+    chances: &mut ListChances,
+    steps: &[&str],
+) -> anyhow::Result<String> {
+    let mut answers = play(alloc, end, chances, steps)?;
+    add_left(alloc, &mut answers, chances)?;
+    Ok(answers)
+}
