@@ -3,9 +3,13 @@
 #![tactic(auto)]
 
 #[cfg(test)]
+mod disk;
+#[cfg(test)]
 mod pieces;
 #[cfg(test)]
 mod process;
+#[cfg(test)]
+mod sockets;
 #[cfg(test)]
 mod standard_error;
 #[cfg(test)]

@@ -20,6 +20,11 @@ AnswersFrom files name (Ok content) = (content_of files name ≡ Some content) �
 AnswersFrom files name (Err TooLong) = IsSomeAnd (content_of files name) (λ content. most_file_bytes < length content)
 AnswersFrom files name (Err _) = Unit {0}
 
+-- whether the read failed
+abbrev pub is_failed : {T : Type 0} → Result T FileRefused → Bool
+is_failed (Err Failed) = true
+is_failed _ = false
+
 -- what a read adds to the list of reads: nothing where memory ran out
 abbrev pub reading : List ℕ → Result (List ℕ) FileRefused → List (List ℕ × Bool)
 reading name (Ok content) = (name, false) ∷ []

@@ -1,10 +1,12 @@
 pub mod Causes
 pub mod Telling
 pub mod Contents
+pub mod Counts
 pub mod Counter
 pub mod Links
 pub mod Stories
 pub mod Drawing
 pub mod Machine
+pub mod Moments
 pub mod Scripts
 pub mod PortScript

@@ -28,6 +28,11 @@ abbrev pub happenings_of_next : Result Event PortRefused → Option ℕ → List
 happenings_of_next (Ok what) want = happening.Given what want ∷ []
 happenings_of_next (Err refused) want = []
 
+-- whether a call of `next` failed
+abbrev pub is_failed_next : Result Event PortRefused → Bool
+is_failed_next (Err PortRefused.Failed) = true
+is_failed_next _ = false
+
 -- whether the link is open after one more happening
 abbrev pub linked_after : Happening → ℕ → Bool → Bool
 linked_after (happening.Given (event.Opened other) want) link before = before || (other == link)
