@@ -1,5 +1,5 @@
 -- `check` in the field's own words: what is asked is answered by whether the response verifies.
-use Rattle.std.proofs.Common.{◌≡◌, ◌⊎◌, inl, inr, ℕ, Bool, true, false, List, [], ◌∷◌, Result, Ok, Err, Some, None, refl, sym, ap, subst, ◌∙◌, codes}
+use Rattle.std.proofs.Common.{◌≡◌, inl, inr, ℕ, Bool, true, false, List, Result, Ok, Err, refl, sym, ap, subst, ◌∙◌}
 use Rattle.std.specs.Bool.{Decides}
 use Rattle.hex.specs.Hex.{decode_of, decode_sized}
 use Rattle.hex.specs.declared.error.FromHexError.{FromHexError}
@@ -11,7 +11,7 @@ use Rattle.ntlm_responses.proofs.VerificationLaws.{verifies-Decides}
 use Rattle.nt_top.specs.declared.answer.Answer.{Answer}
 use Rattle.nt_top.specs.declared.exit.Exit.{Exit}
 use Rattle.nt_top.specs.declared.exit.Exit.TheVariants.{BadInput}
-use Rattle.nt_top.specs.Causes.{HoldsNoMessage, IsBadOfCheck, IsHexOf}
+use Rattle.nt_top.specs.Causes.{HoldsNoMessage, IsBadOfCheck}
 use Rattle.nt_top.specs.Check.{check_answer, judged, verdict_answer, accepts_of, Accepts}
 use Rattle.nt_top.specs.Needs.{needs}
 use Rattle.nt_top.proofs.NeedsLaws.{ok_injective, ok_no_err, ok_or_err, needs_ok, needs_err, needs_refused, needs_taken, is_hex, is_no_hex, hex_read, hex_refused}

@@ -1,5 +1,5 @@
 -- When each exit comes, in the words' own terms.
-use Rattle.std.proofs.Common.{◌≡◌, ◌⊎◌, inl, inr, ℕ, Bool, true, false, List, [], ◌∷◌, Option, Some, None, Result, Ok, Err, refl, sym, ap, subst, ◌∙◌, codes}
+use Rattle.std.proofs.Common.{◌≡◌, ◌⊎◌, inl, inr, ℕ, Bool, true, false, List, Option, Some, None, Result, Ok, Err, refl, sym, ap, subst, ◌∙◌}
 use Rattle.outside.specs.Causes.{Rose}
 use Rattle.outside.specs.Telling.{Appends}
 use Rattle.ntlm_messages.specs.declared.messages.Authenticate.{Authenticate}
@@ -9,7 +9,7 @@ use Rattle.nt_words.specs.Roles.{job_of}
 use Rattle.nt_words.specs.declared.job.Job.{Job}
 use Rattle.nt_words.specs.declared.job.Job.TheVariants as jobs
 use Rattle.nt_words.specs.declared.job.Role.{Role}
-use Rattle.nt_words.specs.declared.job.Role.TheVariants.{Controller, Member, Logon}
+use Rattle.nt_words.specs.declared.job.Role.TheVariants.{Member, Logon}
 use Rattle.nt_words.specs.declared.options.WordsRefused.{WordsRefused}
 use Rattle.nt_words.specs.declared.options.WordsRefused.TheVariants as refusals
 use Rattle.nt_top.specs.declared.answer.Answer.{Answer}
@@ -19,11 +19,11 @@ use Rattle.nt_top.specs.declared.exit.RefusedCause.{RefusedCause}
 use Rattle.nt_top.specs.declared.exit.RefusedCause.TheVariants.{Response}
 use Rattle.nt_top.specs.Answers.{answer_of, answer_from}
 use Rattle.nt_top.specs.Causes.{Comes, IsBadInput, IsBadWords, OutOfForm, NotBuilt, IsDone, IsOfForm, IsOfTheCommands, IsRefused, IsWorkDone}
-use Rattle.nt_top.specs.Check.{check_answer, verdict_answer, accepts_of, Accepts, AsksCheck, AskedAccepted, AskedRefused}
+use Rattle.nt_top.specs.Check.{check_answer, verdict_answer, accepts_of, AsksCheck, AskedAccepted, AskedRefused}
 use Rattle.nt_top.specs.Ends.{Ends, SinkChange}
-use Rattle.nt_top.specs.Show.{show_answer, shown, ShowsAs, AsksShow, AskedShown}
-use Rattle.nt_top.proofs.CheckLaws.{Checked, accepts_is, check_answer-is, check_is_bad, check_ok, decided, refuses_is}
-use Rattle.nt_top.proofs.JobLaws.{Refusal, OfWords, Unbuilt, OfCheck, OfShow, OfMemory, answer_err, answer_ok, check_words, job_of_check, job_of_show, show_words, unbuilt_answer}
+use Rattle.nt_top.specs.Show.{show_answer, shown, AskedShown}
+use Rattle.nt_top.proofs.CheckLaws.{accepts_is, check_answer-is, check_is_bad, check_ok, decided, refuses_is}
+use Rattle.nt_top.proofs.JobLaws.{Refusal, OfWords, Unbuilt, OfCheck, OfShow, OfMemory, answer_err, answer_ok, job_of_check, job_of_show, unbuilt_answer}
 use Rattle.nt_top.proofs.ShownLaws.{show_is_bad, show_ok, shown_answer}
 
 -- ---- what is asked is answered
@@ -127,9 +127,6 @@ alone came exit (Unbuilt job e built is) = subst IsAlone (sym is) tt
 alone came exit (OfCheck job number e bad is) = subst IsAlone (sym is) tt
 alone came exit (OfShow job e none is) = subst IsAlone (sym is) tt
 alone came exit (OfMemory is) = subst IsAlone (sym is) tt
-
-no_memory_alone : IsAlone NoMemory
-no_memory_alone = tt
 
 -- where the words came to an exit alone, that is the exit, or want of memory
 alone_by : (role : Role) (words : List (List ℕ)) (refusal exit : Exit) → answer_of role words ≡ Err refusal → (exit ≡ NoMemory) ⊎ (exit ≡ refusal) → IsAlone exit

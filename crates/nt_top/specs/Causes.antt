@@ -9,14 +9,13 @@ use Rattle.nt_words.specs.Roles.{job_of}
 use Rattle.nt_words.specs.declared.job.Job.{Job}
 use Rattle.nt_words.specs.declared.job.Job.TheVariants as jobs
 use Rattle.nt_words.specs.declared.job.Role.{Role}
-use Rattle.nt_words.specs.declared.job.Role.TheVariants.{Controller, Member, Logon}
+use Rattle.nt_words.specs.declared.job.Role.TheVariants.{Member, Logon}
 use Rattle.nt_words.specs.declared.options.WordsRefused.TheVariants as refusals
-use Rattle.nt_top.specs.declared.answer.Answer.{Answer}
 use Rattle.nt_top.specs.declared.exit.Exit.{Exit}
-use Rattle.nt_top.specs.declared.exit.Exit.TheVariants.{Done, Refused, BadWords, FileFault, BadTable, BadInput, PortFault, SinkFault, NoMemory, Spent}
+use Rattle.nt_top.specs.declared.exit.Exit.TheVariants.{Done, Refused, FileFault, BadTable, PortFault, NoMemory, Spent}
 use Rattle.nt_top.specs.declared.exit.RefusedCause.{RefusedCause}
 use Rattle.nt_top.specs.declared.exit.RefusedCause.TheVariants.{Response}
-use Rattle.nt_top.specs.Check.{AsksCheck, AskedAccepted, AskedRefused}
+use Rattle.nt_top.specs.Check.{AskedAccepted, AskedRefused}
 use Rattle.nt_top.specs.Ends.{SinkChange}
 use Rattle.nt_top.specs.Show.{AskedShown, ShowsAs}
 

@@ -1,8 +1,8 @@
 -- The jobs of the commands with options (this project's own choice): what their words ask for, or the number of the option whose value isn't
 -- of its kind; 0 where the words aren't those of the command. Texts are lists of bytes, numbers have 32 bits.
-use Rattle.std.specs.Prelude.{ℕ, ◌≡◌, Bool, true, false, List, [], ◌∷◌, Option, Some, None, Result, Ok, Err, codes, if◌then◌else◌}
+use Rattle.std.specs.Prelude.{ℕ, Bool, true, false, List, [], ◌∷◌, Option, Some, None, Result, Ok, Err, codes, if◌then◌else◌}
 use Rattle.std.specs.Str.{bytes_eq}
-use Rattle.clap.specs.Words.{App, Row, Text, first_of, matches_of, fault_of}
+use Rattle.clap.specs.Words.{Row, Text, first_of, matches_of, fault_of}
 use Rattle.nt_words.specs.Options.{Choice, choice, first_misfit, number_of}
 use Rattle.nt_words.specs.Words.{app_with}
 use Rattle.nt_words.specs.declared.options.Kind.TheVariants.{Address, Name, File, Number, Level, Auth}

@@ -1,7 +1,7 @@
 -- What the words of a command line ask for (this project's own choice). The first word is the command, and is judged first.
 use Rattle.std.specs.Prelude.{Bool, true, false, List, [], ◌∷◌, Option, Some, None, Result, Ok, Err, codes}
 use Rattle.clap.specs.Words.{Text}
-use Rattle.nt_words.specs.Jobs.{ControllerJob, MemberJob, LogonJob, controller_job, member_job, logon_job, drill_job, is_led_by}
+use Rattle.nt_words.specs.Jobs.{controller_job, member_job, logon_job, drill_job, is_led_by}
 use Rattle.nt_words.specs.declared.job.Job.{Job}
 use Rattle.nt_words.specs.declared.job.Job.TheVariants as jobs
 use Rattle.nt_words.specs.declared.job.Role.{Role}
