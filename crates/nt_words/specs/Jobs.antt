@@ -3,12 +3,12 @@
 use Rattle.std.specs.Prelude.{ℕ, Bool, true, false, List, [], ◌∷◌, Option, Some, None, Result, Ok, Err, codes, if◌then◌else◌}
 use Rattle.std.specs.Str.{bytes_eq}
 use Rattle.clap.specs.Words.{Row, Text, first_of, matches_of, fault_of}
+use Rattle.logon_client.specs.declared.plan.AuthKind.{AuthKind}
+use Rattle.logon_client.specs.declared.plan.AuthKind.TheVariants.{V1, V1Ess, V2}
 use Rattle.nt_words.specs.Options.{Choice, choice, first_misfit, number_of}
 use Rattle.nt_words.specs.Words.{app_with}
 use Rattle.nt_words.specs.declared.options.Kind.TheVariants.{Address, Name, File, Number, Level, Auth}
 use Rattle.nt_words.specs.declared.drill.DrillWords.{DrillWords}
-use Rattle.nt_words.specs.declared.logon.AuthKind.{AuthKind}
-use Rattle.nt_words.specs.declared.logon.AuthKind.TheVariants.{V1, V1Ess, V2}
 use Rattle.nt_words.specs.declared.options.WordsRefused.{WordsRefused}
 use Rattle.nt_words.specs.declared.options.WordsRefused.TheVariants.{BadWords}
 

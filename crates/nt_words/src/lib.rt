@@ -19,7 +19,7 @@ pub use drill::DrillWords;
 pub use files::{ControllerSetup, FilesRefused, SecretSetup};
 pub use job::{CheckWords, Job, Role, ShowWords, job_of};
 pub use laws::{number_is_of_the_first_misfit, what_files_hold};
-pub use logon::{AuthKind, LogonWords};
+pub use logon::LogonWords;
 pub use member::MemberWords;
 pub use options::{Kind, OptionForm, WordsRefused};
 pub use setup::{Setup, set_up};

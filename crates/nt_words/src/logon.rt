@@ -7,19 +7,9 @@ ghost use Rattle.nt_words.specs.Jobs.{is_led_by, level_in, auth_in, logon_form, 
 
 use crate::options::{Kind, OptionForm, WordsRefused, number, text, value};
 use crate::words::read_words;
+use logon_client::AuthKind;
 use std::alloc::Global;
 use std::marker::Model;
-
-/// Which response a client sends.
-#[derive(Clone, Copy, Debug, PartialEq, Eq)]
-pub enum AuthKind {
-    /// Version 1.
-    V1,
-    /// Version 1 with extended session security.
-    V1Ess,
-    /// Version 2.
-    V2,
-}
 
 /// What `nt_logon logon` is asked for.
 #[derive(Debug, Drop)]
