@@ -3,7 +3,8 @@
 `controller.run DOCUMENT NAME CHALLENGES STEP ..`: a controller of this table and name, the challenges that may be drawn (16 hex digits each, joined
 by commas, or `-`), and its events one after the other: `opened/LINK`, `bytes/LINK/BYTES`, `closed/LINK`, `dialled/LINK`, `failed`, `stop`; `at/MOMENT`
 sets the moment, which is 0 before. An event is answered with its actions in order, joined by commas, `-` where there are none, or with the
-refusal; a moment with `-`. The last answer is the number of challenges that are left.
+refusal; a moment with `-`. The last answer is the number of challenges that are left. `controller.line DOCUMENT NAME ACTION`: the line that the
+controller puts for an action, as text: a call that passed with this status (8 hex digits), `barred`, `none`, `send`, `dial`, `close` or `told`.
 
 The actions are worked out here by the rules of docs/FORMATS.md ("The controller"), MS-NRPC 3.1.4 and 3.5.4 and the layouts of C706 12.6; calls
 of the recorded link between Samba's client and its controller are among those that are answered.
@@ -669,9 +670,20 @@ def published_cases():
     return out
 
 
+def line_cases():
+    """The lines of judged calls (docs/FORMATS.md, "Commands, exits and what is printed"); other actions put none."""
+    words = [document([ANN], [FILE1], HEAD), b"PDC1"]
+    out = []
+    for status in ["00000000", "c000006a", "C0000234", "0000000a"]:
+        out.append((line("controller.line", *words, status), f'"passed {status.lower()}\\n"'))
+    for action, text in [("barred", "barred\\n"), ("none", "no channel\\n"), ("send", ""), ("dial", ""), ("close", ""), ("told", "")]:
+        out.append((line("controller.line", *words, action), f'"{text}"'))
+    return out
+
+
 def cases():
     """Each line and its answer."""
     return (
         link_cases() + piece_cases() + many_links() + context_cases() + fragment_cases() + opening_cases() + logon_cases() + recorded_cases()
-        + published_cases()
+        + published_cases() + line_cases()
     )

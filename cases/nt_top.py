@@ -2,9 +2,9 @@
 
 `top.run ROLE FAILING WORD..` (the exit, its status, its line, what was put as text, and that all that the outside in memory kept is still
 told; `-` is an empty word), `top.narrow ROLE FAILING WORD..` (the same over a sink that takes at most three bytes of a piece),
-`top.exit NAME NUMBER` (the exit, its status and its line), `top.say FAILING NAME NUMBER` (whether the exit was said into a sink of errors, and
-what was put). FAILING are the numbers of the sink's calls that fail. `lines.in LINK DOMAIN USER`, `lines.out LINK STATUS`, `lines.none LINK` and
-`lines.judged STATUS`, `barred` or `none` are the lines of a serving program: a link is a decimal number, a status eight hex digits.
+`top.exit NAME NUMBER` (the exit, its status and its line), `top.say FAILING NAME NUMBER` (the status of the exit that is reported to a sink of
+errors, and what was put). FAILING are the numbers of the sink's calls that fail. `lines.in LINK DOMAIN USER`, `lines.out LINK STATUS` and `lines.none LINK`
+are the lines of a serving member server: a link is a decimal number, a status eight hex digits.
 
 The commands, exits and lines are this project's own choice (docs/FORMATS.md, "Commands, exits and what is printed"); whether a response
 stands is a published value.
@@ -67,6 +67,8 @@ EXITS = {
     "PortFault": ("PortFault", 5, "port failed"),
     "SinkFault": ("SinkFault", 6, "output failed"),
     "NoMemory": ("NoMemory", 7, "no memory"),
+    "NoAnswer": ("NoAnswer(LinkClosed)", 8, "no answer"),
+    "BadPeer": ("BadPeer(BadUnit)", 9, "bad peer"),
     "Spent": ("Spent", 10, "challenges spent"),
 }
 
@@ -304,14 +306,16 @@ def of_exits():
         out += [(line("top.exit", name, number), ending(name, number)) for number in numbers]
         said = EXITS[name][2].format(numbers[-1])
         put = said and said + "\n"
-        out.append((line("top.say", "", name, numbers[-1]), f"Ok(());{text(put)};told"))
-        failed = "Err(Failed)" if put else "Ok(())"
-        out.append((line("top.say", "0", name, numbers[-1]), f'{failed};"";told'))
+        status = EXITS[name][1]
+        out.append((line("top.say", "", name, numbers[-1]), f"{status};{text(put)};told"))
+        # The sink fails at once, or it fails after all was taken.
+        out.append((line("top.say", "0", name, numbers[-1]), f'{status};"";told'))
+        out.append((line("top.say", "1", name, numbers[-1]), f"{status};{text(put)};told"))
     return out
 
 
 def of_lines():
-    """The lines of a serving program; a unit outside 0x20 to 0x7E is a question mark."""
+    """The lines of a serving member server; a unit outside 0x20 to 0x7E is a question mark."""
     out = []
     for domain, user, shown_as in [
         ("CORP", "ann", "CORP\\\\ann"),
@@ -323,10 +327,7 @@ def of_lines():
         out.append((line("lines.in", 4294967295, *words), f'"link 4294967295 in {shown_as}\\n"'))
     for link, status in [(0, "c000006a"), (1, "00000000"), (1000, "C0000234")]:
         out.append((line("lines.out", link, status), f'"link {link} out {status.lower()}\\n"'))
-        out.append((line("lines.judged", status), f'"passed {status.lower()}\\n"'))
     out.append((line("lines.none", 7), '"link 7 no controller\\n"'))
-    out.append((line("lines.judged", "barred"), '"barred\\n"'))
-    out.append((line("lines.judged", "none"), '"no channel\\n"'))
     return out
 
 

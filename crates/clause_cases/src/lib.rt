@@ -11,6 +11,4 @@ mod process;
 #[cfg(test)]
 mod sockets;
 #[cfg(test)]
-mod standard_error;
-#[cfg(test)]
 mod standard_output;

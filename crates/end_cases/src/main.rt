@@ -21,7 +21,7 @@ fn answer(alloc: Global, words: &[&str]) -> anyhow::Result<String> {
     let (part, operation) = word(words, 0).split_once('.').unwrap_or(("", ""));
     match part {
         "client" => clients::run(alloc, words),
-        "controller" => controllers::run(alloc, words),
+        "controller" => controllers::answer(alloc, operation, words),
         "links" => links::answer(alloc, operation, words),
         "loop" => serves::answer(alloc, operation, words),
         "turns" => turns::answer(alloc, operation, words),

@@ -14,13 +14,13 @@ use Rattle.nt_words.specs.declared.options.WordsRefused.{WordsRefused}
 use Rattle.nt_words.specs.declared.options.WordsRefused.TheVariants as refusals
 use Rattle.nt_top.specs.declared.answer.Answer.{Answer}
 use Rattle.nt_top.specs.declared.exit.Exit.{Exit}
-use Rattle.nt_top.specs.declared.exit.Exit.TheVariants.{Done, Refused, BadWords, FileFault, BadTable, BadInput, PortFault, SinkFault, NoMemory, Spent}
-use Rattle.nt_top.specs.declared.exit.RefusedCause.{RefusedCause}
-use Rattle.nt_top.specs.declared.exit.RefusedCause.TheVariants.{Response}
+use Rattle.nt_top.specs.declared.exit.Exit.TheVariants.{Done, Refused, BadWords, FileFault, BadTable, BadInput, PortFault, SinkFault, NoMemory, NoAnswer, BadPeer, Spent}
+use Rattle.logon_client.specs.declared.outcome.RefusedCause.{RefusedCause}
+use Rattle.logon_client.specs.declared.outcome.RefusedCause.TheVariants.{Response}
 use Rattle.nt_top.specs.Answers.{answer_of, answer_from}
 use Rattle.nt_top.specs.Causes.{Comes, IsBadInput, IsBadWords, OutOfForm, NotBuilt, IsDone, IsOfForm, IsOfTheCommands, IsRefused, IsWorkDone}
 use Rattle.nt_top.specs.Check.{check_answer, verdict_answer, accepts_of, AsksCheck, AskedAccepted, AskedRefused}
-use Rattle.nt_top.specs.Ends.{Ends, SinkChange}
+use Rattle.nt_top.specs.Ends.{Ends, IsExitOf, SinkChange}
 use Rattle.nt_top.specs.Show.{show_answer, shown, AskedShown}
 use Rattle.nt_top.proofs.CheckLaws.{accepts_is, check_answer-is, check_is_bad, check_ok, decided, refuses_is}
 use Rattle.nt_top.proofs.JobLaws.{Refusal, OfWords, Unbuilt, OfCheck, OfShow, OfMemory, answer_err, answer_ok, job_of_check, job_of_show, unbuilt_answer}
@@ -285,6 +285,23 @@ input_only role words s exit number ends is =
     let came = input_of (answer_of role words) s number (subst (λ (x : Exit). Ends (answer_of role words) s x) is ends) in
     input_why role words number (answer_err (job_of role words) (BadInput number) came)
 
+-- ---- the exit alone
+
+pub exit_is : (came : Result Answer Exit) (s : SinkChange) (exit : Exit) → Ends came s exit → IsExitOf came exit
+exit_is (Err refusal) s exit ends = ends.0
+exit_is (Ok answer) s Done ends = ends.0
+exit_is (Ok answer) s (Refused cause) ends = ends.0
+exit_is (Ok answer) s SinkFault ends = _
+exit_is (Ok answer) s NoMemory ends = _
+exit_is (Ok answer) s (BadWords number) ends = absurd ends
+exit_is (Ok answer) s FileFault ends = absurd ends
+exit_is (Ok answer) s (BadTable cause) ends = absurd ends
+exit_is (Ok answer) s (BadInput number) ends = absurd ends
+exit_is (Ok answer) s PortFault ends = absurd ends
+exit_is (Ok answer) s (NoAnswer cause) ends = absurd ends
+exit_is (Ok answer) s (BadPeer fault) ends = absurd ends
+exit_is (Ok answer) s Spent ends = absurd ends
+
 -- ---- other exits
 
 of_the_commands : (exit : Exit) → IsAlone exit → IsOfTheCommands exit
@@ -297,6 +314,8 @@ of_the_commands SinkFault is = tt
 of_the_commands FileFault is = absurd is
 of_the_commands (BadTable cause) is = absurd is
 of_the_commands PortFault is = absurd is
+of_the_commands (NoAnswer cause) is = absurd is
+of_the_commands (BadPeer fault) is = absurd is
 of_the_commands Spent is = absurd is
 
 answer_exit : (answer : Answer) (s : SinkChange) (exit : Exit) → Ends (Ok answer) s exit → IsOfTheCommands exit
@@ -309,6 +328,8 @@ answer_exit answer s SinkFault is = tt
 answer_exit answer s FileFault is = absurd is
 answer_exit answer s (BadTable cause) is = absurd is
 answer_exit answer s PortFault is = absurd is
+answer_exit answer s (NoAnswer cause) is = absurd is
+answer_exit answer s (BadPeer fault) is = absurd is
 answer_exit answer s Spent is = absurd is
 
 others_by : (role : Role) (words : List (List ℕ)) (s : SinkChange) (exit : Exit) (came : Result Answer Exit) → answer_of role words ≡ came → Ends came s exit → IsOfTheCommands exit
@@ -337,6 +358,8 @@ check_done accepted s (BadInput number) still ends = absurd ends
 check_done accepted s FileFault still ends = absurd ends
 check_done accepted s (BadTable cause) still ends = absurd ends
 check_done accepted s PortFault still ends = absurd ends
+check_done accepted s (NoAnswer cause) still ends = absurd ends
+check_done accepted s (BadPeer fault) still ends = absurd ends
 check_done accepted s Spent still ends = absurd ends
 
 show_done : (lines : List ℕ) (s : SinkChange) (exit : Exit) → ¬ Rose s.faults_before s.faults → Ends (Ok (shown lines)) s exit → IsWorkDone Logon exit
@@ -349,6 +372,8 @@ show_done lines s (BadInput number) still ends = absurd ends
 show_done lines s FileFault still ends = absurd ends
 show_done lines s (BadTable cause) still ends = absurd ends
 show_done lines s PortFault still ends = absurd ends
+show_done lines s (NoAnswer cause) still ends = absurd ends
+show_done lines s (BadPeer fault) still ends = absurd ends
 show_done lines s Spent still ends = absurd ends
 
 pub work_done : (role : Role) (words : List (List ℕ)) (s : SinkChange) (exit : Exit) → Ends (answer_of role words) s exit → IsOfForm role words → ¬ Rose s.faults_before s.faults → IsWorkDone role exit

@@ -31,7 +31,8 @@ answer_of role words = answer_from (job_of role words)
 -- the exit that is seen in a job without memory
 abbrev pub job_exit_at_once : Job → Option Exit
 job_exit_at_once (jobs.Check job) = texts_at_once job.hash job.challenge
-job_exit_at_once _ = None
+job_exit_at_once (jobs.Show job) = None
+job_exit_at_once _ = Some (BadWords 0)
 
 abbrev pub from_at_once : Option (Result Job WordsRefused) → Option Exit
 from_at_once None = None

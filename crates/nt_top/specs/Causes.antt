@@ -12,9 +12,9 @@ use Rattle.nt_words.specs.declared.job.Role.{Role}
 use Rattle.nt_words.specs.declared.job.Role.TheVariants.{Member, Logon}
 use Rattle.nt_words.specs.declared.options.WordsRefused.TheVariants as refusals
 use Rattle.nt_top.specs.declared.exit.Exit.{Exit}
-use Rattle.nt_top.specs.declared.exit.Exit.TheVariants.{Done, Refused, FileFault, BadTable, PortFault, NoMemory, Spent}
-use Rattle.nt_top.specs.declared.exit.RefusedCause.{RefusedCause}
-use Rattle.nt_top.specs.declared.exit.RefusedCause.TheVariants.{Response}
+use Rattle.nt_top.specs.declared.exit.Exit.TheVariants.{Done, Refused, FileFault, BadTable, PortFault, NoMemory, NoAnswer, BadPeer, Spent}
+use Rattle.logon_client.specs.declared.outcome.RefusedCause.{RefusedCause}
+use Rattle.logon_client.specs.declared.outcome.RefusedCause.TheVariants.{Response}
 use Rattle.nt_top.specs.Check.{AskedAccepted, AskedRefused}
 use Rattle.nt_top.specs.Ends.{SinkChange}
 use Rattle.nt_top.specs.Show.{AskedShown, ShowsAs}
@@ -93,6 +93,8 @@ abbrev pub IsOfTheCommands : Exit → Type 0
 IsOfTheCommands FileFault = ⊥
 IsOfTheCommands (BadTable cause) = ⊥
 IsOfTheCommands PortFault = ⊥
+IsOfTheCommands (NoAnswer cause) = ⊥
+IsOfTheCommands (BadPeer fault) = ⊥
 IsOfTheCommands Spent = ⊥
 IsOfTheCommands _ = Unit {0}
 

@@ -7,7 +7,7 @@ use Rattle.ntlm_responses.specs.Verification.{MessageVerifies, message_verifies}
 use Rattle.nt_top.specs.declared.answer.Answer.{Answer}
 use Rattle.nt_top.specs.declared.exit.Exit.{Exit}
 use Rattle.nt_top.specs.declared.exit.Exit.TheVariants.{BadInput}
-use Rattle.nt_top.specs.declared.exit.RefusedCause.TheVariants.{Response}
+use Rattle.logon_client.specs.declared.outcome.RefusedCause.TheVariants.{Response}
 use Rattle.nt_words.specs.declared.job.Role.{Role}
 use Rattle.nt_words.specs.declared.job.Role.TheVariants.{Member}
 use Rattle.nt_top.specs.Needs.{needs}

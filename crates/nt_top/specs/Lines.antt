@@ -1,11 +1,9 @@
--- The lines of a serving program (this project's own choice): one for each logon whose outcome is told, and one for each logon call that is
--- judged. Texts are lists of 16-bit units, a line is a list of bytes.
+-- The lines of a serving member server (this project's own choice): one for each logon whose outcome is told. Texts are lists of 16-bit
+-- units, a line is a list of bytes.
 use Rattle.std.specs.Prelude.{ℕ, List, map, ◌++◌, codes, if◌then◌else◌}
 use Rattle.std.specs.Fmt.{decimal}
 use Rattle.std.specs.Int.{w32, to_be_bytes, is_in_range}
 use Rattle.hex.specs.Hex.{encode_lower}
-use Rattle.outside.specs.declared.action.Judged.{Judged}
-use Rattle.outside.specs.declared.action.Judged.TheVariants.{Passed, Barred, NoChannel}
 use Rattle.outside.specs.declared.action.Outcome.{Outcome}
 use Rattle.outside.specs.declared.action.Outcome.TheVariants.{In, Out, NoController}
 
@@ -29,9 +27,3 @@ outcome_text (NoController cause) = codes "no controller"
 -- the line of a logon on a link
 unfoldable pub told_text : ℕ → Outcome → List ℕ
 told_text link outcome = codes "link " ++ decimal link ++ codes " " ++ outcome_text outcome ++ codes "\n"
-
--- the line of a logon call that was judged
-abbrev pub judged_text : Judged → List ℕ
-judged_text (Passed status) = codes "passed " ++ status_text status ++ codes "\n"
-judged_text Barred = codes "barred\n"
-judged_text NoChannel = codes "no channel\n"

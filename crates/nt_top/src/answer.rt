@@ -1,6 +1,6 @@
 //! What a command comes to.
 
-use crate::exit::RefusedCause;
+use logon_client::RefusedCause;
 use wire_base::Blob;
 
 /// What a command puts where its words are of their form, and whether it refused a logon.

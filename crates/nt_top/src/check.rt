@@ -6,9 +6,10 @@ ghost use Rattle.ntlm_messages.specs.Fields.{IsText};
 ghost use Rattle.nt_top.specs.Check.{accepts_of, check_answer, judged, texts_at_once, verdict_answer};
 
 use crate::answer::Answer;
-use crate::exit::{Exit, RefusedCause};
+use crate::exit::Exit;
 use crate::words::{bytes_from_hex, message_exit};
 use hex::FromHex;
+use logon_client::RefusedCause;
 use ntlm_messages::{Authenticate, read_authenticate, units_of_text};
 use ntlm_responses::{challenge_for, verify};
 use std::alloc::Global;

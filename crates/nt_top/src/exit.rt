@@ -3,16 +3,10 @@
 ghost use Rattle.std.specs.Prelude.{◌≡◌};
 
 use account_table::TableRefused;
+use logon_client::{NoAnswerCause, PeerFault, RefusedCause};
 use nt_words::{FilesRefused, WordsRefused};
 use std::alloc::AllocError;
 use wire_base::NoMemory;
-
-/// Why a logon was refused.
-#[derive(Clone, Copy, Debug, PartialEq, Eq)]
-pub enum RefusedCause {
-    /// The response isn't that of the hash to the challenge.
-    Response,
-}
 
 /// How a command ended.
 #[derive(Debug, Drop)]
@@ -35,6 +29,10 @@ pub enum Exit {
     SinkFault,
     /// No memory was found.
     NoMemory,
+    /// No answer came to a logon.
+    NoAnswer(NoAnswerCause),
+    /// A logon was answered wrongly.
+    BadPeer(PeerFault),
     /// The end draws a challenge and none is left.
     Spent,
 }
@@ -107,6 +105,8 @@ impl Exit {
             Exit::PortFault => 5,
             Exit::SinkFault => 6,
             Exit::NoMemory => 7,
+            Exit::NoAnswer(_) => 8,
+            Exit::BadPeer(_) => 9,
             Exit::Spent => 10,
         }
     }

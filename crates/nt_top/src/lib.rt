@@ -7,15 +7,13 @@ mod exit;
 mod launch;
 mod lines;
 mod show;
-mod standard_error;
 mod texts;
 mod top;
 mod words;
 
-pub use exit::{Exit, RefusedCause};
+pub use exit::Exit;
 pub use launch::start;
-pub use lines::{judged_line, told_line};
+pub use lines::told_line;
 pub use nt_words::Role;
-pub use standard_error::ErrorSink;
-pub use texts::{NotSaid, exit_line, say_exit};
+pub use texts::{exit_line, exit_text, report};
 pub use top::run;

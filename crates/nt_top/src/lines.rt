@@ -1,9 +1,9 @@
-//! The lines of a serving program.
+//! The lines of a serving member server.
 
 ghost use Rattle.std.specs.Prelude.{◌≡◌, ◌++◌, IfOk, OnOk, codes};
-ghost use Rattle.nt_top.specs.Lines.{judged_text, outcome_text, shown_text, shown_unit, status_text, told_text};
+ghost use Rattle.nt_top.specs.Lines.{outcome_text, shown_text, shown_unit, status_text, told_text};
 
-use outside::{Judged, Outcome};
+use outside::Outcome;
 use std::alloc::{AllocError, Global};
 use wire_base::{Blob, NoMemory, Units};
 
@@ -17,29 +17,6 @@ pub fn told_line(alloc: Global, link: u32, outcome: &Outcome) -> Result<Blob, No
     let front = format!(in alloc; "link {link} ")?;
     line.extend_from_slice(front.as_bytes())?;
     put_outcome(&mut line, outcome)?;
-    line.push(b'\n')?;
-    Ok(Blob::from_vec(line))
-}
-
-/// The line of a logon call that was judged, with its newline: the NTSTATUS of the reply where its authenticator passed (this project's
-/// own choice).
-pub fn judged_line(alloc: Global, judged: &Judged) -> Result<Blob, NoMemory>
-    ensures { IfOk result (λ line. line ≡ judged_text judged.now) }
-{
-    match judged {
-        Judged::Passed(status) => passed_line(alloc, *status),
-        Judged::Barred => Blob::copy(alloc, b"barred\n"),
-        Judged::NoChannel => Blob::copy(alloc, b"no channel\n"),
-    }
-}
-
-/// The line of a call that passed.
-fn passed_line(alloc: Global, status: u32) -> Result<Blob, NoMemory>
-    ensures { IfOk result (λ line. line ≡ judged_text (Judged.Passed status)) }
-{
-    let mut line = Vec::new(alloc);
-    line.extend_from_slice(b"passed ")?;
-    put_status(&mut line, status)?;
     line.push(b'\n')?;
     Ok(Blob::from_vec(line))
 }

@@ -65,7 +65,8 @@ fn show_challenge(alloc: Global, message: &Challenge) -> Result<Blob, Exit>
 /// The pairs of a target information, which may be empty.
 fn info_pairs(alloc: Global, info: &[u8]) -> Result<Pairs, Exit>
     ensures { MatchResult result (λ pairs. info_pairs info.now ≡ Ok pairs)
-        (λ exit. (exit ≡ Exit.NoMemory) ⊎ ((exit ≡ Exit.BadInput 1) × IsErr (info_pairs info.now))) }
+        (λ exit. (exit ≡ Exit.NoMemory) ⊎
+        ((exit ≡ Exit.BadInput 1) × IsErr (info_pairs info.now))) }
 {
     if info.is_empty() {
         return Ok(Pairs::new(alloc));

@@ -1,25 +1,15 @@
-//! What is said of an exit on standard error.
+//! What is said of an exit on standard error, and by the status of the process.
 
-ghost use Rattle.std.specs.Prelude.{◌≡◌, ◌≤◌, ◌++◌, IfOk, OnOk, IsErr, Err, codes};
+ghost use Rattle.std.specs.Prelude.{◌≡◌, ◌≤◌, ◌++◌, IfOk, codes};
 ghost use Rattle.std.specs.Fmt.{decimal};
-ghost use Rattle.outside.specs.Causes.{Rose};
-ghost use Rattle.outside.specs.Telling.{Appends, AppendsFront};
-ghost use Rattle.nt_top.specs.Exits.{line_of, said_of};
+ghost use Rattle.nt_top.specs.Ends.{IsSaid, change_of};
+ghost use Rattle.nt_top.specs.Exits.{line_of, said_of, status_of};
 
 use crate::exit::Exit;
 use end_loop::put_all;
-use outside::Sink;
+use outside::{Failed, Sink};
 use std::alloc::Global;
 use wire_base::{Blob, NoMemory};
-
-/// Why the line of an exit wasn't said.
-#[derive(Clone, Copy, Debug, PartialEq, Eq)]
-pub enum NotSaid {
-    /// The sink failed, and a front of the line was put.
-    Failed,
-    /// No memory was found, and nothing was put.
-    Memory,
-}
 
 /// The line that is printed on standard error for an exit, without its newline: empty for `Done` (this project's own choice).
 pub fn exit_line(alloc: Global, exit: &Exit) -> Result<Blob, NoMemory>
@@ -35,6 +25,8 @@ pub fn exit_line(alloc: Global, exit: &Exit) -> Result<Blob, NoMemory>
         Exit::PortFault => Blob::copy(alloc, b"port failed"),
         Exit::SinkFault => Blob::copy(alloc, b"output failed"),
         Exit::NoMemory => Blob::copy(alloc, b"no memory"),
+        Exit::NoAnswer(_) => Blob::copy(alloc, b"no answer"),
+        Exit::BadPeer(_) => Blob::copy(alloc, b"bad peer"),
         Exit::Spent => Blob::copy(alloc, b"challenges spent"),
     }
 }
@@ -47,30 +39,8 @@ fn numbered(alloc: Global, text: &str, number: u32) -> Result<Blob, NoMemory>
     Blob::copy(alloc, line.as_bytes())
 }
 
-/// Says an exit: puts its line and a newline into the sink of errors, or nothing where the line is empty. Refuses with `Memory` before
-/// anything is put, and with `Failed` where the sink failed.
-pub fn say_exit<S: Sink>(alloc: Global, exit: &Exit, errors: &mut S) -> Result<(), NotSaid>
-    ensures said { OnOk result (Appends (S.taken errors.old) (S.taken errors.new)
-        (said_of exit.now)) }
-    ensures memory { result ≡ Err NotSaid.Memory → errors.new ≡ errors.old }
-    ensures failed { result ≡ Err NotSaid.Failed →
-        Rose (S.faults errors.old) (S.faults errors.new) }
-    ensures front { result ≡ Err NotSaid.Failed →
-        AppendsFront (S.taken errors.old) (S.taken errors.new) (said_of exit.now) }
-    ensures faults { S.faults errors.old ≤ S.faults errors.new }
-{
-    let text = match text_said(alloc, exit) {
-        Ok(text) => text,
-        Err(_) => return Err(NotSaid::Memory),
-    };
-    match put_all(errors, text.bytes()) {
-        Ok(()) => Ok(()),
-        Err(_) => Err(NotSaid::Failed),
-    }
-}
-
-/// The line of an exit and a newline, or nothing where the line is empty.
-fn text_said(alloc: Global, exit: &Exit) -> Result<Blob, NoMemory>
+/// What is put on standard error for an exit: its line and a newline, or nothing where the line is empty.
+pub fn exit_text(alloc: Global, exit: &Exit) -> Result<Blob, NoMemory>
     ensures { IfOk result (λ text. text ≡ said_of exit.now) }
 {
     let line = exit_line(alloc, exit)?;
@@ -87,4 +57,19 @@ fn with_newline(line: Blob) -> Result<Blob, NoMemory>
     let mut bytes = line.into_vec();
     bytes.push(b'\n')?;
     Ok(Blob::from_vec(bytes))
+}
+
+/// Reports how a command ended: puts the text of its exit into the sink of errors, and gives the status. Where the sink fails a front of
+/// the text is put, and the status alone tells how the command ended. It takes no memory.
+pub fn report<S: Sink>(exit: &Exit, text: &[u8], errors: &mut S) -> u8
+    requires { text.now ≡ said_of exit.now }
+    ensures status { result ≡ status_of exit.now }
+    ensures said { IsSaid (said_of exit.now)
+        (change_of S.taken S.faults errors.old errors.new) }
+    ensures faults { S.faults errors.old ≤ S.faults errors.new }
+{
+    match put_all(errors, text) {
+        Ok(()) => exit.status(),
+        Err(Failed) => exit.status(),
+    }
 }

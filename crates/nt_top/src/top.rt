@@ -10,7 +10,7 @@ ghost use Rattle.nt_top.specs.Check.{AskedAccepted, AskedRefused, verdict_answer
 ghost use Rattle.nt_top.specs.Ends.{Ends, IsExitOf, change_of};
 ghost use Rattle.nt_top.specs.Show.{AskedShown, shown};
 ghost use Rattle.nt_top.specs.declared.exit.Exit.{Exit};
-ghost use Rattle.nt_top.specs.declared.exit.RefusedCause.{RefusedCause};
+ghost use Rattle.logon_client.specs.declared.outcome.RefusedCause.{RefusedCause};
 
 use crate::answer::Answer;
 use crate::check::check;

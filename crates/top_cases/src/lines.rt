@@ -1,8 +1,8 @@
-//! Cases of the lines of a serving program.
+//! Cases of the lines of a serving member server.
 
 use case_words::{flags, no_case, number, text_units, word};
-use nt_top::{judged_line, told_line};
-use outside::{DropCause, Judged, Outcome};
+use nt_top::told_line;
+use outside::{DropCause, Outcome};
 use std::alloc::Global;
 use wire_base::Blob;
 
@@ -34,23 +34,12 @@ fn none_case(alloc: Global, words: &[&str]) -> anyhow::Result<String> {
     text_of_line(alloc, &told_line(alloc, number(word(words, 1))?, &outcome)?)
 }
 
-/// `judged STATUS`, or `judged barred`, or `judged none`: the line of a call that was judged.
-fn judged_case(alloc: Global, words: &[&str]) -> anyhow::Result<String> {
-    let judged = match word(words, 1) {
-        "barred" => Judged::Barred,
-        "none" => Judged::NoChannel,
-        status => Judged::Passed(flags(status)?),
-    };
-    text_of_line(alloc, &judged_line(alloc, &judged)?)
-}
-
 /// What an operation gives.
 pub(crate) fn answer(alloc: Global, operation: &str, words: &[&str]) -> anyhow::Result<String> {
     match operation {
         "in" => in_case(alloc, words),
         "out" => out_case(alloc, words),
         "none" => none_case(alloc, words),
-        "judged" => judged_case(alloc, words),
         _ => no_case(alloc),
     }
 }

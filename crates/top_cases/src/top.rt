@@ -4,7 +4,8 @@ use crate::line::{calls, command_line, role};
 use crate::narrow::NarrowSink;
 use account_table::TableRefused;
 use case_words::{no_case, number, word};
-use nt_top::{Exit, RefusedCause, Role, exit_line, run, say_exit};
+use logon_client::{NoAnswerCause, PeerFault, RefusedCause};
+use nt_top::{Exit, Role, exit_line, exit_text, report, run};
 use outside::{ListChances, ListClock, MapFiles, ScriptPort, Sink, VecSink};
 use std::alloc::Global;
 use wire_base::List;
@@ -73,6 +74,8 @@ fn exit_of(name: &str, number: u32) -> Exit {
         "BadInput" => Exit::BadInput(number),
         "PortFault" => Exit::PortFault,
         "SinkFault" => Exit::SinkFault,
+        "NoAnswer" => Exit::NoAnswer(NoAnswerCause::LinkClosed),
+        "BadPeer" => Exit::BadPeer(PeerFault::BadUnit),
         "Spent" => Exit::Spent,
         _ => Exit::NoMemory,
     }
@@ -84,14 +87,15 @@ fn exit_case(alloc: Global, words: &[&str]) -> anyhow::Result<String> {
     text_of_exit(alloc, &exit_of(word(words, 1), number))
 }
 
-/// `say FAILING NAME NUMBER`: whether the exit was said into a sink of which these calls fail, and what was put.
+/// `say FAILING NAME NUMBER`: the status of the exit that is reported to a sink of which these calls fail, and what was put.
 fn say_case(alloc: Global, words: &[&str]) -> anyhow::Result<String> {
     let exit = exit_of(word(words, 2), number(word(words, 3))?);
     let mut errors = VecSink::new(alloc, calls(alloc, word(words, 1))?);
-    let said = say_exit(alloc, &exit, &mut errors);
+    let text = exit_text(alloc, &exit)?;
+    let status = report(&exit, text.bytes(), &mut errors);
     let put = str::from_utf8(errors.bytes()).unwrap_or("no text");
     let told = if errors.tells() { "told" } else { "not told" };
-    Ok(format!(in alloc; "{said:?};{put:?};{told}")?)
+    Ok(format!(in alloc; "{status};{put:?};{told}")?)
 }
 
 /// What an operation gives.
