@@ -101,6 +101,15 @@ impl Controller {
         }
     }
 
+    /// The accounts as they stand, and the name: all that is left of it once it is made anew. It takes no memory.
+    pub fn into_parts(self) -> (Table, Name)
+        ensures table { result.0 ≡ self.table }
+        ensures name { result.1 ≡ self.name }
+    {
+        let Controller { table, name, .. } = self;
+        (table, name)
+    }
+
     /// The bytes that it holds for its links: the rests of their streams, and the stub bytes of open calls. None once it has stopped. They are at most
     /// what 256 links hold. It takes no memory.
     pub fn held(&self) -> u64
