@@ -1,11 +1,12 @@
 //! What a client is to do.
 
-ghost use Rattle.std.specs.Prelude.{◌≡◌, ◌≤◌};
+ghost use Rattle.std.specs.Prelude.{◌≡◌, ◌≤◌, IfOk};
 ghost use Rattle.logon_client.specs.Plans.{CanLogOn, is_sealed, offer_of};
 
 use ntlm_flags::{OFFERED_FLAGS, OFFERED_FLAGS_V1};
+use std::alloc::Global;
 use std::marker::Model;
-use wire_base::{Blob, Units};
+use wire_base::{Blob, NoMemory, Units};
 
 /// The responses that a client gives (MS-NLMP 3.3.1, 3.3.2).
 #[derive(Clone, Copy, Debug, PartialEq, Eq)]
@@ -49,6 +50,24 @@ pub struct ClientPlan {
     pub auth: AuthKind,
     /// How many bytes are echoed, at most 4,096; 0 where none are.
     pub echo: u32,
+}
+
+impl ClientPlan {
+    /// An equal plan.
+    pub fn copy(&self, alloc: Global) -> Result<ClientPlan, NoMemory>
+        ensures { IfOk result (λ plan. plan ≡ self.now) }
+    {
+        Ok(ClientPlan {
+            server: Blob::copy(alloc, self.server.bytes())?,
+            domain: self.domain.duplicate(alloc)?,
+            user: self.user.duplicate(alloc)?,
+            workstation: self.workstation.duplicate(alloc)?,
+            hash: self.hash,
+            level: self.level,
+            auth: self.auth,
+            echo: self.echo,
+        })
+    }
 }
 
 /// A plan that a client can follow, seen as the plan.
