@@ -97,3 +97,22 @@ NumbersTheFirstMisfit = (first number : ℕ) (choices : List Choice) (rows : Lis
 -- where there is none, each value is right
 abbrev pub MissesNone : Type 0
 MissesNone = (first : ℕ) (choices : List Choice) (rows : List Row) → first_misfit first choices rows ≡ None → list_all (suits_in rows) choices ≡ true
+
+-- ---- options whose values are files
+
+abbrev pub is_file : Kind → Bool
+is_file Address = false
+is_file Name = false
+is_file File = true
+is_file (Number most) = false
+is_file Level = false
+is_file Auth = false
+
+abbrev pub add_file : Bool → ℕ → Text → List (ℕ × Text) → List (ℕ × Text)
+add_file true number name later = (number, name) ∷ later
+add_file false number name later = later
+
+-- their numbers, where the first option has the number `first`, and their names
+abbrev pub file_options : ℕ → List Choice → List (ℕ × Text)
+file_options first [] = []
+file_options first (choice ∷ more) = add_file (is_file choice.kind) first choice.name (file_options (first + 1) more)

@@ -1,7 +1,9 @@
 -- What the words of a command line ask for (this project's own choice). The first word is the command, and is judged first.
-use Rattle.std.specs.Prelude.{Bool, true, false, List, [], ◌∷◌, Option, Some, None, Result, Ok, Err, codes}
-use Rattle.clap.specs.Words.{Text}
-use Rattle.nt_words.specs.Jobs.{controller_job, member_job, logon_job, drill_job, is_led_by}
+use Rattle.std.specs.Prelude.{◌≡◌, ◌≢◌, ℕ, Bool, true, false, List, [], ◌∷◌, Option, Some, None, Result, Ok, Err, codes}
+use Rattle.clap.specs.Words.{Text, fault_of, matches_of}
+use Rattle.nt_words.specs.Jobs.{Form, controller_form, controller_job, member_form, member_job, logon_form, logon_job, drill_form, drill_job, is_led_by}
+use Rattle.nt_words.specs.Options.{IsFirstMisfit}
+use Rattle.nt_words.specs.Words.{app_with}
 use Rattle.nt_words.specs.declared.job.Job.{Job}
 use Rattle.nt_words.specs.declared.job.Job.TheVariants as jobs
 use Rattle.nt_words.specs.declared.job.Role.{Role}
@@ -63,3 +65,24 @@ abbrev pub job_at_once : Role → List Text → Option (Result Job WordsRefused)
 job_at_once Controller words = unless_led (is_led_by (codes "serve") words)
 job_at_once Member words = member_at_once (is_led_by (codes "check") words) words
 job_at_once Logon words = logon_at_once (is_led_by (codes "show") words) words
+
+-- ---- refused words in their own terms
+
+-- a command with options of a program
+pub data IsFormOf : Role → Form → Type 0 where
+  OfController : IsFormOf Controller controller_form
+  OfMember : IsFormOf Member member_form
+  OfLogon : IsFormOf Logon logon_form
+  OfDrill : IsFormOf Logon drill_form
+
+-- The command leads the words, and `clap` finds no fault in them; the number is that of the first of its options whose value isn't right.
+pub record IsMisfit (form : Form) (words : List Text) (number : ℕ) : Type 0 where
+  pub led : is_led_by form.name words ≡ true
+  pub whole : fault_of (app_with form.name form.choices) words ≡ []
+  pub first : IsFirstMisfit 1 form.choices (matches_of (app_with form.name form.choices) words) number
+
+-- Words that are refused with another number than 0 are those of a command of the program, and it is the number of its first option whose
+-- value isn't right.
+abbrev pub BadWordsNumberAMisfit : Type 0
+BadWordsNumberAMisfit = (role : Role) (words : List Text) (number : ℕ) → job_of role words ≡ Err (BadWords number) → number ≢ 0 →
+    (form : Form) × IsFormOf role form × IsMisfit form words number

@@ -200,9 +200,9 @@ fn file_refused(number: u32, refused: FileRefused) -> FilesRefused
     }
 }
 
-/// The seed that the bytes are.
+/// The seed that the bytes are. No memory is looked for.
 fn seed_from(number: u32, content: &[u8]) -> Result<[u8; 32], FilesRefused>
-    ensures { Judges number result (seed_in number content.now) }
+    ensures { result ≡ seed_in number content.now }
 {
     match <[u8; 32]>::try_from(content) {
         Ok(seed) => Ok(seed),
@@ -210,10 +210,10 @@ fn seed_from(number: u32, content: &[u8]) -> Result<[u8; 32], FilesRefused>
     }
 }
 
-/// The secret that the bytes write.
+/// The secret that the bytes write. No memory is looked for.
 #[tactic(auto, unfolding(crate::specs::Files::secret_in))]
 fn secret_from(number: u32, content: &[u8]) -> Result<[u8; 16], FilesRefused>
-    ensures { Judges number result (secret_in number content.now) }
+    ensures { result ≡ secret_in number content.now }
 {
     if content.len() < 32 {
         return Err(FilesRefused::BadInput(number));
@@ -228,7 +228,7 @@ fn secret_from(number: u32, content: &[u8]) -> Result<[u8; 16], FilesRefused>
 
 /// The secret that hex digits write.
 fn digits_from(number: u32, digits: &[u8]) -> Result<[u8; 16], FilesRefused>
-    ensures { Judges number result (digits_by number (decode_sized digits.now 16)) }
+    ensures { result ≡ digits_by number (decode_sized digits.now 16) }
 {
     match <[u8; 16]>::from_hex(digits) {
         Ok(secret) => Ok(secret),

@@ -1,8 +1,8 @@
 //! What a job starts from: its words and what its files hold.
 
-ghost use Rattle.std.specs.Prelude.{◌≡◌};
+ghost use Rattle.std.specs.Prelude.{◌≡◌, IfSome, Ok};
 ghost use Rattle.nt_words.specs.Files.{shelf_of, ReadsFiles};
-ghost use Rattle.nt_words.specs.Setups.{file_names, setup_due};
+ghost use Rattle.nt_words.specs.Setups.{file_names, setup_at_once, setup_due};
 
 use crate::controller::ControllerWords;
 use crate::drill::DrillWords;
@@ -32,15 +32,17 @@ pub enum Setup<'a> {
     Drill(DrillWords),
 }
 
-/// Reads the files of a job, in the order of its options.
+/// Reads the files of a job, in the order of its options. Where it has none nothing is read, and no memory is looked for.
 pub fn set_up<'a, F: Files>(
     alloc: Global,
     files: &mut F,
     job: Job<'a>,
 ) -> Result<Setup<'a>, FilesRefused>
-    ensures { let shelf = shelf_of F.faults F.contents F.reads in
+    ensures files { let shelf = shelf_of F.faults F.contents F.reads in
         ReadsFiles (file_names job.entry) (setup_due job.entry) result
         (shelf files.old) (shelf files.new) }
+    ensures at_once { IfSome (setup_at_once job.entry) (λ setup. result ≡ Ok setup) }
+    ensures untouched { IfSome (setup_at_once job.entry) (λ setup. files.new ≡ files.old) }
 {
     match job {
         Job::Controller(words) => {

@@ -4,7 +4,7 @@ ghost use Rattle.std.specs.Prelude.{◌≡◌, ◌≢◌, ◌≤◌, true, false
 ghost use Rattle.std.specs.String.{string_bytes};
 ghost use Rattle.clap.specs.Words.{app_of, rule_of, found_of, rows_of, is_simple_and_free, with_rule};
 ghost use Rattle.nt_words.specs.Jobs.{form, rows_by, rows_of_values, is_led_by};
-ghost use Rattle.nt_words.specs.Words.{ReadsBy, ReadsRows, option_rule, plain_app, app_with};
+ghost use Rattle.nt_words.specs.Words.{GivesRows, ReadsBy, ReadsRows, option_rule, plain_app, app_with};
 
 use crate::options::{OptionForm, WordsRefused, first_misfit};
 use clap::error::ErrorKind;
@@ -39,13 +39,13 @@ pub(crate) fn read_words<'a>(
     }
 }
 
-/// The matches where each value is right.
+/// The matches where each value is right. No memory is looked for.
 fn judge<'a>(
     matches: ArgMatches<'a>,
     options: &[OptionForm<'a>],
 ) -> Result<ArgMatches<'a>, WordsRefused>
     requires { length options.now ≤ 100 }
-    ensures { ReadsRows (rows_of_values options.now (rows_of (found_of matches.entry))) result }
+    ensures { GivesRows (rows_of_values options.now (rows_of (found_of matches.entry))) result }
 {
     match first_misfit(&matches, options, 1) {
         Some(number) => Err(WordsRefused::BadWords(number)),
