@@ -1,0 +1,114 @@
+-- How a step stands to its parts.
+use Rattle.std.proofs.Common.{◌≡◌, ℕ, ◌+◌, ◌≤◌, IsTrue, List, [], ◌∷◌, Option, Some, None, Result, Ok, Err, refl, sym, ap, subst, ◌∙◌}
+use Rattle.outside.specs.declared.action.StepRefused.{StepRefused}
+use Rattle.outside.specs.declared.action.StepRefused.TheVariants.{Spent, Memory, Stopped}
+use Rattle.outside.specs.declared.event.Event.{Event}
+use Rattle.outside.specs.Drawing.{Drawing, DrawsSome, IsRest, draws_between}
+use Rattle.outside.specs.Machine.{Part, AnswersBy, StepsBy, Takes, left_by, step_by, then_part}
+use Rattle.outside.proofs.DrawLaws.{DrawsSome-none, DrawsSome-trans, DrawsSome-between}
+use Rattle.outside.proofs.MachineLaws.{AnswersBy-refused, StepsBy-refused}
+use Rattle.end_links.specs.Links.{LinkState}
+use Rattle.end_links.specs.Serving.{ServedPart, HasRest, talk_in}
+use Rattle.member_server.specs.declared.state.AtLink.{AtLink}
+use Rattle.member_server.specs.declared.state.AtTurn.{AtTurn}
+use Rattle.member_server.specs.declared.state.Dialling.{Dialling}
+use Rattle.member_server.specs.declared.state.Dialling.TheVariants as dialling
+use Rattle.member_server.specs.declared.state.Running.{Running}
+use Rattle.member_server.specs.declared.state.Talk.{Talk}
+use Rattle.member_server.specs.declared.state.TurnTalk.{TurnTalk}
+use Rattle.member_server.specs.declared.state.Work.{Work}
+use Rattle.member_server.specs.Machine.{actions_in, after_turn, after_units, by_event, event_part, halted_state, keep_turn, put_open, state_in, work_of}
+use Rattle.member_server.specs.Outcomes.{after_link, keep_link}
+use Rattle.member_server.specs.Pending.{pending_in, pending_of, Within}
+use Rattle.member_server.specs.Rests.{all_left}
+use Rattle.member_server.specs.Turns.{Desk, next_turn}
+use Rattle.end_loop.specs.Acts.{is_made, most_made_by}
+use Rattle.member_server.proofs.PendingLaws.{settles}
+use Rattle.member_server.proofs.TurnLaws.{next_turn_rest}
+
+-- ---- units of an accepted link
+
+kept_is : (open_link : Option (LinkState Talk)) (rest : List ℕ) (number : ℕ) (work : Work) → HasRest open_link rest →
+    keep_link (talk_in open_link) rest number work ≡ put_open open_link number work
+kept_is None rest number work has = refl
+kept_is (Some link) rest number work has = ap (λ (r : List ℕ). keep_link (Some link.talk) r number work) (sym has)
+
+pub units_served : (part : ServedPart AtLink Talk) (at : AtLink) (open_link : Option (LinkState Talk)) (rest : List ℕ) (left : List (List ℕ)) (number : ℕ) (how : Dialling) (work : Work) →
+    part ≡ Ok (record { value = (at, talk_in open_link); left = left }) → HasRest open_link rest →
+    after_units part rest number how work ≡ Ok (record { value = (put_open open_link number (after_link at work), how); left = left })
+units_served part at open_link rest left number how work is has =
+    ap (λ p. after_units p rest number how work) is
+    ∙ ap (λ (w : Work). Ok (record { value = (w, how); left = left })) (kept_is open_link rest number (after_link at work) has)
+
+units_rest : (part : ServedPart AtLink Talk) (rest : List ℕ) (left : List (List ℕ)) (number : ℕ) (how : Dialling) (work : Work) → IsRest (left_by part) left →
+    IsRest (left_by (after_units part rest number how work)) left
+units_rest (Err why) rest left number how work is = is
+units_rest (Ok part) rest left number how work is = is
+
+pub units_refused : (why : StepRefused) (part : ServedPart AtLink Talk) (rest : List ℕ) (left : List (List ℕ)) (number : ℕ) (how : Dialling) (work : Work) → AnswersBy (Err why) part left →
+    AnswersBy (Err why) (after_units part rest number how work) left
+units_refused Spent part rest left number how work answer = (ap (λ p. after_units p rest number how work) answer.0, answer.1)
+units_refused Memory part rest left number how work answer = units_rest part rest left number how work answer
+units_refused Stopped part rest left number how work answer = answer
+
+-- ---- units of the link of a turn
+
+
+pub turn_closed : (part : ServedPart AtTurn TurnTalk) (at : AtTurn) (rest : List ℕ) (left : List (List ℕ)) (number : ℕ) →
+    part ≡ Ok (record { value = (at, None); left = left }) → after_turn part rest number ≡ Ok (record { value = (at.work, dialling.Nothing); left = left })
+turn_closed part at rest left number is = ap (λ p. after_turn p rest number) is
+
+pub turn_stays : (part : ServedPart AtTurn TurnTalk) (at : AtTurn) (link : LinkState TurnTalk) (rest : List ℕ) (left : List (List ℕ)) (number : ℕ) →
+    part ≡ Ok (record { value = (at, Some link.talk); left = left }) → link.rest ≡ rest →
+    after_turn part rest number ≡ Ok (record { value = (at.work, dialling.On number link); left = left })
+turn_stays part at link rest left number is has =
+    ap (λ p. after_turn p rest number) is
+    ∙ ap (λ (r : List ℕ). Ok (record { value = (at.work, dialling.On number (record { rest = r; talk = link.talk })); left = left })) (sym has)
+
+turn_rest : (part : ServedPart AtTurn TurnTalk) (rest : List ℕ) (left : List (List ℕ)) (number : ℕ) → IsRest (left_by part) left → IsRest (left_by (after_turn part rest number)) left
+turn_rest (Err why) rest left number is = is
+turn_rest (Ok part) rest left number is = is
+
+pub turn_refused : (why : StepRefused) (part : ServedPart AtTurn TurnTalk) (rest : List ℕ) (left : List (List ℕ)) (number : ℕ) → AnswersBy (Err why) part left →
+    AnswersBy (Err why) (after_turn part rest number) left
+turn_refused Spent part rest left number answer = (ap (λ p. after_turn p rest number) answer.0, answer.1)
+turn_refused Memory part rest left number answer = turn_rest part rest left number answer
+turn_refused Stopped part rest left number answer = answer
+
+pub ruleset serving = (units_served, units_refused, turn_closed, turn_stays, turn_refused, all_left, DrawsSome-none)
+
+-- ---- the event, and then the next turn
+
+pub event_refused : (why : StepRefused) (running : Running) (what : Event) (now : ℕ) (before left : List (List ℕ)) →
+    AnswersBy (Err why) (by_event what running.dialling (work_of running) before) left → AnswersBy (Err why) (event_part running what now before) left
+event_refused why running what now before left answer =
+    AnswersBy-refused why (by_event what running.dialling (work_of running) before) (next_turn now) left (next_turn_rest now) answer
+
+pub event_done : (running : Running) (what : Event) (now : ℕ) (before left : List (List ℕ)) (desk : Desk) →
+    by_event what running.dialling (work_of running) before ≡ Ok (record { value = desk; left = left }) → event_part running what now before ≡ next_turn now desk left
+event_done running what now before left desk is = ap (λ p. then_part p (next_turn now)) is
+
+pub ruleset running = (event_refused, event_done, DrawsSome-none, DrawsSome-trans)
+
+-- ---- a step
+
+pub step_taken : (part : Result (Part Desk) StepRefused) (desk : Desk) (before after : Drawing) → part ≡ Ok (record { value = desk; left = after.left }) → DrawsSome before after →
+    Takes (step_by actions_in state_in halted_state before.left part) (state_in desk) before after (actions_in desk)
+step_taken part desk before after is some = record {
+  drawn = draws_between before.left after.left;
+  is = ap (step_by actions_in state_in halted_state before.left) is;
+  draws = DrawsSome-between before after some;
+}
+
+pub step_refused : (why : StepRefused) (part : Result (Part Desk) StepRefused) (before after : Drawing) → DrawsSome before after → AnswersBy (Err why) part after.left →
+    StepsBy (Err why) (step_by actions_in state_in halted_state before.left part) halted_state halted_state before after
+step_refused why part before after some answer = StepsBy-refused why actions_in state_in halted_state part before after some answer
+
+-- the events that a step makes come to an end
+pub step_settles : (running : Running) (what : Event) (now : ℕ) (before after : List (List ℕ)) (desk : Desk) →
+    event_part running what now before ≡ Ok (record { value = desk; left = after }) → IsTrue (is_made what) →
+    most_made_by (actions_in desk) + pending_in (state_in desk) ≤ pending_of running
+step_settles running what now before after desk is made =
+    subst (λ p. Within p (pending_of running)) is (settles running what now before made)
+
+pub ruleset stepping = (step_taken, step_refused, step_settles)

@@ -1,0 +1,20 @@
+-- What the link of a turn and the next turn draw.
+use Rattle.std.proofs.Common.{◌≡◌, ℕ, Bool, true, false, List, [], ◌∷◌, Option, Some, None, Result, Ok, Err, refl}
+use Rattle.outside.specs.Drawing.{Drawing, Draws, DrawsSome, IsRest}
+use Rattle.outside.specs.Machine.{left_by}
+use Rattle.outside.proofs.DrawLaws.{DrawsSome-none, DrawsSome-one, IsRest-refl, IsRest-later, IsRest-nothing}
+use Rattle.member_server.specs.declared.state.Dialling.{Dialling}
+use Rattle.member_server.specs.declared.state.Work.{Work}
+use Rattle.member_server.specs.Turns.{Desk, turn_by, next_turn}
+
+pub ruleset drawing = (DrawsSome-none, DrawsSome-one, IsRest-refl, IsRest-later, IsRest-nothing)
+
+turn_rest : (starts needs : Bool) (now : ℕ) (work : Work) (how : Dialling) (left : List (List ℕ)) → IsRest (left_by (turn_by starts needs now work how left)) left
+turn_rest false needs now work how left = IsRest-refl left
+turn_rest true false now work how left = IsRest-refl left
+turn_rest true true now work how [] = IsRest-nothing []
+turn_rest true true now work how (challenge ∷ left) = IsRest-later challenge left left (IsRest-refl left)
+
+-- the next turn leaves a rest
+pub next_turn_rest : (now : ℕ) (desk : Desk) (left : List (List ℕ)) → IsRest (left_by (next_turn now desk left)) left
+next_turn_rest now desk left = turn_rest _ _ now desk.0 desk.1 left

@@ -1,0 +1,16 @@
+pub mod Binds
+pub mod Held
+pub mod Levels
+pub mod Lines
+pub mod Machine
+pub mod Memo
+pub mod Messages
+pub mod Outcomes
+pub mod Pending
+pub mod Requests
+pub mod Rests
+pub mod Sealing
+pub mod State
+pub mod Turns
+pub mod Units
+pub mod Work

@@ -1,0 +1,202 @@
+-- One step of a member: an event, and then the next turn (this project's own choice).
+use Rattle.std.specs.Prelude.{ℕ, ◌==◌, ◌+◌, Bool, true, false, nat_le, List, [], ◌∷◌, ◌++◌, length, Option, Some, None, is_none, Result, Ok, Err}
+use Rattle.outside.specs.declared.action.Action.{Action}
+use Rattle.outside.specs.declared.action.Action.TheVariants as action
+use Rattle.outside.specs.declared.action.CloseCause.TheVariants as close
+use Rattle.outside.specs.declared.action.DropCause.TheVariants as drop_cause
+use Rattle.outside.specs.declared.action.StepRefused.{StepRefused}
+use Rattle.outside.specs.declared.event.Event.{Event}
+use Rattle.outside.specs.declared.event.Event.TheVariants as event
+use Rattle.outside.specs.Machine.{Machine, Part, Stepped, step_by, stopped_step, then_part}
+use Rattle.wire_base.specs.Maps.{lookup, same_number}
+use Rattle.logon_stubs.specs.Status.{netlogon_uuid}
+use Rattle.channel_client.specs.declared.caller.Caller.{Caller}
+use Rattle.channel_client.specs.Machine.{fresh_requester}
+use Rattle.rpc_units.specs.Stream.{Cut, cut_stream}
+use Rattle.end_links.specs.Links.{LinkState}
+use Rattle.end_links.specs.Sending.{joined_frames}
+use Rattle.end_links.specs.Serving.{ServedPart, served_cut}
+use Rattle.member_server.specs.declared.plan.MemberPlan.{MemberPlan}
+use Rattle.member_server.specs.declared.state.AtLink.{AtLink}
+use Rattle.member_server.specs.declared.state.AtTurn.{AtTurn}
+use Rattle.member_server.specs.declared.state.Dialling.{Dialling}
+use Rattle.member_server.specs.declared.state.Dialling.TheVariants as dialling
+use Rattle.member_server.specs.declared.state.Phase.TheVariants as phase
+use Rattle.member_server.specs.declared.state.Running.{Running}
+use Rattle.member_server.specs.declared.state.Talk.{Talk}
+use Rattle.member_server.specs.declared.state.TurnTalk.{TurnTalk}
+use Rattle.member_server.specs.declared.state.Work.{Work}
+use Rattle.member_server.specs.Lines.{line_of}
+use Rattle.member_server.specs.Outcomes.{tell_at, without_link, with_link, at_link, after_served}
+use Rattle.member_server.specs.State.{State}
+use Rattle.member_server.specs.Turns.{Desk, desk_part, lose_turn, next_turn, turn_server, turn_talk}
+use Rattle.member_server.specs.Units.{link_server}
+
+-- ---- at first
+
+-- the machine account: the computer's name with a dollar sign behind it (MS-NRPC 3.1.1)
+abbrev pub account_of : List ℕ → List ℕ
+account_of computer = computer ++ 0x24 ∷ []
+
+-- a workstation's channel, 2 (MS-NRPC 2.2.1.3.13)
+abbrev pub caller_of : MemberPlan → Caller
+caller_of plan =
+    record { secret = plan.secret; computer = plan.computer; account = account_of plan.computer; kind = 2 }
+
+abbrev pub fresh_member : MemberPlan → State
+fresh_member plan = record {
+  running = Some (record {
+    logons = record { plan = plan; channel = fresh_requester (caller_of plan); asked = [] };
+    links = [];
+    dialling = dialling.Nothing;
+  });
+}
+
+-- ---- links that close
+
+-- the argument: whether it is the link of the turn
+abbrev pub close_turn : Bool → ℕ → Dialling → Work → Desk
+close_turn false link how work = (without_link link work, how)
+close_turn true link how work = (lose_turn drop_cause.LinkClosed work, dialling.Nothing)
+
+abbrev pub close_link : Dialling → ℕ → Work → Desk
+close_link dialling.Nothing link work = (without_link link work, dialling.Nothing)
+close_link (dialling.Waits turn frames) link work = (without_link link work, dialling.Waits turn frames)
+close_link (dialling.On number said) link work = close_turn (number == link) link (dialling.On number said) work
+
+-- ---- links that open
+
+abbrev pub fresh_link : LinkState Talk
+fresh_link = record { rest = []; talk = record { joiner = None; phase = phase.Fresh } }
+
+-- the argument: whether there are as many as may be
+abbrev pub open_by : Bool → ℕ → Work → Work
+open_by true link work = tell_at work (action.Close link close.TooManyLinks)
+open_by false link work = with_link link fresh_link work
+
+-- an older link of that number is closed first
+abbrev pub open_after_close : Desk → ℕ → Desk
+open_after_close desk link = (open_by (nat_le 256 (length desk.0.links)) link desk.0, desk.1)
+
+-- ---- dials
+
+-- the bind goes out; an older link of that number is closed first
+abbrev pub answer_dial : Dialling → ℕ → Work → Desk
+answer_dial dialling.Nothing link work = (work, dialling.Nothing)
+answer_dial (dialling.On number said) link work = (work, dialling.On number said)
+answer_dial (dialling.Waits turn frames) link work =
+    (tell_at (without_link link work) (action.Send link (joined_frames frames)),
+    dialling.On link (record { rest = []; talk = turn_talk None }))
+
+abbrev pub fail_dial : Dialling → Work → Desk
+fail_dial dialling.Nothing work = (work, dialling.Nothing)
+fail_dial (dialling.On number said) work = (work, dialling.On number said)
+fail_dial (dialling.Waits turn frames) work = (lose_turn drop_cause.DialFailed work, dialling.Nothing)
+
+-- ---- bytes
+
+abbrev pub after_units : ServedPart AtLink Talk → List ℕ → ℕ → Dialling → Work → Result (Part Desk) StepRefused
+after_units (Err why) rest number how work = Err why
+after_units (Ok part) rest number how work = desk_part (after_served part.value rest number work) how part.left
+
+-- a link that is out of the map
+abbrev pub serve_alone : Cut → ℕ → Talk → Dialling → Work → List (List ℕ) → Result (Part Desk) StepRefused
+serve_alone cut number talk how work left =
+    after_units (served_cut link_server cut (at_link number work) talk left) cut.rest number how work
+
+abbrev pub bytes_on_link : Option (LinkState Talk) → ℕ → List ℕ → Dialling → Work → List (List ℕ) → Result (Part Desk) StepRefused
+bytes_on_link None number piece how work left = desk_part work how left
+bytes_on_link (Some link) number piece how work left =
+    serve_alone (cut_stream (link.rest ++ piece)) number link.talk how (without_link number work) left
+
+-- a link is put back where it stays open
+abbrev pub put_open : Option (LinkState Talk) → ℕ → Work → Work
+put_open None number work = work
+put_open (Some link) number work = with_link number link work
+
+abbrev pub keep_turn : Option TurnTalk → List ℕ → ℕ → Dialling
+keep_turn None rest number = dialling.Nothing
+keep_turn (Some talk) rest number = dialling.On number (record { rest = rest; talk = talk })
+
+abbrev pub after_turn : ServedPart AtTurn TurnTalk → List ℕ → ℕ → Result (Part Desk) StepRefused
+after_turn (Err why) rest number = Err why
+after_turn (Ok part) rest number = desk_part part.value.0.work (keep_turn part.value.1 rest number) part.left
+
+abbrev pub at_turn : ℕ → Work → AtTurn
+at_turn number work = record { link = number; work = work }
+
+abbrev pub serve_dialled : Cut → ℕ → TurnTalk → Work → List (List ℕ) → Result (Part Desk) StepRefused
+serve_dialled cut number talk work left =
+    after_turn (served_cut turn_server cut (at_turn number work) talk left) cut.rest number
+
+-- the argument: whether it is the link of the turn
+abbrev pub bytes_by : Bool → LinkState TurnTalk → ℕ → List ℕ → Dialling → Work → List (List ℕ) → Result (Part Desk) StepRefused
+bytes_by true said number piece how work left = serve_dialled (cut_stream (said.rest ++ piece)) number said.talk work left
+bytes_by false said number piece how work left =
+    bytes_on_link (lookup same_number number work.links) number piece how work left
+
+abbrev pub bytes_on : Dialling → ℕ → List ℕ → Work → List (List ℕ) → Result (Part Desk) StepRefused
+bytes_on dialling.Nothing number piece work left =
+    bytes_on_link (lookup same_number number work.links) number piece dialling.Nothing work left
+bytes_on (dialling.Waits turn frames) number piece work left =
+    bytes_on_link (lookup same_number number work.links) number piece (dialling.Waits turn frames) work left
+bytes_on (dialling.On other said) number piece work left =
+    bytes_by (other == number) said number piece (dialling.On other said) work left
+
+-- ---- an event
+
+abbrev pub drawless_desk : Desk → List (List ℕ) → Result (Part Desk) StepRefused
+drawless_desk desk left = Ok (record { value = desk; left = left })
+
+abbrev pub by_event : Event → Dialling → Work → List (List ℕ) → Result (Part Desk) StepRefused
+by_event (event.Opened link) how work left = drawless_desk (open_after_close (close_link how link work) link) left
+by_event (event.Bytes link piece) how work left = bytes_on how link piece work left
+by_event (event.Closed link) how work left = drawless_desk (close_link how link work) left
+by_event (event.Dialled link) how work left = drawless_desk (answer_dial how link work) left
+by_event event.DialFailed how work left = drawless_desk (fail_dial how work) left
+by_event event.Stop how work left = drawless_desk (work, how) left
+
+-- ---- a step
+
+abbrev pub halted_state : State
+halted_state = record { running = None }
+
+abbrev pub work_of : Running → Work
+work_of running = record { logons = running.logons; links = running.links; actions = [] }
+
+abbrev pub actions_in : Desk → List Action
+actions_in desk = desk.0.actions
+
+abbrev pub state_in : Desk → State
+state_in desk = record { running = Some (record { logons = desk.0.logons; links = desk.0.links; dialling = desk.1 }) }
+
+abbrev pub event_part : Running → Event → ℕ → List (List ℕ) → Result (Part Desk) StepRefused
+event_part running what now left = then_part (by_event what running.dialling (work_of running) left) (next_turn now)
+
+abbrev pub step_on : Option Running → State → Event → ℕ → List (List ℕ) → Stepped State
+step_on None s what now left = stopped_step left s
+step_on (Some running) s what now left = step_by actions_in state_in halted_state left (event_part running what now left)
+
+abbrev pub step_of : State → Event → ℕ → List (List ℕ) → Stepped State
+step_of s what now left = step_on s.running s what now left
+
+-- ---- the machine
+
+-- the link that is waited for: the one of the turn
+abbrev pub want_in : Dialling → Option ℕ
+want_in dialling.Nothing = None
+want_in (dialling.Waits turn frames) = None
+want_in (dialling.On number said) = Some number
+
+abbrev pub want_by : Option Running → Option ℕ
+want_by None = None
+want_by (Some running) = want_in running.dialling
+
+abbrev pub want_of : State → Option ℕ
+want_of s = want_by s.running
+
+abbrev pub is_stopped : State → Bool
+is_stopped s = is_none s.running
+
+abbrev pub member_machine : Machine State
+member_machine = record { step = step_of; want = want_of; is_over = λ s. false; line = line_of }

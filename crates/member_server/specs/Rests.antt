@@ -1,0 +1,74 @@
+-- Which challenges are left once a unit of a link is served: a rest of those that were left before.
+use Rattle.std.specs.Prelude.{◌≡◌, ℕ, Bool, true, false, List, [], ◌∷◌, ◌++◌, Option, Some, None, Result, Ok, Err, refl}
+use Rattle.outside.specs.Drawing.{IsRest}
+use Rattle.outside.specs.Machine.{left_by}
+use Rattle.rpc_units.specs.declared.refused.UnitRefused.{UnitRefused}
+use Rattle.rpc_units.specs.declared.unit.Body.{Body}
+use Rattle.rpc_units.specs.declared.unit.Body.TheVariants.{Bind, BindAck, BindNak, Auth3, Request, Response, Fault}
+use Rattle.rpc_units.specs.declared.unit.Syntax.{Syntax}
+use Rattle.rpc_units.specs.declared.unit.Trailer.{Trailer}
+use Rattle.rpc_units.specs.declared.unit.Unit.{Unit as RpcUnit}
+use Rattle.rpc_units.specs.Reading.{unit_of}
+use Rattle.end_links.specs.Serving.{ServerLeavesRest}
+use Rattle.member_server.specs.declared.binds.Offer.{Offer}
+use Rattle.member_server.specs.declared.state.AtLink.{AtLink}
+use Rattle.member_server.specs.declared.state.Phase.{Phase}
+use Rattle.member_server.specs.declared.state.Phase.TheVariants as phase
+use Rattle.member_server.specs.Binds.{ack_fits, answer_bind, bind_by, fresh_unit, offer_in}
+use Rattle.member_server.specs.Turns.{turn_server}
+use Rattle.member_server.specs.Units.{first_unit, unit_on, link_server}
+
+-- all of them
+pub all_left : (left : List (List ℕ)) → IsRest left left
+all_left left = record { front = []; is = refl }
+
+-- all but the first
+pub rest_left : (challenge : List ℕ) (left : List (List ℕ)) → IsRest left (challenge ∷ left)
+rest_left challenge left = record { front = challenge ∷ []; is = refl }
+
+pub answer_rest : (fits : Bool) (offer : Offer) (call receive : ℕ) (contexts : List (ℕ × Syntax × List Syntax)) (joiner : Option RpcUnit) (at : AtLink) (left : List (List ℕ)) →
+    IsRest (left_by (answer_bind fits offer call receive contexts joiner at left)) left
+answer_rest false offer call receive contexts joiner at left = all_left left
+answer_rest true offer call receive contexts joiner at [] = all_left []
+answer_rest true offer call receive contexts joiner at (challenge ∷ left) = rest_left challenge left
+
+pub bind_rest : (offer : Option Offer) (call receive : ℕ) (contexts : List (ℕ × Syntax × List Syntax)) (joiner : Option RpcUnit) (at : AtLink) (left : List (List ℕ)) →
+    IsRest (left_by (bind_by offer call receive contexts joiner at left)) left
+bind_rest None call receive contexts joiner at left = all_left left
+bind_rest (Some offer) call receive contexts joiner at left =
+    answer_rest (ack_fits offer at.logons.plan call receive contexts) offer call receive contexts joiner at left
+
+fresh_rest : (body : Body) (trailer : Option Trailer) (call : ℕ) (joiner : Option RpcUnit) (at : AtLink) (left : List (List ℕ)) →
+    IsRest (left_by (fresh_unit body trailer call joiner at left)) left
+fresh_rest (Bind send receive group contexts) trailer call joiner at left = bind_rest (offer_in trailer) call receive contexts joiner at left
+fresh_rest (BindAck send receive group results) trailer call joiner at left = all_left left
+fresh_rest (BindNak reason) trailer call joiner at left = all_left left
+fresh_rest Auth3 trailer call joiner at left = all_left left
+fresh_rest (Request hint context opnum stub) trailer call joiner at left = all_left left
+fresh_rest (Response hint context stub) trailer call joiner at left = all_left left
+fresh_rest (Fault hint context status) trailer call joiner at left = all_left left
+
+pub first_rest : (unit : Result RpcUnit UnitRefused) (joiner : Option RpcUnit) (at : AtLink) (left : List (List ℕ)) → IsRest (left_by (first_unit unit joiner at left)) left
+first_rest (Err why) joiner at left = all_left left
+first_rest (Ok unit) joiner at left = fresh_rest unit.body unit.trailer unit.call joiner at left
+
+unit_rest : (how : Phase) (bytes : List ℕ) (joiner : Option RpcUnit) (at : AtLink) (left : List (List ℕ)) → IsRest (left_by (unit_on how bytes joiner at left)) left
+unit_rest phase.Fresh bytes joiner at left = first_rest (unit_of bytes) joiner at left
+unit_rest (phase.Challenged bound challenge flags) bytes joiner at left = all_left left
+unit_rest (phase.Asked bound place held) bytes joiner at left = all_left left
+unit_rest (phase.In on) bytes joiner at left = all_left left
+unit_rest (phase.Out bound status) bytes joiner at left = all_left left
+
+-- an accepted link
+pub link_leaves : ServerLeavesRest link_server
+link_leaves = record {
+  unit = λ bytes at talk left. unit_rest talk.phase bytes talk.joiner at left;
+  refusal = λ why at talk left. all_left left;
+}
+
+-- the link of a turn, which draws none
+pub turn_leaves : ServerLeavesRest turn_server
+turn_leaves = record {
+  unit = λ bytes at talk left. all_left left;
+  refusal = λ why at talk left. all_left left;
+}

@@ -1,0 +1,57 @@
+//! The bytes that a member holds.
+
+ghost use Rattle.std.specs.Prelude.{◌≡◌, ◌≤◌};
+ghost use Rattle.member_server.specs.Holding.{bytes_in, turn_bytes, held_of};
+
+use crate::member::Member;
+use crate::state::{Dialling, Phase, Talk};
+use end_links::SaysHeld;
+
+impl SaysHeld for Talk {
+    ghost use Rattle.member_server.specs.Holding.{talk_bytes};
+
+    ghost bytes_held = { talk_bytes };
+
+    ghost most_held = { 131072 };
+
+    /// The stub bytes of the open call, and the bytes of requests that wait.
+    fn held(&self) -> usize {
+        self.joiner.len() + bytes_in(&self.phase)
+    }
+}
+
+/// The bytes of requests that wait on a link that is so far.
+fn bytes_in(phase: &Phase) -> usize
+    ensures count { result ≡ bytes_in phase.now }
+    ensures most { result ≤ 65536 }
+{
+    match phase {
+        Phase::Asked { held, .. } => held.len(),
+        _ => 0,
+    }
+}
+
+/// The bytes that the link of the turn holds.
+fn turn_bytes(how: &Dialling) -> u64
+    ensures count { result ≡ turn_bytes how.now }
+    ensures most { result ≤ 71375 }
+{
+    match how {
+        Dialling::On(_, said) => (said.rest_len() + said.talk().joiner.len()) as u64,
+        Dialling::Nothing | Dialling::Waits(_, _) => 0,
+    }
+}
+
+impl Member {
+    /// The bytes that the member holds: the rests of its links' streams, the stub bytes of open calls, and the requests that wait. A member that was
+    /// stopped holds none. They are at most what 256 links and the link of the turn hold. It takes no memory.
+    pub fn held(&self) -> u64
+        ensures count { result ≡ held_of self.now }
+        ensures most { result ≤ 35120591 }
+    {
+        match self.running() {
+            Some(running) => running.links.held() + turn_bytes(&running.dialling),
+            None => 0,
+        }
+    }
+}

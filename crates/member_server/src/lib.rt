@@ -1,0 +1,26 @@
+//! The member server as a machine over plain values: it lets users in whose logons its controller grants, one shared secure channel judging
+//! them all, and serves them the memo interface.
+#![tactic(auto)]
+
+mod binds;
+mod end;
+mod held;
+mod laws;
+mod levels;
+mod lines;
+mod member;
+mod memo;
+mod messages;
+mod outcomes;
+mod plan;
+mod requests;
+mod sealing;
+mod state;
+mod turns;
+mod units;
+mod work;
+
+pub use held::HELD_LIMIT;
+pub use laws::made_events_end;
+pub use member::Member;
+pub use plan::MemberPlan;

@@ -1,0 +1,472 @@
+//! The member.
+
+ghost use Rattle.std.specs.Prelude.{◌≡◌, ◌≤◌, ◌<◌, ◌+◌, ◌++◌, ◌↔◌, None, Some, Err, false, length, nat_le, IfOk, OnOk, OnErr, IsTrue};
+ghost use Rattle.end_loop.specs.Acts.{is_made, most_made_by};
+ghost use Rattle.wire_base.specs.Maps.{lookup, same_number};
+ghost use Rattle.outside.specs.Drawing.{DrawsSome};
+ghost use Rattle.outside.specs.Machine.{AnswersBy, StepsBy};
+ghost use Rattle.channel_client.specs.Machine.{fresh_requester};
+ghost use Rattle.member_server.specs.declared.state.Dialling.TheVariants as dialling;
+ghost use Rattle.member_server.specs.Machine.{account_of, caller_of, fresh_member, close_link, open_by, open_after_close, answer_dial, fail_dial, bytes_on_link, serve_alone, serve_dialled, bytes_on, by_event, put_open, halted_state, is_stopped, event_part, step_of, want_in, want_of};
+ghost use Rattle.member_server.specs.Outcomes.{without_link};
+ghost use Rattle.member_server.specs.Pending.{pending_in};
+ghost use Rattle.rpc_units.specs.Stream.{cut_stream};
+
+use crate::outcomes::tell_at;
+use crate::plan::MemberPlan;
+use crate::state::{AtLink, AtTurn, Dialling, Logons, Phase, Running, Talk, TurnTalk, Work};
+use crate::turns::{lose_turn, next_turn};
+use channel_client::{Channel, Turn};
+use end_links::{Link, Links, join_frames, serve_piece};
+use outside::{Action, Actions, Chances, CloseCause, DropCause, Event, StepRefused};
+use rpc_units::Joiner;
+use std::alloc::Global;
+use std::marker::Model;
+use wire_base::{Frames, List, Name, NoMemory, Units};
+
+/// A member server, seen as what it keeps.
+#[derive(Drop)]
+pub struct Member {
+    // none once a step was given up
+    running: Option<Running>,
+}
+
+impl Model for Member {
+    ghost use Rattle.member_server.specs.State.{State};
+
+    ghost Value = { State };
+
+    ghost view = { λ m. record { running = m.running } };
+}
+
+impl Member {
+    /// A member by this plan, that keeps nothing yet. `NoMemory` where no memory was found.
+    pub fn new(alloc: Global, plan: MemberPlan) -> Result<Member, NoMemory>
+        ensures { IfOk result (λ member. member ≡ fresh_member plan) }
+    {
+        let channel = fresh_channel(alloc, &plan)?;
+        let logons = Logons {
+            plan,
+            channel,
+            asked: List::new(alloc),
+        };
+        Ok(Member {
+            running: Some(Running {
+                logons,
+                links: Links::new(alloc),
+                dialling: Dialling::Nothing,
+            }),
+        })
+    }
+
+    /// The step for an event at this moment, in units of 100 ns since 1601: its actions in order. A challenge is drawn where a bind is answered
+    /// with a CHALLENGE, and where a turn starts whose channel needs one.
+    ///
+    /// `Spent` exactly where the step draws more challenges than are left, `Memory` where no memory was found; after either of them the member is
+    /// stopped and keeps nothing. `Stopped` exactly where it was stopped before.
+    #[tactic(auto, using(crate::proofs::StepLaws::stepping))]
+    pub fn step<Q: Chances>(
+        &mut self,
+        alloc: Global,
+        event: &Event,
+        now: u64,
+        chances: &mut Q,
+    ) -> Result<Actions, StepRefused>
+        // The actions, the state and the challenges drawn are the machine's.
+        ensures answer { StepsBy result
+            (step_of self.old event.now now (Q.drawing chances.old).left)
+            halted_state self.new (Q.drawing chances.old) (Q.drawing chances.new) }
+        // It answers `Stopped` exactly where it had stopped, and a step that isn't taken stops it.
+        ensures stopped { (result ≡ Err StepRefused.Stopped) ↔ IsTrue (is_stopped self.old) }
+        ensures stops { OnErr result (self.new ≡ halted_state) }
+        ensures goes_on { OnOk result (is_stopped self.new ≡ false) }
+        // Events that a failed send or a dial makes come to an end.
+        ensures settles { IfOk result (λ actions. IsTrue (is_made event.now) →
+            most_made_by actions + pending_in self.new ≤ pending_in self.old) }
+    {
+        let Some(running) = self.running.take() else {
+            return Err(StepRefused::Stopped);
+        };
+        let (work, dialling) = match run_event(alloc, running, event, now, chances) {
+            Ok(desk) => desk,
+            Err(why) => return Err(why),
+        };
+        let Work {
+            logons,
+            links,
+            actions,
+        } = work;
+        self.running = Some(Running {
+            logons,
+            links,
+            dialling,
+        });
+        Ok(actions)
+    }
+
+    /// The link that the member waits for: that of the turn. It takes no memory.
+    pub fn wants(&self) -> Option<u32>
+        ensures { result ≡ want_of self.now }
+    {
+        match &self.running {
+            Some(running) => want_in(&running.dialling),
+            None => None,
+        }
+    }
+}
+
+/// The link of a turn.
+fn want_in(how: &Dialling) -> Option<u32>
+    ensures { result ≡ want_in how.now }
+{
+    match how {
+        Dialling::On(number, _) => Some(*number),
+        Dialling::Nothing | Dialling::Waits(_, _) => None,
+    }
+}
+
+/// The channel of a member by this plan.
+pub(crate) fn fresh_channel(alloc: Global, plan: &MemberPlan) -> Result<Channel, NoMemory>
+    ensures { IfOk result (λ channel. channel ≡ fresh_requester (caller_of plan.now)) }
+{
+    let account = account_of(alloc, &plan.computer)?;
+    Channel::new(alloc, plan.secret, plan.computer.copy(alloc)?, account, 2)
+}
+
+/// The name of the machine account.
+fn account_of(alloc: Global, computer: &Name) -> Result<Units, NoMemory>
+    ensures value { IfOk result (λ account. account ≡ account_of computer.now) }
+    ensures short { IfOk result (λ account. length account ≤ 65) }
+{
+    let _short = computer.bytes();
+    let mut units = computer.units(alloc)?.into_vec();
+    units.push(0x24)?;
+    Ok(Units::from_vec(units))
+}
+
+// ---- links
+
+/// The accepted links without that of the number. It takes no memory.
+fn drop_link(link: u32, work: Work) -> Work
+    ensures { result ≡ without_link link work }
+{
+    let Work {
+        logons,
+        links,
+        actions,
+    } = work;
+    let (links, _closed) = links.take(link);
+    Work {
+        logons,
+        links,
+        actions,
+    }
+}
+
+/// A link is closed: the turn is lost where it is its link.
+fn close_link(
+    alloc: Global,
+    how: Dialling,
+    link: u32,
+    work: Work,
+) -> Result<(Work, Dialling), NoMemory>
+    ensures { IfOk result (λ desk. desk ≡ close_link how link work) }
+{
+    match how {
+        Dialling::On(number, said) if number == link => {
+            let (_flow, talk) = said.parts();
+            let work = lose_turn(alloc, talk.turn, DropCause::LinkClosed, work)?;
+            Ok((work, Dialling::Nothing))
+        }
+        how => Ok((drop_link(link, work), how)),
+    }
+}
+
+/// A peer opened a link, of a number that no link has.
+fn open_link(alloc: Global, link: u32, work: Work) -> Result<Work, NoMemory>
+    ensures { IfOk result (λ after. after ≡ open_by (nat_le 256 (length work.links)) link work) }
+{
+    if work.links.is_full() {
+        return tell_at(work, Action::Close(link, CloseCause::TooManyLinks));
+    }
+    let talk = Talk {
+        joiner: Joiner::new(),
+        phase: Phase::Fresh,
+    };
+    let Work {
+        logons,
+        links,
+        actions,
+    } = work;
+    Ok(Work {
+        logons,
+        links: links.put(link, Link::new(alloc, talk)?)?,
+        actions,
+    })
+}
+
+// ---- dials
+
+/// The dial was answered by this link: the bind goes out.
+fn answer_dial(
+    alloc: Global,
+    how: Dialling,
+    link: u32,
+    work: Work,
+) -> Result<(Work, Dialling), NoMemory>
+    ensures { IfOk result (λ desk. desk ≡ answer_dial how link work) }
+{
+    match how {
+        Dialling::Waits(turn, frames) => send_bind(alloc, turn, &frames, link, work),
+        how => Ok((work, how)),
+    }
+}
+
+/// The bind goes out in these frames.
+fn send_bind(
+    alloc: Global,
+    turn: Turn,
+    frames: &Frames,
+    link: u32,
+    work: Work,
+) -> Result<(Work, Dialling), NoMemory>
+    ensures { IfOk result (λ desk. desk ≡ answer_dial (dialling.Waits turn frames.now) link work) }
+{
+    let bytes = join_frames(alloc, frames)?;
+    let work = tell_at(drop_link(link, work), Action::Send(link, bytes))?;
+    let talk = TurnTalk {
+        joiner: Joiner::new(),
+        turn,
+    };
+    Ok((work, Dialling::On(link, Link::new(alloc, talk)?)))
+}
+
+/// The dial failed.
+fn fail_dial(alloc: Global, how: Dialling, work: Work) -> Result<(Work, Dialling), NoMemory>
+    ensures { IfOk result (λ desk. desk ≡ fail_dial how work) }
+{
+    match how {
+        Dialling::Waits(turn, _frames) => {
+            let work = lose_turn(alloc, turn, DropCause::DialFailed, work)?;
+            Ok((work, Dialling::Nothing))
+        }
+        how => Ok((work, how)),
+    }
+}
+
+// ---- bytes
+
+/// A link is put back, where it stays open.
+fn put_open(number: u32, still: Option<Link<Talk>>, work: Work) -> Result<Work, NoMemory>
+    requires { length work.links < 256 }
+    ensures { IfOk result (λ after. after ≡ put_open still number work) }
+{
+    let Some(link) = still else {
+        return Ok(work);
+    };
+    let Work {
+        logons,
+        links,
+        actions,
+    } = work;
+    Ok(Work {
+        logons,
+        links: links.put(number, link)?,
+        actions,
+    })
+}
+
+/// Bytes came on this accepted link, which is out of the map.
+#[tactic(auto, using(crate::proofs::StepLaws::serving))]
+fn serve_link<Q: Chances>(
+    alloc: Global,
+    number: u32,
+    link: Link<Talk>,
+    piece: &[u8],
+    how: Dialling,
+    work: Work,
+    chances: &mut Q,
+) -> Result<(Work, Dialling), StepRefused>
+    requires { length work.links < 256 }
+    ensures draws { DrawsSome (Q.drawing chances.old) (Q.drawing chances.new) }
+    ensures answer { AnswersBy result
+        (serve_alone (cut_stream (link.rest ++ piece.now)) number link.talk how work (Q.drawing chances.old).left)
+        (Q.drawing chances.new).left }
+{
+    let Work {
+        logons,
+        links,
+        actions,
+    } = work;
+    let at = AtLink {
+        link: number,
+        logons,
+        actions,
+    };
+    let (at, open) = match serve_piece(alloc, at, link, piece, chances) {
+        Ok(served) => served,
+        Err(why) => return Err(why),
+    };
+    let AtLink {
+        logons, actions, ..
+    } = at;
+    let work = Work {
+        logons,
+        links,
+        actions,
+    };
+    Ok((put_open(number, open, work)?, how))
+}
+
+/// Bytes came on a link that isn't the turn's.
+#[tactic(auto, using(crate::proofs::StepLaws::serving))]
+fn bytes_on_link<Q: Chances>(
+    alloc: Global,
+    number: u32,
+    piece: &[u8],
+    how: Dialling,
+    work: Work,
+    chances: &mut Q,
+) -> Result<(Work, Dialling), StepRefused>
+    ensures draws { DrawsSome (Q.drawing chances.old) (Q.drawing chances.new) }
+    ensures answer { AnswersBy result
+        (bytes_on_link (lookup same_number number work.links) number piece.now how work (Q.drawing chances.old).left)
+        (Q.drawing chances.new).left }
+{
+    if work.links.get(number).is_none() {
+        return Ok((work, how));
+    }
+    let Work {
+        logons,
+        links,
+        actions,
+    } = work;
+    let (links, found) = links.take(number);
+    let work = Work {
+        logons,
+        links,
+        actions,
+    };
+    match found {
+        Some(link) => serve_link(alloc, number, link, piece, how, work, chances),
+        None => unreachable!(),
+    }
+}
+
+/// Bytes came on the link of the turn.
+#[tactic(auto, using(crate::proofs::StepLaws::serving))]
+fn serve_dialled<Q: Chances>(
+    alloc: Global,
+    number: u32,
+    said: Link<TurnTalk>,
+    piece: &[u8],
+    work: Work,
+    chances: &mut Q,
+) -> Result<(Work, Dialling), StepRefused>
+    ensures draws { DrawsSome (Q.drawing chances.old) (Q.drawing chances.new) }
+    ensures answer { AnswersBy result
+        (serve_dialled (cut_stream (said.rest ++ piece.now)) number said.talk work (Q.drawing chances.old).left)
+        (Q.drawing chances.new).left }
+{
+    let at = AtTurn { link: number, work };
+    let (at, open) = match serve_piece(alloc, at, said, piece, chances) {
+        Ok(served) => served,
+        Err(why) => return Err(why),
+    };
+    match open {
+        Some(said) => Ok((at.work, Dialling::On(number, said))),
+        None => Ok((at.work, Dialling::Nothing)),
+    }
+}
+
+/// Bytes came on a link.
+fn bytes_on<Q: Chances>(
+    alloc: Global,
+    number: u32,
+    piece: &[u8],
+    how: Dialling,
+    work: Work,
+    chances: &mut Q,
+) -> Result<(Work, Dialling), StepRefused>
+    ensures draws { DrawsSome (Q.drawing chances.old) (Q.drawing chances.new) }
+    ensures answer { AnswersBy result
+        (bytes_on how number piece.now work (Q.drawing chances.old).left)
+        (Q.drawing chances.new).left }
+{
+    match how {
+        Dialling::On(other, said) if other == number => {
+            serve_dialled(alloc, number, said, piece, work, chances)
+        }
+        how => bytes_on_link(alloc, number, piece, how, work, chances),
+    }
+}
+
+// ---- events
+
+/// What the event itself comes to.
+#[tactic(auto, using(crate::proofs::StepLaws::serving))]
+fn on_event<Q: Chances>(
+    alloc: Global,
+    event: &Event,
+    how: Dialling,
+    work: Work,
+    chances: &mut Q,
+) -> Result<(Work, Dialling), StepRefused>
+    ensures draws { DrawsSome (Q.drawing chances.old) (Q.drawing chances.new) }
+    ensures answer { AnswersBy result
+        (by_event event.now how work (Q.drawing chances.old).left)
+        (Q.drawing chances.new).left }
+{
+    match event {
+        Event::Opened(link) => Ok(open_event(alloc, how, *link, work)?),
+        Event::Bytes(link, piece) => bytes_on(alloc, *link, piece.bytes(), how, work, chances),
+        Event::Closed(link) => Ok(close_link(alloc, how, *link, work)?),
+        Event::Dialled(link) => Ok(answer_dial(alloc, how, *link, work)?),
+        Event::DialFailed => Ok(fail_dial(alloc, how, work)?),
+        Event::Stop => Ok((work, how)),
+    }
+}
+
+/// A peer opened a link; an older one of that number is closed first.
+fn open_event(
+    alloc: Global,
+    how: Dialling,
+    link: u32,
+    work: Work,
+) -> Result<(Work, Dialling), NoMemory>
+    ensures { IfOk result (λ desk. desk ≡ open_after_close (close_link how link work) link) }
+{
+    let (work, how) = close_link(alloc, how, link, work)?;
+    Ok((open_link(alloc, link, work)?, how))
+}
+
+/// The event, and then the next turn.
+#[tactic(auto, using(crate::proofs::StepLaws::running))]
+fn run_event<Q: Chances>(
+    alloc: Global,
+    running: Running,
+    event: &Event,
+    now: u64,
+    chances: &mut Q,
+) -> Result<(Work, Dialling), StepRefused>
+    ensures draws { DrawsSome (Q.drawing chances.old) (Q.drawing chances.new) }
+    ensures answer { AnswersBy result
+        (event_part running event.now now (Q.drawing chances.old).left)
+        (Q.drawing chances.new).left }
+{
+    let Running {
+        logons,
+        links,
+        dialling,
+    } = running;
+    let work = Work {
+        logons,
+        links,
+        actions: Actions::new(alloc),
+    };
+    let (work, how) = match on_event(alloc, event, dialling, work, chances) {
+        Ok(desk) => desk,
+        Err(why) => return Err(why),
+    };
+    next_turn(alloc, now, work, how, chances)
+}

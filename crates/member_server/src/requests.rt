@@ -1,0 +1,369 @@
+//! Requests on links that are bound.
+
+ghost use Rattle.std.specs.Prelude.{◌≡◌, ◌≤◌, ◌<◌, ◌+◌, ◌^◌, ◌==◌, length, nat_le, None, Some, IfOk, Ok};
+ghost use Rattle.std.specs.List.{AllByRecursion};
+ghost use Rattle.outside.specs.declared.action.CloseCause.TheVariants as close;
+ghost use Rattle.rpc_units.specs.Joining.{HasStub, answer_of, cut_of, open_after};
+ghost use Rattle.rpc_units.specs.Reading.{unit_of};
+ghost use Rattle.rpc_units.specs.Views.{body_shown, unit_shown};
+ghost use Rattle.end_links.specs.Agreed.{accepts};
+ghost use Rattle.end_links.specs.Sending.{response_of};
+ghost use Rattle.member_server.specs.Held.{held_size, held_limit};
+ghost use Rattle.member_server.specs.Levels.{is_plain};
+ghost use Rattle.member_server.specs.Memo.{IsShortAnswer, call_answer};
+ghost use Rattle.member_server.specs.Requests.{talk_in, reply_with, send_sealed, seal_reply, send_reply, reply, answer_call, join_by, join_request, join_unit, cause_by, signed_cause, join_if, after_opening, open_unit, signed_unit, unit_in, body_out, unit_out, hold_by, body_asked, unit_asked};
+ghost use Rattle.member_server.specs.Sealing.{HasSignature, IsReady, blank_trailer, frames_by, opening_by};
+
+use crate::held::Held;
+use crate::levels::{is_plain, is_sealing};
+use crate::memo::{Answer, call_answer};
+use crate::sealing::{is_due, send_all, take};
+use crate::state::{AtLink, Bound, LoggedOn, Phase, Talk};
+use crate::work::{send, send_unit, shut};
+use end_links::{call_bytes, fault, response};
+use outside::CloseCause;
+use rpc_units::{
+    Body, BodyView, JoinRefused, Joiner, Trailer, Unit, UnitList, UnitView, cut_call, view_unit,
+};
+use std::alloc::Global;
+use wire_base::{Blob, NoMemory};
+
+// ---- no user is logged on
+
+/// A unit on a link on which no user is logged on: a request is answered with a fault of that status.
+pub(crate) fn unit_out(
+    alloc: Global,
+    bytes: &[u8],
+    bound: Bound,
+    status: u32,
+    joiner: Joiner,
+    at: AtLink,
+) -> Result<(AtLink, Option<Talk>), NoMemory>
+    ensures { IfOk result (λ served. served ≡ unit_out (unit_of bytes.now) bound status joiner at) }
+{
+    let Ok(unit) = view_unit(bytes) else {
+        return shut(at, CloseCause::BadUnit);
+    };
+    match unit.body {
+        BodyView::Request { context, .. } => {
+            let at = send_unit(alloc, at, &fault(unit.call, context, status))?;
+            let phase = Phase::Out { bound, status };
+            Ok((at, Some(Talk { joiner, phase })))
+        }
+        _ => shut(at, CloseCause::OutOfPlace),
+    }
+}
+
+// ---- the logon is asked
+
+/// A unit on a link whose logon is asked: a request is held.
+pub(crate) fn unit_asked(
+    alloc: Global,
+    bytes: &[u8],
+    bound: Bound,
+    place: u32,
+    held: Held,
+    joiner: Joiner,
+    at: AtLink,
+) -> Result<(AtLink, Option<Talk>), NoMemory>
+    ensures { IfOk result (λ served. served ≡ unit_asked (unit_of bytes.now) bytes.now bound place held joiner at) }
+{
+    let Ok(unit) = view_unit(bytes) else {
+        return shut(at, CloseCause::BadUnit);
+    };
+    match unit.body {
+        BodyView::Request { .. } => hold(alloc, bytes, bound, place, held, joiner, at),
+        _ => shut(at, CloseCause::OutOfPlace),
+    }
+}
+
+/// A request is held, where there is room.
+fn hold(
+    alloc: Global,
+    bytes: &[u8],
+    bound: Bound,
+    place: u32,
+    held: Held,
+    joiner: Joiner,
+    at: AtLink,
+) -> Result<(AtLink, Option<Talk>), NoMemory>
+    ensures { IfOk result (λ served. served
+        ≡ hold_by (nat_le (held_size held + length bytes.now) held_limit) bytes.now bound place held joiner at) }
+{
+    if !held.has_room(bytes.len()) {
+        return shut(at, CloseCause::TooMuchHeld);
+    }
+    let held = held.hold(alloc, bytes)?;
+    let phase = Phase::Asked { bound, place, held };
+    Ok((at, Some(Talk { joiner, phase })))
+}
+
+// ---- replies
+
+/// What is said on a link on which a user is logged on.
+fn talk_in(joiner: Joiner, on: LoggedOn) -> Talk
+    ensures { result ≡ talk_in joiner on }
+{
+    Talk {
+        joiner,
+        phase: Phase::In(on),
+    }
+}
+
+/// The answer to a call is sent.
+fn reply(
+    alloc: Global,
+    answer: Answer,
+    call: u32,
+    context: u16,
+    on: LoggedOn,
+    joiner: Joiner,
+    at: AtLink,
+) -> Result<(AtLink, Option<Talk>), NoMemory>
+    requires { IsShortAnswer answer }
+    ensures { IfOk result (λ served. served ≡ reply answer call context on joiner at) }
+{
+    match answer {
+        Answer::Fault(status) => {
+            let at = send_unit(alloc, at, &fault(call, context, status))?;
+            Ok((at, Some(talk_in(joiner, on))))
+        }
+        Answer::Stub(stub) => send_reply(alloc, stub, call, context, on, joiner, at),
+    }
+}
+
+/// A reply is sent: as it is, or signed.
+fn send_reply(
+    alloc: Global,
+    stub: Blob,
+    call: u32,
+    context: u16,
+    on: LoggedOn,
+    joiner: Joiner,
+    at: AtLink,
+) -> Result<(AtLink, Option<Talk>), NoMemory>
+    requires { length stub < 2 ^ 32 }
+    ensures { IfOk result (λ served. served ≡ send_reply (is_plain on.bound.level) call context stub on joiner at) }
+{
+    if !is_plain(on.bound.level) {
+        return seal_reply(alloc, stub, call, context, on, joiner, at);
+    }
+    let unit = response(call, context, stub);
+    let bytes = call_bytes(alloc, &unit, on.bound.binding.limit())?;
+    let at = send(at, bytes)?;
+    Ok((at, Some(talk_in(joiner, on))))
+}
+
+/// A reply is signed or sealed, fragment by fragment, and sent. Where the session refuses one, the link is closed.
+fn seal_reply(
+    alloc: Global,
+    stub: Blob,
+    call: u32,
+    context: u16,
+    on: LoggedOn,
+    joiner: Joiner,
+    at: AtLink,
+) -> Result<(AtLink, Option<Talk>), NoMemory>
+    requires { length stub < 2 ^ 32 }
+    ensures { IfOk result (λ served. served ≡ seal_reply on.session call context stub on joiner at) }
+{
+    let LoggedOn {
+        bound,
+        name,
+        key,
+        session,
+    } = on;
+    let Some(session) = session else {
+        return shut(at, CloseCause::BadAuthentication);
+    };
+    let units = reply_units(alloc, stub, call, context, &bound)?;
+    match send_all(alloc, is_sealing(bound.level), session, units.items())? {
+        Some((bytes, session)) => {
+            let at = send(at, bytes)?;
+            let on = LoggedOn {
+                bound,
+                name,
+                key,
+                session: Some(session),
+            };
+            Ok((at, Some(talk_in(joiner, on))))
+        }
+        None => shut(at, CloseCause::BadAuthentication),
+    }
+}
+
+/// The fragments of a reply that is signed, with blank values.
+#[tactic(auto, using(crate::proofs::SealingLaws::reply_ready))]
+fn reply_units(
+    alloc: Global,
+    stub: Blob,
+    call: u32,
+    context: u16,
+    bound: &Bound,
+) -> Result<UnitList, NoMemory>
+    requires { length stub < 2 ^ 32 }
+    ensures value { IfOk result (λ units. units ≡ cut_of
+        (reply_with (blank_trailer bound.now.level bound.now.context) call context stub)
+        bound.now.binding.limit) }
+    ensures ready { IfOk result (λ units. AllByRecursion IsReady units) }
+{
+    let trailer = Trailer {
+        kind: 10,
+        level: bound.level,
+        context: bound.context,
+        value: Blob::copy(alloc, &[0; 16])?,
+    };
+    let unit = Unit {
+        trailer: Some(trailer),
+        ..response(call, context, stub)
+    };
+    Ok(cut_call(alloc, &unit, bound.binding.limit())?)
+}
+
+// ---- a user is logged on
+
+/// A whole call is answered.
+fn answer_call(
+    alloc: Global,
+    unit: &Unit,
+    on: LoggedOn,
+    joiner: Joiner,
+    at: AtLink,
+) -> Result<(AtLink, Option<Talk>), NoMemory>
+    ensures { IfOk result (λ served. served ≡ answer_call unit.now.body unit.now.call on joiner at) }
+{
+    match &unit.body {
+        Body::Request {
+            context,
+            opnum,
+            stub,
+            ..
+        } => {
+            let accepted = on.bound.binding.accepts(*context);
+            let answer = call_answer(alloc, accepted, *opnum, &on.name, stub.bytes())?;
+            reply(alloc, answer, unit.call, *context, on, joiner, at)
+        }
+        _ => shut(at, CloseCause::OutOfPlace),
+    }
+}
+
+/// A unit in plain form: a request is joined, and a whole call answered.
+fn join_unit(
+    alloc: Global,
+    bytes: &[u8],
+    on: LoggedOn,
+    joiner: Joiner,
+    at: AtLink,
+) -> Result<(AtLink, Option<Talk>), NoMemory>
+    ensures { IfOk result (λ served. served ≡ join_unit (unit_of bytes.now) on joiner at) }
+{
+    let Ok(unit) = view_unit(bytes) else {
+        return shut(at, CloseCause::BadUnit);
+    };
+    match unit.body {
+        BodyView::Request { .. } => join(alloc, &unit, on, joiner, at),
+        _ => shut(at, CloseCause::OutOfPlace),
+    }
+}
+
+/// A request is joined.
+fn join(
+    alloc: Global,
+    unit: &UnitView,
+    on: LoggedOn,
+    joiner: Joiner,
+    at: AtLink,
+) -> Result<(AtLink, Option<Talk>), NoMemory>
+    requires { HasStub (body_shown unit.now.body) }
+    ensures { IfOk result (λ served. served
+        ≡ join_by (answer_of joiner (unit_shown unit.now)) (open_after joiner (unit_shown unit.now)) on at) }
+{
+    let mut joiner = joiner;
+    match joiner.add_view(alloc, unit) {
+        Ok(None) => Ok((at, Some(talk_in(joiner, on)))),
+        Ok(Some(whole)) => answer_call(alloc, &whole, on, joiner, at),
+        Err(JoinRefused::OutOfPlace) => shut(at, CloseCause::OutOfPlace),
+        Err(JoinRefused::CallTooLong) => shut(at, CloseCause::TooMuchHeld),
+        Err(JoinRefused::Memory) => Err(NoMemory),
+    }
+}
+
+/// Why a unit isn't a request with the trailer that is due at a level that signs, where it isn't.
+#[tactic(auto, using(crate::proofs::SealingLaws::due))]
+fn signed_cause(level: u8, bytes: &[u8]) -> Option<CloseCause>
+    ensures value { result ≡ signed_cause (unit_of bytes.now) level }
+    ensures least { result ≡ None → 16 ≤ length bytes.now }
+    ensures most { result ≡ None → length bytes.now ≤ 65536 }
+    ensures signature { result ≡ None → HasSignature bytes.now }
+{
+    let Ok(unit) = view_unit(bytes) else {
+        return Some(CloseCause::BadUnit);
+    };
+    match unit.body {
+        BodyView::Request { .. } => {
+            if is_due(level, &unit.trailer) {
+                None
+            } else {
+                Some(CloseCause::BadAuthentication)
+            }
+        }
+        _ => Some(CloseCause::OutOfPlace),
+    }
+}
+
+/// A unit on a link on which a user is logged on. At a level that signs it is opened in its place.
+pub(crate) fn unit_in(
+    alloc: Global,
+    bytes: &mut [u8],
+    on: LoggedOn,
+    joiner: Joiner,
+    at: AtLink,
+) -> Result<(AtLink, Option<Talk>), NoMemory>
+    ensures len { length bytes.new ≡ length bytes.old }
+    ensures served { IfOk result (λ served. served
+        ≡ unit_in (is_plain on.bound.level) bytes.old on joiner at) }
+{
+    if is_plain(on.bound.level) {
+        return join_unit(alloc, bytes, on, joiner, at);
+    }
+    if let Some(cause) = signed_cause(on.bound.level, bytes) {
+        return shut(at, cause);
+    }
+    open_unit(alloc, bytes, on, joiner, at)
+}
+
+/// A request with the trailer that is due: its signature is taken, and it is joined.
+fn open_unit(
+    alloc: Global,
+    bytes: &mut [u8],
+    on: LoggedOn,
+    joiner: Joiner,
+    at: AtLink,
+) -> Result<(AtLink, Option<Talk>), NoMemory>
+    requires least { 16 ≤ length bytes.old }
+    requires most { length bytes.old ≤ 65536 }
+    requires signature { HasSignature bytes.old }
+    ensures len { length bytes.new ≡ length bytes.old }
+    ensures served { IfOk result (λ served. served ≡ open_unit on.session bytes.old on joiner at) }
+{
+    let LoggedOn {
+        bound,
+        name,
+        key,
+        session,
+    } = on;
+    let Some(session) = session else {
+        return shut(at, CloseCause::BadAuthentication);
+    };
+    let (taken, session) = take(is_sealing(bound.level), session, bytes);
+    if !taken {
+        return shut(at, CloseCause::BadAuthentication);
+    }
+    let on = LoggedOn {
+        bound,
+        name,
+        key,
+        session: Some(session),
+    };
+    join_unit(alloc, bytes, on, joiner, at)
+}

@@ -1,0 +1,127 @@
+//! What a member keeps.
+
+use crate::held::Held;
+use crate::plan::MemberPlan;
+use channel_client::{Channel, Turn};
+use end_links::{Binding, Link, Links};
+use ntlm_messages::Authenticate;
+use ntlm_seal::Session;
+use outside::Actions;
+use rpc_units::Joiner;
+use wire_base::{Frames, List, Units};
+
+/// What a link is bound to: the accepted contexts with the limit of a fragment, and the level and the security context of the bind's trailer
+/// (C706 12.6.3.1, MS-RPCE 2.2.2.11).
+#[derive(Drop)]
+pub struct Bound {
+    pub binding: Binding,
+    pub level: u8,
+    pub context: u32,
+}
+
+/// Who is logged on on a link: what it is bound to, the domain and the user as one name, the exported session key, and the session that signs
+/// and seals, where extended session security is agreed (MS-NLMP 3.2.5.1.2, 3.4).
+#[derive(Drop)]
+pub struct LoggedOn {
+    pub bound: Bound,
+    pub name: Units,
+    pub key: [u8; 16],
+    pub session: Option<Session>,
+}
+
+/// How far an accepted link is.
+#[derive(Drop)]
+pub enum Phase {
+    /// Nothing is bound.
+    Fresh,
+    /// A CHALLENGE was sent, with this challenge and these flags.
+    Challenged {
+        bound: Bound,
+        challenge: [u8; 8],
+        flags: u32,
+    },
+    /// The logon of that place is asked; these requests wait for its outcome.
+    Asked {
+        bound: Bound,
+        place: u32,
+        held: Held,
+    },
+    /// A user is logged on.
+    In(LoggedOn),
+    /// No user is logged on; every request is answered with a fault of this status.
+    Out { bound: Bound, status: u32 },
+}
+
+/// What is said on an accepted link so far: the fragments of an open call, and how far the link is.
+#[derive(Drop)]
+pub struct Talk {
+    pub joiner: Joiner,
+    pub phase: Phase,
+}
+
+/// A logon that is asked: the link that it came on, the challenge of that link, the AUTHENTICATE and the agreed flags. It is kept until its
+/// outcome is told, also where the link is closed by then.
+#[derive(Drop)]
+pub struct Logon {
+    pub link: u32,
+    pub challenge: [u8; 8],
+    pub message: Authenticate,
+    pub agreed: u32,
+}
+
+/// What logons need: the plan, the one channel that they share, and the logons that are asked, by their places.
+#[derive(Drop)]
+pub struct Logons {
+    pub plan: MemberPlan,
+    pub channel: Channel,
+    pub asked: List<(u32, Logon)>,
+}
+
+/// What is said on the link of the turn so far: the fragments of an open reply, and the right to the turn.
+#[derive(Drop)]
+pub struct TurnTalk {
+    pub joiner: Joiner,
+    pub turn: Turn,
+}
+
+/// The link of the turn that is out.
+#[derive(Drop)]
+pub enum Dialling {
+    /// No turn is out.
+    Nothing,
+    /// The dial waits; the frames of the bind go out where it is answered.
+    Waits(Turn, Frames),
+    /// The number of the link, and the link.
+    On(u32, Link<TurnTalk>),
+}
+
+/// What a member keeps while it isn't stopped.
+#[derive(Drop)]
+pub struct Running {
+    pub logons: Logons,
+    pub links: Links<Talk>,
+    pub dialling: Dialling,
+}
+
+/// A member at work on an accepted link, which is out of its map then: its number, what logons need, and the actions so far.
+#[derive(Drop)]
+pub struct AtLink {
+    pub link: u32,
+    pub logons: Logons,
+    pub actions: Actions,
+}
+
+/// A member at work: what logons need, the accepted links, and the actions so far.
+#[derive(Drop)]
+pub struct Work {
+    pub logons: Logons,
+    pub links: Links<Talk>,
+    pub actions: Actions,
+}
+
+/// A member at work on the link of the turn, by the number of that link.
+#[derive(Drop)]
+pub struct AtTurn {
+    pub link: u32,
+    pub work: Work,
+}

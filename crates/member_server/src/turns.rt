@@ -1,0 +1,298 @@
+//! The turn that is out, and its link.
+
+ghost use Rattle.std.specs.Prelude.{◌≡◌, ◌%◌, ◌/◌, ◌+◌, length, replicate, IfOk, Ok};
+ghost use Rattle.outside.specs.Drawing.{DrawsSome};
+ghost use Rattle.outside.specs.Machine.{AnswersBy};
+ghost use Rattle.rpc_units.specs.Joining.{answer_of, open_after};
+ghost use Rattle.rpc_units.specs.Reading.{unit_of};
+ghost use Rattle.channel_client.specs.Machine.{start_of, take_of};
+ghost use Rattle.channel_client.specs.declared.answers.Taken.TheVariants as taken;
+ghost use Rattle.member_server.specs.Turns.{lose_turn, tell_turn_closed, finish_turn, finish_logon, ending_of, do_taken, take_by, break_turn, turn_by_join, turn_unit, timestamp_of, dial_by, next_turn};
+
+use crate::outcomes::{Ending, end_logon, tell_at};
+use crate::state::{AtTurn, Dialling, TurnTalk, Work};
+use channel_client::{TakeRefused, Taken, Turn};
+use end_links::{ServesUnits, join_frames};
+use logon_stubs::Verdict;
+use outside::{Action, Chances, CloseCause, DropCause, StepRefused};
+use rpc_units::{JoinRefused, Joiner, Unit, UnitRefused, read_unit};
+use std::alloc::Global;
+use wire_base::{Blob, Frames, NoMemory};
+
+// ---- a turn that is lost
+
+/// The turn is given up for this cause, and its logon ends.
+pub(crate) fn lose_turn(
+    alloc: Global,
+    turn: Turn,
+    cause: DropCause,
+    work: Work,
+) -> Result<Work, NoMemory>
+    ensures { IfOk result (λ lost. lost ≡ lose_turn cause work) }
+{
+    let Work {
+        mut logons,
+        links,
+        actions,
+    } = work;
+    let place = logons.channel.lose(turn, cause);
+    let work = Work {
+        logons,
+        links,
+        actions,
+    };
+    end_logon(alloc, place, &Ending::NoController(cause), work)
+}
+
+/// A unit that is refused closes the link for this cause, and loses the turn.
+fn break_turn(
+    alloc: Global,
+    cause: CloseCause,
+    turn: Turn,
+    at: AtTurn,
+) -> Result<(AtTurn, Option<TurnTalk>), NoMemory>
+    ensures { IfOk result (λ served. served ≡ break_turn cause at) }
+{
+    let AtTurn { link, work } = at;
+    let work = tell_at(work, Action::Close(link, cause))?;
+    let work = lose_turn(alloc, turn, DropCause::BadReply, work)?;
+    Ok((AtTurn { link, work }, None))
+}
+
+// ---- what the channel makes of a unit
+
+/// The turn is done, and its link is closed.
+fn finish_turn(at: AtTurn) -> Result<(AtTurn, Option<TurnTalk>), NoMemory>
+    ensures { IfOk result (λ served. served ≡ finish_turn at) }
+{
+    let AtTurn { link, work } = at;
+    let work = tell_at(work, Action::Close(link, CloseCause::CallDone))?;
+    Ok((AtTurn { link, work }, None))
+}
+
+/// Besides, the logon of that place ends.
+fn finish_logon(
+    alloc: Global,
+    place: u32,
+    how: &Ending,
+    at: AtTurn,
+) -> Result<(AtTurn, Option<TurnTalk>), NoMemory>
+    ensures { IfOk result (λ served. served ≡ finish_logon place how.now at) }
+{
+    let AtTurn { link, work } = at;
+    let work = tell_at(work, Action::Close(link, CloseCause::CallDone))?;
+    let work = end_logon(alloc, place, how, work)?;
+    Ok((AtTurn { link, work }, None))
+}
+
+/// The request of the turn goes out in these frames.
+fn send_request(
+    alloc: Global,
+    turn: Turn,
+    frames: &Frames,
+    joiner: Joiner,
+    at: AtTurn,
+) -> Result<(AtTurn, Option<TurnTalk>), NoMemory>
+    ensures { IfOk result (λ served. served ≡ do_taken (taken.Next turn frames.now) joiner at) }
+{
+    let AtTurn { link, work } = at;
+    let bytes = join_frames(alloc, frames)?;
+    let work = tell_at(work, Action::Send(link, bytes))?;
+    Ok((AtTurn { link, work }, Some(TurnTalk { joiner, turn })))
+}
+
+/// How a logon ended that the controller judged so.
+fn ending_of(verdict: Verdict) -> Ending
+    ensures { result ≡ ending_of verdict }
+{
+    match verdict {
+        Verdict::Granted(info) => Ending::Granted(info),
+        Verdict::Status(status) => Ending::Refused(status),
+    }
+}
+
+/// What comes of a unit that the channel took.
+fn do_taken(
+    alloc: Global,
+    taken: Taken,
+    joiner: Joiner,
+    at: AtTurn,
+) -> Result<(AtTurn, Option<TurnTalk>), NoMemory>
+    ensures { IfOk result (λ served. served ≡ do_taken taken joiner at) }
+{
+    match taken {
+        Taken::Skip(turn) => Ok((at, Some(TurnTalk { joiner, turn }))),
+        Taken::Next(turn, frames) => send_request(alloc, turn, &frames, joiner, at),
+        Taken::Half | Taken::Opened => finish_turn(at),
+        Taken::Answer(place, verdict) => finish_logon(alloc, place, &ending_of(verdict), at),
+        Taken::Dropped(place, cause) => {
+            finish_logon(alloc, place, &Ending::NoController(cause), at)
+        }
+    }
+}
+
+/// A whole unit is taken.
+fn take(
+    alloc: Global,
+    unit: &Unit,
+    turn: Turn,
+    joiner: Joiner,
+    at: AtTurn,
+) -> Result<(AtTurn, Option<TurnTalk>), NoMemory>
+    ensures { IfOk result (λ served. served
+        ≡ take_by (take_of at.work.logons.channel unit.now) joiner at) }
+{
+    let AtTurn { link, work } = at;
+    let Work {
+        mut logons,
+        links,
+        actions,
+    } = work;
+    match logons.channel.take(alloc, turn, unit) {
+        Ok(taken) => {
+            let work = Work {
+                logons,
+                links,
+                actions,
+            };
+            do_taken(alloc, taken, joiner, AtTurn { link, work })
+        }
+        Err(TakeRefused::Memory(_)) => Err(NoMemory),
+    }
+}
+
+/// A unit on the link of the turn: it is joined, and a whole one taken.
+fn turn_unit(
+    alloc: Global,
+    bytes: &[u8],
+    at: AtTurn,
+    talk: TurnTalk,
+) -> Result<(AtTurn, Option<TurnTalk>), NoMemory>
+    ensures { IfOk result (λ served. served ≡ turn_unit (unit_of bytes.now) talk.joiner at) }
+{
+    let TurnTalk { joiner, turn } = talk;
+    match read_unit(alloc, bytes) {
+        Ok(unit) => join(alloc, unit, turn, joiner, at),
+        Err(UnitRefused::Memory) => Err(NoMemory),
+        Err(_) => break_turn(alloc, CloseCause::BadUnit, turn, at),
+    }
+}
+
+/// It is joined.
+fn join(
+    alloc: Global,
+    unit: Unit,
+    turn: Turn,
+    joiner: Joiner,
+    at: AtTurn,
+) -> Result<(AtTurn, Option<TurnTalk>), NoMemory>
+    ensures { IfOk result (λ served. served
+        ≡ turn_by_join (answer_of joiner unit) (open_after joiner unit) at) }
+{
+    let mut joiner = joiner;
+    match joiner.add(unit) {
+        Ok(None) => Ok((at, Some(TurnTalk { joiner, turn }))),
+        Ok(Some(whole)) => take(alloc, &whole, turn, joiner, at),
+        Err(JoinRefused::OutOfPlace) => break_turn(alloc, CloseCause::OutOfPlace, turn, at),
+        Err(JoinRefused::CallTooLong) => break_turn(alloc, CloseCause::TooMuchHeld, turn, at),
+        Err(JoinRefused::Memory) => Err(NoMemory),
+    }
+}
+
+impl ServesUnits<TurnTalk> for AtTurn {
+    ghost use Rattle.member_server.specs.Turns.{turn_server};
+    ghost use Rattle.member_server.specs.Rests.{turn_leaves};
+
+    ghost server = { turn_server };
+
+    #[tactic(auto, using(crate::proofs::TurnLaws::drawing))]
+    fn serve<Q: Chances>(
+        self,
+        alloc: Global,
+        bytes: &mut [u8],
+        talk: TurnTalk,
+        _chances: &mut Q,
+    ) -> Result<(AtTurn, Option<TurnTalk>), StepRefused> {
+        Ok(turn_unit(alloc, bytes, self, talk)?)
+    }
+
+    #[tactic(auto, using(crate::proofs::TurnLaws::drawing))]
+    fn refuse<Q: Chances>(
+        self,
+        alloc: Global,
+        _why: UnitRefused,
+        talk: TurnTalk,
+        _chances: &mut Q,
+    ) -> Result<AtTurn, StepRefused> {
+        let (at, _) = break_turn(alloc, CloseCause::BadUnit, talk.turn, self)?;
+        Ok(at)
+    }
+
+    ghost leaves = { turn_leaves };
+}
+
+// ---- the next turn
+
+/// Seconds since 1970, modulo 2^32, of a moment in units of 100 ns since 1601.
+fn timestamp_of(now: u64) -> u32
+    ensures { result ≡ timestamp_of now }
+{
+    ((now / 10_000_000 + 5_535_395_584) % 4_294_967_296) as u32
+}
+
+/// A turn starts, where one can: its controller is dialled.
+fn dial(
+    alloc: Global,
+    timestamp: u32,
+    challenge: [u8; 8],
+    work: Work,
+    how: Dialling,
+) -> Result<(Work, Dialling), NoMemory>
+    ensures { IfOk result (λ desk. desk
+        ≡ dial_by (start_of work.logons.channel timestamp challenge) work how) }
+{
+    let Work {
+        mut logons,
+        links,
+        actions,
+    } = work;
+    let Some((turn, frames)) = logons.channel.start_turn(alloc, timestamp, challenge)? else {
+        let work = Work {
+            logons,
+            links,
+            actions,
+        };
+        return Ok((work, how));
+    };
+    let peer = Blob::copy(alloc, logons.plan.controller.bytes())?;
+    let work = Work {
+        logons,
+        links,
+        actions,
+    };
+    let work = tell_at(work, Action::Dial(peer))?;
+    Ok((work, Dialling::Waits(turn, frames)))
+}
+
+/// The next turn starts, where one can. A challenge is drawn where the channel needs one.
+#[tactic(auto, using(crate::proofs::TurnLaws::drawing))]
+pub(crate) fn next_turn<Q: Chances>(
+    alloc: Global,
+    now: u64,
+    work: Work,
+    how: Dialling,
+    chances: &mut Q,
+) -> Result<(Work, Dialling), StepRefused>
+    ensures draws { DrawsSome (Q.drawing chances.old) (Q.drawing chances.new) }
+    ensures answer { AnswersBy result (next_turn now (work, how) (Q.drawing chances.old).left)
+        (Q.drawing chances.new).left }
+{
+    if !work.logons.channel.can_start() {
+        return Ok((work, how));
+    }
+    if !work.logons.channel.needs_challenge() {
+        return Ok(dial(alloc, timestamp_of(now), [0; 8], work, how)?);
+    }
+    let challenge = chances.next()?;
+    Ok(dial(alloc, timestamp_of(now), challenge, work, how)?)
+}

@@ -1,0 +1,123 @@
+//! The units of an accepted link.
+
+ghost use Rattle.std.specs.Prelude.{◌≡◌, length, option_map, IfOk};
+ghost use Rattle.rpc_units.specs.Reading.{unit_of};
+ghost use Rattle.member_server.specs.Units.{unit_challenged, bound_unit, serve_held};
+
+use crate::binds::fresh_unit;
+use crate::messages::take_auth3;
+use crate::requests::{unit_asked, unit_in, unit_out};
+use crate::state::{AtLink, Bound, Phase, Talk};
+use crate::work::shut;
+use end_links::ServesUnits;
+use outside::{Chances, CloseCause, StepRefused};
+use rpc_units::{BodyView, Joiner, UnitRefused, view_unit};
+use std::alloc::Global;
+use wire_base::{Blob, NoMemory};
+
+/// A unit on a link that was sent its CHALLENGE: an auth3 is taken.
+fn unit_challenged(
+    alloc: Global,
+    bytes: &[u8],
+    bound: Bound,
+    challenge: [u8; 8],
+    flags: u32,
+    joiner: Joiner,
+    at: AtLink,
+) -> Result<(AtLink, Option<Talk>), NoMemory>
+    ensures { IfOk result (λ served. served
+        ≡ unit_challenged (unit_of bytes.now) bound challenge flags joiner at) }
+{
+    let Ok(unit) = view_unit(bytes) else {
+        return shut(at, CloseCause::BadUnit);
+    };
+    match unit.body {
+        BodyView::Auth3 => take_auth3(alloc, &unit.trailer, bound, challenge, flags, joiner, at),
+        _ => shut(at, CloseCause::OutOfPlace),
+    }
+}
+
+/// A unit on a link on which something is bound. It draws no challenge.
+pub(crate) fn bound_unit(
+    alloc: Global,
+    bytes: &mut [u8],
+    talk: Talk,
+    at: AtLink,
+) -> Result<(AtLink, Option<Talk>), NoMemory>
+    ensures len { length bytes.new ≡ length bytes.old }
+    ensures served { IfOk result (λ served. served ≡ bound_unit talk.phase bytes.old talk.joiner at) }
+{
+    let Talk { joiner, phase } = talk;
+    match phase {
+        Phase::Fresh => shut(at, CloseCause::OutOfPlace),
+        Phase::Challenged {
+            bound,
+            challenge,
+            flags,
+        } => unit_challenged(alloc, bytes, bound, challenge, flags, joiner, at),
+        Phase::Asked { bound, place, held } => {
+            unit_asked(alloc, bytes, bound, place, held, joiner, at)
+        }
+        Phase::In(on) => unit_in(alloc, bytes, on, joiner, at),
+        Phase::Out { bound, status } => unit_out(alloc, bytes, bound, status, joiner, at),
+    }
+}
+
+/// Units that were held, one after the other, until the link is closed.
+pub(crate) fn serve_held(
+    alloc: Global,
+    held: &[Blob],
+    at: AtLink,
+    talk: Talk,
+) -> Result<(AtLink, Option<Talk>), NoMemory>
+    ensures { IfOk result (λ served. served ≡ serve_held held.now at talk) }
+{
+    let mut at = at;
+    let mut talk = talk;
+    for unit in held {
+        let mut bytes = Vec::from_slice(alloc, unit.bytes())?;
+        let (after, open) = bound_unit(alloc, bytes.as_mut_slice(), talk, at)?;
+        at = after;
+        match open {
+            Some(still) => talk = still,
+            None => return Ok((at, None)),
+        }
+    }
+    Ok((at, Some(talk)))
+}
+
+impl ServesUnits<Talk> for AtLink {
+    ghost use Rattle.member_server.specs.Rests.{link_leaves};
+    ghost use Rattle.member_server.specs.Units.{link_server};
+
+    ghost server = { link_server };
+
+    #[tactic(auto, using(crate::proofs::TurnLaws::drawing))]
+    fn serve<Q: Chances>(
+        self,
+        alloc: Global,
+        bytes: &mut [u8],
+        talk: Talk,
+        chances: &mut Q,
+    ) -> Result<(AtLink, Option<Talk>), StepRefused> {
+        let Talk { joiner, phase } = talk;
+        match phase {
+            Phase::Fresh => fresh_unit(alloc, bytes, joiner, self, chances),
+            phase => Ok(bound_unit(alloc, bytes, Talk { joiner, phase }, self)?),
+        }
+    }
+
+    #[tactic(auto, using(crate::proofs::TurnLaws::drawing))]
+    fn refuse<Q: Chances>(
+        self,
+        _alloc: Global,
+        _why: UnitRefused,
+        _talk: Talk,
+        _chances: &mut Q,
+    ) -> Result<AtLink, StepRefused> {
+        let (at, _) = shut(self, CloseCause::BadUnit)?;
+        Ok(at)
+    }
+
+    ghost leaves = { link_leaves };
+}
