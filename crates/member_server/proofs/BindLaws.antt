@@ -78,8 +78,12 @@ challenge_len message one other same =
 
 tail_len : (count : ℕ) (one other : Trailer) → length one.value ≡ length other.value → length (written_tail count (Some one)) ≡ length (written_tail count (Some other))
 tail_len count one other same =
-    omega (arith, length-append (zeros (pad_for count)) ((one.kind ∷ one.level ∷ pad_for count ∷ 0 ∷ []) ++ (to_le_bytes w32 one.context ++ one.value)),
-    length-append (zeros (pad_for count)) ((other.kind ∷ other.level ∷ pad_for count ∷ 0 ∷ []) ++ (to_le_bytes w32 other.context ++ other.value)), same)
+    omega (
+      arith,
+      length-append (zeros (pad_for count)) ((one.kind ∷ one.level ∷ pad_for count ∷ 0 ∷ []) ++ (to_le_bytes w32 one.context ++ one.value)),
+      length-append (zeros (pad_for count)) ((other.kind ∷ other.level ∷ pad_for count ∷ 0 ∷ []) ++ (to_le_bytes w32 other.context ++ other.value)),
+      same,
+    )
 
 ack_len : (offer : Offer) (plan : MemberPlan) (call receive : ℕ) (contexts : List (ℕ × Syntax × List Syntax)) (one other : List ℕ) → length one ≡ length other →
     length (written (challenge_ack offer plan call receive contexts one)) ≡ length (written (challenge_ack offer plan call receive contexts other))
@@ -87,8 +91,14 @@ ack_len offer plan call receive contexts one other same =
     let a = challenge_ack offer plan call receive contexts one in
     let b = challenge_ack offer plan call receive contexts other in
     let body = written_body a.body in
-    omega (arith, length_written a, length_written b, length-append body (written_tail (length body) a.trailer), length-append body (written_tail (length body) b.trailer),
-    tail_len (length body) (challenge_trailer offer plan one) (challenge_trailer offer plan other) (challenge_len (challenge_message offer.flags plan one) one other same))
+    omega (
+      arith,
+      length_written a,
+      length_written b,
+      length-append body (written_tail (length body) a.trailer),
+      length-append body (written_tail (length body) b.trailer),
+      tail_len (length body) (challenge_trailer offer plan one) (challenge_trailer offer plan other) (challenge_len (challenge_message offer.flags plan one) one other same),
+    )
 
 pub ack_short : (offer : Offer) (plan : MemberPlan) (call receive : ℕ) (contexts : List (ℕ × Syntax × List Syntax)) (challenge : List ℕ) → length challenge ≡ 8 →
     IsTrue (ack_fits offer plan call receive contexts) → length (written (challenge_ack offer plan call receive contexts challenge)) ≤ 5840

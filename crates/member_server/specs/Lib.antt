@@ -1,5 +1,6 @@
 pub mod Binds
 pub mod Held
+pub mod Holding
 pub mod Levels
 pub mod Lines
 pub mod Machine

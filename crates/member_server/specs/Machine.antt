@@ -84,9 +84,10 @@ open_after_close desk link = (open_by (nat_le 256 (length desk.0.links)) link de
 abbrev pub answer_dial : Dialling → ℕ → Work → Desk
 answer_dial dialling.Nothing link work = (work, dialling.Nothing)
 answer_dial (dialling.On number said) link work = (work, dialling.On number said)
-answer_dial (dialling.Waits turn frames) link work =
-    (tell_at (without_link link work) (action.Send link (joined_frames frames)),
-    dialling.On link (record { rest = []; talk = turn_talk None }))
+answer_dial (dialling.Waits turn frames) link work = (
+  tell_at (without_link link work) (action.Send link (joined_frames frames)),
+  dialling.On link (record { rest = []; talk = turn_talk None }),
+)
 
 abbrev pub fail_dial : Dialling → Work → Desk
 fail_dial dialling.Nothing work = (work, dialling.Nothing)

@@ -26,7 +26,8 @@ use ntlm_flags::{
 use ntlm_messages::{Challenge, Pairs, WriteRefused, view_negotiate, write_challenge, write_pairs};
 use outside::{Chances, CloseCause, StepRefused};
 use rpc_units::{
-    Body, Contexts, Joiner, Syntax, Trailer, Unit, UnitRefused, UnitWriteRefused, read_unit, write_unit,
+    Body, Contexts, Joiner, Syntax, Trailer, Unit, UnitRefused, UnitWriteRefused, read_unit,
+    write_unit,
 };
 use std::alloc::Global;
 use wire_base::{Blob, Name, NoMemory};
@@ -232,7 +233,15 @@ fn answer_bind(
     ensures { IfOk result (λ served. served
         ≡ answer_of_bind offer call receive contexts.now challenge joiner at) }
 {
-    let ack = challenge_ack(alloc, offer, &at.logons.plan, call, receive, contexts, challenge)?;
+    let ack = challenge_ack(
+        alloc,
+        offer,
+        &at.logons.plan,
+        call,
+        receive,
+        contexts,
+        challenge,
+    )?;
     let bytes = unit_bytes(alloc, &ack)?;
     let at = send(at, bytes)?;
     let bound = Bound {
@@ -295,8 +304,19 @@ fn take_unit<Q: Chances>(
 {
     match &unit.body {
         Body::Bind {
-            receive, contexts, ..
-        } => take_bind(alloc, &unit.trailer, unit.call, *receive, contexts, joiner, at, chances),
+            receive,
+            contexts,
+            ..
+        } => take_bind(
+            alloc,
+            &unit.trailer,
+            unit.call,
+            *receive,
+            contexts,
+            joiner,
+            at,
+            chances,
+        ),
         Body::BindAck { .. }
         | Body::BindNak(_)
         | Body::Auth3

@@ -1,10 +1,11 @@
 //! The bytes that a member holds.
 
-ghost use Rattle.std.specs.Prelude.{◌≡◌, ◌≤◌};
-ghost use Rattle.member_server.specs.Holding.{bytes_in, turn_bytes, held_of};
+ghost use Rattle.std.specs.Prelude.{◌≡◌, ◌≤◌, ◌+◌};
+ghost use Rattle.end_links.specs.Links.{held_by};
+ghost use Rattle.member_server.specs.Holding.{bytes_in, held_of, talk_bytes, turn_bytes};
 
 use crate::member::Member;
-use crate::state::{Dialling, Phase, Talk};
+use crate::state::{Dialling, Phase, Running, Talk};
 use end_links::SaysHeld;
 
 impl SaysHeld for Talk {
@@ -42,6 +43,14 @@ fn turn_bytes(how: &Dialling) -> u64
     }
 }
 
+/// The bytes that a member holds that keeps this.
+fn bytes_of(running: &Running) -> u64
+    ensures count { result ≡ held_by talk_bytes running.now.links + turn_bytes running.now.dialling }
+    ensures most { result ≤ 35120591 }
+{
+    running.links.held() + turn_bytes(&running.dialling)
+}
+
 impl Member {
     /// The bytes that the member holds: the rests of its links' streams, the stub bytes of open calls, and the requests that wait. A member that was
     /// stopped holds none. They are at most what 256 links and the link of the turn hold. It takes no memory.
@@ -50,7 +59,7 @@ impl Member {
         ensures most { result ≤ 35120591 }
     {
         match self.running() {
-            Some(running) => running.links.held() + turn_bytes(&running.dialling),
+            Some(running) => bytes_of(running),
             None => 0,
         }
     }

@@ -5,6 +5,7 @@
 mod binds;
 mod end;
 mod held;
+mod holding;
 mod laws;
 mod levels;
 mod lines;

@@ -61,7 +61,6 @@ fn read_who(name: &[u16], stub: &[u8])
 {}
 
 /// The answer to Echo: the bytes of the request.
-#[tactic(auto, using(crate::proofs::MemoLaws::echo_fits))]
 fn echo_answer(alloc: Global, stub: &[u8]) -> Result<Answer, NoMemory>
     ensures value { IfOk result (λ given. given ≡ echo_answer (echo_request_of stub.now)) }
     ensures short { IfOk result IsShortAnswer }

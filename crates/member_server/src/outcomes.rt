@@ -248,7 +248,9 @@ fn turn_waiting(
     };
     let (at, said) = serve_held(alloc, held.units(), at, Talk { joiner, phase })?;
     let AtLink {
-        logons, actions, ..
+        logons,
+        actions,
+        ..
     } = at;
     let work = Work {
         logons,

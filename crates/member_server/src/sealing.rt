@@ -101,11 +101,7 @@ pub(crate) fn send_unit(
 }
 
 /// The same of a unit that is signed alone.
-fn sign(
-    alloc: Global,
-    session: Session,
-    bytes: &[u8],
-) -> Result<Option<(Blob, Session)>, NoMemory>
+fn sign(alloc: Global, session: Session, bytes: &[u8]) -> Result<Option<(Blob, Session)>, NoMemory>
     requires { 16 ≤ length bytes.now }
     ensures { IfOk result (λ sent. sent ≡ signing_of session bytes.now) }
 {
@@ -122,11 +118,7 @@ fn sign(
 
 /// The same of a unit that is sealed.
 #[tactic(auto, using(crate::proofs::SealingLaws::range_before_value))]
-fn seal(
-    alloc: Global,
-    session: Session,
-    bytes: &[u8],
-) -> Result<Option<(Blob, Session)>, NoMemory>
+fn seal(alloc: Global, session: Session, bytes: &[u8]) -> Result<Option<(Blob, Session)>, NoMemory>
     requires least { 16 ≤ length bytes.now }
     requires most { length bytes.now ≤ 65536 }
     requires value { HasSignature bytes.now }

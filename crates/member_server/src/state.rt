@@ -49,7 +49,10 @@ pub enum Phase {
     /// A user is logged on.
     In(LoggedOn),
     /// No user is logged on; every request is answered with a fault of this status.
-    Out { bound: Bound, status: u32 },
+    Out {
+        bound: Bound,
+        status: u32,
+    },
 }
 
 /// What is said on an accepted link so far: the fragments of an open call, and how far the link is.
