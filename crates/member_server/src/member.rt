@@ -1,6 +1,6 @@
 //! The member.
 
-ghost use Rattle.std.specs.Prelude.{◌≡◌, ◌≤◌, ◌<◌, ◌+◌, ◌++◌, ◌↔◌, None, Some, Err, false, length, nat_le, IfOk, OnOk, OnErr, IsTrue};
+ghost use Rattle.std.specs.Prelude.{◌≡◌, ◌≤◌, ◌<◌, ◌+◌, ◌++◌, ◌↔◌, None, Some, Err, false, length, nat_le, option_copied, IfOk, OnOk, OnErr, IsTrue};
 ghost use Rattle.end_loop.specs.Acts.{is_made, most_made_by};
 ghost use Rattle.wire_base.specs.Maps.{lookup, same_number};
 ghost use Rattle.outside.specs.Drawing.{DrawsSome};
@@ -112,6 +112,13 @@ impl Member {
             Some(running) => want_in(&running.dialling),
             None => None,
         }
+    }
+
+    /// What it keeps. None exactly where it is stopped.
+    pub(crate) fn running(&self) -> Option<&Running>
+        ensures { option_copied result ≡ self.now.running }
+    {
+        self.running.as_ref()
     }
 }
 
