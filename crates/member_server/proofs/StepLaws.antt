@@ -17,9 +17,10 @@ use Rattle.member_server.specs.declared.state.Running.{Running}
 use Rattle.member_server.specs.declared.state.Talk.{Talk}
 use Rattle.member_server.specs.declared.state.TurnTalk.{TurnTalk}
 use Rattle.member_server.specs.declared.state.Work.{Work}
-use Rattle.member_server.specs.Machine.{actions_in, after_turn, after_units, by_event, event_part, halted_state, keep_turn, put_open, state_in, work_of}
+use Rattle.member_server.specs.Machine.{actions_in, after_turn, after_units, by_event, event_part, halted_state, keep_turn, put_open, state_in, step_of, step_on, work_of}
+use Rattle.member_server.specs.State.{State}
 use Rattle.member_server.specs.Outcomes.{after_link, keep_link}
-use Rattle.member_server.specs.Pending.{pending_in, pending_of, Within}
+use Rattle.member_server.specs.Pending.{pending_by, pending_in, pending_of, Within}
 use Rattle.member_server.specs.Rests.{all_left}
 use Rattle.member_server.specs.Turns.{Desk, next_turn}
 use Rattle.end_loop.specs.Acts.{is_made, most_made_by}
@@ -51,8 +52,13 @@ units_refused Spent part rest left number how work answer = (ap (λ p. after_uni
 units_refused Memory part rest left number how work answer = units_rest part rest left number how work answer
 units_refused Stopped part rest left number how work answer = answer
 
--- ---- units of the link of a turn
+-- and then no memory was found to put the link back
+pub units_memory : (part : ServedPart AtLink Talk) (at : AtLink) (talk : Option Talk) (rest : List ℕ) (left : List (List ℕ)) (number : ℕ) (how : Dialling) (work : Work) →
+    part ≡ Ok (record { value = (at, talk); left = left }) → IsRest (left_by (after_units part rest number how work)) left
+units_memory part at talk rest left number how work is =
+    subst (λ p. IsRest (left_by (after_units p rest number how work)) left) (sym is) (all_left left)
 
+-- ---- units of the link of a turn
 
 pub turn_closed : (part : ServedPart AtTurn TurnTalk) (at : AtTurn) (rest : List ℕ) (left : List (List ℕ)) (number : ℕ) →
     part ≡ Ok (record { value = (at, None); left = left }) → after_turn part rest number ≡ Ok (record { value = (at.work, dialling.Nothing); left = left })
@@ -75,7 +81,7 @@ turn_refused Spent part rest left number answer = (ap (λ p. after_turn p rest n
 turn_refused Memory part rest left number answer = turn_rest part rest left number answer
 turn_refused Stopped part rest left number answer = answer
 
-pub ruleset serving = (units_served, units_refused, turn_closed, turn_stays, turn_refused, all_left, DrawsSome-none)
+pub ruleset serving = (units_served, units_refused, units_memory, turn_closed, turn_stays, turn_refused, all_left, DrawsSome-none)
 
 -- ---- the event, and then the next turn
 
@@ -84,31 +90,41 @@ pub event_refused : (why : StepRefused) (running : Running) (what : Event) (now 
 event_refused why running what now before left answer =
     AnswersBy-refused why (by_event what running.dialling (work_of running) before) (next_turn now) left (next_turn_rest now) answer
 
-pub event_done : (running : Running) (what : Event) (now : ℕ) (before left : List (List ℕ)) (desk : Desk) →
-    by_event what running.dialling (work_of running) before ≡ Ok (record { value = desk; left = left }) → event_part running what now before ≡ next_turn now desk left
-event_done running what now before left desk is = ap (λ p. then_part p (next_turn now)) is
+pub event_done : (result : Result Desk StepRefused) (running : Running) (what : Event) (now : ℕ) (before between left : List (List ℕ)) (desk : Desk) →
+    by_event what running.dialling (work_of running) before ≡ Ok (record { value = desk; left = between }) → AnswersBy result (next_turn now desk between) left →
+    AnswersBy result (event_part running what now before) left
+event_done result running what now before between left desk is answer =
+    subst (λ p. AnswersBy result (then_part p (next_turn now)) left) (sym is) answer
 
 pub ruleset running = (event_refused, event_done, DrawsSome-none, DrawsSome-trans)
 
 -- ---- a step
 
-pub step_taken : (part : Result (Part Desk) StepRefused) (desk : Desk) (before after : Drawing) → part ≡ Ok (record { value = desk; left = after.left }) → DrawsSome before after →
-    Takes (step_by actions_in state_in halted_state before.left part) (state_in desk) before after (actions_in desk)
-step_taken part desk before after is some = record {
-  drawn = draws_between before.left after.left;
-  is = ap (step_by actions_in state_in halted_state before.left) is;
-  draws = DrawsSome-between before after some;
-}
+pub step_taken : (running : Running) (s new : State) (what : Event) (now : ℕ) (before after : Drawing) (desk : Desk) → s.running ≡ Some running → new ≡ state_in desk →
+    DrawsSome before after → event_part running what now before.left ≡ Ok (record { value = desk; left = after.left }) →
+    Takes (step_of s what now before.left) new before after (actions_in desk)
+step_taken running s new what now before after desk runs stays some is =
+    subst (λ n. Takes (step_of s what now before.left) n before after (actions_in desk)) (sym stays) (record {
+      drawn = draws_between before.left after.left;
+      is = ap (λ (r : Option Running). step_on r s what now before.left) runs ∙ ap (step_by actions_in state_in halted_state before.left) is;
+      draws = DrawsSome-between before after some;
+    })
 
-pub step_refused : (why : StepRefused) (part : Result (Part Desk) StepRefused) (before after : Drawing) → DrawsSome before after → AnswersBy (Err why) part after.left →
-    StepsBy (Err why) (step_by actions_in state_in halted_state before.left part) halted_state halted_state before after
-step_refused why part before after some answer = StepsBy-refused why actions_in state_in halted_state part before after some answer
+pub step_refused : (why : StepRefused) (running : Running) (s new : State) (what : Event) (now : ℕ) (before after : Drawing) → s.running ≡ Some running → new ≡ halted_state →
+    DrawsSome before after → AnswersBy (Err why) (event_part running what now before.left) after.left →
+    StepsBy (Err why) (step_of s what now before.left) halted_state new before after
+step_refused why running s new what now before after runs stops some answer =
+    subst (λ n. StepsBy (Err why) (step_of s what now before.left) halted_state n before after) (sym stops)
+    (subst (λ (r : Option Running). StepsBy (Err why) (step_on r s what now before.left) halted_state halted_state before after) (sym runs)
+    (StepsBy-refused why actions_in state_in halted_state (event_part running what now before.left) before after some answer))
 
 -- the events that a step makes come to an end
-pub step_settles : (running : Running) (what : Event) (now : ℕ) (before after : List (List ℕ)) (desk : Desk) →
+pub step_settles : (running : Running) (s new : State) (what : Event) (now : ℕ) (before after : List (List ℕ)) (desk : Desk) → s.running ≡ Some running → new ≡ state_in desk →
     event_part running what now before ≡ Ok (record { value = desk; left = after }) → IsTrue (is_made what) →
-    most_made_by (actions_in desk) + pending_in (state_in desk) ≤ pending_of running
-step_settles running what now before after desk is made =
-    subst (λ p. Within p (pending_of running)) is (settles running what now before made)
+    most_made_by (actions_in desk) + pending_in new ≤ pending_in s
+step_settles running s new what now before after desk runs stays is made =
+    subst (λ (n : State). most_made_by (actions_in desk) + pending_in n ≤ pending_in s) (sym stays)
+    (subst (λ (r : Option Running). most_made_by (actions_in desk) + pending_in (state_in desk) ≤ pending_by r) (sym runs)
+    (subst (λ p. Within p (pending_of running)) is (settles running what now before made)))
 
 pub ruleset stepping = (step_taken, step_refused, step_settles)

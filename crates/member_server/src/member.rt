@@ -170,6 +170,13 @@ fn drop_link(link: u32, work: Work) -> Work
     }
 }
 
+/// The right to the turn whose link that is.
+fn turn_on(link: Link<TurnTalk>) -> Turn {
+    let (_flow, talk) = link.parts();
+    let TurnTalk { turn, .. } = talk;
+    turn
+}
+
 /// A link is closed: the turn is lost where it is its link.
 fn close_link(
     alloc: Global,
@@ -181,8 +188,7 @@ fn close_link(
 {
     match how {
         Dialling::On(number, said) if number == link => {
-            let (_flow, talk) = said.parts();
-            let work = lose_turn(alloc, talk.turn, DropCause::LinkClosed, work)?;
+            let work = lose_turn(alloc, turn_on(said), DropCause::LinkClosed, work)?;
             Ok((work, Dialling::Nothing))
         }
         how => Ok((drop_link(link, work), how)),
@@ -322,7 +328,10 @@ fn serve_link<Q: Chances>(
         links,
         actions,
     };
-    Ok((put_open(number, open, work)?, how))
+    match put_open(number, open, work) {
+        Ok(work) => Ok((work, how)),
+        Err(NoMemory) => Err(StepRefused::Memory),
+    }
 }
 
 /// Bytes came on a link that isn't the turn's.
