@@ -1,5 +1,6 @@
 -- How a step stands to its parts.
 use Rattle.std.proofs.Common.{◌≡◌, ℕ, ◌+◌, ◌≤◌, IsTrue, List, [], ◌∷◌, Option, Some, None, Result, Ok, Err, refl, sym, ap, subst, ◌∙◌}
+use Rattle.outside.specs.declared.action.Action.{Action}
 use Rattle.outside.specs.declared.action.StepRefused.{StepRefused}
 use Rattle.outside.specs.declared.action.StepRefused.TheVariants.{Spent, Memory, Stopped}
 use Rattle.outside.specs.declared.event.Event.{Event}
@@ -85,10 +86,13 @@ pub ruleset serving = (units_served, units_refused, units_memory, turn_closed, t
 
 -- ---- the event, and then the next turn
 
-pub event_refused : (why : StepRefused) (running : Running) (what : Event) (now : ℕ) (before left : List (List ℕ)) →
-    AnswersBy (Err why) (by_event what running.dialling (work_of running) before) left → AnswersBy (Err why) (event_part running what now before) left
-event_refused why running what now before left answer =
-    AnswersBy-refused why (by_event what running.dialling (work_of running) before) (next_turn now) left (next_turn_rest now) answer
+-- the work begins with no actions
+pub event_refused : (why : StepRefused) (running : Running) (what : Event) (now : ℕ) (before left : List (List ℕ)) (actions : List Action) → actions ≡ [] →
+    AnswersBy (Err why) (by_event what running.dialling (record { logons = running.logons; links = running.links; actions = actions }) before) left →
+    AnswersBy (Err why) (event_part running what now before) left
+event_refused why running what now before left actions none answer =
+    AnswersBy-refused why (by_event what running.dialling (work_of running) before) (next_turn now) left (next_turn_rest now)
+    (subst (λ a. AnswersBy (Err why) (by_event what running.dialling (record { logons = running.logons; links = running.links; actions = a }) before) left) none answer)
 
 pub event_done : (result : Result Desk StepRefused) (running : Running) (what : Event) (now : ℕ) (before between left : List (List ℕ)) (desk : Desk) →
     by_event what running.dialling (work_of running) before ≡ Ok (record { value = desk; left = between }) → AnswersBy result (next_turn now desk between) left →
