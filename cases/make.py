@@ -48,6 +48,7 @@ PROGRAMS = {
         "channel_client",
         "domain_controller",
         "logon_client",
+        "member_server",
     ],
     "top_cases": [
         "nt_top",

@@ -8,6 +8,7 @@ mod clients;
 mod controllers;
 mod hearing;
 mod links;
+mod members;
 mod scenes;
 mod serves;
 mod small;
@@ -23,6 +24,7 @@ fn answer(alloc: Global, words: &[&str]) -> anyhow::Result<String> {
         "client" => clients::run(alloc, words),
         "controller" => controllers::answer(alloc, operation, words),
         "links" => links::answer(alloc, operation, words),
+        "member" => members::run(alloc, words),
         "loop" => serves::answer(alloc, operation, words),
         "turns" => turns::answer(alloc, operation, words),
         _ => no_case(alloc),
