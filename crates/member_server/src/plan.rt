@@ -1,6 +1,9 @@
 //! What a member is made from.
 
-use wire_base::{Blob, Name};
+ghost use Rattle.std.specs.Prelude.{◌≡◌, IfOk};
+
+use std::alloc::Global;
+use wire_base::{Blob, Name, NoMemory};
 
 /// A member server of a domain: the name of its computer, its domain, the secret of its machine account, which is that account's NT hash
 /// (MS-NRPC 3.1.1), and the address of the controller that judges its logons.
@@ -10,4 +13,18 @@ pub struct MemberPlan {
     pub domain: Name,
     pub secret: [u8; 16],
     pub controller: Blob,
+}
+
+impl MemberPlan {
+    /// An equal plan.
+    pub fn copy(&self, alloc: Global) -> Result<MemberPlan, NoMemory>
+        ensures { IfOk result (λ plan. plan ≡ self.now) }
+    {
+        Ok(MemberPlan {
+            computer: self.computer.copy(alloc)?,
+            domain: self.domain.copy(alloc)?,
+            secret: self.secret,
+            controller: Blob::copy(alloc, self.controller.bytes())?,
+        })
+    }
 }
