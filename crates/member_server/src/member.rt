@@ -321,7 +321,9 @@ fn serve_link<Q: Chances>(
         Err(why) => return Err(why),
     };
     let AtLink {
-        logons, actions, ..
+        logons,
+        actions,
+        ..
     } = at;
     let work = Work {
         logons,

@@ -21,8 +21,10 @@ const CHALLENGES: [[u8; 8]; 2] = [
 /// A moment of June 2022, in units of 100 ns since 1601.
 const NOW: u64 = 133_000_000_000_000_000;
 
-/// The client's link, and that of the turns.
+/// The client's link.
 const CLIENT: u32 = 1;
+
+/// The link of each turn.
 const TURN: u32 = 1000;
 
 /// A bind at level privacy, with a NEGOTIATE.
