@@ -13,10 +13,9 @@ use Rattle.end_links.specs.Serving.{ServerLeavesRest}
 use Rattle.member_server.specs.declared.binds.Offer.{Offer}
 use Rattle.member_server.specs.declared.state.AtLink.{AtLink}
 use Rattle.member_server.specs.declared.state.Phase.{Phase}
-use Rattle.member_server.specs.declared.state.Phase.TheVariants as phase
 use Rattle.member_server.specs.Binds.{ack_fits, answer_bind, bind_by, fresh_unit, offer_in}
 use Rattle.member_server.specs.Turns.{turn_server}
-use Rattle.member_server.specs.Units.{first_unit, unit_on, link_server}
+use Rattle.member_server.specs.Units.{first_unit, is_fresh, unit_by, link_server}
 
 -- all of them
 pub all_left : (left : List (List ℕ)) → IsRest left left
@@ -52,17 +51,14 @@ pub first_rest : (unit : Result RpcUnit UnitRefused) (joiner : Option RpcUnit) (
 first_rest (Err why) joiner at left = all_left left
 first_rest (Ok unit) joiner at left = fresh_rest unit.body unit.trailer unit.call joiner at left
 
-unit_rest : (how : Phase) (bytes : List ℕ) (joiner : Option RpcUnit) (at : AtLink) (left : List (List ℕ)) → IsRest (left_by (unit_on how bytes joiner at left)) left
-unit_rest phase.Fresh bytes joiner at left = first_rest (unit_of bytes) joiner at left
-unit_rest (phase.Challenged bound challenge flags) bytes joiner at left = all_left left
-unit_rest (phase.Asked bound place held) bytes joiner at left = all_left left
-unit_rest (phase.In on) bytes joiner at left = all_left left
-unit_rest (phase.Out bound status) bytes joiner at left = all_left left
+unit_rest : (fresh : Bool) (how : Phase) (bytes : List ℕ) (joiner : Option RpcUnit) (at : AtLink) (left : List (List ℕ)) → IsRest (left_by (unit_by fresh how bytes joiner at left)) left
+unit_rest true how bytes joiner at left = first_rest (unit_of bytes) joiner at left
+unit_rest false how bytes joiner at left = all_left left
 
 -- an accepted link
 pub link_leaves : ServerLeavesRest link_server
 link_leaves = record {
-  unit = λ bytes at talk left. unit_rest talk.phase bytes talk.joiner at left;
+  unit = λ bytes at talk left. unit_rest (is_fresh talk.phase) talk.phase bytes talk.joiner at left;
   refusal = λ why at talk left. all_left left;
 }
 

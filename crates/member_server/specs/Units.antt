@@ -1,5 +1,5 @@
 -- The units of an accepted link, by how far it is (this project's own choice).
-use Rattle.std.specs.Prelude.{ℕ, List, [], ◌∷◌, Option, Some, None, Result, Ok, Err}
+use Rattle.std.specs.Prelude.{ℕ, Bool, true, false, List, [], ◌∷◌, Option, Some, None, Result, Ok, Err}
 use Rattle.outside.specs.declared.action.CloseCause.TheVariants as close
 use Rattle.outside.specs.declared.action.StepRefused.{StepRefused}
 use Rattle.outside.specs.Machine.{Part}
@@ -45,9 +45,21 @@ abbrev pub first_unit : Result RpcUnit UnitRefused → Option RpcUnit → AtLink
 first_unit (Err why) joiner at left = drawless (shut close.BadUnit at) left
 first_unit (Ok unit) joiner at left = fresh_unit unit.body unit.trailer unit.call joiner at left
 
+-- whether nothing is bound yet
+abbrev pub is_fresh : Phase → Bool
+is_fresh phase.Fresh = true
+is_fresh (phase.Challenged bound challenge flags) = false
+is_fresh (phase.Asked bound place held) = false
+is_fresh (phase.In on) = false
+is_fresh (phase.Out bound status) = false
+
+-- the argument: whether nothing is bound yet
+abbrev pub unit_by : Bool → Phase → List ℕ → Option RpcUnit → AtLink → List (List ℕ) → ServedPart
+unit_by true how bytes joiner at left = first_unit (unit_of bytes) joiner at left
+unit_by false how bytes joiner at left = drawless (bound_unit how bytes joiner at) left
+
 abbrev pub unit_on : Phase → List ℕ → Option RpcUnit → AtLink → List (List ℕ) → ServedPart
-unit_on phase.Fresh bytes joiner at left = first_unit (unit_of bytes) joiner at left
-unit_on how bytes joiner at left = drawless (bound_unit how bytes joiner at) left
+unit_on how bytes joiner at left = unit_by (is_fresh how) how bytes joiner at left
 
 -- ---- the units of a link, one after the other, and a rest that may be refused
 

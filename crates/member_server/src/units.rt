@@ -2,7 +2,7 @@
 
 ghost use Rattle.std.specs.Prelude.{◌≡◌, length, option_map, IfOk};
 ghost use Rattle.rpc_units.specs.Reading.{unit_of};
-ghost use Rattle.member_server.specs.Units.{unit_challenged, bound_unit, serve_held};
+ghost use Rattle.member_server.specs.Units.{unit_challenged, bound_unit, is_fresh, serve_held};
 
 use crate::binds::fresh_unit;
 use crate::messages::take_auth3;
@@ -86,6 +86,16 @@ pub(crate) fn serve_held(
     Ok((at, Some(talk)))
 }
 
+/// Whether nothing is bound yet.
+fn is_fresh(phase: &Phase) -> bool
+    ensures { result ≡ is_fresh phase.now }
+{
+    match phase {
+        Phase::Fresh => true,
+        Phase::Challenged { .. } | Phase::Asked { .. } | Phase::In(_) | Phase::Out { .. } => false,
+    }
+}
+
 impl ServesUnits<Talk> for AtLink {
     ghost use Rattle.member_server.specs.Rests.{link_leaves};
     ghost use Rattle.member_server.specs.Units.{link_server};
@@ -100,10 +110,13 @@ impl ServesUnits<Talk> for AtLink {
         talk: Talk,
         chances: &mut Q,
     ) -> Result<(AtLink, Option<Talk>), StepRefused> {
-        let Talk { joiner, phase } = talk;
-        match phase {
-            Phase::Fresh => fresh_unit(alloc, bytes, joiner, self, chances),
-            phase => Ok(bound_unit(alloc, bytes, Talk { joiner, phase }, self)?),
+        if is_fresh(&talk.phase) {
+            let Talk { joiner, .. } = talk;
+            return fresh_unit(alloc, bytes, joiner, self, chances);
+        }
+        match bound_unit(alloc, bytes, talk, self) {
+            Ok(served) => Ok(served),
+            Err(NoMemory) => Err(StepRefused::Memory),
         }
     }
 
