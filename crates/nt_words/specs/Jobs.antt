@@ -86,16 +86,20 @@ pub record ControllerJob : Type 0 where
   pub boot : ℕ
   pub events : ℕ
 
-abbrev pub controller_job_from : Result (List Row) WordsRefused → Result ControllerJob WordsRefused
-controller_job_from (Err refused) = Err refused
-controller_job_from (Ok rows) = Ok (record {
+-- the job of these rows
+abbrev pub controller_of : List Row → ControllerJob
+controller_of rows = record {
   listen = text_at rows (codes "listen");
   name = text_at rows (codes "name");
   table = text_at rows (codes "table");
   seed = text_at rows (codes "seed");
   boot = number_at rows (codes "boot") 0;
   events = number_at rows (codes "events") 4294967295;
-})
+}
+
+abbrev pub controller_job_from : Result (List Row) WordsRefused → Result ControllerJob WordsRefused
+controller_job_from (Err refused) = Err refused
+controller_job_from (Ok rows) = Ok (controller_of rows)
 
 unfoldable pub controller_job : List Text → Result ControllerJob WordsRefused
 controller_job words = controller_job_from (rows_by controller_form words)
@@ -126,9 +130,9 @@ pub record MemberJob : Type 0 where
   pub boot : ℕ
   pub events : ℕ
 
-abbrev pub member_job_from : Result (List Row) WordsRefused → Result MemberJob WordsRefused
-member_job_from (Err refused) = Err refused
-member_job_from (Ok rows) = Ok (record {
+-- the job of these rows
+abbrev pub member_of : List Row → MemberJob
+member_of rows = record {
   listen = text_at rows (codes "listen");
   computer = text_at rows (codes "computer");
   domain = text_at rows (codes "domain");
@@ -137,7 +141,11 @@ member_job_from (Ok rows) = Ok (record {
   seed = text_at rows (codes "seed");
   boot = number_at rows (codes "boot") 0;
   events = number_at rows (codes "events") 4294967295;
-})
+}
+
+abbrev pub member_job_from : Result (List Row) WordsRefused → Result MemberJob WordsRefused
+member_job_from (Err refused) = Err refused
+member_job_from (Ok rows) = Ok (member_of rows)
 
 unfoldable pub member_job : List Text → Result MemberJob WordsRefused
 member_job words = member_job_from (rows_by member_form words)
@@ -182,9 +190,9 @@ pub record LogonJob : Type 0 where
   pub seed : Text
   pub boot : ℕ
 
-abbrev pub logon_job_from : Result (List Row) WordsRefused → Result LogonJob WordsRefused
-logon_job_from (Err refused) = Err refused
-logon_job_from (Ok rows) = Ok (record {
+-- the job of these rows
+abbrev pub logon_of : List Row → LogonJob
+logon_of rows = record {
   server = text_at rows (codes "server");
   domain = text_at rows (codes "domain");
   user = text_at rows (codes "user");
@@ -195,7 +203,11 @@ logon_job_from (Ok rows) = Ok (record {
   echo = number_at rows (codes "echo") 0;
   seed = text_at rows (codes "seed");
   boot = number_at rows (codes "boot") 0;
-})
+}
+
+abbrev pub logon_job_from : Result (List Row) WordsRefused → Result LogonJob WordsRefused
+logon_job_from (Err refused) = Err refused
+logon_job_from (Ok rows) = Ok (logon_of rows)
 
 unfoldable pub logon_job : List Text → Result LogonJob WordsRefused
 logon_job words = logon_job_from (rows_by logon_form words)

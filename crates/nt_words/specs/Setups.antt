@@ -20,6 +20,15 @@ file_names (jobs.Check job) = []
 file_names (jobs.Show job) = []
 file_names (jobs.Drill job) = []
 
+-- the job of a set-up
+abbrev pub job_in : Setup → Job
+job_in (setups.Controller job setup) = jobs.Controller job
+job_in (setups.Member job setup) = jobs.Member job
+job_in (setups.Logon job setup) = jobs.Logon job
+job_in (setups.Check job) = jobs.Check job
+job_in (setups.Show job) = jobs.Show job
+job_in (setups.Drill job) = jobs.Drill job
+
 abbrev pub setup_due : Job → List (List ℕ × List ℕ) → Result Setup FilesRefused
 setup_due (jobs.Controller job) files = and_then (controller_files job.table job.seed files) (λ setup. Ok (setups.Controller job setup))
 setup_due (jobs.Member job) files = and_then (secret_files 4 job.secret 6 job.seed files) (λ setup. Ok (setups.Member job setup))

@@ -3,6 +3,8 @@
 ghost use Rattle.std.specs.Prelude.{◌≡◌, Err, codes, false, map};
 ghost use Rattle.std.specs.String.{string_bytes};
 ghost use Rattle.wire_base.specs.Memory.{UpToMemory};
+ghost use Rattle.wire_base.specs.Names.{IsName};
+ghost use Rattle.nt_words.specs.Forms.{IsAddress};
 ghost use Rattle.nt_words.specs.Jobs.{is_led_by, controller_form, controller_job};
 
 use crate::options::{Kind, OptionForm, WordsRefused, number, text};
@@ -22,6 +24,7 @@ pub struct ControllerWords<'a> {
 }
 
 impl<'a> Model for ControllerWords<'a> {
+    ghost use Rattle.nt_words.specs.Forms.{IsControllerForm};
     ghost use Rattle.nt_words.specs.Jobs.{ControllerJob};
 
     ghost Value = { ControllerJob };
@@ -34,19 +37,30 @@ impl<'a> Model for ControllerWords<'a> {
       boot = j.boot;
       events = j.events;
     } };
+
+    ghost invariant = { λ j. IsControllerForm (record {
+      listen = j.listen.now;
+      name = j.name.now;
+      table = j.table.now;
+      seed = j.seed.now;
+      boot = j.boot;
+      events = j.events;
+    }) };
 }
 
 impl<'a> ControllerWords<'a> {
     /// The address to listen at.
     pub fn listen(&self) -> &'a str
-        ensures { result.now ≡ self.now.listen }
+        ensures value { result.now ≡ self.now.listen }
+        ensures form { IsAddress result.now }
     {
         self.listen
     }
 
     /// The controller's name.
     pub fn name(&self) -> &'a str
-        ensures { result.now ≡ self.now.name }
+        ensures value { result.now ≡ self.now.name }
+        ensures form { IsName result.now }
     {
         self.name
     }

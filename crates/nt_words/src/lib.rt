@@ -11,6 +11,7 @@ mod laws;
 mod logon;
 mod member;
 mod options;
+mod reading;
 mod setup;
 mod words;
 

@@ -1,8 +1,11 @@
 //! The words of `nt_logon logon`.
 
-ghost use Rattle.std.specs.Prelude.{◌≡◌, Err, codes, false, map, option_map};
+ghost use Rattle.std.specs.Prelude.{◌≡◌, ◌≤◌, Err, IsTrue, codes, false, map, option_map};
 ghost use Rattle.std.specs.String.{string_bytes};
 ghost use Rattle.wire_base.specs.Memory.{UpToMemory};
+ghost use Rattle.wire_base.specs.Names.{IsName};
+ghost use Rattle.logon_client.specs.Plans.{is_level};
+ghost use Rattle.nt_words.specs.Forms.{IsAddress};
 ghost use Rattle.nt_words.specs.Jobs.{is_led_by, level_in, auth_in, logon_form, logon_job};
 
 use crate::options::{Kind, OptionForm, WordsRefused, number, text, value};
@@ -27,6 +30,7 @@ pub struct LogonWords<'a> {
 }
 
 impl<'a> Model for LogonWords<'a> {
+    ghost use Rattle.nt_words.specs.Forms.{IsLogonForm};
     ghost use Rattle.nt_words.specs.Jobs.{LogonJob};
 
     ghost Value = { LogonJob };
@@ -43,54 +47,74 @@ impl<'a> Model for LogonWords<'a> {
       seed = j.seed.now;
       boot = j.boot;
     } };
+
+    ghost invariant = { λ j. IsLogonForm (record {
+      server = j.server.now;
+      domain = j.domain.now;
+      user = j.user.now;
+      workstation = j.workstation.now;
+      hash = j.hash.now;
+      level = j.level;
+      auth = j.auth;
+      echo = j.echo;
+      seed = j.seed.now;
+      boot = j.boot;
+    }) };
 }
 
 impl<'a> LogonWords<'a> {
     /// The member server's address.
     pub fn server(&self) -> &'a str
-        ensures { result.now ≡ self.now.server }
+        ensures value { result.now ≡ self.now.server }
+        ensures form { IsAddress result.now }
     {
         self.server
     }
 
     /// The domain's name.
     pub fn domain(&self) -> &'a str
-        ensures { result.now ≡ self.now.domain }
+        ensures value { result.now ≡ self.now.domain }
+        ensures form { IsName result.now }
     {
         self.domain
     }
 
     /// The user's name.
     pub fn user(&self) -> &'a str
-        ensures { result.now ≡ self.now.user }
+        ensures value { result.now ≡ self.now.user }
+        ensures form { IsName result.now }
     {
         self.user
     }
 
     /// The workstation's name.
     pub fn workstation(&self) -> &'a str
-        ensures { result.now ≡ self.now.workstation }
+        ensures value { result.now ≡ self.now.workstation }
+        ensures form { IsName result.now }
     {
         self.workstation
     }
 
     /// The level of authentication (MS-RPCE 2.2.1.1.8): 2, 5 or 6.
     pub fn level(&self) -> u8
-        ensures { result ≡ self.now.level }
+        ensures value { result ≡ self.now.level }
+        ensures form { IsTrue (is_level result) }
     {
         self.level
     }
 
-    /// Which response is sent.
+    /// Which response is sent. Without extended session security the level is 2.
     pub fn auth(&self) -> AuthKind
-        ensures { result ≡ self.now.auth }
+        ensures value { result ≡ self.now.auth }
+        ensures plain { result ≡ AuthKind.V1 → self.now.level ≡ 2 }
     {
         self.auth
     }
 
     /// How many bytes are echoed: 0 for none, at most 4,096.
     pub fn echo(&self) -> u32
-        ensures { result ≡ self.now.echo }
+        ensures value { result ≡ self.now.echo }
+        ensures most { result ≤ 4096 }
     {
         self.echo
     }

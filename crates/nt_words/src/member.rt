@@ -3,6 +3,8 @@
 ghost use Rattle.std.specs.Prelude.{◌≡◌, Err, codes, false, map};
 ghost use Rattle.std.specs.String.{string_bytes};
 ghost use Rattle.wire_base.specs.Memory.{UpToMemory};
+ghost use Rattle.wire_base.specs.Names.{IsName};
+ghost use Rattle.nt_words.specs.Forms.{IsAddress};
 ghost use Rattle.nt_words.specs.Jobs.{is_led_by, member_form, member_job};
 
 use crate::options::{Kind, OptionForm, WordsRefused, number, text};
@@ -24,6 +26,7 @@ pub struct MemberWords<'a> {
 }
 
 impl<'a> Model for MemberWords<'a> {
+    ghost use Rattle.nt_words.specs.Forms.{IsMemberForm};
     ghost use Rattle.nt_words.specs.Jobs.{MemberJob};
 
     ghost Value = { MemberJob };
@@ -38,33 +41,48 @@ impl<'a> Model for MemberWords<'a> {
       boot = j.boot;
       events = j.events;
     } };
+
+    ghost invariant = { λ j. IsMemberForm (record {
+      listen = j.listen.now;
+      computer = j.computer.now;
+      domain = j.domain.now;
+      secret = j.secret.now;
+      controller = j.controller.now;
+      seed = j.seed.now;
+      boot = j.boot;
+      events = j.events;
+    }) };
 }
 
 impl<'a> MemberWords<'a> {
     /// The address to listen at.
     pub fn listen(&self) -> &'a str
-        ensures { result.now ≡ self.now.listen }
+        ensures value { result.now ≡ self.now.listen }
+        ensures form { IsAddress result.now }
     {
         self.listen
     }
 
     /// The computer's name.
     pub fn computer(&self) -> &'a str
-        ensures { result.now ≡ self.now.computer }
+        ensures value { result.now ≡ self.now.computer }
+        ensures form { IsName result.now }
     {
         self.computer
     }
 
     /// The domain's name.
     pub fn domain(&self) -> &'a str
-        ensures { result.now ≡ self.now.domain }
+        ensures value { result.now ≡ self.now.domain }
+        ensures form { IsName result.now }
     {
         self.domain
     }
 
     /// The controller's address.
     pub fn controller(&self) -> &'a str
-        ensures { result.now ≡ self.now.controller }
+        ensures value { result.now ≡ self.now.controller }
+        ensures form { IsAddress result.now }
     {
         self.controller
     }

@@ -1,8 +1,8 @@
 //! What a job starts from: its words and what its files hold.
 
-ghost use Rattle.std.specs.Prelude.{◌≡◌, IfSome, Ok};
+ghost use Rattle.std.specs.Prelude.{◌≡◌, IfOk, IfSome, Ok};
 ghost use Rattle.nt_words.specs.Files.{shelf_of, ReadsFiles};
-ghost use Rattle.nt_words.specs.Setups.{file_names, setup_at_once, setup_due};
+ghost use Rattle.nt_words.specs.Setups.{file_names, job_in, setup_at_once, setup_due};
 
 use crate::controller::ControllerWords;
 use crate::drill::DrillWords;
@@ -41,6 +41,8 @@ pub fn set_up<'a, F: Files>(
     ensures files { let shelf = shelf_of F.faults F.contents F.reads in
         ReadsFiles (file_names job.entry) (setup_due job.entry) result
         (shelf files.old) (shelf files.new) }
+    // It is the set-up of that job, also where the files' contents aren't told.
+    ensures words { IfOk result (λ setup. job_in setup ≡ job.entry) }
     ensures at_once { IfSome (setup_at_once job.entry) (λ setup. result ≡ Ok setup) }
     ensures untouched { IfSome (setup_at_once job.entry) (λ setup. files.new ≡ files.old) }
 {
