@@ -1,5 +1,5 @@
 -- The CHALLENGE that answers a bind.
-use Rattle.std.proofs.Common.{◌≡◌, ℕ, ◌+◌, ◌*◌, ◌%◌, ◌≤◌, ◌<◌, List, [], ◌∷◌, ◌++◌, length, replicate, Option, Some, None, Result, Ok, Err, sym, ap, subst, arith}
+use Rattle.std.proofs.Common.{◌≡◌, ℕ, ◌+◌, ◌%◌, ◌≤◌, ◌<◌, List, [], ◌∷◌, ◌++◌, length, replicate, Some, None, Result, Ok, Err, sym, ap, subst, arith}
 use Rattle.std.proofs.lemmas.Bool.{leb-true}
 use Rattle.std.proofs.lemmas.List.{length-append}
 use Rattle.std.specs.Prelude.{IsTrue}
@@ -17,7 +17,6 @@ use Rattle.ntlm_messages.specs.Places.{challenge_size}
 use Rattle.ntlm_messages.specs.declared.messages.Challenge.{Challenge}
 use Rattle.rpc_units.specs.declared.unit.Syntax.{Syntax}
 use Rattle.rpc_units.specs.declared.unit.Trailer.{Trailer}
-use Rattle.rpc_units.specs.declared.unit.Unit.{Unit as RpcUnit}
 use Rattle.rpc_units.specs.Writing.{zeros, pad_for, written, written_body, written_tail}
 use Rattle.rpc_units.proofs.WritingLaws.{length_written}
 use Rattle.member_server.specs.declared.binds.Offer.{Offer}

@@ -1,5 +1,5 @@
 -- What holds of a message that is fit.
-use Rattle.std.proofs.Common.{◌≡◌, ℕ, ◌*◌, ◌≤◌, ◌&&◌, ◌==◌, Bool, true, false, List, [], ◌∷◌, length, Result, Ok, Err, arith, ap, sym, ◌∙◌, if◌then◌else◌}
+use Rattle.std.proofs.Common.{◌≡◌, ℕ, ◌*◌, ◌≤◌, ◌&&◌, Bool, true, false, List, [], ◌∷◌, length, Ok, Err, arith, sym, ◌∙◌, if◌then◌else◌}
 use Rattle.std.specs.Prelude.{IsTrue}
 use Rattle.std.specs.Result.{result_unwrap_or}
 use Rattle.wire_base.specs.Units.{whole_units, units_of}
@@ -7,7 +7,7 @@ use Rattle.wire_base.specs.declared.units.UnitsRefused.{UnitsRefused}
 use Rattle.ndr_codec.specs.Parts.{FitsText}
 use Rattle.ntlm_flags.specs.Flags.{has_flag, agreed_flags, negotiate_unicode}
 use Rattle.ntlm_flags.proofs.FlagLaws.{has_flag-and}
-use Rattle.ntlm_messages.specs.Text.{text_units_of, units_of_text}
+use Rattle.ntlm_messages.specs.Text.{units_of_text}
 
 -- two bytes a unit
 whole_short : (bytes : List ℕ) → 2 * length (whole_units bytes) ≤ length bytes

@@ -1,5 +1,5 @@
 -- What a step for a closed or dialled link makes.
-use Rattle.std.proofs.Common.{◌≡◌, ℕ, suc, ◌+◌, ◌*◌, ◌≤◌, ◌==◌, ◌++◌, Bool, true, false, List, [], ◌∷◌, length, nat_le, replicate, Option, Some, None, Result, Ok, Err, refl, sym, ap, subst, ◌∙◌, arith, if◌then◌else◌}
+use Rattle.std.proofs.Common.{◌≡◌, ℕ, suc, ◌+◌, ◌*◌, ◌≤◌, ◌==◌, ◌++◌, Bool, true, false, List, [], ◌∷◌, length, replicate, Option, Some, None, Result, Ok, Err, refl, ap, arith, if◌then◌else◌}
 use Rattle.wire_base.specs.Maps.{lookup, put, take_out, has_key, same_number}
 use Rattle.outside.specs.declared.action.Action.{Action}
 use Rattle.outside.specs.declared.action.Action.TheVariants as action
@@ -9,7 +9,6 @@ use Rattle.outside.specs.declared.action.CloseCause.{CloseCause}
 use Rattle.outside.specs.declared.action.CloseCause.TheVariants as close
 use Rattle.outside.specs.declared.action.Outcome.TheVariants as outcome
 use Rattle.outside.specs.declared.action.StepRefused.{StepRefused}
-use Rattle.outside.specs.declared.event.Event.{Event}
 use Rattle.outside.specs.declared.event.Event.TheVariants as event
 use Rattle.outside.specs.Machine.{Part}
 use Rattle.rpc_units.specs.declared.refused.UnitRefused.{UnitRefused}
@@ -21,12 +20,11 @@ use Rattle.rpc_units.specs.Reading.{unit_of}
 use Rattle.rpc_units.specs.Writing.{written}
 use Rattle.end_links.specs.Links.{LinkState}
 use Rattle.end_links.specs.Sending.{fault_of, joined_frames}
-use Rattle.end_loop.specs.Acts.{is_made, most_made, most_made_by}
+use Rattle.end_loop.specs.Acts.{most_made, most_made_by}
 use Rattle.channel_client.specs.State.{Requester}
 use Rattle.channel_client.specs.Machine.{can_start, later_logons, lose_of, needs_challenge, start_by}
 use Rattle.channel_client.specs.declared.state.Pending.{Pending}
 use Rattle.channel_client.specs.declared.state.Waiting.{Waiting}
-use Rattle.member_server.specs.declared.outcomes.Ending.{Ending}
 use Rattle.member_server.specs.declared.outcomes.Ending.TheVariants as ending
 use Rattle.member_server.specs.declared.state.AtLink.{AtLink}
 use Rattle.member_server.specs.declared.state.Bound.{Bound}
@@ -36,15 +34,14 @@ use Rattle.member_server.specs.declared.state.Logon.{Logon}
 use Rattle.member_server.specs.declared.state.Logons.{Logons}
 use Rattle.member_server.specs.declared.state.Phase.{Phase}
 use Rattle.member_server.specs.declared.state.Phase.TheVariants as phase
-use Rattle.member_server.specs.declared.state.Running.{Running}
 use Rattle.member_server.specs.declared.state.Talk.{Talk}
 use Rattle.member_server.specs.declared.state.Work.{Work}
-use Rattle.member_server.specs.Machine.{answer_dial, by_event, close_link, close_turn, event_part, fail_dial, work_of}
-use Rattle.member_server.specs.Outcomes.{after_link, after_served, at_link, end_found, end_logon, keep_link, phase_after, reach_link, tell_outcome, turn_link, turn_waiting, waiting_at, waiting_if, with_link, without_link, without_logon}
-use Rattle.member_server.specs.Pending.{channel_weight, desk_weight, dial_weight, held_in, held_on, pending_of, start_weight, total, work_weight, Within, Settles}
+use Rattle.member_server.specs.Machine.{answer_dial, close_link, close_turn, fail_dial, work_of}
+use Rattle.member_server.specs.Outcomes.{after_link, at_link, end_found, end_logon, keep_link, reach_link, tell_outcome, turn_link, turn_waiting, waiting_at, waiting_if, without_link, without_logon}
+use Rattle.member_server.specs.Pending.{channel_weight, held_in, held_on, pending_of, start_weight, total, work_weight, Within, Settles}
 use Rattle.member_server.specs.Requests.{body_out, unit_out}
 use Rattle.member_server.specs.Turns.{Desk, dial_by, lose_turn, next_turn, timestamp_of, turn_by, with_requester}
-use Rattle.member_server.specs.Units.{bound_unit, serve_held, then_held}
+use Rattle.member_server.specs.Units.{serve_held, then_held}
 use Rattle.member_server.specs.Work.{Served, send_unit, shut}
 
 made_told : (actions : List Action) (a : Action) → most_made_by (actions ++ a ∷ []) ≡ most_made_by actions + most_made a

@@ -1,13 +1,13 @@
 -- Units that are signed or sealed.
-use Rattle.std.proofs.Common.{◌≡◌, ℕ, suc, ◌<◌, drop, get_or, ◌+◌, ◌-◌, ◌≤◌, ◌==◌, ◌&&◌, Bool, true, false, IsTrue, List, [], ◌∷◌, ◌++◌, length, take, Option, Some, None, Result, Ok, refl, append_assoc, arith, ap, subst, sym, ◌∙◌}
+use Rattle.std.proofs.Common.{◌≡◌, ℕ, suc, ◌<◌, drop, get_or, ◌+◌, ◌-◌, ◌≤◌, ◌==◌, ◌&&◌, Bool, true, false, List, [], ◌∷◌, ◌++◌, length, Option, Some, None, Ok, refl, append_assoc, arith, ap, subst, sym, ◌∙◌}
 use Rattle.std.proofs.lemmas.List.{length-take}
 use Rattle.std.proofs.Math.Seq.{drop-cons}
 use Rattle.rpc_units.specs.declared.unit.Unit.{Unit as RpcUnit}
 use Rattle.rpc_units.specs.declared.unit.Trailer.{Trailer}
 use Rattle.rpc_units.specs.Reading.{unit_of}
 use Rattle.rpc_units.specs.Sealed.{IsSealedRange}
-use Rattle.rpc_units.specs.Writing.{written, value_len, IsWritable}
-use Rattle.rpc_units.specs.Joining.{cut_of, fragment, IsWholeCall}
+use Rattle.rpc_units.specs.Writing.{written, IsWritable}
+use Rattle.rpc_units.specs.Joining.{cut_of}
 use Rattle.rpc_units.proofs.CuttingLaws.{cut_each, cut_short, cut_writable}
 use Rattle.std.specs.List.{AllByRecursion}
 use Rattle.std.proofs.lemmas.Bool.{eqb-true}

@@ -1,11 +1,11 @@
 -- How a step stands to its parts.
-use Rattle.std.proofs.Common.{◌≡◌, ℕ, ◌+◌, ◌≤◌, IsTrue, List, [], ◌∷◌, Option, Some, None, Result, Ok, Err, refl, sym, ap, subst, ◌∙◌}
+use Rattle.std.proofs.Common.{◌≡◌, ℕ, ◌+◌, ◌≤◌, IsTrue, List, [], Option, Some, None, Result, Ok, Err, refl, sym, ap, subst, ◌∙◌}
 use Rattle.outside.specs.declared.action.Action.{Action}
 use Rattle.outside.specs.declared.action.StepRefused.{StepRefused}
 use Rattle.outside.specs.declared.action.StepRefused.TheVariants.{Spent, Memory, Stopped}
 use Rattle.outside.specs.declared.event.Event.{Event}
 use Rattle.outside.specs.Drawing.{Drawing, DrawsSome, IsRest, draws_between}
-use Rattle.outside.specs.Machine.{Part, AnswersBy, StepsBy, Takes, left_by, step_by, then_part}
+use Rattle.outside.specs.Machine.{AnswersBy, StepsBy, Takes, left_by, step_by, then_part}
 use Rattle.outside.proofs.DrawLaws.{DrawsSome-none, DrawsSome-trans, DrawsSome-between}
 use Rattle.outside.proofs.MachineLaws.{AnswersBy-refused, StepsBy-refused}
 use Rattle.end_links.specs.Links.{LinkState}
@@ -18,7 +18,7 @@ use Rattle.member_server.specs.declared.state.Running.{Running}
 use Rattle.member_server.specs.declared.state.Talk.{Talk}
 use Rattle.member_server.specs.declared.state.TurnTalk.{TurnTalk}
 use Rattle.member_server.specs.declared.state.Work.{Work}
-use Rattle.member_server.specs.Machine.{actions_in, after_turn, after_units, by_event, event_part, halted_state, keep_turn, put_open, state_in, step_of, step_on, work_of}
+use Rattle.member_server.specs.Machine.{actions_in, after_turn, after_units, by_event, event_part, halted_state, put_open, state_in, step_of, step_on, work_of}
 use Rattle.member_server.specs.State.{State}
 use Rattle.member_server.specs.Outcomes.{after_link, keep_link}
 use Rattle.member_server.specs.Pending.{pending_by, pending_in, pending_of, Within}

@@ -1,6 +1,6 @@
 -- What the link of a turn and the next turn draw.
-use Rattle.std.proofs.Common.{◌≡◌, ℕ, Bool, true, false, List, [], ◌∷◌, Option, Some, None, Result, Ok, Err, refl}
-use Rattle.outside.specs.Drawing.{Drawing, Draws, DrawsSome, IsRest}
+use Rattle.std.proofs.Common.{ℕ, Bool, true, false, List, [], ◌∷◌}
+use Rattle.outside.specs.Drawing.{IsRest}
 use Rattle.outside.specs.Machine.{left_by}
 use Rattle.outside.proofs.DrawLaws.{DrawsSome-none, DrawsSome-one, IsRest-refl, IsRest-later, IsRest-nothing}
 use Rattle.member_server.specs.declared.state.Dialling.{Dialling}

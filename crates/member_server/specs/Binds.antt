@@ -14,7 +14,7 @@ use Rattle.ntlm_messages.specs.Negotiate.{negotiate_of}
 use Rattle.ntlm_messages.specs.Pairs.{written_pairs}
 use Rattle.memo_stubs.specs.Interface.{memo_uuid, memo_version}
 use Rattle.rpc_units.specs.declared.unit.Body.{Body}
-use Rattle.rpc_units.specs.declared.unit.Body.TheVariants.{Bind, BindAck, BindNak, Auth3, Request, Response, Fault}
+use Rattle.rpc_units.specs.declared.unit.Body.TheVariants.{Bind}
 use Rattle.rpc_units.specs.declared.unit.Syntax.{Syntax}
 use Rattle.rpc_units.specs.declared.unit.Trailer.{Trailer}
 use Rattle.rpc_units.specs.declared.unit.Unit.{Unit as RpcUnit}
@@ -25,7 +25,6 @@ use Rattle.member_server.specs.declared.plan.MemberPlan.{MemberPlan}
 use Rattle.member_server.specs.declared.state.AtLink.{AtLink}
 use Rattle.member_server.specs.declared.state.Bound.{Bound}
 use Rattle.member_server.specs.declared.state.Phase.TheVariants as phase
-use Rattle.member_server.specs.declared.state.Talk.{Talk}
 use Rattle.member_server.specs.Levels.{ntlm_kind, is_plain, is_served}
 use Rattle.member_server.specs.Work.{Served, ServedPart, send_unit, stay, shut, drawless}
 

@@ -1,5 +1,5 @@
 -- One step of a member: an event, and then the next turn (this project's own choice).
-use Rattle.std.specs.Prelude.{ℕ, ◌==◌, ◌+◌, Bool, true, false, nat_le, List, [], ◌∷◌, ◌++◌, length, Option, Some, None, is_none, Result, Ok, Err}
+use Rattle.std.specs.Prelude.{ℕ, ◌==◌, Bool, true, false, nat_le, List, [], ◌∷◌, ◌++◌, length, Option, Some, None, is_none, Result, Ok, Err}
 use Rattle.outside.specs.declared.action.Action.{Action}
 use Rattle.outside.specs.declared.action.Action.TheVariants as action
 use Rattle.outside.specs.declared.action.CloseCause.TheVariants as close
@@ -9,7 +9,6 @@ use Rattle.outside.specs.declared.event.Event.{Event}
 use Rattle.outside.specs.declared.event.Event.TheVariants as event
 use Rattle.outside.specs.Machine.{Machine, Part, Stepped, step_by, stopped_step, then_part}
 use Rattle.wire_base.specs.Maps.{lookup, same_number}
-use Rattle.logon_stubs.specs.Status.{netlogon_uuid}
 use Rattle.channel_client.specs.declared.caller.Caller.{Caller}
 use Rattle.channel_client.specs.Machine.{fresh_requester}
 use Rattle.rpc_units.specs.Stream.{Cut, cut_stream}

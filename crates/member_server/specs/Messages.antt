@@ -1,5 +1,5 @@
 -- An AUTHENTICATE on a link that was sent its CHALLENGE (MS-NLMP 3.2.5.1.2, MS-RPCE 3.3.1.5.2).
-use Rattle.std.specs.Prelude.{ℕ, ◌==◌, ◌&&◌, ◌||◌, Bool, true, false, not, List, [], ◌∷◌, length, Option, Some, None, Result, Ok, Err}
+use Rattle.std.specs.Prelude.{ℕ, ◌==◌, ◌&&◌, ◌||◌, Bool, true, false, not, List, [], length, Option, Some, None, Result, Ok, Err}
 use Rattle.outside.specs.declared.action.Action.TheVariants as action
 use Rattle.outside.specs.declared.action.Outcome.TheVariants as outcome
 use Rattle.outside.specs.declared.action.DropCause.TheVariants as drop_cause
@@ -24,7 +24,6 @@ use Rattle.member_server.specs.declared.state.Bound.{Bound}
 use Rattle.member_server.specs.declared.state.Logon.{Logon}
 use Rattle.member_server.specs.declared.state.Logons.{Logons}
 use Rattle.member_server.specs.declared.state.Phase.TheVariants as phase
-use Rattle.member_server.specs.declared.state.Talk.{Talk}
 use Rattle.member_server.specs.Levels.{ntlm_kind, is_plain}
 use Rattle.member_server.specs.Work.{Served, tell, stay, shut, with_logons}
 

@@ -1,5 +1,5 @@
 -- Which challenges are left once a unit of a link is served: a rest of those that were left before.
-use Rattle.std.specs.Prelude.{◌≡◌, ℕ, Bool, true, false, List, [], ◌∷◌, ◌++◌, Option, Some, None, Result, Ok, Err, refl}
+use Rattle.std.specs.Prelude.{ℕ, Bool, true, false, List, [], ◌∷◌, Option, Some, None, Result, Ok, Err, refl}
 use Rattle.outside.specs.Drawing.{IsRest}
 use Rattle.outside.specs.Machine.{left_by}
 use Rattle.rpc_units.specs.declared.refused.UnitRefused.{UnitRefused}

@@ -5,7 +5,7 @@ use Rattle.outside.specs.declared.action.StepRefused.{StepRefused}
 use Rattle.outside.specs.Machine.{Part}
 use Rattle.rpc_units.specs.declared.refused.UnitRefused.{UnitRefused}
 use Rattle.rpc_units.specs.declared.unit.Body.{Body}
-use Rattle.rpc_units.specs.declared.unit.Body.TheVariants.{Bind, BindAck, BindNak, Auth3, Request, Response, Fault}
+use Rattle.rpc_units.specs.declared.unit.Body.TheVariants.{Auth3}
 use Rattle.rpc_units.specs.declared.unit.Trailer.{Trailer}
 use Rattle.rpc_units.specs.declared.unit.Unit.{Unit as RpcUnit}
 use Rattle.rpc_units.specs.Reading.{unit_of}
