@@ -560,6 +560,67 @@ def turn_cases():
     return out
 
 
+def order_cases():
+    """A Logon request that is delivered twice before its reply; a reply that is lost, and a member that begins anew."""
+    out = []
+    member, controller = begun(), controller_of().at(NOW)
+    clients = [authenticate(member, link, level=level) for link, level in ((1, 6), (2, 5), (3, 2))]
+    for link in range(1000, 1005):
+        member.dialled(link)
+        controller.opened(link)
+        while member.sent(link):
+            request = member.sent(link)
+            again = member.channel.turn["opnum"] == channel_client.LOGON and member.channel.turn["bound"]
+            controller.bytes(request, link)
+            replies = [answer_of_controller(controller, link)]
+            if again:
+                controller.bytes(request, link)
+                replies.append(answer_of_controller(controller, link))
+            for reply in replies:
+                member.bytes(reply, link)
+        controller.closed(link)
+    for number, (client, rest) in enumerate(clients, 1):
+        member.bytes(rest, number)
+    assert sum(answer.count("judged Passed(0)") for answer in controller.answers) == 3
+    assert sum(answer.count("judged Barred") for answer in controller.answers) == 3
+    assert all(any(f"told {number} In " in answer for answer in member.answers) for number in (1, 2, 3))
+    out += [member.case(), controller.case()]
+    # the reply to a Logon is lost with its link; then the member begins anew, and the client with it
+    member, controller = begun(), controller_of().at(NOW)
+    authenticate(member)
+    for link in (1000, 1001):
+        turn(member, controller, link)
+    member.dialled(1002)
+    controller.opened(1002).bytes(member.sent(1002), 1002)
+    member.bytes(answer_of_controller(controller, 1002), 1002)
+    controller.bytes(member.sent(1002), 1002)
+    member.closed(1002)
+    controller.closed(1002)
+    assert "told 1 NoController(LinkClosed)" in member.answers[-1]
+    out.append(member.case())
+    member = begun(draws=DRAWS[4:])
+    client, rest = authenticate(member)
+    turns(member, controller, 2000)
+    assert sum(answer.count("judged Passed(0)") for answer in controller.answers) == 2
+    assert any("told 1 In " in answer for answer in member.answers)
+    out += [member.bytes(rest).case(), controller.case()]
+    return out
+
+
+def front_cases():
+    """Each proper front of a bind, on a link of its own that is closed then."""
+    out = []
+    plain = write_unit(whole(BIND, call=1, send=LIMIT, receive=LIMIT, group=0, contexts=[(0, NETLOGON, [NDR])]))
+    assert len(plain) == 72
+    for bind in (plain, client_of(1).sent()):
+        member = begun()
+        for size in range(len(bind)):
+            member.opened().bytes(bind[:size]).closed()
+        assert set(member.answers) == {"-"}
+        out.append(member.case())
+    return out
+
+
 def moment_cases():
     """The seconds of the authenticator, at moments before and after 1970."""
     out = []
@@ -808,6 +869,6 @@ def out_cases():
 def cases():
     """Each line and its answer."""
     return (
-        logon_cases() + turn_cases() + moment_cases() + loss_cases() + bind_cases() + message_cases() + foreign_cases() + request_cases() + held_cases()
-        + out_cases()
+        logon_cases() + turn_cases() + order_cases() + front_cases() + moment_cases() + loss_cases() + bind_cases() + message_cases() + foreign_cases()
+        + request_cases() + held_cases() + out_cases()
     )
