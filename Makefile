@@ -1,6 +1,6 @@
 # Builds the programs, proved, into bin/, and runs the main job on a built-in sample.
 
-PROGRAMS = nt_member nt_logon
+PROGRAMS = nt_controller nt_member nt_logon
 
 # The sample: the NT hash of `Password`, a challenge, and the AUTHENTICATE message that answers it.
 SAMPLE = $(shell cat crates/nt_member/args)

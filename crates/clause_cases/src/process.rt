@@ -2,9 +2,11 @@
 //! standard error tells nothing that a clause could speak of.
 
 use nt_top::{Role, start};
+use outside::{CounterChances, DiskFiles, SocketPort, SystemClock};
 use std::cell::RefCell;
 use std::fmt::Display;
-use std::io;
+use std::rt::Env;
+use std::{fs, io, net, time};
 
 /// A printer that keeps what is written.
 struct Page(RefCell<Vec<u8>>);
@@ -26,12 +28,29 @@ impl Print for Page {
     }
 }
 
+/// The status of the program over the real outside, with this printer for its errors.
+fn status<R, E>(rt: &R, errors: &E, role: Role) -> u8
+where
+    R: Env + Print + AllocGlobal + net::Net + fs::Files + time::Clock,
+    E: Print,
+{
+    start(
+        rt,
+        errors,
+        role,
+        &mut SocketPort::new(rt.alloc(), rt),
+        &mut DiskFiles::new(rt),
+        &mut SystemClock::new(rt),
+        &mut CounterChances::new(),
+    )
+}
+
 #[test]
 fn a_process_ends_with_the_status_of_its_exit_and_says_its_line(rt: HostRuntime) {
     // The process of the tests has no command among its arguments.
     for role in [Role::Controller, Role::Member, Role::Logon] {
         let errors = Page(RefCell::new(Vec::new(rt.alloc())));
-        assert_eq!(rt; start(&rt, &errors, role), 2);
+        assert_eq!(rt; status(&rt, &errors, role), 2);
         assert_eq!(rt;
             errors.0.into_inner().as_slice(),
             b"bad words: 0\n".as_slice()
@@ -41,5 +60,5 @@ fn a_process_ends_with_the_status_of_its_exit_and_says_its_line(rt: HostRuntime)
 
 #[test]
 fn standard_error_takes_bytes(rt: HostRuntime) {
-    assert_eq!(rt; start(&rt, &rt.stderr(), Role::Member), 2);
+    assert_eq!(rt; status(&rt, &rt.stderr(), Role::Member), 2);
 }

@@ -3,3 +3,4 @@ pub mod CheckLaws
 pub mod ShownLaws
 pub mod JobLaws
 pub mod EndLaws
+pub mod ServeLaws

@@ -6,4 +6,5 @@ pub mod Exits
 pub mod Lines
 pub mod Needs
 pub mod Refusals
+pub mod Serve
 pub mod Show

@@ -6,6 +6,7 @@ mod check;
 mod exit;
 mod launch;
 mod lines;
+mod serve;
 mod show;
 mod texts;
 mod top;

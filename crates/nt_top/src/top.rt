@@ -3,7 +3,10 @@
 ghost use Rattle.std.specs.Prelude.{◌≡◌, ◌≤◌, ℕ, List, Ok, Err, Some, IfSome, true, false, map};
 ghost use Rattle.std.specs.String.{string_bytes};
 ghost use Rattle.outside.specs.Causes.{Rose};
+ghost use Rattle.end_loop.specs.Seen.{Between};
 ghost use Rattle.wire_base.specs.Memory.{UpToMemory};
+ghost use Rattle.nt_words.specs.Files.{shelf_of};
+ghost use Rattle.nt_top.specs.Serve.{ActsByWords, ControllerRuns, is_controller};
 ghost use Rattle.nt_top.specs.Answers.{answer_of, exit_at_once, job_answer, job_exit_at_once};
 ghost use Rattle.nt_top.specs.Causes.{Comes, IsBadInput, IsBadWords, IsDone, IsOfForm, IsOfTheCommands, IsRefused, IsWorkDone};
 ghost use Rattle.nt_top.specs.Check.{AskedAccepted, AskedRefused, verdict_answer};
@@ -15,6 +18,7 @@ ghost use Rattle.logon_client.specs.declared.outcome.RefusedCause.{RefusedCause}
 use crate::answer::Answer;
 use crate::check::check;
 use crate::exit::Exit;
+use crate::serve::run_controller;
 use crate::show::show;
 use end_loop::put_all;
 use nt_words::{Job, Role, job_of};
@@ -23,11 +27,12 @@ use std::alloc::Global;
 
 /// Runs the command that the words name, as this program, over the outside. The words are those after the program's name.
 ///
-/// A member server has `check HASH CHALLENGE MESSAGE`, a logon client `show MESSAGE`, all in hex. The words of `serve`, `logon` and
-/// `drill` are judged, and what they ask for isn't built yet: `BadWords(0)`, as every other command line is. `BadInput(n)` is the first
-/// word after the command that isn't of its form. `Refused(Response)` is a response that isn't that of the hash. `SinkFault` comes only
-/// where the sink's count rose in this call, `NoMemory` where no memory was found, and then nothing was put.
-/// No command of today uses the port, the files, the clock or the challenges.
+/// A domain controller has `serve`: its files are read and judged, the challenges are started, the port listens, and the controller is served, until the
+/// port gives `Stop` or as many events as the words say. A member server has `check HASH CHALLENGE MESSAGE`, a logon client `show MESSAGE`, all in hex. The
+/// words of the other commands are judged, and what they ask for isn't built yet: `BadWords(0)`, as every other command line is. `BadInput(n)` is
+/// the first word, or the first option's file, that isn't of its form. `Refused(Response)` is a response that isn't that of the hash. `FileFault`,
+/// `PortFault` and `SinkFault` come only where a count of that kind rose in this call, `Spent` where the controller draws more challenges than are left,
+/// `NoMemory` where no memory was found; a command that doesn't serve has put nothing then, and uses neither port, files, clock nor challenges.
 pub fn run<P: Port, F: Files, S: Sink, C: Clock, Q: Chances>(
     alloc: Global,
     role: Role,
@@ -38,53 +43,79 @@ pub fn run<P: Port, F: Files, S: Sink, C: Clock, Q: Chances>(
     clock: &mut C,
     chances: &mut Q,
 ) -> Exit
+    // A domain controller serves, by what its words and its files say, or its words are refused.
+    ensures controller { let shelf = shelf_of F.faults F.contents F.reads in
+        is_controller role ≡ true → Between
+        P.story P.link_faults C.moments Q.drawing S.taken
+        port.old clock.old chances.old out.old port.new clock.new chances.new out.new
+        (λ before after. ControllerRuns (map string_bytes words.now)
+        (shelf files.old) (shelf files.new) before after result) }
+    // The other programs have no command that serves yet, and what they do is told by their words.
     // The exit is that of what the words come to, and what is put is told by it.
-    ensures ends { Ends (answer_of role (map string_bytes words.now))
+    ensures ends { ActsByWords role → Ends (answer_of role (map string_bytes words.now))
         (change_of S.taken S.faults out.old out.new) result }
-    ensures exit { IsExitOf (answer_of role (map string_bytes words.now)) result }
+    ensures exit { ActsByWords role →
+        IsExitOf (answer_of role (map string_bytes words.now)) result }
     // A check is answered `accepted` where the response verifies, and `refused` where it doesn't.
-    ensures accepted { AskedAccepted role (map string_bytes words.now) →
+    ensures accepted { ActsByWords role → AskedAccepted role (map string_bytes words.now) →
         Ends (Ok (verdict_answer true)) (change_of S.taken S.faults out.old out.new) result }
-    ensures refused { AskedRefused role (map string_bytes words.now) →
+    ensures refused { ActsByWords role → AskedRefused role (map string_bytes words.now) →
         Ends (Ok (verdict_answer false)) (change_of S.taken S.faults out.old out.new) result }
     // A logon client asked to show a message puts its lines.
-    ensures shown { (asked : AskedShown role (map string_bytes words.now)) →
+    ensures shown { ActsByWords role → (asked : AskedShown role (map string_bytes words.now)) →
         Ends (Ok (shown asked.lines)) (change_of S.taken S.faults out.old out.new) result }
     // Only there does a command end so.
-    ensures done { result ≡ Exit.Done →
+    ensures done { ActsByWords role → result ≡ Exit.Done →
         IsDone role (map string_bytes words.now) (change_of S.taken S.faults out.old out.new) }
-    ensures refused_only { (cause : RefusedCause) → result ≡ Exit.Refused cause → IsRefused
+    ensures refused_only { ActsByWords role →
+        (cause : RefusedCause) → result ≡ Exit.Refused cause → IsRefused
         role (map string_bytes words.now) cause (change_of S.taken S.faults out.old out.new) }
     // The command line isn't of its form exactly there, but for want of memory.
-    ensures words { (number : ℕ) → IsBadWords role (map string_bytes words.now) number →
+    ensures words { ActsByWords role →
+        (number : ℕ) → IsBadWords role (map string_bytes words.now) number →
         Comes (Exit.BadWords number) result }
-    ensures words_only { (number : ℕ) → result ≡ Exit.BadWords number →
+    ensures words_only { ActsByWords role → (number : ℕ) → result ≡ Exit.BadWords number →
         IsBadWords role (map string_bytes words.now) number }
     // A word isn't of its form exactly there, but for want of memory.
-    ensures input { (number : ℕ) → IsBadInput role (map string_bytes words.now) number →
+    ensures input { ActsByWords role →
+        (number : ℕ) → IsBadInput role (map string_bytes words.now) number →
         Comes (Exit.BadInput number) result }
-    ensures input_only { (number : ℕ) → result ≡ Exit.BadInput number →
+    ensures input_only { ActsByWords role → (number : ℕ) → result ≡ Exit.BadInput number →
         IsBadInput role (map string_bytes words.now) number }
     // What is seen in the words without memory comes whether there is memory or not.
-    ensures at_once { IfSome (exit_at_once role (map string_bytes words.now))
+    ensures at_once { ActsByWords role → IfSome (exit_at_once role (map string_bytes words.now))
         (λ exit. result ≡ exit) }
     // No command of today reads a file, listens or draws.
-    ensures others { IsOfTheCommands result }
+    ensures others { ActsByWords role → IsOfTheCommands result }
+    // A failure of the outside is told only where a count of it rose.
+    ensures file_cause { result ≡ Exit.FileFault → Rose (F.faults files.old) (F.faults files.new) }
+    ensures port_cause { result ≡ Exit.PortFault → Rose (P.faults port.old) (P.faults port.new) }
     ensures sink_cause { result ≡ Exit.SinkFault → Rose (S.faults out.old) (S.faults out.new) }
     // Words and inputs of their forms come to their work, where the sink doesn't fail.
-    ensures complete { IsOfForm role (map string_bytes words.now) →
+    ensures complete { ActsByWords role → IsOfForm role (map string_bytes words.now) →
         ¬ Rose (S.faults out.old) (S.faults out.new) → IsWorkDone role result }
     // Words that come to an exit alone leave the sink as it was, and so does want of memory.
-    ensures untouched { (exit : Exit) → answer_of role (map string_bytes words.now) ≡ Err exit →
+    ensures untouched { ActsByWords role →
+        (exit : Exit) → answer_of role (map string_bytes words.now) ≡ Err exit →
         out.new ≡ out.old }
-    ensures memory { result ≡ Exit.NoMemory → out.new ≡ out.old }
+    ensures memory { ActsByWords role → result ≡ Exit.NoMemory → out.new ≡ out.old }
     ensures faults { S.faults out.old ≤ S.faults out.new }
-    ensures port { port.new ≡ port.old }
-    ensures files { files.new ≡ files.old }
-    ensures clock { clock.new ≡ clock.old }
-    ensures chances { chances.new ≡ chances.old }
+    ensures port { ActsByWords role → port.new ≡ port.old }
+    ensures files { ActsByWords role → files.new ≡ files.old }
+    ensures clock { ActsByWords role → clock.new ≡ clock.old }
+    ensures chances { ActsByWords role → chances.new ≡ chances.old }
 {
+    if is_controller(role) {
+        return run_controller(alloc, words, port, files, out, clock, chances);
+    }
     perform(alloc, role, words, out)
+}
+
+/// Whether the program is the domain controller.
+fn is_controller(role: Role) -> bool
+    ensures { result ≡ is_controller role }
+{
+    matches!(role, Role::Controller)
 }
 
 /// Puts what the words come to.
