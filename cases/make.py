@@ -52,6 +52,7 @@ PROGRAMS = {
     ],
     "top_cases": [
         "nt_top",
+        "serving",
         "nt_words",
     ],
 }

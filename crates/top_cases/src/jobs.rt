@@ -16,7 +16,7 @@ fn job_case(alloc: Global, words: &[&str]) -> anyhow::Result<String> {
 }
 
 /// Files of `NAME=BYTES` between commas, or `-` for none.
-fn files(alloc: Global, word: &str) -> anyhow::Result<Texts> {
+pub(crate) fn files(alloc: Global, word: &str) -> anyhow::Result<Texts> {
     let mut files = Texts::new(alloc);
     if word != "-" {
         for part in word.split(',') {

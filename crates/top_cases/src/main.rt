@@ -9,6 +9,7 @@ mod jobs;
 mod line;
 mod lines;
 mod narrow;
+mod serves;
 mod top;
 
 use case_words::{answer_lines, no_case, word};
@@ -21,6 +22,7 @@ fn answer(alloc: Global, words: &[&str]) -> anyhow::Result<String> {
         "top" => top::answer(alloc, operation, words),
         "jobs" => jobs::answer(alloc, operation, words),
         "lines" => lines::answer(alloc, operation, words),
+        "serves" => serves::answer(alloc, operation, words),
         _ => no_case(alloc),
     }
 }
