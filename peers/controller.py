@@ -27,7 +27,7 @@ def expect(what, found, wanted):
     global failed
     same = found == wanted
     failed += not same
-    print('%-44s %s%s' % (what, found, '' if same else ', wanted %s' % (wanted,)))
+    print('%-44s %r%s' % (what, found, '' if same else ', wanted %r' % (wanted,)))
 
 
 def free_port():
