@@ -1,8 +1,10 @@
 mod BindLaws
+mod LinkLaws
 mod MemoLaws
 mod MessageLaws
 mod OutcomeLaws
 mod PendingLaws
+mod QuietLaws
 mod SealingLaws
 mod StepLaws
 mod TurnLaws

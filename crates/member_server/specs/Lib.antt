@@ -1,6 +1,7 @@
 pub mod Binds
 pub mod Held
 pub mod Holding
+pub mod Laws
 pub mod Levels
 pub mod Lines
 pub mod Machine

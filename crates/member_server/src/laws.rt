@@ -1,5 +1,6 @@
 //! Laws of the member's machine, over its definitions. Each function does nothing, and its clause is the law.
 
+ghost use Rattle.member_server.specs.Laws.{ClosesNothing, ReachesItsLink, ServesOneMessage};
 ghost use Rattle.member_server.specs.Pending.{Settles};
 
 /// The events that the step for a closed or dialled link makes, with those that may come of it, are no more than before: two for each logon
@@ -7,4 +8,22 @@ ghost use Rattle.member_server.specs.Pending.{Settles};
 #[tactic(auto, using(crate::proofs::PendingLaws::settles))]
 pub fn made_events_end()
     ensures { Settles }
+{}
+
+/// After any unit on a link that was sent a CHALLENGE, the link is closed or its challenge is past: so a challenge serves one AUTHENTICATE at most.
+#[tactic(auto, using(crate::proofs::LinkLaws::serves_one_message))]
+pub fn a_challenge_serves_one_message()
+    ensures { ServesOneMessage }
+{}
+
+/// The outcome of a place is told where its logon is kept, and changes no link but the one of that number that waits for this place.
+#[tactic(auto, using(crate::proofs::LinkLaws::reaches_its_link))]
+pub fn an_outcome_reaches_its_link()
+    ensures { ReachesItsLink }
+{}
+
+/// A step for a link that was closed, or for a dial's answer, closes no link, where what is held on links are requests.
+#[tactic(auto, using(crate::proofs::QuietLaws::closes_nothing))]
+pub fn what_is_closed_closes_nothing()
+    ensures { ClosesNothing }
 {}

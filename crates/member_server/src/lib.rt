@@ -22,6 +22,9 @@ mod units;
 mod work;
 
 pub use held::HELD_LIMIT;
-pub use laws::made_events_end;
+pub use laws::{
+    a_challenge_serves_one_message, an_outcome_reaches_its_link, made_events_end,
+    what_is_closed_closes_nothing,
+};
 pub use member::Member;
 pub use plan::MemberPlan;
