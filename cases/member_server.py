@@ -404,6 +404,9 @@ class Member:
     def bytes(self, data, link=1):
         return self.event(f"bytes/{link}/{text(data)}", lambda: self.comes(link, data))
 
+    def stop(self):
+        return self.event("stop")
+
     # what was done
 
     def dials(self):
@@ -414,6 +417,15 @@ class Member:
 
 
 # ---- others
+
+
+def units_in(data):
+    """The units in a byte string."""
+    units = []
+    while data:
+        units.append(data[:short(data, 8)])
+        data = data[len(units[-1]):]
+    return units
 
 
 def controller_of(users=(ANN, BOB), machines=(FILE1,), challenges=domain_controller.DRAWS, **how):
@@ -450,10 +462,10 @@ def client_of(link, **plan):
     return client.dialled(link)
 
 
-def authenticate(member, link=1, client=None, **plan):
-    """A client's bind and its AUTHENTICATE message, without what follows it; and the rest that it sends."""
+def authenticate(member, link=1, client=None, receive=LIMIT, **plan):
+    """A client's bind and its AUTHENTICATE message, without what follows it; and the rest that it sends. The client receives fragments of that size."""
     client = client_of(link, **plan) if client is None else client
-    member.opened(link).bytes(client.sent(), link)
+    member.opened(link).bytes(changed(client.sent(), 18, le(receive, 2)), link)
     client.bytes(member.sent(link), link)
     data = client.sent()
     size = short(data, 8)
@@ -605,6 +617,23 @@ def order_cases():
     assert any("told 1 In " in answer for answer in member.answers)
     out += [member.bytes(rest).case(), controller.case()]
     return out
+
+
+def still_cases():
+    """Events that change nothing: `Stop`, an empty piece, and events on links that aren't open; in front of a logon, within it and behind it."""
+    member, controller = begun(), controller_of().at(NOW)
+    member.stop().bytes(b"").bytes(b"x").closed().dialled(1).failed().wants().opened().bytes(b"").stop().wants()
+    assert set(member.answers[1:]) == {"-", "None"}
+    client, rest = authenticate(member)
+    member.stop().bytes(b"").closed(7).bytes(b"abc", 7).bytes(b"", 1000).wants()
+    bind = member.dialled(1000).sent(1000)
+    member.bytes(b"", 1000).stop().dialled(1001).failed().closed(1001).wants()
+    member.bytes(answer_of_controller(controller.opened(1000).bytes(bind, 1000), 1000), 1000)
+    request = member.sent(1000)
+    member.stop().bytes(b"", 1000)
+    member.bytes(answer_of_controller(controller.bytes(request, 1000), 1000), 1000)
+    turns(member, controller, 1001)
+    return [member.stop().bytes(b"").bytes(rest).bytes(b"").stop().bytes(b"", 1002).wants().case()]
 
 
 def front_cases():
@@ -813,13 +842,14 @@ def request_cases():
                 member, client = ready()
                 unit = whole(REQUEST, call=3, hint=0, context=0, opnum=0, stub=b"", trailer=trailer)
                 out.append(member.bytes(write_unit(unit)).case())
-        # a request in fragments, and fragments out of their places
+        # a request in fragments, and its reply in as many as the client's size makes it; and fragments out of their places
         stub = le(4000, 4) + bytes(place % 251 for place in range(4000))
-        for receive in (1432, 5840):
-            member, client = ready()
+        for receive in (0, 1432, 2000, 5840):
+            member, client = ready(receive=receive)
             parts = [read_unit(frame) for frame in frames_of(whole(REQUEST, call=3, hint=0, context=0, opnum=1, stub=stub), 1432)]
             for part in parts:
                 member.bytes(protected(client.session, level, 1, part))
+            assert len(units_in(member.sent(1))) == (1 if receive == 5840 else 3)
             out.append(member.case())
         member, client = ready()
         first = protected(client.session, level, 1, parts[0])
@@ -869,6 +899,6 @@ def out_cases():
 def cases():
     """Each line and its answer."""
     return (
-        logon_cases() + turn_cases() + order_cases() + front_cases() + moment_cases() + loss_cases() + bind_cases() + message_cases() + foreign_cases()
-        + request_cases() + held_cases() + out_cases()
+        logon_cases() + turn_cases() + order_cases() + still_cases() + front_cases() + moment_cases() + loss_cases() + bind_cases() + message_cases()
+        + foreign_cases() + request_cases() + held_cases() + out_cases()
     )
