@@ -32,6 +32,7 @@ answer_of role words = answer_from (job_of role words)
 abbrev pub job_exit_at_once : Job → Option Exit
 job_exit_at_once (jobs.Check job) = texts_at_once job.hash job.challenge
 job_exit_at_once (jobs.Show job) = None
+job_exit_at_once (jobs.Controller job) = None
 job_exit_at_once _ = Some (BadWords 0)
 
 abbrev pub from_at_once : Option (Result Job WordsRefused) → Option Exit

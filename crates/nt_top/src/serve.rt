@@ -1,6 +1,6 @@
 //! The commands that serve an end.
 
-ghost use Rattle.std.specs.Prelude.{◌≡◌, ◌≤◌, IfOk, Ok, Err, false, map};
+ghost use Rattle.std.specs.Prelude.{◌≡◌, ◌≤◌, IfOk, IfSome, Ok, Err, false, map};
 ghost use Rattle.std.specs.String.{string_bytes};
 ghost use Rattle.outside.specs.Causes.{Rose};
 ghost use Rattle.end_loop.specs.Seen.{Between};
@@ -8,7 +8,9 @@ ghost use Rattle.domain_controller.specs.Step.{first_state};
 ghost use Rattle.nt_words.specs.Files.{shelf_of};
 ghost use Rattle.nt_words.specs.declared.files.FilesRefused.{FilesRefused};
 ghost use Rattle.nt_top.specs.Refusals.{files_exit, words_exit};
-ghost use Rattle.nt_top.specs.Serve.{ControllerEnds, ControllerRuns, ControllerServes, ServesTo, halt_exit, service_exit};
+ghost use Rattle.nt_words.specs.Roles.{job_of};
+ghost use Rattle.nt_top.specs.Answers.{exit_at_once};
+ghost use Rattle.nt_top.specs.Serve.{ControllerEnds, ControllerRuns, ControllerServes, IsRefusal, ServesTo, halt_exit, service_exit};
 ghost use Rattle.end_loop.specs.declared.halt.Halt.{Halt};
 ghost use Rattle.nt_top.specs.declared.exit.Exit.{Exit};
 
@@ -36,6 +38,11 @@ pub(crate) fn run_controller<P: Port, F: Files, S: Sink, C: Clock, Q: Chances>(
         port.old clock.old chances.old out.old port.new clock.new chances.new out.new
         (λ before after. ControllerRuns (map string_bytes words.now)
         (shelf files.old) (shelf files.new) before after result) }
+    ensures at_once { IfSome (exit_at_once Role.Controller (map string_bytes words.now))
+        (λ exit. result ≡ exit) }
+    ensures idle { IsRefusal (job_of Role.Controller (map string_bytes words.now)) →
+        (port.new ≡ port.old) × (files.new ≡ files.old) × (out.new ≡ out.old) ×
+        (clock.new ≡ clock.old) × (chances.new ≡ chances.old) }
     ensures file_cause { result ≡ Exit.FileFault → Rose (F.faults files.old) (F.faults files.new) }
     ensures port_cause { result ≡ Exit.PortFault → Rose (P.faults port.old) (P.faults port.new) }
     ensures sink_cause { result ≡ Exit.SinkFault → Rose (S.faults out.old) (S.faults out.new) }

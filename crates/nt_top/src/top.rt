@@ -3,10 +3,9 @@
 ghost use Rattle.std.specs.Prelude.{◌≡◌, ◌≤◌, ℕ, List, Ok, Err, Some, IfSome, true, false, map};
 ghost use Rattle.std.specs.String.{string_bytes};
 ghost use Rattle.outside.specs.Causes.{Rose};
-ghost use Rattle.end_loop.specs.Seen.{Between};
 ghost use Rattle.wire_base.specs.Memory.{UpToMemory};
-ghost use Rattle.nt_words.specs.Files.{shelf_of};
-ghost use Rattle.nt_top.specs.Serve.{ActsByWords, ControllerRuns, is_controller};
+ghost use Rattle.nt_words.specs.Roles.{job_of};
+ghost use Rattle.nt_top.specs.Serve.{ActsByWords, ControllerActs, IsRefusal, is_controller};
 ghost use Rattle.nt_top.specs.Answers.{answer_of, exit_at_once, job_answer, job_exit_at_once};
 ghost use Rattle.nt_top.specs.Causes.{Comes, IsBadInput, IsBadWords, IsDone, IsOfForm, IsOfTheCommands, IsRefused, IsWorkDone};
 ghost use Rattle.nt_top.specs.Check.{AskedAccepted, AskedRefused, verdict_answer};
@@ -44,12 +43,9 @@ pub fn run<P: Port, F: Files, S: Sink, C: Clock, Q: Chances>(
     chances: &mut Q,
 ) -> Exit
     // A domain controller serves, by what its words and its files say, or its words are refused.
-    ensures controller { let shelf = shelf_of F.faults F.contents F.reads in
-        is_controller role ≡ true → Between
-        P.story P.link_faults C.moments Q.drawing S.taken
-        port.old clock.old chances.old out.old port.new clock.new chances.new out.new
-        (λ before after. ControllerRuns (map string_bytes words.now)
-        (shelf files.old) (shelf files.new) before after result) }
+    ensures controller { ControllerActs role (map string_bytes words.now) P.story P.link_faults
+        F.faults F.contents F.reads S.taken C.moments Q.drawing port.old files.old out.old
+        clock.old chances.old port.new files.new out.new clock.new chances.new result }
     // The other programs have no command that serves yet, and what they do is told by their words.
     // The exit is that of what the words come to, and what is put is told by it.
     ensures ends { ActsByWords role → Ends (answer_of role (map string_bytes words.now))
@@ -83,9 +79,13 @@ pub fn run<P: Port, F: Files, S: Sink, C: Clock, Q: Chances>(
     ensures input_only { ActsByWords role → (number : ℕ) → result ≡ Exit.BadInput number →
         IsBadInput role (map string_bytes words.now) number }
     // What is seen in the words without memory comes whether there is memory or not.
-    ensures at_once { ActsByWords role → IfSome (exit_at_once role (map string_bytes words.now))
+    ensures at_once { IfSome (exit_at_once role (map string_bytes words.now))
         (λ exit. result ≡ exit) }
-    // No command of today reads a file, listens or draws.
+    // Words that are refused leave the whole outside as it was.
+    ensures idle { IsRefusal (job_of role (map string_bytes words.now)) →
+        (port.new ≡ port.old) × (files.new ≡ files.old) × (out.new ≡ out.old) ×
+        (clock.new ≡ clock.old) × (chances.new ≡ chances.old) }
+    // None of their commands reads a file, listens or draws.
     ensures others { ActsByWords role → IsOfTheCommands result }
     // A failure of the outside is told only where a count of it rose.
     ensures file_cause { result ≡ Exit.FileFault → Rose (F.faults files.old) (F.faults files.new) }
