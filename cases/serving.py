@@ -4,12 +4,14 @@
 `LINK:BYTES`; and that all that the outside in memory kept is still told. Calls of the port are counted from 0, `listen` among them, and those of files and
 sink each from 0.
 
-The bind is one of C706 12.6.4.3 for Netlogon's interface (MS-NRPC 3.5), and its answer and the fault are units of C706 12.6.4.4 and 12.6.4.7, written here byte by byte. The calls
-and replies of a logon are those of the recorded link between Samba's client and its controller (`values/stubs.json`).
+The bind is one of C706 12.6.4.3 for Netlogon's interface (MS-NRPC 3.5), and its answer and the fault are units of C706 12.6.4.4 and 12.6.4.7, written here byte by byte. What is
+sent and put for calls is worked out by the controller of `domain_controller.py`, from the rules of docs/FORMATS.md, MS-NRPC 3.1.4 and 3.5.4 and the layouts of C706 12.6.
 """
 
 from documents import ANN, FILE1, document
+from domain_controller import DRAWS, Controller
 from forms import line
+from logon_stubs import LOGON as LOGON_CALL
 
 from nt_top import ending, text
 from nt_words import CONTROLLER, SEED, SERVE, files_of, words_of
@@ -69,7 +71,7 @@ def of_counts():
         words = words_of("serve", {**SERVE, "events": most})
         held = files_of(t=TABLE, s=SEED)
         out.append((line("serves.run", BOUND, "", "", "", "", held, CONTROLLER, *words), ";".join([DONE, text(""), sent, "told"])))
-    # The third call of the port that would fail is never made.
+    # The third `next`, call 4 of the port, would fail and is never made.
     words = words_of("serve", {**SERVE, "events": "2"})
     out.append((line("serves.run", BOUND, "4", "", "", "", files_of(t=TABLE, s=SEED), CONTROLLER, *words), ";".join([DONE, text(""), SENT, "told"])))
     return out
@@ -98,6 +100,70 @@ def of_the_files():
     return out
 
 
+JUDGED = {"judged NoChannel": "no channel\n", "judged Barred": "barred\n"}
+
+
+def line_put(action):
+    """The line that is put for an action."""
+    if action.startswith("judged Passed("):
+        return f"passed {int(action[14:-1]):08x}\n"
+    return JUDGED.get(action, "")
+
+
+def played(end, exit_text=DONE, done=None, puts=""):
+    """A case of a served controller, by what `domain_controller.py` says of its events: of its actions that many are done, or all."""
+    events = ",".join([word.replace("/", ":") for word in end.words[3:]] + ["stop"])
+    actions = [action for answer in end.answers for action in answer.split(",")][:done]
+    sent = ",".join(action[5:].replace(" ", ":") for action in actions if action.startswith("send ")) or "-"
+    put = "".join(line_put(action) for action in actions)
+    words = words_of("serve", {**SERVE, "name": end.words[1].decode()})
+    files = files_of(t=end.words[0].hex() if isinstance(end.words[0], bytes) else end.words[0], s=SEED)
+    return (
+        line("serves.run", events, "", "", puts, end.words[2], files, CONTROLLER, *words),
+        ";".join([exit_text, text(put), sent, "told"]),
+    )
+
+
+def stopped(end, put):
+    """The same where the put of that number fails, counted from 0: what stands before it is done."""
+    actions = [action for answer in end.answers for action in answer.split(",")]
+    lines = [place for place, action in enumerate(actions) if line_put(action)]
+    return played(end, ending("SinkFault"), lines[put], str(put))
+
+
+def of_challenges():
+    """A challenge is drawn for each first call of a channel and for nothing else, and the step that finds none left ends the service."""
+    spent = ending("Spent")
+    one = DRAWS[:1]
+    return [
+        # What was answered before stands: no body that draws before it serves, or draws without being asked, gives these.
+        played(Controller(challenges=one).bound().asks().asks(), spent),
+        played(Controller(challenges=one).bound().asks()),
+        played(Controller(challenges=[]).bound().asks(), spent),
+        played(Controller(challenges=[]).bound()),
+        played(Controller(challenges=one).bound().channel_open().asks().closed(), spent),
+    ]
+
+
+def of_lines():
+    """A line is put for each logon call that is judged, before its reply is sent; where the sink fails nothing later is done."""
+    none = lambda: Controller(challenges=DRAWS).bound().logs_on()
+    logons = lambda: Controller(challenges=DRAWS).bound().channel_open().logs_on().logs_on("nobody", timestamp=1).logs_on(timestamp=5, info={"nt": b"\x11" * 24})
+    barred = Controller(challenges=DRAWS).bound().channel_open()
+    call = barred.logon_call()
+    barred.call(LOGON_CALL, call).call(LOGON_CALL, call)
+    return [
+        played(none()),
+        stopped(none(), 0),
+        played(logons()),
+        stopped(logons(), 0),
+        stopped(logons(), 1),
+        stopped(logons(), 2),
+        played(barred),
+        stopped(barred, 1),
+    ]
+
+
 def cases():
     """The cases of commands that serve."""
-    return of_the_port() + of_counts() + of_the_files()
+    return of_the_port() + of_counts() + of_the_files() + of_challenges() + of_lines()
