@@ -1,6 +1,6 @@
 -- A command that serves an end (this project's own choice): its files are read and judged, the challenges are started, the port listens, and the
 -- end's machine runs.
-use Rattle.std.specs.Prelude.{◌≡◌, ◌⊎◌, ℕ, Bool, true, false, List, [], ◌∷◌, Option, Result, Ok, Err}
+use Rattle.std.specs.Prelude.{◌≡◌, ◌⊎◌, ℕ, Bool, true, false, List, [], ◌∷◌, Option, Some, Result, Ok, Err}
 use Rattle.outside.specs.Drawing.{Drawing}
 use Rattle.outside.specs.Machine.{Machine}
 use Rattle.outside.specs.declared.event.Happening.{Happening}
@@ -101,3 +101,20 @@ ControllerActs role asked story link_faults faults contents reads taken moments 
     is_controller role ≡ true → ControllerRuns asked (shelf_of faults contents reads files) (shelf_of faults contents reads files_after)
     (sight_of story link_faults moments drawing taken port clock chances out)
     (sight_of story link_faults moments drawing taken port_after clock_after chances_after out_after) exit
+
+-- A controller's words are of their form, and the files that they name are told and are of theirs.
+pub record IsServeOfForm (role : Role) (asked : List (List ℕ)) (contents : Option (List (List ℕ × List ℕ))) : Type 0 where
+  pub controller : role ≡ Controller
+  pub job : ControllerJob
+  pub job_is : controller_job asked ≡ Ok job
+  pub told : List (List ℕ × List ℕ)
+  pub told_is : contents ≡ Some told
+  pub files : ControllerFiles
+  pub files_are : controller_files job.table job.seed told ≡ Ok files
+
+-- it served to its end, the challenges were spent, or memory ran out
+abbrev pub IsServed : Exit → Type 0
+IsServed Done = Unit {0}
+IsServed Spent = Unit {0}
+IsServed NoMemory = Unit {0}
+IsServed _ = ⊥

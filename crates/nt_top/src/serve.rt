@@ -10,7 +10,7 @@ ghost use Rattle.nt_words.specs.declared.files.FilesRefused.{FilesRefused};
 ghost use Rattle.nt_top.specs.Refusals.{files_exit, words_exit};
 ghost use Rattle.nt_words.specs.Roles.{job_of};
 ghost use Rattle.nt_top.specs.Answers.{exit_at_once};
-ghost use Rattle.nt_top.specs.Serve.{ControllerEnds, ControllerRuns, ControllerServes, IsRefusal, ServesTo, halt_exit, service_exit};
+ghost use Rattle.nt_top.specs.Serve.{ControllerEnds, ControllerRuns, ControllerServes, IsRefusal, ServesTo, service_exit};
 ghost use Rattle.end_loop.specs.declared.halt.Halt.{Halt};
 ghost use Rattle.nt_top.specs.declared.exit.Exit.{Exit};
 
@@ -209,17 +209,5 @@ fn exit_of_service(served: Result<(), Halt>) -> Exit
         Err(Halt::SinkFault) => Exit::SinkFault,
         Err(Halt::NoMemory) => Exit::NoMemory,
         Err(Halt::Spent) => Exit::Spent,
-    }
-}
-
-/// The exit of a run that halted.
-pub(crate) fn exit_of_halt(halt: Halt) -> Exit
-    ensures { result ≡ halt_exit halt }
-{
-    match halt {
-        Halt::PortFault => Exit::PortFault,
-        Halt::SinkFault => Exit::SinkFault,
-        Halt::NoMemory => Exit::NoMemory,
-        Halt::Spent => Exit::Spent,
     }
 }

@@ -5,7 +5,7 @@ ghost use Rattle.std.specs.String.{string_bytes};
 ghost use Rattle.outside.specs.Causes.{Rose};
 ghost use Rattle.wire_base.specs.Memory.{UpToMemory};
 ghost use Rattle.nt_words.specs.Roles.{job_of};
-ghost use Rattle.nt_top.specs.Serve.{ActsByWords, ControllerActs, IsRefusal, is_controller};
+ghost use Rattle.nt_top.specs.Serve.{ActsByWords, ControllerActs, IsRefusal, IsServed, IsServeOfForm, is_controller};
 ghost use Rattle.nt_top.specs.Answers.{answer_of, exit_at_once, job_answer, job_exit_at_once};
 ghost use Rattle.nt_top.specs.Causes.{Comes, IsBadInput, IsBadWords, IsDone, IsOfForm, IsOfTheCommands, IsRefused, IsWorkDone};
 ghost use Rattle.nt_top.specs.Check.{AskedAccepted, AskedRefused, verdict_answer};
@@ -53,28 +53,26 @@ pub fn run<P: Port, F: Files, S: Sink, C: Clock, Q: Chances>(
     ensures exit { ActsByWords role →
         IsExitOf (answer_of role (map string_bytes words.now)) result }
     // A check is answered `accepted` where the response verifies, and `refused` where it doesn't.
-    ensures accepted { ActsByWords role → AskedAccepted role (map string_bytes words.now) →
+    ensures accepted { AskedAccepted role (map string_bytes words.now) →
         Ends (Ok (verdict_answer true)) (change_of S.taken S.faults out.old out.new) result }
-    ensures refused { ActsByWords role → AskedRefused role (map string_bytes words.now) →
+    ensures refused { AskedRefused role (map string_bytes words.now) →
         Ends (Ok (verdict_answer false)) (change_of S.taken S.faults out.old out.new) result }
     // A logon client asked to show a message puts its lines.
-    ensures shown { ActsByWords role → (asked : AskedShown role (map string_bytes words.now)) →
+    ensures shown { (asked : AskedShown role (map string_bytes words.now)) →
         Ends (Ok (shown asked.lines)) (change_of S.taken S.faults out.old out.new) result }
-    // Only there does a command end so.
+    // Only there does a command of these programs end so.
     ensures done { ActsByWords role → result ≡ Exit.Done →
         IsDone role (map string_bytes words.now) (change_of S.taken S.faults out.old out.new) }
     ensures refused_only { ActsByWords role →
         (cause : RefusedCause) → result ≡ Exit.Refused cause → IsRefused
         role (map string_bytes words.now) cause (change_of S.taken S.faults out.old out.new) }
     // The command line isn't of its form exactly there, but for want of memory.
-    ensures words { ActsByWords role →
-        (number : ℕ) → IsBadWords role (map string_bytes words.now) number →
+    ensures words { (number : ℕ) → IsBadWords role (map string_bytes words.now) number →
         Comes (Exit.BadWords number) result }
-    ensures words_only { ActsByWords role → (number : ℕ) → result ≡ Exit.BadWords number →
+    ensures words_only { (number : ℕ) → result ≡ Exit.BadWords number →
         IsBadWords role (map string_bytes words.now) number }
     // A word isn't of its form exactly there, but for want of memory.
-    ensures input { ActsByWords role →
-        (number : ℕ) → IsBadInput role (map string_bytes words.now) number →
+    ensures input { (number : ℕ) → IsBadInput role (map string_bytes words.now) number →
         Comes (Exit.BadInput number) result }
     ensures input_only { ActsByWords role → (number : ℕ) → result ≡ Exit.BadInput number →
         IsBadInput role (map string_bytes words.now) number }
@@ -85,7 +83,7 @@ pub fn run<P: Port, F: Files, S: Sink, C: Clock, Q: Chances>(
     ensures idle { IsRefusal (job_of role (map string_bytes words.now)) →
         (port.new ≡ port.old) × (files.new ≡ files.old) × (out.new ≡ out.old) ×
         (clock.new ≡ clock.old) × (chances.new ≡ chances.old) }
-    // None of their commands reads a file, listens or draws.
+    // No command of the other programs reads a file, listens or draws.
     ensures others { ActsByWords role → IsOfTheCommands result }
     // A failure of the outside is told only where a count of it rose.
     ensures file_cause { result ≡ Exit.FileFault → Rose (F.faults files.old) (F.faults files.new) }
@@ -94,12 +92,20 @@ pub fn run<P: Port, F: Files, S: Sink, C: Clock, Q: Chances>(
     // Words and inputs of their forms come to their work, where the sink doesn't fail.
     ensures complete { ActsByWords role → IsOfForm role (map string_bytes words.now) →
         ¬ Rose (S.faults out.old) (S.faults out.new) → IsWorkDone role result }
-    // Words that come to an exit alone leave the sink as it was, and so does want of memory.
+    // A controller whose words and files are of their forms serves, where no count rises.
+    ensures served { IsServeOfForm role (map string_bytes words.now) (F.contents files.old) →
+        ¬ Rose (F.faults files.old) (F.faults files.new) → ¬ Rose (P.faults port.old)
+        (P.faults port.new) → ¬ Rose (S.faults out.old) (S.faults out.new) → IsServed result }
+    // Of the other programs words that come to an exit alone leave the sink as it was, and so does
+    // want of memory.
     ensures untouched { ActsByWords role →
         (exit : Exit) → answer_of role (map string_bytes words.now) ≡ Err exit →
         out.new ≡ out.old }
     ensures memory { ActsByWords role → result ≡ Exit.NoMemory → out.new ≡ out.old }
     ensures faults { S.faults out.old ≤ S.faults out.new }
+    ensures file_faults { F.faults files.old ≤ F.faults files.new }
+    ensures port_faults { P.faults port.old ≤ P.faults port.new }
+    ensures link_faults { P.link_faults port.old ≤ P.link_faults port.new }
     ensures port { ActsByWords role → port.new ≡ port.old }
     ensures files { ActsByWords role → files.new ≡ files.old }
     ensures clock { ActsByWords role → clock.new ≡ clock.old }

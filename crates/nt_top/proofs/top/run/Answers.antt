@@ -1,4 +1,4 @@
-use Rattle.std.proofs.Common.{map, subst}
+use Rattle.std.proofs.Common.{map, subst, sym}
 use Rattle.std.specs.String.{string_bytes}
 use Rattle.nt_top.specs.Causes.{IsOfTheCommands}
 use Rattle.nt_top.proofs.EndLaws.{exit_is, accepted_ends, refused_ends, shown_ends, done_is, refused_is, bad_words_come, words_only, bad_input_comes, input_only, others, fault_rose, work_done}
@@ -8,13 +8,13 @@ pub returns-clause-exit : goal.returns-clause-exit
 returns-clause-exit g c other = exit_is _ _ _ c.perform.ensures.ends
 
 pub returns-clause-accepted : goal.returns-clause-accepted
-returns-clause-accepted g c other asked = accepted_ends _ _ _ _ c.perform.ensures.ends asked
+returns-clause-accepted g c asked = accepted_ends _ _ _ _ c.perform.ensures.ends asked
 
 pub returns-clause-refused : goal.returns-clause-refused
-returns-clause-refused g c other asked = refused_ends _ _ _ _ c.perform.ensures.ends asked
+returns-clause-refused g c asked = refused_ends _ _ _ _ c.perform.ensures.ends asked
 
 pub returns-clause-shown : goal.returns-clause-shown
-returns-clause-shown g c other asked = shown_ends _ _ _ _ c.perform.ensures.ends asked
+returns-clause-shown g c asked = shown_ends _ _ _ _ c.perform.ensures.ends asked
 
 pub returns-clause-done : goal.returns-clause-done
 returns-clause-done g c other is = done_is _ _ _ _ c.perform.ensures.ends is
@@ -23,13 +23,13 @@ pub returns-clause-refused_only : goal.returns-clause-refused_only
 returns-clause-refused_only g c other cause is = refused_is _ _ _ _ cause c.perform.ensures.ends is
 
 pub returns-clause-words : goal.returns-clause-words
-returns-clause-words g c other number bad = bad_words_come _ _ _ _ number c.perform.ensures.ends bad
+returns-clause-words g c number bad = bad_words_come _ _ _ _ number c.perform.ensures.ends bad
 
 pub returns-clause-words_only : goal.returns-clause-words_only
-returns-clause-words_only g c other number is = words_only _ _ _ _ number c.perform.ensures.ends is
+returns-clause-words_only g c number is = words_only _ (sym c.if-is_controller.ensures) _ _ _ number c.perform.ensures.ends is
 
 pub returns-clause-input : goal.returns-clause-input
-returns-clause-input g c other number bad = bad_input_comes _ _ _ _ number c.perform.ensures.ends bad
+returns-clause-input g c number bad = bad_input_comes _ _ _ _ number c.perform.ensures.ends bad
 
 pub returns-clause-input_only : goal.returns-clause-input_only
 returns-clause-input_only g c other number is = input_only _ _ _ _ number c.perform.ensures.ends is
