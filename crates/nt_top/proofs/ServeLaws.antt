@@ -20,7 +20,7 @@ use Rattle.nt_words.specs.declared.files.FilesRefused.{FilesRefused}
 use Rattle.nt_words.specs.declared.files.FilesRefused.TheVariants as files
 use Rattle.nt_top.specs.declared.exit.Exit.{Exit}
 use Rattle.nt_top.specs.declared.exit.Exit.TheVariants as exits
-use Rattle.nt_top.specs.Causes.{Comes, IsBadInput, IsBadWords, OutOfForm, NotBuilt}
+use Rattle.nt_top.specs.Causes.{Comes, IsBadInput, IsBadWords, IsOfForm, OutOfForm, NotBuilt}
 use Rattle.nt_top.specs.Check.{AskedAccepted, AskedRefused}
 use Rattle.nt_top.specs.Show.{AskedShown}
 use Rattle.nt_top.specs.Refusals.{files_exit, words_exit}
@@ -114,6 +114,11 @@ not_shown role words controller asked = not_logon role controller asked.asks.log
 pub not_input : (role : Role) (words : List (List ℕ)) (number : ℕ) → is_controller role ≡ true → IsBadInput role words number → ⊥
 not_input role words number controller (inl asked) = not_member role controller asked.member
 not_input role words number controller (inr asked) = not_logon role controller asked.logon
+
+pub not_of_form : (role : Role) (words : List (List ℕ)) → is_controller role ≡ true → IsOfForm role words → ⊥
+not_of_form role words controller (inl (inl asked)) = not_accepted role words controller asked
+not_of_form role words controller (inl (inr asked)) = not_rejected role words controller asked
+not_of_form role words controller (inr asked) = not_shown role words controller asked
 
 -- ---- the number of a controller's words
 

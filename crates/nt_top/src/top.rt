@@ -90,7 +90,7 @@ pub fn run<P: Port, F: Files, S: Sink, C: Clock, Q: Chances>(
     ensures port_cause { result ≡ Exit.PortFault → Rose (P.faults port.old) (P.faults port.new) }
     ensures sink_cause { result ≡ Exit.SinkFault → Rose (S.faults out.old) (S.faults out.new) }
     // Words and inputs of their forms come to their work, where the sink doesn't fail.
-    ensures complete { ActsByWords role → IsOfForm role (map string_bytes words.now) →
+    ensures complete { IsOfForm role (map string_bytes words.now) →
         ¬ Rose (S.faults out.old) (S.faults out.new) → IsWorkDone role result }
     // A controller whose words and files are of their forms serves, where no count rises.
     ensures served { IsServeOfForm role (map string_bytes words.now) (F.contents files.old) →

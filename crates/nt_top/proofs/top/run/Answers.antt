@@ -41,7 +41,7 @@ pub returns-clause-sink_cause : goal.returns-clause-sink_cause
 returns-clause-sink_cause g c is = fault_rose c.args.role (map string_bytes c.args.words.now) _ _ c.perform.ensures.ends is
 
 pub returns-clause-complete : goal.returns-clause-complete
-returns-clause-complete g c other form still = work_done _ _ _ _ c.perform.ensures.ends form still
+returns-clause-complete g c form still = work_done _ _ _ _ c.perform.ensures.ends form still
 
 pub returns-clause-file_cause : goal.returns-clause-file_cause
 returns-clause-file_cause g c is =
