@@ -9,6 +9,7 @@ use std::rt::Env;
 use std::{fs, io, net, time};
 
 /// A printer that keeps what is written.
+#[derive(Drop)]
 struct Page(RefCell<Vec<u8>>);
 
 impl Print for Page {
