@@ -5,7 +5,6 @@ use crate::calls::Calls;
 use crate::digests::{codes, digests, key_streams};
 use crate::keys::Keys;
 use crate::logon::{read_logons, write_replies};
-use crate::members::Logons;
 use crate::operation::Operation;
 use crate::packets::Packets;
 use crate::sealing::Sides;
@@ -28,7 +27,6 @@ pub struct Bench {
     keys: Keys,
     packets: Packets,
     calls: Calls,
-    logons: Logons,
     accounts: Accounts,
     sides: Sides,
 }
@@ -40,7 +38,6 @@ impl Bench {
         let keys = Keys::new(alloc)?;
         let packets = Packets::new(alloc)?;
         let calls = Calls::new(alloc)?;
-        let logons = Logons::new(alloc)?;
         let accounts = Accounts::new(alloc)?;
         Ok(Bench {
             long,
@@ -48,7 +45,6 @@ impl Bench {
             keys,
             packets,
             calls,
-            logons,
             accounts,
             sides: Sides::new(KEY),
         })
@@ -83,7 +79,6 @@ impl Bench {
             Operation::ReadLogonCall => read_logons(alloc, self.packets.logon(), turns),
             Operation::WriteLogonReply => write_replies(alloc, turns),
             Operation::ControllerLogon => self.calls.log_on(alloc, turns),
-            Operation::MemberLogon => self.logons.let_in(alloc, turns),
             Operation::Seal => self.sides.carry(turns),
             Operation::ReadTable => self.accounts.read_tables(alloc, turns),
             Operation::FindAccount => Ok(self.accounts.find_all(turns)),

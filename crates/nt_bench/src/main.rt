@@ -8,7 +8,6 @@ mod digests;
 mod keys;
 mod logon;
 mod measure;
-mod members;
 mod operation;
 mod packets;
 mod plain;
