@@ -386,10 +386,12 @@ def of_no_files():
 
 
 def of_runs():
-    """The top call judges the words of the commands that don't run yet, and puts nothing: a sink that fails isn't asked."""
+    """The top call judges the words of the commands, and puts nothing where they don't run: a sink that fails isn't asked. A controller's words run,
+    and the first of its files isn't there."""
     out = [(run(LOGON, "drill", "--number", "1", "--moves", "100001", failing="0"), end("BadWords", 2))]
     for role, first, usual, options in COMMANDS.values():
-        out.append((run(role, *words_of(first, usual), failing="0"), end("BadWords", 0)))
+        runs = end("FileFault") if role == CONTROLLER else end("BadWords", 0)
+        out.append((run(role, *words_of(first, usual), failing="0"), runs))
         for number, option in enumerate(options, 1):
             words = words_of(first, {**usual, option: ""})
             out.append((run(role, *words, failing="0"), end("BadWords", number)))
