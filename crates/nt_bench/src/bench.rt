@@ -5,6 +5,7 @@ use crate::calls::Calls;
 use crate::digests::{codes, digests, key_streams};
 use crate::keys::Keys;
 use crate::logon::{read_logons, write_replies};
+use crate::members::Logons;
 use crate::operation::Operation;
 use crate::packets::Packets;
 use crate::sealing::Sides;
@@ -27,6 +28,7 @@ pub struct Bench {
     keys: Keys,
     packets: Packets,
     calls: Calls,
+    logons: Logons,
     accounts: Accounts,
     sides: Sides,
 }
@@ -38,6 +40,7 @@ impl Bench {
         let keys = Keys::new(alloc)?;
         let packets = Packets::new(alloc)?;
         let calls = Calls::new(alloc)?;
+        let logons = Logons::new(alloc)?;
         let accounts = Accounts::new(alloc)?;
         Ok(Bench {
             long,
@@ -45,6 +48,7 @@ impl Bench {
             keys,
             packets,
             calls,
+            logons,
             accounts,
             sides: Sides::new(KEY),
         })
@@ -79,6 +83,7 @@ impl Bench {
             Operation::ReadLogonCall => read_logons(alloc, self.packets.logon(), turns),
             Operation::WriteLogonReply => write_replies(alloc, turns),
             Operation::ControllerLogon => self.calls.log_on(alloc, turns),
+            Operation::MemberLogon => self.logons.let_in(alloc, turns),
             Operation::Seal => self.sides.carry(turns),
             Operation::ReadTable => self.accounts.read_tables(alloc, turns),
             Operation::FindAccount => Ok(self.accounts.find_all(turns)),

@@ -74,7 +74,7 @@ impl Calls {
 }
 
 /// The controller of the table.
-fn controller(alloc: Global) -> anyhow::Result<Controller> {
+pub fn controller(alloc: Global) -> anyhow::Result<Controller> {
     let table = Table::read(alloc, TABLE.as_bytes())?;
     let name = Name::read(alloc, b"PDC")?;
     Ok(Controller::new(alloc, table, name)?)

@@ -8,6 +8,7 @@ mod digests;
 mod keys;
 mod logon;
 mod measure;
+mod members;
 mod operation;
 mod packets;
 mod plain;

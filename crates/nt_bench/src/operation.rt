@@ -45,6 +45,8 @@ pub enum Operation {
     WriteLogonReply,
     /// A request to log on at a controller, from its bytes to those of the reply that grants it.
     ControllerLogon,
+    /// A logon at a member beside its controller, from the client's bind to the member's word that it is in, over an open channel.
+    MemberLogon,
     /// Sealing a range of 1,024 bytes at one side, and opening it at the other.
     Seal,
     /// Reading a table of 10,000 accounts.
@@ -54,7 +56,7 @@ pub enum Operation {
 }
 
 /// All of them, in the order in which they are printed.
-pub const OPERATIONS: [Operation; 24] = [
+pub const OPERATIONS: [Operation; 25] = [
     Operation::Md4Short,
     Operation::Md4Long,
     Operation::DesBlock,
@@ -76,6 +78,7 @@ pub const OPERATIONS: [Operation; 24] = [
     Operation::ReadLogonCall,
     Operation::WriteLogonReply,
     Operation::ControllerLogon,
+    Operation::MemberLogon,
     Operation::Seal,
     Operation::ReadTable,
     Operation::FindAccount,
@@ -106,6 +109,7 @@ impl Operation {
             Operation::ReadLogonCall => "read-logon-call",
             Operation::WriteLogonReply => "write-logon-reply",
             Operation::ControllerLogon => "controller-logon",
+            Operation::MemberLogon => "member-logon",
             Operation::Seal => "seal-1k",
             Operation::ReadTable => "table-10k",
             Operation::FindAccount => "find-10k",
