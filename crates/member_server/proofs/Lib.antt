@@ -1,10 +1,16 @@
+mod AskedLaws
 mod BindLaws
+mod EventSteps
+mod KeptLaws
 mod LinkLaws
 mod MemoLaws
 mod MessageLaws
+mod OtherLinkLaws
 mod OutcomeLaws
 mod PendingLaws
 mod QuietLaws
 mod SealingLaws
 mod StepLaws
+mod StepRules
 mod TurnLaws
+mod UnitSteps

@@ -81,7 +81,7 @@ there_by true entry found link one ih e =
     let same : entry.1 ≡ link = (let z = e in cc) in subst (λ (l : LinkState Talk). HoldsRequests l.talk.phase) same one
 there_by false entry found link one ih e = ih e
 
-there : (k : ℕ) (links : List (ℕ × LinkState Talk)) (link : LinkState Talk) → HoldRequests links → lookup same_number k links ≡ Some link → HoldsRequests link.talk.phase
+pub there : (k : ℕ) (links : List (ℕ × LinkState Talk)) (link : LinkState Talk) → HoldRequests links → lookup same_number k links ≡ Some link → HoldsRequests link.talk.phase
 there k [] link all e = absurd (let x = e in cc)
 there k (entry ∷ links) link all e = there_by (has_key same_number k entry) entry (lookup same_number k links) link all.0 (there k links link all.1) e
 

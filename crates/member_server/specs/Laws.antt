@@ -1,29 +1,50 @@
 -- What holds of a member's links, whatever comes (MS-NLMP 3.2.5.1.2; how outcomes are told is this project's own choice).
-use Rattle.std.specs.Prelude.{ℕ, ◌≡◌, Bool, true, false, IsTrue, List, Option, Some, None, Result, Ok, Err}
+use Rattle.std.specs.Prelude.{ℕ, ◌≡◌, ◌==◌, Bool, true, false, IsTrue, List, [], ◌∷◌, ◌++◌, map, Option, Some, None, Result, Ok, Err}
 use Rattle.std.specs.List.{AllByRecursion}
 use Rattle.outside.specs.declared.action.Action.{Action}
 use Rattle.outside.specs.declared.action.Action.TheVariants as action
+use Rattle.outside.specs.declared.action.Outcome.{Outcome}
+use Rattle.outside.specs.declared.action.Outcome.TheVariants as outcome
 use Rattle.outside.specs.declared.event.Event.{Event}
+use Rattle.outside.specs.declared.event.Event.TheVariants as event
 use Rattle.wire_base.specs.Maps.{lookup, same_number}
+use Rattle.rpc_units.specs.declared.refused.JoinRefused.{JoinRefused}
 use Rattle.rpc_units.specs.declared.refused.UnitRefused.{UnitRefused}
 use Rattle.rpc_units.specs.declared.unit.Body.{Body}
 use Rattle.rpc_units.specs.declared.unit.Body.TheVariants.{Request}
 use Rattle.rpc_units.specs.declared.unit.Unit.{Unit as RpcUnit}
+use Rattle.rpc_units.specs.Joining.{answer_of, open_after}
 use Rattle.rpc_units.specs.Reading.{unit_of}
+use Rattle.rpc_units.specs.Stream.{cut_stream}
+use Rattle.logon_stubs.specs.declared.info.NetworkInfo.{NetworkInfo}
+use Rattle.logon_stubs.specs.declared.info.SamInfo.{SamInfo}
+use Rattle.logon_stubs.specs.declared.info.Verdict.TheVariants as verdict
+use Rattle.channel_client.specs.declared.answers.Taken.TheVariants as taken
+use Rattle.channel_client.specs.declared.state.Waiting.{Waiting}
+use Rattle.channel_client.specs.Effects.{IsCoherent}
+use Rattle.channel_client.specs.State.{Requester}
+use Rattle.channel_client.specs.Machine.{ask_of, lose_of, start_of, take_of}
+use Rattle.channel_client.specs.Turns.{is_out}
 use Rattle.end_links.specs.Links.{LinkState}
 use Rattle.end_loop.specs.Acts.{is_made}
 use Rattle.end_loop.specs.Runs.{actions_of}
 use Rattle.member_server.specs.declared.outcomes.Ending.{Ending}
+use Rattle.member_server.specs.declared.outcomes.Ending.TheVariants as ending
+use Rattle.member_server.specs.declared.plan.MemberPlan.{MemberPlan}
 use Rattle.member_server.specs.declared.state.AtLink.{AtLink}
 use Rattle.member_server.specs.declared.state.Bound.{Bound}
+use Rattle.member_server.specs.declared.state.Dialling.{Dialling}
+use Rattle.member_server.specs.declared.state.Dialling.TheVariants as dialling
 use Rattle.member_server.specs.declared.state.Logon.{Logon}
+use Rattle.member_server.specs.declared.state.Logons.{Logons}
 use Rattle.member_server.specs.declared.state.Phase.{Phase}
 use Rattle.member_server.specs.declared.state.Phase.TheVariants as phase
 use Rattle.member_server.specs.declared.state.Running.{Running}
 use Rattle.member_server.specs.declared.state.Talk.{Talk}
+use Rattle.member_server.specs.declared.state.TurnTalk.{TurnTalk}
 use Rattle.member_server.specs.declared.state.Work.{Work}
-use Rattle.member_server.specs.Machine.{step_of}
-use Rattle.member_server.specs.Outcomes.{end_logon, tell_outcome, turn_waiting, waiting_at, waiting_on, without_link, without_logon}
+use Rattle.member_server.specs.Machine.{fresh_member, step_of}
+use Rattle.member_server.specs.Outcomes.{end_logon, outcome_of, tell_outcome, turn_waiting, waiting_at, waiting_on, without_link, without_logon}
 use Rattle.member_server.specs.State.{State}
 use Rattle.member_server.specs.Units.{bound_unit}
 
@@ -101,3 +122,158 @@ AreQuiet actions = AllByRecursion IsQuiet actions
 pub record ClosesNothing : Type 0 where
   pub made : (s : State) (running : Running) (what : Event) (now : ℕ) (left : List (List ℕ)) → s.running ≡ Some running →
       HoldRequests running.links → is_made what ≡ true → AreQuiet (actions_of (step_of s what now left))
+
+-- ---- what is held are requests, whatever comes
+
+abbrev pub HoldsAfter : Option Talk → Type 0
+HoldsAfter None = Unit {0}
+HoldsAfter (Some talk) = HoldsRequests talk.phase
+
+abbrev pub HoldUnlessStopped : Option Running → Type 0
+HoldUnlessStopped None = Unit {0}
+HoldUnlessStopped (Some running) = HoldRequests running.links
+
+pub record KeepsRequests : Type 0 where
+  pub fresh : (plan : MemberPlan) → HoldUnlessStopped (fresh_member plan).running
+  pub keeps : (s : State) (running : Running) (what : Event) (now : ℕ) (left : List (List ℕ)) → s.running ≡ Some running →
+      HoldRequests running.links → HoldUnlessStopped (step_of s what now left).state.running
+
+-- ---- what becomes of the shared channel
+
+-- what a member does with it
+pub data Doing : Type 0 where
+  -- a logon is asked
+  Asks : (info : NetworkInfo) → Doing
+  -- a turn starts, with this timestamp and this challenge
+  Starts : (timestamp : ℕ) (challenge : List ℕ) → Doing
+  -- a unit is taken
+  Takes : (unit : RpcUnit) → Doing
+  -- the turn is lost
+  Loses : Doing
+
+abbrev pub state_done : Doing → Requester → Requester
+state_done (Asks info) c = (ask_of c info).state
+state_done (Starts timestamp challenge) c = (start_of c timestamp challenge).state
+state_done (Takes unit) c = (take_of c unit).state
+state_done Loses c = (lose_of c).state
+
+-- all of it, in order
+abbrev pub state_after : List Doing → Requester → Requester
+state_after [] c = c
+state_after (doing ∷ doings) c = state_after doings (state_done doing c)
+
+pub record Comes (old new : Requester) : Type 0 where
+  pub doings : List Doing
+  pub is : new ≡ state_after doings old
+
+abbrev pub ComesUnlessStopped : Requester → Option Running → Type 0
+ComesUnlessStopped old None = Unit {0}
+ComesUnlessStopped old (Some running) = Comes old running.logons.channel
+
+-- A step does to the shared channel what channel_client's own steps do, in some order, and nothing else.
+pub record StepsTheChannel : Type 0 where
+  pub step : (s : State) (running : Running) (what : Event) (now : ℕ) (left : List (List ℕ)) → s.running ≡ Some running →
+      ComesUnlessStopped running.logons.channel (step_of s what now left).state.running
+
+-- ---- what bytes on an accepted link change
+
+-- whether a turn is on the link of that number
+abbrev pub is_on : ℕ → Dialling → Bool
+is_on number dialling.Nothing = false
+is_on number (dialling.Waits turn frames) = false
+is_on number (dialling.On other said) = other == number
+
+abbrev pub StaysUnlessStopped : ℕ → List (ℕ × LinkState Talk) → Option Running → Type 0
+StaysUnlessStopped other links None = Unit {0}
+StaysUnlessStopped other links (Some running) = lookup same_number other running.links ≡ lookup same_number other links
+
+-- Bytes on a link that isn't the turn's leave every other link as it is.
+pub record LeavesOtherLinks : Type 0 where
+  pub stays : (s : State) (running : Running) (number other : ℕ) (piece : List ℕ) (now : ℕ) (left : List (List ℕ)) → s.running ≡ Some running →
+      is_on number running.dialling ≡ false → same_number number other ≡ false →
+      StaysUnlessStopped other running.links (step_of s (event.Bytes number piece) now left).state.running
+
+-- ---- who is told that he is in
+
+-- a unit that is whole, before those that are later; behind one that can't be joined nothing is heard
+abbrev pub then_whole : Result (Option RpcUnit) JoinRefused → List RpcUnit → List RpcUnit
+then_whole (Err why) later = []
+then_whole (Ok None) later = later
+then_whole (Ok (Some unit)) later = unit ∷ later
+
+abbrev pub whole_by : Result RpcUnit UnitRefused → Option RpcUnit → (Option RpcUnit → List RpcUnit) → List RpcUnit
+whole_by (Err why) joiner later = []
+whole_by (Ok unit) joiner later = then_whole (answer_of joiner unit) (later (open_after joiner unit))
+
+-- the whole units that the units on a link make, behind what is open
+abbrev pub whole_units : List (List ℕ) → Option RpcUnit → List RpcUnit
+whole_units [] joiner = []
+whole_units (bytes ∷ units) joiner = whole_by (unit_of bytes) joiner (λ after. whole_units units after)
+
+-- the argument: whether it is the link of the turn
+abbrev pub heard_if : Bool → LinkState TurnTalk → List ℕ → List RpcUnit
+heard_if false said piece = []
+heard_if true said piece = whole_units (cut_stream (said.rest ++ piece)).units said.talk.joiner
+
+abbrev pub heard_from : ℕ → List ℕ → Dialling → List RpcUnit
+heard_from link piece dialling.Nothing = []
+heard_from link piece (dialling.Waits turn frames) = []
+heard_from link piece (dialling.On number said) = heard_if (number == link) said piece
+
+-- the whole units that come on the link of the turn
+abbrev pub heard_in : Event → Dialling → List RpcUnit
+heard_in (event.Bytes link piece) how = heard_from link piece how
+heard_in _ how = []
+
+-- A controller granted the logon of a place, in a unit that came on the link of the turn and that the channel took behind those before it, and the logon
+-- of that place was kept when the step began.
+pub record IsGranted (running : Running) (what : Event) (link : ℕ) (told : Outcome) : Type 0 where
+  pub earlier : List RpcUnit
+  pub unit : RpcUnit
+  pub later : List RpcUnit
+  pub place : ℕ
+  pub info : SamInfo
+  pub logon : Logon
+  pub hears : heard_in what running.dialling ≡ earlier ++ unit ∷ later
+  pub takes : (take_of (state_after (map (λ (u : RpcUnit). Takes u) earlier) running.logons.channel) unit).taken
+      ≡ taken.Answer place (verdict.Granted info)
+  pub kept : lookup same_number place running.logons.asked ≡ Some logon
+  pub number : link ≡ logon.link
+  pub is : told ≡ outcome_of (ending.Granted info) logon
+
+abbrev pub IsTold : Running → Event → Action → Type 0
+IsTold running what (action.Told link (outcome.In domain user key)) = IsGranted running what link (outcome.In domain user key)
+IsTold running what _ = Unit {0}
+
+-- `In` is told only where the channel took a granted answer for the place of that logon.
+pub record LetsInTheGranted : Type 0 where
+  pub told : (s : State) (running : Running) (what : Event) (now : ℕ) (left : List (List ℕ)) → s.running ≡ Some running →
+      AllByRecursion (IsTold running what) (actions_of (step_of s what now left))
+
+-- ---- the logons that are kept are those that wait, in their order; the first of them is that of the turn
+
+abbrev pub AreAsked : Logons → Type 0
+AreAsked logons =
+    map (λ (entry : ℕ × Logon). entry.0) logons.asked ≡ map (λ (w : Waiting). w.place) logons.channel.waiting
+
+-- whether the dial of a turn waits, or its link is open
+abbrev pub is_dialled : Dialling → Bool
+is_dialled dialling.Nothing = false
+is_dialled (dialling.Waits turn frames) = true
+is_dialled (dialling.On number said) = true
+
+-- the arguments: whether the dial of a turn waits or its link is open, and what logons need
+pub record IsInOrder (dialled : Bool) (logons : Logons) : Type 0 where
+  pub coherent : IsCoherent logons.channel
+  pub asked : AreAsked logons
+  -- a turn is out exactly where it is dialled
+  pub out : is_out logons.channel ≡ dialled
+
+abbrev pub InOrderUnlessStopped : Option Running → Type 0
+InOrderUnlessStopped None = Unit {0}
+InOrderUnlessStopped (Some running) = IsInOrder (is_dialled running.dialling) running.logons
+
+pub record AsksWhatWaits : Type 0 where
+  pub fresh : (plan : MemberPlan) → InOrderUnlessStopped (fresh_member plan).running
+  pub keeps : (s : State) (running : Running) (what : Event) (now : ℕ) (left : List (List ℕ)) → s.running ≡ Some running →
+      IsInOrder (is_dialled running.dialling) running.logons → InOrderUnlessStopped (step_of s what now left).state.running

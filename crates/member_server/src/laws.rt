@@ -1,6 +1,6 @@
 //! Laws of the member's machine, over its definitions. Each function does nothing, and its clause is the law.
 
-ghost use Rattle.member_server.specs.Laws.{ClosesNothing, ReachesItsLink, ServesOneMessage};
+ghost use Rattle.member_server.specs.Laws.{AsksWhatWaits, ClosesNothing, KeepsRequests, LeavesOtherLinks, LetsInTheGranted, ReachesItsLink, ServesOneMessage, StepsTheChannel};
 ghost use Rattle.member_server.specs.Pending.{Settles};
 
 /// The events that the step for a closed or dialled link makes, with those that may come of it, are no more than before: two for each logon
@@ -26,4 +26,37 @@ pub fn an_outcome_reaches_its_link()
 #[tactic(auto, using(crate::proofs::QuietLaws::closes_nothing))]
 pub fn what_is_closed_closes_nothing()
     ensures { ClosesNothing }
+{}
+
+/// What is held on links are requests, at first and after each step.
+#[tactic(auto, using(crate::proofs::KeptLaws::keeps_requests))]
+pub fn what_is_held_are_requests()
+    ensures { KeepsRequests }
+{}
+
+/// A step does to the shared channel what channel_client's own steps do, in some order, and nothing else: a logon is asked, a turn starts, a unit is
+/// taken, the turn is lost.
+#[tactic(auto, using(crate::proofs::KeptLaws::steps_the_channel))]
+pub fn the_channel_steps_by_its_own()
+    ensures { StepsTheChannel }
+{}
+
+/// Bytes on a link that isn't the turn's leave every other link as it is.
+#[tactic(auto, using(crate::proofs::OtherLinkLaws::leaves_other_links))]
+pub fn bytes_leave_other_links()
+    ensures { LeavesOtherLinks }
+{}
+
+/// In is told only where the channel took a granted answer for the place of that logon, in a unit that came on the link of the turn in that very step;
+/// the logon was kept when the step began.
+#[tactic(auto, using(crate::proofs::KeptLaws::lets_in_the_granted))]
+pub fn in_is_told_of_a_granted_logon()
+    ensures { LetsInTheGranted }
+{}
+
+/// The places of the logons that are kept are those of the logons that wait, in their order, and a turn is out exactly where it is dialled: at first, and
+/// after each step.
+#[tactic(auto, using(crate::proofs::AskedLaws::asks_what_waits))]
+pub fn what_is_kept_waits()
+    ensures { AsksWhatWaits }
 {}

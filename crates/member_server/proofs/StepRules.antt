@@ -1,0 +1,79 @@
+-- What a step may do to what logons need and to the actions so far: whatever holds by these rules holds after each step.
+use Rattle.std.proofs.Common.{◌≡◌, ℕ, Bool, true, false, List, [], ◌∷◌, ◌++◌, Option, Some, None, Ok, Err}
+use Rattle.outside.specs.declared.action.Action.{Action}
+use Rattle.outside.specs.declared.action.Action.TheVariants as action
+use Rattle.outside.specs.declared.action.DropCause.{DropCause}
+use Rattle.outside.specs.declared.action.Outcome.TheVariants as outcome
+use Rattle.wire_base.specs.Maps.{lookup, take_out, same_number}
+use Rattle.logon_stubs.specs.declared.info.NetworkInfo.{NetworkInfo}
+use Rattle.rpc_units.specs.declared.unit.Unit.{Unit as RpcUnit}
+use Rattle.channel_client.specs.declared.answers.AskRefused.TheVariants as ask_refused
+use Rattle.channel_client.specs.declared.answers.Taken.{Taken}
+use Rattle.channel_client.specs.declared.answers.Taken.TheVariants as taken
+use Rattle.channel_client.specs.Machine.{ask_of, lose_of, start_of, take_of}
+use Rattle.member_server.specs.declared.outcomes.Ending.{Ending}
+use Rattle.member_server.specs.declared.outcomes.Ending.TheVariants as ending
+use Rattle.member_server.specs.declared.state.Logon.{Logon}
+use Rattle.member_server.specs.declared.state.Logons.{Logons}
+use Rattle.member_server.specs.Messages.{with_channel, with_logon}
+use Rattle.member_server.specs.Outcomes.{outcome_of}
+use Rattle.member_server.specs.Turns.{ending_of}
+
+-- what is said of them
+abbrev pub Holds : Type 1
+Holds = Logons → List Action → Type 0
+
+-- the action lets nobody in
+abbrev pub LetsNobodyIn : Action → Type 0
+LetsNobodyIn (action.Told link (outcome.In domain user key)) = ⊥
+LetsNobodyIn _ = Unit {0}
+
+-- ---- an accepted link
+
+pub record LinkRules (K : Holds) : Type 0 where
+  pub tells : (l : Logons) (a : List Action) (what : Action) → LetsNobodyIn what → K l a → K l (a ++ what ∷ [])
+  pub waits : (l : Logons) (a : List Action) (info : NetworkInfo) (place : ℕ) (logon : Logon) → (ask_of l.channel info).answer ≡ Ok place → K l a →
+      K (with_logon (with_channel l (ask_of l.channel info).state) place logon) a
+  pub full : (l : Logons) (a : List Action) (info : NetworkInfo) → (ask_of l.channel info).answer ≡ Err ask_refused.QueueFull → K l a →
+      K (with_channel l (ask_of l.channel info).state) a
+
+-- ---- the turn
+
+abbrev pub drop_logon : ℕ → Logons → Logons
+drop_logon place l = record l { asked = take_out same_number place l.asked }
+
+-- the logon of the place is kept no more, and it may be told
+pub record Ends (K : Holds) (place : ℕ) (how : Ending) (l : Logons) (a : List Action) : Type 0 where
+  pub silent : K (drop_logon place l) a
+  pub told : (logon : Logon) → lookup same_number place l.asked ≡ Some logon →
+      K (drop_logon place l) (a ++ action.Told logon.link (outcome_of how logon) ∷ [])
+
+-- T while the turn is out, K once it isn't
+abbrev pub AfterTaken : Holds → Holds → Taken → Logons → List Action → Type 0
+AfterTaken T K (taken.Skip turn) l a = T l a
+AfterTaken T K (taken.Next turn frames) l a = T l a
+AfterTaken T K taken.Half l a = K l a
+AfterTaken T K taken.Opened l a = K l a
+AfterTaken T K (taken.Answer place verdict) l a = Ends K place (ending_of verdict) l a
+AfterTaken T K (taken.Dropped place cause) l a = Ends K place (ending.NoController cause) l a
+
+-- the argument of T: the whole units that are still to come on the link of the turn
+pub record TurnRules (T : List RpcUnit → Holds) (K : Holds) : Type 0 where
+  pub tells : (units : List RpcUnit) (l : Logons) (a : List Action) (what : Action) → LetsNobodyIn what → T units l a → T units l (a ++ what ∷ [])
+  pub takes : (unit : RpcUnit) (units : List RpcUnit) (l : Logons) (a : List Action) → T (unit ∷ units) l a →
+      AfterTaken (T units) K (take_of l.channel unit).taken (with_channel l (take_of l.channel unit).state) a
+  pub loses : (units : List RpcUnit) (l : Logons) (a : List Action) (cause : DropCause) → T units l a →
+      Ends K (lose_of l.channel).place (ending.NoController cause) (with_channel l (lose_of l.channel).state) a
+
+-- ---- a step; the argument of G: whether a turn is dialled
+
+abbrev pub AfterStart : (Bool → Holds) → Bool → Option (Unit {0} × List (List ℕ)) → Logons → List Action → Type 0
+AfterStart G dialled None l a = G dialled l a
+AfterStart G dialled (Some start) l a = G true l a
+
+pub record StepRules (T : List RpcUnit → Holds) (G : Bool → Holds) : Type 0 where
+  pub link : (dialled : Bool) → LinkRules (G dialled)
+  pub turn : TurnRules T (G false)
+  pub returns : (units : List RpcUnit) (l : Logons) (a : List Action) → T units l a → G true l a
+  pub starts : (dialled : Bool) (l : Logons) (a : List Action) (timestamp : ℕ) (challenge : List ℕ) → G dialled l a →
+      AfterStart G dialled (start_of l.channel timestamp challenge).answer (with_channel l (start_of l.channel timestamp challenge).state) a
