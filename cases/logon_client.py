@@ -217,6 +217,12 @@ class Client:
 
     # events
 
+    def wants(self):
+        """The link that is waited for: the client's own, while it is open."""
+        self.words.append("wants")
+        self.answers.append("None" if self.stopped or self.link is None else f"Some({self.link})")
+        return self
+
     def event(self, word, run=lambda: None):
         self.words.append(word)
         self.actions = []
@@ -302,10 +308,10 @@ class Server:
     def message(self):
         return message_of("challenge", self.flags, Target=self.target, Info=self.info, challenge=self.challenge)
 
-    def ack(self, results=((0, 0, NDR),), message=None, trailer=True, call=1):
+    def ack(self, results=((0, 0, NDR),), message=None, trailer=True, call=1, send=None):
         message = self.message() if message is None else message
         fields = (NTLMSSP, self.client.level, 1, message) if trailer is True else trailer
-        return write_unit(whole(ACK, call=call, send=self.receive, receive=self.receive, group=1, results=list(results), trailer=fields))
+        return write_unit(whole(ACK, call=call, send=self.receive if send is None else send, receive=self.receive, group=1, results=list(results), trailer=fields))
 
     def reply(self, stub, call, limit=LIMIT, level=None):
         """The frames of a reply."""
@@ -414,7 +420,8 @@ def pair_cases():
     time = (7, bytes(range(8)))
     lists = [b"", END_PAIR, write_pairs([time]), write_pairs([(2, utf16("CORP")), time, (7, bytes(8))]), write_pairs([(6, le(2, 4)), (99, b"x")])]
     lists += [END_PAIR[:3], b"\2\0\4\0ab", write_pairs([(7, bytes(7))]), write_pairs([time]) + b"behind", write_pairs([(2, bytes(3))])]
-    lists += [write_pairs([(99, bytes(size))]) for size in (5000, 5300, 5400, 5500, 5600)]
+    # the AUTHENTICATE of the last three is longer than a unit may be
+    lists += [write_pairs([(99, bytes(size))]) for size in (5000, 5300, 5400, 5500, 5600, 5634, 5635, 5636, 5700)]
     for info in lists:
         for kind in PLANS[1:]:
             try:
@@ -493,9 +500,11 @@ def cause_cases():
             client, _ = state(plan)
             out.append(client.bytes(good, 2).failed().event("stop").bytes(good[:20]).bytes(good[20:]).case())
     out.append(Client().failed().dialled().failed().case())
-    for state in STATES:
+    # a link opened under the number of its own is the end, whatever comes on it
+    for place, state in enumerate(STATES):
         client, _ = state({})
-        out.append(client.opened(2).opened().closed().case())
+        nak = write_unit(whole(NAK, call=place + 1, reason=0))
+        out.append(client.opened(2).wants().opened().wants().bytes(nak).closed().case())
     out.append(Client().opened().dialled().dialled(2).case())
     out.append(Client().closed().bytes(b"abc").event("stop").dialled(7).closed(7).case())
     out.append(bound().bytes(write_unit(whole(RESPONSE, call=1, hint=0, context=0, stub=b""))).case())
@@ -568,7 +577,59 @@ def reply_cases():
     return out
 
 
+def finished(client, peer):
+    """The line of a client whose CHALLENGE was judged, with the replies to what it asked."""
+    if client.outcome is None:
+        client.bytes(b"".join(peer.who())).bytes(b"".join(peer.echo()))
+    return client.wants().case()
+
+
+def free_cases():
+    """What isn't judged of an answer: the size that the member sends; of a bind_ack's trailer the type, the level and the context, and which transfer syntax a context was accepted
+    with; of a response its context, and of its trailer the type and the context; whether a fault or a bind_nak has a trailer."""
+    out = []
+    for send, receive in ((1432, LIMIT), (LIMIT, 1432), (0, 2000)):
+        for plan in ({"level": 2}, {"level": 5}, {"level": 6}):
+            client = bound(**plan, echo=4096)
+            peer = Server(client, receive=receive)
+            out.append(finished(client.bytes(peer.ack(send=send)), peer))
+    for fields in ((9, PRIVACY, 1), (NTLMSSP, 2, 1), (NTLMSSP, 0, 1), (NTLMSSP, PRIVACY, 7)):
+        client = bound()
+        peer = Server(client)
+        out.append(finished(client.bytes(peer.ack(trailer=(*fields, peer.message()))), peer))
+    client = bound()
+    peer = Server(client)
+    out.append(finished(client.bytes(peer.ack(results=[(0, 3, NONE)])), peer))
+    for level in (2, INTEGRITY, PRIVACY):
+        for kind, context, call_context in ((NTLMSSP, 7, 0), (9, 1, 0), (NTLMSSP, 1, 3)):
+            client, peer = asked({"level": level, "echo": 0})
+            stub = write_memo("who", peer.name)
+            unit = whole(RESPONSE, call=2, hint=0, context=call_context, stub=stub)
+            session = Session(client.exported, client.offer() & peer.flags, "server")
+            out.append(client.bytes(protected(session, level, context, unit, kind)).case())
+        for place, state in enumerate(STATES):
+            for kind, fields in ((FAULT, {"hint": 0, "context": 3, "status": 5}), (NAK, {"reason": 4})):
+                client, _ = state({"level": level})
+                unit = whole(kind, call=place + 1, trailer=(NTLMSSP, level, 1, bytes(16)), **fields)
+                out.append(client.bytes(write_unit(unit)).case())
+    return out
+
+
+def order_cases():
+    """Where several causes hold of a bind_ack: a refused list of pairs comes before flags that aren't enough, and a refused result before both."""
+    out = []
+    for results in (((0, 0, NDR),), ((2, 1, NONE),), ()):
+        for info in (END_PAIR[:3], END_PAIR):
+            for flags in (0, None):
+                client = bound()
+                peer = Server(client, flags=flags, info=info, target="")
+                out.append(finished(client.bytes(peer.ack(results=results)), peer))
+    return out
+
+
 def cases():
     """Each line and its answer."""
     check_formulas()
-    return path_cases() + flag_cases() + pair_cases() + ack_cases() + cause_cases() + seal_cases() + reply_cases()
+    return (
+        path_cases() + flag_cases() + pair_cases() + ack_cases() + cause_cases() + seal_cases() + reply_cases() + free_cases() + order_cases()
+    )

@@ -13,7 +13,7 @@ import channel_client
 import domain_controller
 import logon_client
 from channel_client import Dropped, frames_of
-from documents import ANN, BOB, FILE1
+from documents import ANN, BOB, EVE, FILE1, FILE2
 from end_links import MEMO, answer_of, limit_of, text
 from forms import array, line, struct, units_of, values
 from memo_stubs import echo as read_echo
@@ -489,21 +489,28 @@ PLANS = logon_client.PLANS
 # ---- scenarios
 
 
+def carried(users, machines=(FILE1,), **plan):
+    """The lines of a member, a client and a controller, between which each send is carried until the client has its outcome."""
+    member, controller = begun(), controller_of(users, machines).at(NOW)
+    client, rest = let_in(member, controller, **plan)
+    while rest:
+        member.bytes(rest)
+        client.bytes(member.sent(1))
+        rest = client.sent()
+    assert client.outcome is not None
+    return [member.closed().case(), client.case(), controller.case()]
+
+
 def logon_cases():
     out = []
     for plan in PLANS:
         for echo in (0, 16, 4096):
-            # a user who may, one who may not, and a wrong password
+            # a user who may, one who may not, a wrong password, and an unknown user
             for users, secret in (((ANN, BOB), ANN["hash"]), ((ANN | {"disabled": True},), ANN["hash"]), ((ANN, BOB), BOB["hash"]), ((), ANN["hash"])):
-                member, controller = begun(), controller_of(users).at(NOW)
-                client, rest = let_in(member, controller, secret=secret, echo=echo, **plan)
-                for _ in range(2):
-                    member.bytes(rest)
-                    client.bytes(member.sent(1))
-                    rest = client.sent()
-                    if not rest:
-                        break
-                out += [member.closed().case(), client.case(), controller.case()]
+                out += carried(users, secret=secret, echo=echo, **plan)
+    # of three users and two machines, one who may and one who may not
+    for ann in (ANN, ANN | {"disabled": True}):
+        out += carried((ann, BOB, EVE), (FILE1, FILE2), secret=ANN["hash"], echo=4096, level=PRIVACY, kind="v2")
     return out
 
 

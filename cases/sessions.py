@@ -132,11 +132,11 @@ class Session:
         self.sending, self.taking = Direction(exported, flags, side), Direction(exported, flags, OTHER[side])
 
 
-def protected(session, level, context, unit):
-    """The bytes of a unit that is sent at the level: signed or sealed with a trailer, or plain without one."""
+def protected(session, level, context, unit, kind=NTLMSSP):
+    """The bytes of a unit that is sent at the level: signed or sealed with a trailer, of that type and context, or plain without one."""
     if level not in (INTEGRITY, PRIVACY):
         return write_unit(unit)
-    unit = unit | {"trailer": (NTLMSSP, level, context, bytes(16))}
+    unit = unit | {"trailer": (kind, level, context, bytes(16))}
     assert may_be_written(unit)
     data = write_unit(unit)
     if level == INTEGRITY:
@@ -150,7 +150,7 @@ def taken(session, level, data, unit):
     if level not in (INTEGRITY, PRIVACY):
         return data
     trailer = unit["trailer"]
-    if trailer is None or trailer[:2] != (NTLMSSP, level) or len(trailer[3]) != 16:
+    if trailer is None or trailer[1] != level or len(trailer[3]) != 16:
         return None
     if level == INTEGRITY:
         return data if session.taking.check(data[:-16], data[-16:]) else None
