@@ -49,6 +49,7 @@ PROGRAMS = {
         "domain_controller",
         "logon_client",
         "member_server",
+        "domain_world",
     ],
     "top_cases": [
         "nt_top",

@@ -37,7 +37,7 @@ fn numbers(words: &[&str]) -> anyhow::Result<([u8; 16], u8, u32)> {
 }
 
 /// The plan of a line: the server's address, the names, the hash, the level, the kind of response, and the bytes of the echo.
-fn plan(alloc: Global, words: &[&str]) -> anyhow::Result<ClientPlan> {
+pub(crate) fn plan(alloc: Global, words: &[&str]) -> anyhow::Result<ClientPlan> {
     let (hash, level, echo) = numbers(words)?;
     let server = blob(alloc, word(words, 1))?;
     let (domain, user, workstation) = names(alloc, words)?;
@@ -72,7 +72,7 @@ fn is_level(level: u8, auth: AuthKind) -> bool
 }
 
 /// Whether a client can follow the plan.
-fn can_log_on(plan: &ClientPlan) -> bool
+pub(crate) fn can_log_on(plan: &ClientPlan) -> bool
     ensures { result ≡ true → CanLogOn plan.now }
 {
     let short = is_short(&plan.domain) && is_short(&plan.user) && is_short(&plan.workstation);

@@ -1,4 +1,4 @@
-//! Cases of ends, of what their links have in common, and of the loop that serves ends.
+//! Cases of ends, of what their links have in common, of the loop that serves ends, and of worlds of ends.
 //!
 //! Each line of the input is an operation, as `loop.serve`, and its values, as `case_words` has them; each line of the output is what the
 //! operation gives.
@@ -13,6 +13,7 @@ mod scenes;
 mod serves;
 mod small;
 mod turns;
+mod worlds;
 
 use case_words::{answer_lines, no_case, word};
 use std::alloc::Global;
@@ -27,6 +28,7 @@ fn answer(alloc: Global, words: &[&str]) -> anyhow::Result<String> {
         "member" => members::run(alloc, words),
         "loop" => serves::answer(alloc, operation, words),
         "turns" => turns::answer(alloc, operation, words),
+        "world" => worlds::answer(alloc, operation, words),
         _ => no_case(alloc),
     }
 }

@@ -13,7 +13,7 @@ fn name(alloc: Global, word: &str) -> anyhow::Result<Name> {
 }
 
 /// The plan of a line: the computer, its domain, its secret, and the controller's address.
-fn plan(alloc: Global, words: &[&str]) -> anyhow::Result<MemberPlan> {
+pub(crate) fn plan(alloc: Global, words: &[&str]) -> anyhow::Result<MemberPlan> {
     let secret = sixteen(word(words, 3))?;
     let computer = name(alloc, word(words, 1))?;
     let domain = name(alloc, word(words, 2))?;

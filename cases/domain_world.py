@@ -1,0 +1,625 @@
+"""Cases of domain_world.
+
+`world.run WORD ..`: a world of the plan of the words `controller/DOCUMENT/NAME`, `member/COMPUTER/DOMAIN/SECRET/CONTROLLER`,
+`client/SERVER/DOMAIN/USER/WORKSTATION/HASH/LEVEL/KIND/ECHO` (as in `controller.run`, `member.run` and `client.run`) and `now/MOMENT`, whose seed is 32 zeros, and its
+moves: `start/NUMBER`, `stranger/NUMBER`, `connect`, `fail`, `onward`, `lose`, `deliver/UNIT/LINK`, `hand/LINK/WAY/BYTES` (WAY `back` or `forward`), `shut/NUMBER`,
+`restart/NUMBER`, `tick/NUMBER`. The answer is the report, and the outcomes of the clients at the first four places.
+
+`world.drill NUMBER COUNT WORD ..`: the same of so many moves that the number makes.
+
+`world.moves NUMBER COUNT`: so many moves that the number makes.
+
+The rules are those of docs/FORMATS.md ("The world"), over the ends of `domain_controller`, `member_server` and `logon_client`, which stand here by their own
+rules, in Python. Of the first scenarios the counts are worked out by hand, and held against the run (`WANTED`).
+"""
+
+import domain_controller
+import logon_client
+import member_server
+from channel_client import credential
+from documents import ANN, BOB, EVE, FILE1, FILE2
+from forms import line, struct, word_of
+from wire import le, steps
+
+PIECE = 65536
+LAST_MOMENT = 2**63
+NOW = 125911584000000000
+# The key of the challenge maker whose seed is 32 zeros (values/netlogon.json, `challenge_maker`).
+ZERO_SEED_KEY = bytes.fromhex("76b8e0ada0f13d90405d6ae55386bd28")
+
+
+class Challenges:
+    """The challenges of boot 0, from one maker for all ends."""
+
+    def __init__(self, key=ZERO_SEED_KEY):
+        self.key, self.count = key, 0
+
+    def __bool__(self):
+        return True
+
+    def __len__(self):
+        return 2**32 - 1 - self.count
+
+    def pop(self, _place):
+        challenge = credential(self.key, le(self.count, 8))
+        self.count += 1
+        return challenge
+
+
+# ---- ends: each is made from its plan, hears events, and gives actions as tuples
+
+
+class ControllerEnd:
+    def __init__(self, users, machines, name):
+        self.made = {"users": users, "machines": machines, "name": name}
+        self.end = domain_controller.Controller(**self.made)
+
+    def renew(self):
+        self.end = domain_controller.Controller(**self.made)
+
+    def actions(self):
+        found = []
+        for action in self.end.actions:
+            name, *rest = action.split(" ", 1)[0], *action.split(" ", 1)[1].split(" ")
+            if name == "send":
+                found.append(("send", int(rest[0]), bytes.fromhex(rest[1])))
+            elif name == "close":
+                found.append(("close", int(rest[0])))
+            else:
+                found.append(("judged", rest[0].partition("(")[0]))
+        return found
+
+
+class MemberEnd:
+    def __init__(self, **plan):
+        self.plan = plan
+        self.renew()
+
+    def renew(self):
+        self.end = member_server.Member(draws=[], **self.plan)
+
+    def actions(self):
+        found = []
+        for action in self.end.actions:
+            if action[0] == "told":
+                found.append(("told", action[2].partition("(")[0].partition(" ")[0]))
+            elif action[0] == "close":
+                found.append(("close", action[1]))
+            else:
+                found.append(action)
+        return found
+
+
+class ClientEnd:
+    def __init__(self, **plan):
+        self.plan = plan
+        self.renew()
+
+    def renew(self):
+        self.end = logon_client.Client(draws=[], **self.plan)
+        self.end.state = "idle"
+
+    def begin(self):
+        self.renew()
+        self.end.state = "dialling"
+        return [("dial", self.plan["server"])]
+
+    def actions(self):
+        found = []
+        for action in self.end.actions:
+            name, link, *rest = action.split(" ")
+            found.append(("send", int(link), bytes.fromhex(rest[0])) if name == "send" else ("close", int(link)))
+        return found
+
+
+# ---- the world
+
+
+class World:
+    def __init__(self, controllers, members, clients, now=NOW, challenges=None):
+        self.controllers, self.members, self.clients = list(controllers), list(members), list(clients)
+        self.challenges = challenges or Challenges()
+        self.links, self.bag, self.dials, self.now = [], [], [], now
+        self.counts = {"moves": 0, "accepted": 0, "refused": 0, "no_controller": 0, "passed": 0, "barred": 0}
+
+    def ends(self):
+        return self.controllers + self.members + self.clients
+
+    @staticmethod
+    def chosen(number, things):
+        return things[number % len(things)] if things else None
+
+    # an end hears something, and its actions are done
+
+    def hear(self, end, what, *rest):
+        inner = end.end
+        inner.now, inner.draws = self.now, self.challenges
+        inner.words, inner.answers = [], []
+        getattr(inner, what)(*rest)
+        return end.actions()
+
+    def perform(self, end, actions):
+        for action in actions:
+            kind, *rest = action
+            if kind == "send":
+                self.send(end, *rest)
+            elif kind == "dial":
+                self.dials.append((end, rest[0]))
+            elif kind == "close":
+                self.close(end, rest[0])
+            elif kind == "told":
+                self.counts[{"In": "accepted", "Out": "refused", "NoController": "no_controller"}[rest[0]]] += 1
+            elif rest[0] in ("Passed", "Barred"):
+                self.counts[rest[0].lower()] += 1
+
+    def hears(self, end, what, *rest):
+        self.perform(end, self.hear(end, what, *rest))
+
+    def send(self, end, number, data):
+        link = self.links[number]
+        if link["kind"] != "stranger":
+            self.bag.append({"bytes": data, "link": number, "kind": link["kind"], "back": link["to"] is end, "waits": True})
+
+    def close(self, end, number):
+        link = self.links[number]
+        there = [side for side in ("to", "from") if link["open"][side] and link[side] is not end]
+        link["open"] = {"to": False, "from": False}
+        for side in there:
+            self.hears(link[side], "closed", number)
+
+    def open(self, kind, start, to):
+        number = len(self.links)
+        self.links.append({"kind": kind, "from": start, "to": to, "open": {"to": True, "from": False}})
+        self.hears(to, "opened", number)
+        return number
+
+    def pieces(self, number, back, data):
+        side = "from" if back else "to"
+        for start in range(0, len(data), PIECE):
+            if self.links[number]["open"][side]:
+                self.hears(self.links[number][side], "bytes", data[start:start + PIECE], number)
+
+    def forget(self, end):
+        for link in self.links:
+            for side in ("from", "to"):
+                if link[side] is end:
+                    link["open"][side] = False
+        self.dials = [dial for dial in self.dials if dial[0] is not end]
+
+    # moves
+
+    def start(self, number):
+        client = self.chosen(number, self.clients)
+        if client:
+            self.forget(client)
+            self.perform(client, client.begin())
+
+    def stranger(self, number):
+        end = self.chosen(number, self.controllers + self.members)
+        if end:
+            self.open("stranger", None, end)
+
+    def connect(self):
+        if not self.dials:
+            return
+        end, address = self.dials.pop(0)
+        to = self.ends()[address[0]] if len(address) == 1 and address[0] < len(self.ends()) else None
+        if to in (self.members if end in self.clients else self.controllers):
+            number = self.open("to member" if end in self.clients else "to controller", end, to)
+            if self.links[number]["open"]["to"]:
+                self.links[number]["open"]["from"] = True
+                self.hears(end, "dialled", number)
+            else:
+                self.hears(end, "dialled", number)
+                self.hears(end, "closed", number)
+        else:
+            self.hears(end, "failed")
+
+    def fail_dial(self):
+        if self.dials:
+            self.hears(self.dials.pop(0)[0], "failed")
+
+    def oldest(self):
+        return next((unit for unit in self.bag if unit["waits"]), None)
+
+    def onward(self):
+        unit = self.oldest()
+        if unit:
+            unit["waits"] = False
+            self.pieces(unit["link"], unit["back"], unit["bytes"])
+
+    def lose(self):
+        unit = self.oldest()
+        if unit:
+            unit["waits"] = False
+
+    def deliver(self, number, link):
+        unit = self.chosen(number, self.bag)
+        if unit:
+            unit["waits"] = False
+            same = [place for place, each in enumerate(self.links) if each["kind"] == unit["kind"]]
+            self.pieces(self.chosen(link, same), unit["back"], unit["bytes"])
+
+    def hand(self, link, back, data):
+        number = self.chosen(link, [place for place, each in enumerate(self.links) if each["kind"] != "to controller"])
+        if number is not None and not (back and self.links[number]["from"] is None):
+            self.pieces(number, back, data)
+
+    def shut(self, number):
+        number = self.chosen(number, [place for place, link in enumerate(self.links) if any(link["open"].values())])
+        if number is None:
+            return
+        link = self.links[number]
+        there = [side for side in ("to", "from") if link["open"][side]]
+        link["open"] = {"to": False, "from": False}
+        for side in there:
+            self.hears(link[side], "closed", number)
+
+    def restart(self, number):
+        end = self.chosen(number, self.ends())
+        if end:
+            self.forget(end)
+            end.renew()
+
+    def tick(self, more):
+        if self.now <= LAST_MOMENT:
+            self.now = min(self.now + more, LAST_MOMENT)
+
+    def move(self, name, *rest):
+        self.counts["moves"] += 1
+        getattr(self, name)(*rest)
+
+    def drive(self, moves):
+        for move in moves:
+            self.move(*move)
+        return dict(self.counts)
+
+    def outcome(self, number):
+        return self.clients[number].end.outcome or "None"
+
+
+# ---- moves from a number
+
+
+def moves_from(number, count):
+    seed = number
+    made = []
+
+    def draw():
+        nonlocal seed
+        seed = (seed * 6364136223846793005 + 1442695040888963407) % 2**64
+        return seed >> 33
+
+    for _ in range(count):
+        kind = draw() % 16
+        if kind < 2:
+            made.append(("start", draw()))
+        elif kind < 5:
+            made.append(("connect",))
+        elif kind < 13:
+            made.append(("onward",))
+        elif kind == 13:
+            made.append(("deliver", draw(), draw()))
+        elif kind == 14:
+            made.append(("tick", draw()))
+        else:
+            kind = draw() % 16
+            if kind == 0:
+                made.append(("restart", draw()))
+            elif kind < 6:
+                made.append(("shut", draw()))
+            elif kind < 11:
+                made.append(("fail_dial",))
+            else:
+                made.append(("lose",))
+    return made
+
+
+# ---- the plan of the drill
+
+
+def drill(eve="34"):
+    controllers = [ControllerEnd((ANN, BOB, EVE), (FILE1, FILE2), "PDC")]
+    members = [MemberEnd(computer=name, domain="CORP", secret=secret * 16, controller=b"\0") for name, secret in (("FILE1", "41"), ("FILE2", "42"))]
+    clients = [
+        ClientEnd(user=user, server=bytes([server]), level=level, kind=kind, secret=secret * 16, echo=16)
+        for user, server, level, kind, secret in (("ann", 1, 6, "v2", "11"), ("bob", 1, 5, "v1ess", "22"), ("eve", 2, 2, "v1", eve))
+    ]
+    return World(controllers, members, clients)
+
+
+# ---- scenarios: each gives its moves and its world; the counts that are wanted are worked out by hand
+
+
+def is_logon(unit):
+    """Whether a unit is a member's NetrLogonSamLogon: a request of opnum 2 (MS-NRPC 3.5.4.5.3)."""
+    return unit["kind"] == "to controller" and not unit["back"] and unit["bytes"][2] == 0 and unit["bytes"][22:24] == b"\x02\0"
+
+
+class Script:
+    """A world, the words of its plan, and the moves that were made on it."""
+
+    def __init__(self, world):
+        self.world, self.words, self.moves = world, plan_words(world), []
+
+    def make(self, *move):
+        self.moves.append(move)
+        self.world.move(*move)
+
+    def is_quiet(self):
+        return not self.world.dials and not self.world.oldest()
+
+    def run(self, step):
+        """Connect and the step by turns, until no dial waits and no unit is undelivered."""
+        while not self.is_quiet():
+            self.make("connect")
+            step(self)
+        return self
+
+
+def onward(script):
+    script.make("onward")
+
+
+def onward_with_logons_twice(script):
+    """Onward, but a Logon request is delivered twice on its link before its reply is."""
+    world = script.world
+    unit = world.oldest()
+    if unit is None or not is_logon(unit):
+        return script.make("onward")
+    same = [place for place, each in enumerate(world.links) if each["kind"] == unit["kind"]]
+    for _ in range(2):
+        script.make("deliver", world.bag.index(unit), same.index(unit["link"]))
+
+
+def at_the_same_time():
+    """Three clients with the right hashes start at once."""
+    script = Script(drill("33"))
+    for number in range(3):
+        script.make("start", number)
+    return script.run(onward)
+
+
+def each_logon_twice():
+    """One controller, the member FILE1 and three clients with the right hashes."""
+    controllers = [ControllerEnd((ANN, BOB, EVE), (FILE1, FILE2), "PDC")]
+    members = [MemberEnd(computer="FILE1", domain="CORP", secret="41" * 16, controller=b"\0")]
+    users = ("ann", 6, "v2", "11"), ("bob", 5, "v1ess", "22"), ("eve", 2, "v1", "33")
+    clients = [ClientEnd(user=user, server=b"\1", level=level, kind=kind, secret=secret * 16, echo=16) for user, level, kind, secret in users]
+    script = Script(World(controllers, members, clients))
+    for number in range(3):
+        script.make("start", number)
+    return script.run(onward_with_logons_twice)
+
+
+def reply_lost():
+    """The reply to a Logon is lost and that link shut; the member is made anew, and the client starts again."""
+    script = Script(drill("33"))
+    script.make("start", 0)
+    logon = None
+    while logon is None:
+        script.make("connect")
+        unit = script.world.oldest()
+        script.make("onward")
+        if unit and is_logon(unit):
+            logon = unit
+    while script.world.oldest()["link"] != logon["link"]:
+        script.make("onward")
+    script.make("lose")
+    still = [place for place, link in enumerate(script.world.links) if any(link["open"].values())]
+    script.make("shut", still.index(logon["link"]))
+    script.run(onward)
+    script.make("restart", 1)
+    script.make("start", 0)
+    return script.run(onward)
+
+
+WANTED = (
+    (at_the_same_time, {"accepted": 3, "refused": 0, "no_controller": 0, "passed": 3, "barred": 0}),
+    (each_logon_twice, {"accepted": 3, "refused": 0, "no_controller": 0, "passed": 3, "barred": 3}),
+    (reply_lost, {"accepted": 1, "refused": 0, "no_controller": 1, "passed": 2, "barred": 0}),
+)
+
+
+# ---- lines
+
+
+def plan_words(world):
+    """The words of a world's plan, as it was before its first move."""
+    words = []
+    for kind, ends, count in (("controller", world.controllers, 2), ("member", world.members, 4), ("client", world.clients, 8)):
+        words += ["/".join([kind] + [word_of(word) for word in end.end.words[:count]]) for end in ends]
+    return words + [f"now/{world.now}"]
+
+
+def move_word(name, *rest):
+    """A move as a word."""
+    if name == "hand":
+        link, back, data = rest
+        rest = link, "back" if back else "forward", word_of(data)
+    return "/".join([{"fail_dial": "fail"}.get(name, name)] + [str(each) for each in rest])
+
+
+def move_text(name, *rest):
+    """What `{:?}` prints of a move that a number makes."""
+    if name == "deliver":
+        return struct("Deliver", unit=rest[0], link=rest[1])
+    plain = {"fail_dial": "FailDial"}.get(name, name.capitalize())
+    return f"{plain}({rest[0]})" if rest else plain
+
+
+def answer_of(world):
+    """The report of a world, and the outcomes of the clients at the first four places."""
+    outcomes = [world.outcome(place) if place < len(world.clients) else "None" for place in range(4)]
+    return steps([struct("Report", **world.counts)] + outcomes)
+
+
+def case_of(script):
+    """The line of a script, and its answer."""
+    return line("world.run", *script.words, *(move_word(*move) for move in script.moves)), answer_of(script.world)
+
+
+def counted(scenario, wanted):
+    """A scenario whose counts are known."""
+    script = scenario()
+    assert {name: script.world.counts[name] for name in wanted} == wanted, scenario.__name__
+    return script
+
+
+# ---- scenarios of one logon
+
+
+def one_logon(echo=16, disabled=False):
+    """Ann logs on at FILE1, at privacy by NTLMv2."""
+    ann = ANN | {"disabled": True} if disabled else ANN
+    controllers = [ControllerEnd((ann, BOB, EVE), (FILE1, FILE2), "PDC")]
+    members = [MemberEnd(computer="FILE1", domain="CORP", secret="41" * 16, controller=b"\0")]
+    return World(controllers, members, [ClientEnd(user="ann", server=b"\1", level=6, kind="v2", secret="11" * 16, echo=echo)])
+
+
+def ann_logs_on(**how):
+    script = Script(one_logon(**how))
+    script.make("start", 0)
+    return script.run(onward)
+
+
+def with_moves(world, *moves):
+    """A world on which these moves were made, one after the other."""
+    script = Script(world)
+    for move in moves:
+        script.make(*move)
+    return script
+
+
+def broken_scripts():
+    """Ann's logon, cut short by each kind of move."""
+    cuts = [
+        [("fail_dial",)],
+        [("connect",), ("lose",)],
+        [("connect",), ("shut", 0)],
+        [("connect",), ("restart", 2)],
+        [("connect",), ("restart", 1), ("onward",)],
+        [("connect",), ("onward",), ("hand", 0, True, bytes(16))],
+        [("connect",), ("onward",), ("hand", 0, False, bytes(16)), ("onward",)],
+        [("connect",), ("onward",), ("hand", 0, True, b"")],
+        [("start", 0), ("connect",), ("connect",)],
+        [("restart", 2), ("connect",)],
+    ]
+    return [with_moves(one_logon(), ("start", 0), *cut) for cut in cuts]
+
+
+def address_scripts():
+    """Dials of a controller by a client, of a member by a member, of no end, and of addresses that have not one byte."""
+    scripts = []
+    for server in (b"\0", b"\2", b"\3", b"", b"\1\0"):
+        world = one_logon()
+        world.clients[0].plan["server"] = server
+        world.clients[0].renew()
+        scripts.append(with_moves(world, ("start", 0), ("connect",)))
+    for controller in (b"\1", b"\2", b"\7"):
+        world = one_logon()
+        world.members[0].plan["controller"] = controller
+        world.members[0].renew()
+        scripts.append(with_moves(world, ("start", 0)).run(onward))
+    return scripts
+
+
+def idle_moves():
+    """Each kind of move, where there is nothing to choose from."""
+    return [
+        ("start", 3), ("stranger", 3), ("connect",), ("fail_dial",), ("onward",), ("lose",), ("deliver", 3, 4), ("hand", 3, False, b"\5"), ("hand", 3, True, b"\5"),
+        ("shut", 3), ("restart", 3), ("tick", 3),
+    ]
+
+
+def idle_scripts():
+    """Worlds with no ends, and worlds in which nothing was said yet."""
+    return [with_moves(World([], [], []), move) for move in idle_moves()] + [with_moves(one_logon(), move) for move in idle_moves()[2:10]]
+
+
+def twice_delivered():
+    """Each unit is delivered a second time, right after the first."""
+    script = Script(one_logon())
+    script.make("start", 0)
+
+    def twice(script):
+        unit = script.world.oldest()
+        script.make("onward")
+        if unit:
+            same = [place for place, each in enumerate(script.world.links) if each["kind"] == unit["kind"]]
+            script.make("deliver", script.world.bag.index(unit), same.index(unit["link"]))
+
+    return script.run(twice)
+
+
+def misdelivered():
+    """Of two clients' units each is delivered on the other's link."""
+    world = drill("33")
+    script = with_moves(world, ("start", 0), ("start", 1), ("connect",), ("connect",))
+    for number in range(6):
+        script.make("deliver", number, 1 - number % 2)
+    return script.run(onward)
+
+
+def controller_restarts():
+    """The controller is made anew between two logons, with its accounts, and knows no channel."""
+    script = ann_logs_on()
+    script.make("restart", 0)
+    script.make("start", 0)
+    return script.run(onward)
+
+
+def strangers():
+    """A stranger hands a controller and a member a bind each, and then bytes that are none; and 256 strangers keep a member busy."""
+    unit = with_moves(one_logon(), ("start", 0), ("connect",)).world.bag[0]["bytes"]
+    first = with_moves(one_logon(), ("stranger", 0), ("stranger", 1), ("hand", 0, False, unit), ("hand", 1, False, unit), ("hand", 0, True, unit), ("hand", 1, False, bytes(16)), ("shut", 0))
+    busy = with_moves(one_logon(), *[("stranger", 1)] * 256, ("start", 0), ("connect",))
+    late = with_moves(one_logon(), *[("stranger", 1)] * 256, ("shut", 7), ("start", 0))
+    return [first, busy, late.run(onward)]
+
+
+def ticks():
+    """Moments at which ann may log on, and past 2^63."""
+    expiring = ANN | {"expires": NOW + 10}
+    scripts = []
+    for more in (0, 9, 10, 2**63 - NOW, 2**64 - 1):
+        world = one_logon()
+        world.controllers[0] = ControllerEnd((expiring,), (FILE1,), "PDC")
+        scripts.append(with_moves(world, ("tick", more), ("start", 0)).run(onward))
+    return scripts
+
+
+def drilled(number, count):
+    """The drill's plan, driven by moves that a number makes."""
+    world = drill()
+    words = plan_words(world)
+    world.drive(moves_from(number, count))
+    return line("world.drill", number, count, *words), answer_of(world)
+
+
+def made(number, count):
+    """Moves that a number makes."""
+    moves = ", ".join(move_text(*move) for move in moves_from(number, count))
+    return line("world.moves", number, count), struct("List", items=f"[{moves}]")
+
+
+GRANTED = {"accepted": 1, "refused": 0, "no_controller": 0, "passed": 1, "barred": 0}
+DISABLED = {"accepted": 0, "refused": 1, "no_controller": 0, "passed": 1, "barred": 0}
+
+
+def logon_scripts():
+    """Ann's logon with the longest echo, and where she is disabled."""
+    granted = counted(lambda: ann_logs_on(echo=4096), GRANTED)
+    assert "echoed: 4096" in granted.world.outcome(0)
+    refused = counted(lambda: ann_logs_on(disabled=True), DISABLED)
+    assert refused.world.outcome(0) == "Some(Refused(Fault(5)))"
+    return [granted, refused]
+
+
+def cases():
+    """Each line and its answer."""
+    scripts = [counted(scenario, wanted) for scenario, wanted in WANTED] + logon_scripts()
+    scripts += [twice_delivered(), misdelivered(), controller_restarts()]
+    scripts += broken_scripts() + address_scripts() + strangers() + ticks() + idle_scripts()
+    drills = [drilled(number, count) for number, count in ((7, 2000), (1, 1), (1, 500), (2, 500), (3, 500), (2**64 - 1, 300))]
+    return [case_of(script) for script in scripts] + drills + [made(number, count) for number, count in ((1, 1), (7, 200), (0, 50), (2**64 - 1, 50), (5, 0))]

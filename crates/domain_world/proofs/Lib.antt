@@ -1,0 +1,9 @@
+mod BagLaws
+mod BoundLaws
+mod CountLaws
+mod EndLaws
+mod GeneratorLaws
+mod MakingLaws
+mod PlaceLaws
+mod RunLaws
+mod RunningLaws

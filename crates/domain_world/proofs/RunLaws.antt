@@ -1,0 +1,18 @@
+-- Runs in a row, and what is counted in them.
+use Rattle.std.proofs.Common.{◌≡◌, List, [], ◌∷◌, ◌++◌, refl, ap, sym, ◌∙◌}
+use Rattle.domain_world.specs.declared.moves.Move.{Move}
+use Rattle.domain_world.specs.declared.plan.Plan.{Plan}
+use Rattle.domain_world.specs.World.{World, first_world, happens, report_of, report_of_run, run}
+use Rattle.domain_world.proofs.CountLaws.{counts_are_of_actions}
+
+pub run_append : (moves later : List Move) (w : World) → run (moves ++ later) w ≡ run later (run moves w)
+run_append [] later w = refl
+run_append (what ∷ moves) later w = run_append moves later (happens w what)
+
+-- a run goes on from a plan
+pub run_on : (plan : Plan) (earlier moves : List Move) (old new : World) → new ≡ run moves old → old ≡ run earlier (first_world plan) → new ≡ run (earlier ++ moves) (first_world plan)
+run_on plan earlier moves old new is was = is ∙ ap (run moves) was ∙ sym (run_append earlier moves (first_world plan))
+
+pub counted_on : (plan : Plan) (earlier moves : List Move) (old : World) → old ≡ run earlier (first_world plan) → report_of (run moves old) ≡ report_of_run plan (earlier ++ moves)
+counted_on plan earlier moves old was =
+    ap (λ w. report_of (run moves w)) was ∙ ap report_of (sym (run_append earlier moves (first_world plan))) ∙ counts_are_of_actions plan (earlier ++ moves)

@@ -1,0 +1,15 @@
+use Rattle.std.proofs.Common.{◌≡◌, ◌∙◌, ap, arith, rules}
+use Rattle.std.proofs.lemmas.Grind.{common_steps}
+use Rattle.domain_world.specs.World.{report_of, run}
+use Rattle.domain_world.proofs.RunLaws.{counted_on, run_on}
+use Rattle.domain_world.proofs.driving.drive.Goals as goal
+
+pub returns-clause-from_plan : goal.returns-clause-from_plan
+returns-clause-from_plan c =
+    let made : c.loop-what.world ≡ run c.args.moves.now c.args.world.now = grind (arith, common_steps) in
+    λ plan earlier was. run_on plan earlier c.args.moves.now c.args.world.now c.loop-what.world made was
+
+pub returns-clause-counted : goal.returns-clause-counted
+returns-clause-counted c =
+    let made : c.loop-what.world ≡ run c.args.moves.now c.args.world.now = grind (arith, common_steps) in
+    λ plan earlier was. c.report.ensures ∙ ap report_of made ∙ counted_on plan earlier c.args.moves.now c.args.world.now was

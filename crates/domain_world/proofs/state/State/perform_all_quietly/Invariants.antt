@@ -1,0 +1,8 @@
+use Rattle.std.proofs.Common.{◌≡◌}
+use Rattle.std.specs.Vec.Iter.{into_iter_items}
+use Rattle.domain_world.specs.Acting.{perform_all_quietly}
+use Rattle.domain_world.proofs.state.State.perform_all_quietly.Given as goal
+
+-- what the rest comes to from here is what all come to
+abbrev pub invariant-loop-action : goal.invariant-loop-action
+invariant-loop-action l = perform_all_quietly l.end (into_iter_items l.action-iterator) l.self ≡ perform_all_quietly l.fn.end l.fn.actions l.fn.self

@@ -1,0 +1,10 @@
+use Rattle.std.proofs.Common.{◌≡◌, true, false}
+use Rattle.domain_world.proofs.BoundLaws.{act_bounded}
+use Rattle.domain_world.proofs.world.World.step.Goals as goal
+
+pub invariant_of-self : goal.invariant_of-self
+invariant_of-self c =
+    record { links = λ runs. act_bounded c.self.inside.state c.act.new.self c.args.what.now c.self.inside.moves (c.self.invariant.links c.if-self.false) c.in-Ok.ensures.state }
+
+pub invariant_of-self-in-Err : goal.invariant_of-self-in-Err
+invariant_of-self-in-Err c = record { links = λ runs. absurd (let halted : true ≡ false = runs in cc) }

@@ -1,0 +1,43 @@
+//! A world that is driven by a list of moves.
+
+ghost use Rattle.std.specs.Prelude.{◌≡◌, ◌+◌, ◌++◌, ◌≤◌, ◌↔◌, true, false, List, Err, length, All, IfOk, OnOk, OnErr, IsTrue};
+ghost use Rattle.domain_world.specs.declared.moves.Move.{Move};
+ghost use Rattle.domain_world.specs.declared.plan.Plan.{Plan};
+ghost use Rattle.domain_world.specs.World.{IsMove, move_limit, first_world, run, report_of, report_of_run};
+
+use crate::counting::Report;
+use crate::moves::Moves;
+use crate::world::{World, WorldRefused};
+use std::alloc::Global;
+
+/// Makes the moves in their order, and gives what was counted since the plan.
+///
+/// `Memory` where a move found no memory, and `Spent` where an end draws more challenges than are left; `Stopped` exactly where the world had stopped before.
+pub fn drive(alloc: Global, world: &mut World, moves: &Moves) -> Result<Report, WorldRefused>
+    requires few { world.old.moves + length moves.now ≤ move_limit }
+    requires given { All IsMove moves.now }
+    ensures world { OnOk result (world.new ≡ run moves.now world.old) }
+    ensures report { IfOk result (λ report. report ≡ report_of (run moves.now world.old)) }
+    // It answers `Stopped` exactly where a move wasn't made before, and a move that isn't made stops the world.
+    ensures stopped { (result ≡ Err WorldRefused.Stopped) ↔ IsTrue world.old.stopped }
+    ensures stops { OnErr result (world.new.stopped ≡ true) }
+    ensures goes_on { OnOk result (world.new.stopped ≡ false) }
+    // So from a plan on the world is that of all moves, the earlier ones and these, and what was counted are the actions that its ends gave.
+    ensures from_plan { OnOk result ((plan : Plan) (earlier : List Move) →
+        world.old ≡ run earlier (first_world plan) →
+        world.new ≡ run (earlier ++ moves.now) (first_world plan)) }
+    ensures counted { IfOk result (λ report. (plan : Plan) (earlier : List Move) →
+        world.old ≡ run earlier (first_world plan) →
+        report ≡ report_of_run plan (earlier ++ moves.now)) }
+{
+    if world.is_stopped() {
+        return Err(WorldRefused::Stopped);
+    }
+    for what in moves.items() {
+        match world.step(alloc, what) {
+            Ok(()) => {}
+            Err(why) => return Err(why),
+        }
+    }
+    Ok(world.report())
+}

@@ -1,0 +1,23 @@
+//! The world: controllers, members and clients beside each other, with all links between them, driven by a list of moves. A move delivers, loses or repeats
+//! what was sent, restarts an end, or lets a stranger in; nothing else happens.
+#![tactic(auto)]
+
+mod acting;
+mod bag;
+mod choosing;
+mod counting;
+mod driving;
+mod ends;
+mod links;
+mod making;
+mod moves;
+mod moving;
+mod plan;
+mod state;
+mod world;
+
+pub use counting::Report;
+pub use driving::drive;
+pub use moves::{Move, Moves, moves_from};
+pub use plan::{ClientPlans, MemberPlans, Plan, Tables};
+pub use world::{World, WorldRefused};

@@ -1,0 +1,134 @@
+//! The world.
+
+ghost use Rattle.std.specs.Prelude.{◌≡◌, ◌≢◌, ◌<◌, ◌↔◌, Err, true, false, IfOk, OnOk, OnErr, IsTrue, option_copied};
+ghost use Rattle.domain_world.specs.World.{IsPlan, IsMove, move_limit, first_world, happens, report_of, outcome_of};
+
+use crate::counting::Report;
+use crate::making::first_state;
+use crate::moves::Move;
+use crate::plan::Plan;
+use crate::state::State;
+use logon_client::ClientOutcome;
+use outside::StepRefused;
+use std::alloc::Global;
+use std::marker::Model;
+use thiserror::Error;
+use wire_base::NoMemory;
+
+/// Why a world makes no move.
+#[derive(Clone, Copy, Debug, PartialEq, Eq, Error)]
+pub enum WorldRefused {
+    /// No memory was found.
+    #[error("no memory")]
+    Memory,
+    /// An end draws more challenges than are left.
+    #[error("challenges spent")]
+    Spent,
+    /// An earlier move found no memory, or no challenge.
+    #[error("stopped before")]
+    Stopped,
+}
+
+/// Controllers, members and clients, the links between them, and what is under way (this project's own choice). It keeps no moves.
+#[derive(Drop)]
+pub struct World {
+    state: State,
+    moves: u32,
+    stopped: bool,
+}
+
+impl Model for World {
+    ghost use Rattle.domain_world.specs.World.{World as AnyWorld};
+    ghost use Rattle.domain_world.specs.Bounds.{IsBounded};
+
+    ghost Value = { AnyWorld };
+
+    ghost view = { λ w. record { state = w.state; moves = w.moves; stopped = w.stopped } };
+
+    ghost invariant = { λ w. IsBounded w.state w.moves w.stopped };
+}
+
+impl World {
+    /// The world of a plan, in which no move was made yet.
+    pub fn new(alloc: Global, plan: Plan) -> Result<World, NoMemory>
+        requires { IsPlan plan }
+        ensures { IfOk result (λ world. world ≡ first_world plan) }
+    {
+        Ok(World {
+            state: first_state(alloc, plan)?,
+            moves: 0,
+            stopped: false,
+        })
+    }
+
+    /// Makes a move. A world makes at most 100,000.
+    ///
+    /// `Memory` where no memory was found, and `Spent` where an end draws more challenges than are left; after either the world answers `Stopped` for ever.
+    pub fn step(&mut self, alloc: Global, what: &Move) -> Result<(), WorldRefused>
+        requires few { self.old.moves < move_limit }
+        requires given { IsMove what.now }
+        ensures world { OnOk result (self.new ≡ happens self.old what.now) }
+        // It answers `Stopped` exactly where it had stopped, and a move that isn't made stops it.
+        ensures stopped { (result ≡ Err WorldRefused.Stopped) ↔ IsTrue self.old.stopped }
+        ensures stops { OnErr result (self.new.stopped ≡ true) }
+        ensures goes_on { OnOk result (self.new.stopped ≡ false) }
+    {
+        if self.stopped {
+            return Err(WorldRefused::Stopped);
+        }
+        match self.state.act(alloc, what) {
+            Ok(()) => {
+                self.moves += 1;
+                Ok(())
+            }
+            Err(why) => {
+                self.stopped = true;
+                Err(refusal(why))
+            }
+        }
+    }
+
+    /// Whether a move wasn't made.
+    pub(crate) fn is_stopped(&self) -> bool
+        ensures { result ≡ self.now.stopped }
+    {
+        self.stopped
+    }
+
+    /// What was counted since the plan. It takes no memory.
+    pub fn report(&self) -> Report
+        ensures { result ≡ report_of self.now }
+    {
+        let counts = self.state.counts;
+        Report {
+            moves: self.moves,
+            accepted: counts.accepted,
+            refused: counts.refused,
+            no_controller: counts.no_controller,
+            passed: counts.passed,
+            barred: counts.barred,
+        }
+    }
+
+    /// The outcome of the client at that place of the plan's list. None exactly where there is no such client, or it has no outcome yet. It takes no memory.
+    pub fn outcome(&self, client: u32) -> Option<&ClientOutcome>
+        ensures { option_copied result ≡ outcome_of self.now client }
+    {
+        match self.state.ends.client(client as usize) {
+            Some(client) => client.outcome(),
+            None => None,
+        }
+    }
+}
+
+/// Why a move wasn't made, by why an end took no step.
+fn refusal(why: StepRefused) -> WorldRefused
+    requires { why ≢ StepRefused.Stopped }
+    ensures { result ≢ WorldRefused.Stopped }
+{
+    match why {
+        StepRefused::Memory => WorldRefused::Memory,
+        StepRefused::Spent => WorldRefused::Spent,
+        StepRefused::Stopped => unreachable!(),
+    }
+}
