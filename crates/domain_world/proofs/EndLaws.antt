@@ -1,13 +1,14 @@
 -- The step of an end of a world.
-use Rattle.std.proofs.Common.{◌≡◌, ℕ, zero, suc, ◌<◌, false, List, [], ◌∷◌, length, All, inl, inr, Some, slice_get, slice_set, refl, ap, sym, subst, ◌∙◌, arith}
+use Rattle.std.proofs.Common.{◌≡◌, ℕ, zero, suc, ◌<◌, false, List, [], ◌∷◌, length, get_or, All, inl, inr, Some, slice_get, slice_set, refl, ap, sym, subst, ◌∙◌, arith}
 use Rattle.std.specs.List.{insert, remove}
-use Rattle.std.proofs.lemmas.Option.{slice_get_cases}
+use Rattle.std.proofs.lemmas.Option.{get_or_from_slice_get, slice_get_cases}
 use Rattle.std.proofs.lemmas.List.{length-set}
 use Rattle.std.proofs.lemmas.List.Elements.{All-set}
 use Rattle.outside.specs.Drawing.{Drawing, DrawsAll}
 use Rattle.outside.specs.Machine.{Takes}
 use Rattle.outside.specs.declared.action.Action.{Action}
 use Rattle.outside.specs.declared.event.Event.{Event}
+use Rattle.account_table.specs.AccountTable.{AccountTable}
 use Rattle.domain_controller.specs.State.{State as ControllerState}
 use Rattle.domain_controller.specs.Step.{first_state, is_stopped as controller_is_stopped, step_of as controller_step_of}
 use Rattle.logon_client.specs.State.{State as ClientState}
@@ -65,6 +66,15 @@ put_back (first ∷ items) (suc at) item lt = ap (λ rest. first ∷ rest) (put_
 
 abbrev pub Renews : List ControllerState → ℕ → List ControllerState → Type 0
 Renews controllers at after = (old : ControllerState) → slice_get controllers at ≡ Some old → after ≡ slice_set controllers at (first_state old.table old.name)
+
+-- what is taken out, made anew and put back
+pub renews_at : (all rest after : List ControllerState) (at : ℕ) (taken new : ControllerState) (table : AccountTable) (name : List ℕ) → at < length all →
+    taken ≡ get_or all at taken → rest ≡ remove all at → table ≡ taken.table → name ≡ taken.name → new ≡ first_state table name → after ≡ insert rest at new → Renews all at after
+renews_at all rest after at taken new table name lt read left its_table its_name is behind = λ old there.
+    let same : taken ≡ old = read ∙ get_or_from_slice_get all at old taken there in
+    let made : new ≡ first_state old.table old.name =
+    is ∙ ap (λ t. first_state t name) its_table ∙ ap (λ n. first_state taken.table n) its_name ∙ ap (λ (s : ControllerState). first_state s.table s.name) same in
+    behind ∙ ap (λ (left : List ControllerState). insert left at new) left ∙ put_back all at new lt ∙ ap (λ (s : ControllerState). slice_set all at s) made
 
 pub renewed_run : (controllers after : List ControllerState) (members : List MemberState) (clients : List ClientState) (at : ℕ) → at < length controllers →
     Renews controllers at after → AreRunning controllers members clients → AreRunning after members clients

@@ -65,7 +65,8 @@ impl State {
 
     /// An end sends on a link.
     fn send_on(&mut self, alloc: Global, end: EndId, link: u32, bytes: Blob) -> Result<(), NoMemory>
-        ensures { OnOk result (self.new ≡ send_on (slice_get self.old.links link) end link bytes self.old) }
+        ensures { OnOk result (self.new
+            ≡ send_on (slice_get self.old.links link) end link bytes self.old) }
     {
         match self.links.get(link) {
             Some(route) => self.bag_unit(

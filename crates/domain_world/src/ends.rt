@@ -30,7 +30,11 @@ impl Model for Ends {
 
     ghost Value = { EndStates };
 
-    ghost view = { λ e. record { controllers = e.controllers.items; members = e.members.items; clients = e.clients.items } };
+    ghost view = { λ e. record {
+      controllers = e.controllers.items;
+      members = e.members.items;
+      clients = e.clients.items;
+    } };
 
     ghost invariant = { λ e. AreRunning e.controllers.items e.members.items e.clients.items };
 }
@@ -43,7 +47,11 @@ impl Ends {
         clients: Vec<Client>,
     ) -> Ends
         requires { AreRunning controllers.items members.items clients.items }
-        ensures { result ≡ record { controllers = controllers.items; members = members.items; clients = clients.items } }
+        ensures { result ≡ record {
+          controllers = controllers.items;
+          members = members.items;
+          clients = clients.items;
+        } }
     {
         Ends {
             controllers,
@@ -255,7 +263,8 @@ impl Ends {
     /// The controller is made anew with its accounts as they stand, and its name. Want of memory drops all ends.
     #[tactic(auto, using(crate::proofs::EndLaws::renewed_is))]
     pub(crate) fn renew_controller(self, alloc: Global, at: usize) -> Result<Ends, NoMemory>
-        ensures { IfOk result (λ ends. ends ≡ renew_controller (slice_get self.controllers at) at self) }
+        ensures { IfOk result (λ ends. ends
+            ≡ renew_controller (slice_get self.controllers at) at self) }
     {
         if at >= self.controllers.len() {
             return Ok(self);
