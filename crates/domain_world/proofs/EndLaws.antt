@@ -14,7 +14,7 @@ use Rattle.domain_controller.specs.Step.{first_state, is_stopped as controller_i
 use Rattle.logon_client.specs.State.{State as ClientState}
 use Rattle.logon_client.specs.Machine.{step_of as client_step_of}
 use Rattle.member_server.specs.State.{State as MemberState}
-use Rattle.member_server.specs.Machine.{step_of as member_step_of}
+use Rattle.member_server.specs.Machine.{is_stopped as member_is_stopped, step_of as member_step_of}
 use Rattle.domain_world.specs.Ends.{EndStates, client_done, client_step, controller_done, controller_step, drawn_on, member_done, member_step, renew_controller}
 use Rattle.domain_world.specs.Running.{AreRunning}
 
@@ -96,3 +96,13 @@ renewed_is ends after at lt renews = elim (slice_get_cases ends.controllers at).
   | inl found ↦ ap (λ (all : List ControllerState). record ends { controllers = all }) (renews found.0 found.2) ∙ sym (ap (λ o. renew_controller o at ends) found.2)
   | inr none ↦ absurd (omega arith)
 ]
+
+-- a member that runs is put in a place
+pub member_put : (controllers : List ControllerState) (members : List MemberState) (clients : List ClientState) (at : ℕ) (member put : MemberState) → put ≡ member →
+    member_is_stopped member ≡ false → AreRunning controllers members clients → AreRunning controllers (slice_set members at put) clients
+member_put controllers members clients at member put is runs are = record {
+  each_controller = are.each_controller;
+  each_member = All-set (λ (m : MemberState). member_is_stopped m ≡ false) members at put (ap (λ (m : MemberState). member_is_stopped m) is ∙ runs) are.each_member;
+  each_client = are.each_client;
+  few = omega (arith, are.few, length-set members at put);
+}

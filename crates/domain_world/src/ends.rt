@@ -14,6 +14,7 @@ use member_server::Member;
 use outside::{Actions, CounterChances, Event, StepRefused};
 use std::alloc::Global;
 use std::marker::Model;
+use std::mem;
 use wire_base::NoMemory;
 
 /// The controllers, members and clients of a world, seen as the lists of their states.
@@ -288,7 +289,9 @@ impl Ends {
         ensures { self.new ≡ with_member at member self.old }
     {
         if at < self.members.len() {
-            self.members[at] = member;
+            drop(mem::replace(&mut self.members[at], member));
+        } else {
+            drop(member);
         }
     }
 
