@@ -6,3 +6,4 @@ pub mod OutcomeLaws
 pub mod SecuringLaws
 pub mod ServingLaws
 pub mod StepLaws
+pub mod LossLaws

@@ -2,6 +2,7 @@ pub mod Answering
 pub mod Answers
 pub mod Laws
 pub mod Leaving
+pub mod Losses
 pub mod Machine
 pub mod Plans
 pub mod Securing

@@ -2,6 +2,7 @@
 
 ghost use Rattle.logon_client.specs.Answers.{OffersAgreed, DrawsKeys, AnswersVerify, AnswersFit, KeysFound};
 ghost use Rattle.logon_client.specs.Laws.{ClosesOnce, OutcomeStays};
+ghost use Rattle.logon_client.specs.Losses.{LossesComeOfEvents};
 
 /// An outcome that comes while the link is open closes it, once, for its work done; one that comes otherwise closes nothing, nor does another step. A client
 /// that has its outcome does nothing more, and keeps it.
@@ -19,4 +20,10 @@ pub fn what_is_answered_verifies()
     ensures verifies { AnswersVerify }
     ensures keys { KeysFound }
     ensures fits { AnswersFit }
+{}
+
+/// A step brings that the dial failed only at the event that says so, while the dial waits; and that the link was closed only at an event that
+/// shows that it is gone. A dial that was answered doesn't wait again.
+pub fn a_loss_comes_of_its_event()
+    ensures { LossesComeOfEvents }
 {}
