@@ -54,6 +54,7 @@ PROGRAMS = {
     "top_cases": [
         "nt_top",
         "serving",
+        "logging_on",
         "nt_words",
     ],
 }

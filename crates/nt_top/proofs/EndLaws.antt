@@ -21,7 +21,7 @@ use Rattle.nt_top.specs.Answers.{answer_of, answer_from}
 use Rattle.nt_top.specs.Causes.{Comes, IsBadInput, IsBadWords, OutOfForm, NotBuilt, IsDone, IsOfForm, IsOfTheCommands, IsRefused, IsWorkDone}
 use Rattle.nt_top.specs.Check.{check_answer, verdict_answer, accepts_of, AsksCheck, AskedAccepted, AskedRefused}
 use Rattle.nt_top.specs.Ends.{Ends, IsExitOf, SinkChange}
-use Rattle.nt_top.specs.Serve.{ActsByWords}
+use Rattle.nt_top.specs.Service.{ActsByWords}
 use Rattle.nt_top.specs.Show.{show_answer, shown, AskedShown}
 use Rattle.nt_top.proofs.CheckLaws.{accepts_is, check_answer-is, check_is_bad, check_ok, decided, refuses_is}
 use Rattle.nt_top.proofs.JobLaws.{Refusal, OfWords, Unbuilt, OfCheck, OfShow, OfMemory, answer_err, answer_ok, job_of_check, job_of_show, unbuilt_answer}
@@ -257,12 +257,12 @@ input_of (Err refusal) s number ends =
       | inr is ↦ ap (λ (x : Exit). Err x) (sym is)
     ]
 
-words_why : (role : Role) → ActsByWords role → (words : List (List ℕ)) (number : ℕ) → Refusal (job_of role words) (BadWords number) → IsBadWords role words number
-words_why role other words number (OfWords n e is) = OutOfForm (e ∙ ap (λ (m : ℕ). Err (refusals.BadWords m)) (sym (same_words number n is)))
-words_why role other words number (Unbuilt job e built is) = NotBuilt job (same_words number 0 is) other e built
-words_why role other words number (OfCheck job n e bad is) = absurd (let wrong = is in cc)
-words_why role other words number (OfShow job e none is) = absurd (let wrong = is in cc)
-words_why role other words number (OfMemory is) = absurd (let wrong = is in cc)
+words_why : (role : Role) (words : List (List ℕ)) (number : ℕ) → ActsByWords role words → Refusal (job_of role words) (BadWords number) → IsBadWords role words number
+words_why role words number other (OfWords n e is) = OutOfForm (e ∙ ap (λ (m : ℕ). Err (refusals.BadWords m)) (sym (same_words number n is)))
+words_why role words number other (Unbuilt job e built is) = NotBuilt job (same_words number 0 is) other e built
+words_why role words number other (OfCheck job n e bad is) = absurd (let wrong = is in cc)
+words_why role words number other (OfShow job e none is) = absurd (let wrong = is in cc)
+words_why role words number other (OfMemory is) = absurd (let wrong = is in cc)
 
 input_why : (role : Role) (words : List (List ℕ)) (number : ℕ) → Refusal (job_of role words) (BadInput number) → IsBadInput role words number
 input_why role words number (OfWords n e is) = absurd (let wrong = is in cc)
@@ -276,10 +276,10 @@ input_why role words number (OfShow job e none is) =
     inr record { logon = words-are.0; message = job.message; words_are = words-are.1; bad = (same_input number 1 is, none) }
 input_why role words number (OfMemory is) = absurd (let wrong = is in cc)
 
-pub words_only : (role : Role) → ActsByWords role → (words : List (List ℕ)) (s : SinkChange) (exit : Exit) (number : ℕ) → Ends (answer_of role words) s exit → exit ≡ BadWords number → IsBadWords role words number
-words_only role other words s exit number ends is =
+pub words_only : (role : Role) (words : List (List ℕ)) → ActsByWords role words → (s : SinkChange) (exit : Exit) (number : ℕ) → Ends (answer_of role words) s exit → exit ≡ BadWords number → IsBadWords role words number
+words_only role words other s exit number ends is =
     let came = words_of (answer_of role words) s number (subst (λ (x : Exit). Ends (answer_of role words) s x) is ends) in
-    words_why role other words number (answer_err (job_of role words) (BadWords number) came)
+    words_why role words number other (answer_err (job_of role words) (BadWords number) came)
 
 pub input_only : (role : Role) (words : List (List ℕ)) (s : SinkChange) (exit : Exit) (number : ℕ) → Ends (answer_of role words) s exit → exit ≡ BadInput number → IsBadInput role words number
 input_only role words s exit number ends is =

@@ -4,3 +4,7 @@ pub mod ShownLaws
 pub mod JobLaws
 pub mod EndLaws
 pub mod ServeLaws
+pub mod PairLaws
+pub mod DialLaws
+pub mod LinkLaws
+pub mod LogonLaws

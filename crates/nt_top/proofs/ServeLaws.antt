@@ -1,5 +1,6 @@
 -- A command that serves, by the results of its parts.
-use Rattle.std.proofs.Common.{◌≡◌, ◌⊎◌, inl, inr, ℕ, true, false, List, Option, Some, IfSome, Result, Ok, Err, OnOk, IfErr, refl, sym, ap, subst, ◌∙◌}
+use Rattle.std.proofs.Common.{◌≡◌, ◌⊎◌, inl, inr, ℕ, Bool, true, false, List, [], ◌∷◌, codes, Option, Some, None, IfSome, Result, Ok, Err, OnOk, IfErr, refl, sym, ap, subst, ◌∙◌}
+use Rattle.std.proofs.lemmas.Slice.Eq.{bytes_eq-Decides}
 use Rattle.outside.specs.Causes.{Rose}
 use Rattle.outside.specs.Machine.{Machine}
 use Rattle.end_loop.specs.Seen.{Sight}
@@ -7,9 +8,11 @@ use Rattle.end_loop.specs.Served.{Served, ServedUntil}
 use Rattle.end_loop.specs.declared.halt.Halt.{Halt}
 use Rattle.end_loop.specs.declared.halt.Halt.TheVariants as halts
 use Rattle.wire_base.specs.Memory.{UpToMemory}
-use Rattle.nt_words.specs.Files.{ControllerFiles, FaultRose, HasFault, Shelf, UpToFaults, controller_files}
-use Rattle.nt_words.specs.Jobs.{ControllerJob, controller_job}
-use Rattle.nt_words.specs.Roles.{job_from}
+use Rattle.nt_words.specs.Files.{ControllerFiles, FaultRose, HasFault, SecretFiles, Shelf, UpToFaults, and_then, controller_files, secret_files}
+use Rattle.nt_words.specs.Jobs.{ControllerJob, LogonJob, controller_job, is_led_by, logon_form, logon_job, logon_job_from, named_rows}
+use Rattle.nt_words.specs.Setups.{setup_due}
+use Rattle.nt_words.specs.declared.drill.DrillWords.{DrillWords}
+use Rattle.nt_words.specs.Roles.{drill_by, job_from, job_of, logon_at_once, logon_by, show}
 use Rattle.nt_words.specs.declared.job.Job.{Job}
 use Rattle.nt_words.specs.declared.job.Job.TheVariants as jobs
 use Rattle.nt_words.specs.declared.job.Role.{Role}
@@ -18,13 +21,22 @@ use Rattle.nt_words.specs.declared.options.WordsRefused.{WordsRefused}
 use Rattle.nt_words.specs.declared.options.WordsRefused.TheVariants.{BadWords, Memory}
 use Rattle.nt_words.specs.declared.files.FilesRefused.{FilesRefused}
 use Rattle.nt_words.specs.declared.files.FilesRefused.TheVariants as files
+use Rattle.logon_client.specs.declared.outcome.NoAnswerCause.{NoAnswerCause}
+use Rattle.logon_client.specs.declared.outcome.NoAnswerCause.TheVariants.{DialFailed, LinkClosed, NoController}
 use Rattle.nt_top.specs.declared.exit.Exit.{Exit}
 use Rattle.nt_top.specs.declared.exit.Exit.TheVariants as exits
+use Rattle.nt_top.specs.Answers.{exit_at_once, from_at_once}
 use Rattle.nt_top.specs.Causes.{Comes, IsBadInput, IsBadWords, IsOfForm, OutOfForm, NotBuilt}
 use Rattle.nt_top.specs.Check.{AskedAccepted, AskedRefused}
 use Rattle.nt_top.specs.Show.{AskedShown}
 use Rattle.nt_top.specs.Refusals.{files_exit, words_exit}
-use Rattle.nt_top.specs.Serve.{ControllerAsked, ControllerRuns, ControllerServes, IsServed, IsServeOfForm, ServesTo, halt_exit, is_controller, service_exit}
+use Rattle.nt_top.specs.Serve.{ControllerAsked, ControllerRuns, ControllerServes, IsServed, IsServeOfForm, ServesTo, halt_exit, service_exit}
+use Rattle.nt_top.specs.Logon.{LogonAsked, LogonBy, LogonFollows, LogonRuns, plan_of}
+use Rattle.nt_top.specs.LogonExits.{IsAnswered, IsLogonOfForm, IsOfClients, LosesLink}
+use Rattle.nt_top.specs.Service.{ServiceRuns, uses_port}
+use Rattle.nt_top.proofs.LogonLaws.{logon_laws}
+use Rattle.nt_words.specs.declared.setup.Setup.{Setup}
+use Rattle.nt_words.specs.declared.setup.Setup.TheVariants as setups
 
 halt_serves : {S : Type 0} (machine : Machine S) (old : S) (address seed : List ℕ) (boot most : ℕ) (before after : Sight) (halt : Halt) →
     ServedUntil machine old address seed boot most before after halt → ServesTo machine old address seed boot most before after (halt_exit halt)
@@ -90,37 +102,34 @@ refusal_is memory result r refused up is = by_value r (subst (λ z. UpToMemory m
     by_value (Ok job) (inr e) = absurd cc
     by_value (Err other) (inr e) = inr (let same : other ≡ refused = cc in ap (λ z. Err z) same)
 
-pub role_is : (role : Role) → is_controller role ≡ true → role ≡ Controller
-role_is Controller is = refl
-role_is Member is = absurd cc
-role_is Logon is = absurd cc
+-- ---- a command that uses the port isn't asked to check or to show
 
-not_member : (role : Role) → is_controller role ≡ true → role ≡ Member → ⊥
-not_member role controller member = let same = role_is role controller in cc
+not_member : (role : Role) (words : List (List ℕ)) → uses_port role words ≡ true → role ≡ Member → ⊥
+not_member role words uses member = let e : uses_port Member words ≡ true = subst (λ r. uses_port r words ≡ true) member uses in cc
 
-not_logon : (role : Role) → is_controller role ≡ true → role ≡ Logon → ⊥
-not_logon role controller logon = let same = role_is role controller in cc
+not_show : (role : Role) (words : List (List ℕ)) (text : List ℕ) → uses_port role words ≡ true → role ≡ Logon → words ≡ codes "show" ∷ text ∷ [] → ⊥
+not_show role words text uses logon is =
+    let e : uses_port Logon (codes "show" ∷ text ∷ []) ≡ true = subst (λ w. uses_port Logon w ≡ true) is (subst (λ r. uses_port r words ≡ true) logon uses) in cc
 
--- a controller isn't asked to check or to show
-pub not_accepted : (role : Role) (words : List (List ℕ)) → is_controller role ≡ true → AskedAccepted role words → ⊥
-not_accepted role words controller asked = not_member role controller asked.asks.member
+pub not_accepted : (role : Role) (words : List (List ℕ)) → uses_port role words ≡ true → AskedAccepted role words → ⊥
+not_accepted role words uses asked = not_member role words uses asked.asks.member
 
-pub not_rejected : (role : Role) (words : List (List ℕ)) → is_controller role ≡ true → AskedRefused role words → ⊥
-not_rejected role words controller asked = not_member role controller asked.asks.member
+pub not_rejected : (role : Role) (words : List (List ℕ)) → uses_port role words ≡ true → AskedRefused role words → ⊥
+not_rejected role words uses asked = not_member role words uses asked.asks.member
 
-pub not_shown : (role : Role) (words : List (List ℕ)) → is_controller role ≡ true → AskedShown role words → ⊥
-not_shown role words controller asked = not_logon role controller asked.asks.logon
+pub not_shown : (role : Role) (words : List (List ℕ)) → uses_port role words ≡ true → AskedShown role words → ⊥
+not_shown role words uses asked = not_show role words asked.asks.text uses asked.asks.logon asked.asks.words_are
 
-pub not_input : (role : Role) (words : List (List ℕ)) (number : ℕ) → is_controller role ≡ true → IsBadInput role words number → ⊥
-not_input role words number controller (inl asked) = not_member role controller asked.member
-not_input role words number controller (inr asked) = not_logon role controller asked.logon
+pub not_input : (role : Role) (words : List (List ℕ)) (number : ℕ) → uses_port role words ≡ true → IsBadInput role words number → ⊥
+not_input role words number uses (inl asked) = not_member role words uses asked.member
+not_input role words number uses (inr asked) = not_show role words asked.message uses asked.logon asked.words_are
 
-pub not_of_form : (role : Role) (words : List (List ℕ)) → is_controller role ≡ true → IsOfForm role words → ⊥
-not_of_form role words controller (inl (inl asked)) = not_accepted role words controller asked
-not_of_form role words controller (inl (inr asked)) = not_rejected role words controller asked
-not_of_form role words controller (inr asked) = not_shown role words controller asked
+pub not_of_form : (role : Role) (words : List (List ℕ)) → uses_port role words ≡ true → IsOfForm role words → ⊥
+not_of_form role words uses (inl (inl asked)) = not_accepted role words uses asked
+not_of_form role words uses (inl (inr asked)) = not_rejected role words uses asked
+not_of_form role words uses (inr asked) = not_shown role words uses asked
 
--- ---- the number of a controller's words
+-- ---- the number of words that are refused
 
 come_by : (job : Result ControllerJob WordsRefused) (number : ℕ) (shelf shelf_after : Shelf) (before after : Sight) (exit : Exit) →
     UpToMemory Memory job (Err (BadWords number)) → ControllerAsked job shelf shelf_after before after exit → Comes (exits.BadWords number) exit
@@ -137,11 +146,24 @@ bad_of_controller : (words : List (List ℕ)) (number : ℕ) → IsBadWords Cont
 bad_of_controller words number (OutOfForm is) = job_from_err (controller_job words) (BadWords number) is
 bad_of_controller words number (NotBuilt job none other is unbuilt) = absurd (let wrong : true ≡ false = other in cc)
 
-pub words_come : (role : Role) (words : List (List ℕ)) (number : ℕ) (shelf shelf_after : Shelf) (before after : Sight) (exit : Exit) → is_controller role ≡ true →
-    ControllerRuns words shelf shelf_after before after exit → IsBadWords role words number → Comes (exits.BadWords number) exit
-words_come role words number shelf shelf_after before after exit controller runs bad =
-    let due = bad_of_controller words number (subst (λ z. IsBadWords z words number) (role_is role controller) bad) in
-    come_by runs.job number shelf shelf_after before after exit (subst (λ z. UpToMemory Memory runs.job z) due runs.is) runs.runs
+logon_come_by : (job : Result Job WordsRefused) (number : ℕ) (shelf shelf_after : Shelf) (before after : Sight) (exit : Exit) →
+    UpToMemory Memory job (Err (BadWords number)) → LogonAsked job shelf shelf_after before after exit → Comes (exits.BadWords number) exit
+logon_come_by (Ok job) number shelf shelf_after before after exit is runs = absurd (cc)
+logon_come_by (Err refused) number shelf shelf_after before after exit (inl memory) runs = inr (runs.1.0 ∙ ap words_exit memory)
+logon_come_by (Err refused) number shelf shelf_after before after exit (inr is) runs =
+    let same : refused ≡ BadWords number = cc in inl (runs.1.0 ∙ ap words_exit same)
+
+bad_of_logon : (words : List (List ℕ)) (number : ℕ) → uses_port Logon words ≡ true → IsBadWords Logon words number → job_of Logon words ≡ Err (BadWords number)
+bad_of_logon words number uses (OutOfForm is) = is
+bad_of_logon words number uses (NotBuilt job none other is unbuilt) = absurd (let wrong : true ≡ false = sym uses ∙ other in cc)
+
+pub words_come : (role : Role) (words : List (List ℕ)) (number : ℕ) (shelf shelf_after : Shelf) (before after : Sight) (exit : Exit) → uses_port role words ≡ true →
+    ServiceRuns role words shelf shelf_after before after exit → IsBadWords role words number → Comes (exits.BadWords number) exit
+words_come Controller words number shelf shelf_after before after exit uses runs bad =
+    come_by runs.job number shelf shelf_after before after exit (subst (λ z. UpToMemory Memory runs.job z) (bad_of_controller words number bad) runs.is) runs.runs
+words_come Member words number shelf shelf_after before after exit uses runs bad = absurd runs
+words_come Logon words number shelf shelf_after before after exit uses runs bad =
+    logon_come_by runs.job number shelf shelf_after before after exit (subst (λ z. UpToMemory Memory runs.job z) (bad_of_logon words number uses bad) runs.is) runs.runs
 
 words_is : (refused : WordsRefused) (number : ℕ) → words_exit refused ≡ exits.BadWords number → refused ≡ BadWords number
 words_is (BadWords other) number e = let same : other ≡ number = cc in ap (λ n. BadWords n) same
@@ -167,12 +189,41 @@ only_by (Err refused) due number shelf shelf_after before after (inl memory) run
 only_by (Err refused) due number shelf shelf_after before after (inr is) runs =
     let same = words_is refused number (sym runs.1.0) in is ∙ ap (λ z. Err z) same
 
-pub words_only_by : (role : Role) (words : List (List ℕ)) (number : ℕ) (shelf shelf_after : Shelf) (before after : Sight) (exit : Exit) → is_controller role ≡ true →
-    ControllerRuns words shelf shelf_after before after exit → exit ≡ exits.BadWords number → IsBadWords role words number
-words_only_by role words number shelf shelf_after before after exit controller runs is =
+-- a client's exits are no refusal of words
+client_no_words : (exit : Exit) (number : ℕ) → IsOfClients exit → exit ≡ exits.BadWords number → ⊥
+client_no_words exit number is e = subst IsOfClients e is
+
+by_no_words : (setup : Setup) (before after : Sight) (number : ℕ) → LogonBy setup before after (exits.BadWords number) → ⊥
+by_no_words (setups.Logon job files) before after number ends =
+    client_no_words (exits.BadWords number) number (logon_laws.exits (plan_of job files) files.seed job.boot before after (exits.BadWords number) ends) refl
+by_no_words (setups.Controller job files) before after number left = cc
+by_no_words (setups.Member job files) before after number left = cc
+by_no_words (setups.Check job) before after number left = cc
+by_no_words (setups.Show job) before after number left = cc
+by_no_words (setups.Drill job) before after number left = cc
+
+follows_no_words : (setup : Result Setup FilesRefused) (before after : Sight) (number : ℕ) → LogonFollows setup before after (exits.BadWords number) → ⊥
+follows_no_words (Err refused) before after number left = files_no_words refused number (sym left.0)
+follows_no_words (Ok setup) before after number ends = by_no_words setup before after number ends
+
+logon_only_by : (job due : Result Job WordsRefused) (number : ℕ) (shelf shelf_after : Shelf) (before after : Sight) →
+    UpToMemory Memory job due → LogonAsked job shelf shelf_after before after (exits.BadWords number) → due ≡ Err (BadWords number)
+logon_only_by (Ok job) due number shelf shelf_after before after is runs = absurd (follows_no_words runs.setup before after number runs.follows)
+logon_only_by (Err refused) due number shelf shelf_after before after (inl memory) runs =
+    let same = words_is refused number (sym runs.1.0) in absurd cc
+logon_only_by (Err refused) due number shelf shelf_after before after (inr is) runs =
+    let same = words_is refused number (sym runs.1.0) in is ∙ ap (λ z. Err z) same
+
+pub words_only_by : (role : Role) (words : List (List ℕ)) (number : ℕ) (shelf shelf_after : Shelf) (before after : Sight) (exit : Exit) → uses_port role words ≡ true →
+    ServiceRuns role words shelf shelf_after before after exit → exit ≡ exits.BadWords number → IsBadWords role words number
+words_only_by Controller words number shelf shelf_after before after exit uses runs is =
     let asked = subst (λ z. ControllerAsked runs.job shelf shelf_after before after z) is runs.runs in
     let due = only_by runs.job (controller_job words) number shelf shelf_after before after runs.is asked in
-    subst (λ z. IsBadWords z words number) (sym (role_is role controller)) (OutOfForm (ap (λ z. job_from jobs.Controller z) due))
+    OutOfForm (ap (λ z. job_from jobs.Controller z) due)
+words_only_by Member words number shelf shelf_after before after exit uses runs is = absurd runs
+words_only_by Logon words number shelf shelf_after before after exit uses runs is =
+    let asked = subst (λ z. LogonAsked runs.job shelf shelf_after before after z) is runs.runs in
+    OutOfForm (logon_only_by runs.job (job_of Logon words) number shelf shelf_after before after runs.is asked)
 
 -- ---- completeness
 
@@ -214,10 +265,173 @@ asked_served (Ok other) due job told setup shelf shelf_after before after exit u
     files_served other runs.files (controller_files other.table other.seed told) setup before after exit due_is there file port sink runs.serves
 
 pub serve_done : (role : Role) (words : List (List ℕ)) (shelf shelf_after : Shelf) (before after : Sight) (exit : Exit) →
-    ControllerRuns words shelf shelf_after before after exit → IsServeOfForm role words shelf.contents →
+    ServiceRuns role words shelf shelf_after before after exit → IsServeOfForm role words shelf.contents →
     (exit ≡ exits.FileFault → ⊥) → (exit ≡ exits.PortFault → ⊥) → (exit ≡ exits.SinkFault → ⊥) → IsServed exit
-serve_done role words shelf shelf_after before after exit runs form file port sink =
+serve_done role words shelf shelf_after before after exit service form file port sink =
+    let runs : ControllerRuns words shelf shelf_after before after exit = subst (λ (r : Role). ServiceRuns r words shelf shelf_after before after exit) form.controller service in
     asked_served runs.job (controller_job words) form.job form.told form.files shelf shelf_after before after exit runs.is form.job_is form.told_is form.files_are file port sink runs.runs
 
-pub not_serve : (role : Role) (words : List (List ℕ)) (contents : Option (List (List ℕ × List ℕ))) → is_controller role ≡ false → IsServeOfForm role words contents → ⊥
-not_serve role words contents other form = let controller = form.controller in cc
+pub not_serve : (role : Role) (words : List (List ℕ)) (contents : Option (List (List ℕ × List ℕ))) → uses_port role words ≡ false → IsServeOfForm role words contents → ⊥
+not_serve role words contents other form = let e : uses_port Controller words ≡ false = subst (λ r. uses_port r words ≡ false) form.controller other in cc
+
+-- ---- completeness of a logon
+
+client_answered : (exit : Exit) → IsOfClients exit → (exit ≡ exits.PortFault → ⊥) → (exit ≡ exits.SinkFault → ⊥) → IsAnswered exit
+client_answered exits.Done is port sink = _
+client_answered (exits.Refused cause) is port sink = _
+client_answered (exits.NoAnswer cause) is port sink = _
+client_answered (exits.BadPeer fault) is port sink = _
+client_answered exits.Spent is port sink = _
+client_answered exits.NoMemory is port sink = _
+client_answered exits.PortFault is port sink = absurd (port refl)
+client_answered exits.SinkFault is port sink = absurd (sink refl)
+client_answered exits.FileFault is port sink = absurd is
+client_answered (exits.BadWords number) is port sink = absurd is
+client_answered (exits.BadTable cause) is port sink = absurd is
+client_answered (exits.BadInput number) is port sink = absurd is
+
+by_answered : (setup : Setup) (before after : Sight) (exit : Exit) → (exit ≡ exits.PortFault → ⊥) → (exit ≡ exits.SinkFault → ⊥) → LogonBy setup before after exit → IsAnswered exit
+by_answered (setups.Logon job files) before after exit port sink ends =
+    client_answered exit (logon_laws.exits (plan_of job files) files.seed job.boot before after exit ends) port sink
+by_answered (setups.Controller job files) before after exit port sink left = subst IsAnswered (sym left.0) tt
+by_answered (setups.Member job files) before after exit port sink left = subst IsAnswered (sym left.0) tt
+by_answered (setups.Check job) before after exit port sink left = subst IsAnswered (sym left.0) tt
+by_answered (setups.Show job) before after exit port sink left = subst IsAnswered (sym left.0) tt
+by_answered (setups.Drill job) before after exit port sink left = subst IsAnswered (sym left.0) tt
+
+follows_answered : (setup due : Result Setup FilesRefused) (start : Setup) (before after : Sight) (exit : Exit) → due ≡ Ok start → UpToFaults setup due →
+    (exit ≡ exits.FileFault → ⊥) → (exit ≡ exits.PortFault → ⊥) → (exit ≡ exits.SinkFault → ⊥) → LogonFollows setup before after exit → IsAnswered exit
+follows_answered (Err files.FileFault) due start before after exit is up file port sink left = absurd (file left.0)
+follows_answered (Err files.NoMemory) due start before after exit is up file port sink left = subst IsAnswered (sym left.0) tt
+follows_answered (Err (files.BadTable cause)) due start before after exit is up file port sink left = absurd cc
+follows_answered (Err (files.BadInput number)) due start before after exit is up file port sink left = absurd cc
+follows_answered (Ok setup) due start before after exit is up file port sink ends = by_answered setup before after exit port sink ends
+
+logon_answered : (asked due : Result Job WordsRefused) (job : LogonJob) (told : List (List ℕ × List ℕ)) (held : SecretFiles) (shelf shelf_after : Shelf) (before after : Sight) (exit : Exit) →
+    UpToMemory Memory asked due → due ≡ Ok (jobs.Logon job) → shelf.contents ≡ Some told → secret_files 5 job.hash 9 job.seed told ≡ Ok held →
+    (exit ≡ exits.FileFault → ⊥) → (exit ≡ exits.PortFault → ⊥) → (exit ≡ exits.SinkFault → ⊥) → LogonAsked asked shelf shelf_after before after exit → IsAnswered exit
+logon_answered (Err refused) due job told held shelf shelf_after before after exit (inl memory) is tells of file port sink runs = subst IsAnswered (sym (runs.1.0 ∙ ap words_exit memory)) tt
+logon_answered (Err refused) due job told held shelf shelf_after before after exit (inr other) is tells of file port sink runs = absurd cc
+logon_answered (Ok other) due job told held shelf shelf_after before after exit up is tells of file port sink runs =
+    let same : other ≡ jobs.Logon job = cc in
+    let there = subst (λ z. IfSome z (λ contents. UpToFaults runs.setup (setup_due other contents))) tells runs.reads.exact in
+    let of_job : setup_due (jobs.Logon job) told ≡ Ok (setups.Logon job held) = ap (λ (r : Result SecretFiles FilesRefused). and_then r (λ z. Ok (setups.Logon job z))) of in
+    let due_is = subst (λ (z : Job). setup_due z told ≡ Ok (setups.Logon job held)) (sym same) of_job in
+    follows_answered runs.setup (setup_due other told) (setups.Logon job held) before after exit due_is there file port sink runs.follows
+
+pub logon_done : (role : Role) (words : List (List ℕ)) (shelf shelf_after : Shelf) (before after : Sight) (exit : Exit) →
+    ServiceRuns role words shelf shelf_after before after exit → IsLogonOfForm role words shelf.contents →
+    (exit ≡ exits.FileFault → ⊥) → (exit ≡ exits.PortFault → ⊥) → (exit ≡ exits.SinkFault → ⊥) → IsAnswered exit
+logon_done role words shelf shelf_after before after exit service form file port sink =
+    let runs : LogonRuns words shelf shelf_after before after exit = subst (λ (r : Role). ServiceRuns r words shelf shelf_after before after exit) form.logon service in
+    logon_answered runs.job (job_of Logon words) form.job form.told form.files shelf shelf_after before after exit runs.is form.job_is form.told_is form.files_are file port sink runs.runs
+
+-- ---- words that ask for a logon are led by its name
+
+led_by_rows : (led : Bool) (words : List (List ℕ)) (job : LogonJob) → logon_job_from (named_rows led logon_form words) ≡ Ok job → led ≡ true
+led_by_rows true words job is = refl
+led_by_rows false words job is = absurd cc
+
+led_by_job : (words : List (List ℕ)) (job : LogonJob) → logon_job words ≡ Ok job → is_led_by (codes "logon") words ≡ true
+unfolding logon_job
+led_by_job words job is = led_by_rows (is_led_by (codes "logon") words) words job is
+
+show_is_none : (words : List (List ℕ)) (job : LogonJob) → show words ≡ Ok (jobs.Logon job) → ⊥
+show_is_none [] job is = cc
+show_is_none (command ∷ []) job is = cc
+show_is_none (command ∷ message ∷ []) job is = cc
+show_is_none (command ∷ message ∷ other ∷ more) job is = cc
+
+drill_is_none : (r : Result DrillWords WordsRefused) (job : LogonJob) → job_from jobs.Drill r ≡ Ok (jobs.Logon job) → ⊥
+drill_is_none (Ok drill) job is = cc
+drill_is_none (Err refused) job is = cc
+
+logon_from : (r : Result LogonJob WordsRefused) (job : LogonJob) → job_from jobs.Logon r ≡ Ok (jobs.Logon job) → r ≡ Ok job
+logon_from (Ok other) job is = let same : other ≡ job = cc in ap (λ z. Ok z) same
+logon_from (Err refused) job is = absurd cc
+
+led_past_drill : (drills : Bool) (words : List (List ℕ)) (job : LogonJob) → drill_by drills words ≡ Ok (jobs.Logon job) → is_led_by (codes "logon") words ≡ true
+led_past_drill true words job is = absurd (drill_is_none _ job is)
+led_past_drill false words job is = led_by_job words job (logon_from (logon_job words) job is)
+
+led_past_show : (shows : Bool) (words : List (List ℕ)) (job : LogonJob) → logon_by shows words ≡ Ok (jobs.Logon job) → is_led_by (codes "logon") words ≡ true
+led_past_show true words job is = absurd (show_is_none words job is)
+led_past_show false words job is = led_past_drill (is_led_by (codes "drill") words) words job is
+
+pub not_logon : (role : Role) (words : List (List ℕ)) (contents : Option (List (List ℕ × List ℕ))) → uses_port role words ≡ false → IsLogonOfForm role words contents → ⊥
+not_logon role words contents other form =
+    let here : uses_port Logon words ≡ false = subst (λ r. uses_port r words ≡ false) form.logon other in
+    let led = led_past_show (is_led_by (codes "show") words) words form.job form.job_is in
+    let wrong : true ≡ false = sym led ∙ here in cc
+
+-- ---- a logon takes memory before its exit is known
+
+none_at_once : (words : List (List ℕ)) → is_led_by (codes "logon") words ≡ true → logon_at_once (is_led_by (codes "show") words) words ≡ None
+none_at_once [] led = absurd cc
+none_at_once (word ∷ more) led =
+    let name : word ≡ codes "logon" = (bytes_eq-Decides word (codes "logon")).0 led in
+    subst (λ (w : List ℕ). logon_at_once (is_led_by (codes "show") (w ∷ more)) (w ∷ more) ≡ None) (sym name) refl
+
+pub logon_not_at_once : (words : List (List ℕ)) (exit : Exit) → uses_port Logon words ≡ true → IfSome (exit_at_once Logon words) (λ due. exit ≡ due)
+logon_not_at_once words exit uses =
+    subst (λ (due : Option (Result Job WordsRefused)). IfSome (from_at_once due) (λ due. exit ≡ due)) (sym (none_at_once words uses)) tt
+
+-- ---- a client that has no answer
+
+controller_answers : (job : Result ControllerJob WordsRefused) (cause : NoAnswerCause) (shelf shelf_after : Shelf) (before after : Sight) → ControllerAsked job shelf shelf_after before after (exits.NoAnswer cause) → ⊥
+controller_answers (Err Memory) cause shelf shelf_after before after runs = let is = runs.1.0 in cc
+controller_answers (Err (BadWords number)) cause shelf shelf_after before after runs = let is = runs.1.0 in cc
+controller_answers (Ok job) cause shelf shelf_after before after runs = by_files runs.files runs.serves
+  where
+    by_files : (read : Result ControllerFiles FilesRefused) → ControllerServes job read before after (exits.NoAnswer cause) → ⊥
+    by_files (Err files.FileFault) left = let is = left.0 in cc
+    by_files (Err files.NoMemory) left = let is = left.0 in cc
+    by_files (Err (files.BadTable why)) left = let is = left.0 in cc
+    by_files (Err (files.BadInput number)) left = let is = left.0 in cc
+    by_files (Ok setup) (inl left) = let is = left.0 in cc
+    by_files (Ok setup) (inr serves) = serves
+
+-- what a client's exit without an answer shows
+abbrev ShowsCause : NoAnswerCause → Sight → Sight → Type 0
+ShowsCause DialFailed before after = Rose before.link_faults after.link_faults
+ShowsCause LinkClosed before after = LosesLink before after
+ShowsCause NoController before after = Unit {0}
+
+by_cause : (setup : Setup) (cause : NoAnswerCause) (before after : Sight) → LogonBy setup before after (exits.NoAnswer cause) → ShowsCause cause before after
+by_cause (setups.Logon job files) DialFailed before after ends = logon_laws.dial (plan_of job files) files.seed job.boot before after _ ends refl
+by_cause (setups.Logon job files) LinkClosed before after ends = logon_laws.closed (plan_of job files) files.seed job.boot before after _ ends refl
+by_cause (setups.Logon job files) NoController before after ends = tt
+by_cause (setups.Controller job files) cause before after left = absurd (let is = left.0 in cc)
+by_cause (setups.Member job files) cause before after left = absurd (let is = left.0 in cc)
+by_cause (setups.Check job) cause before after left = absurd (let is = left.0 in cc)
+by_cause (setups.Show job) cause before after left = absurd (let is = left.0 in cc)
+by_cause (setups.Drill job) cause before after left = absurd (let is = left.0 in cc)
+
+follows_cause : (setup : Result Setup FilesRefused) (cause : NoAnswerCause) (before after : Sight) → LogonFollows setup before after (exits.NoAnswer cause) → ShowsCause cause before after
+follows_cause (Err files.FileFault) cause before after left = absurd (let is = left.0 in cc)
+follows_cause (Err files.NoMemory) cause before after left = absurd (let is = left.0 in cc)
+follows_cause (Err (files.BadTable why)) cause before after left = absurd (let is = left.0 in cc)
+follows_cause (Err (files.BadInput number)) cause before after left = absurd (let is = left.0 in cc)
+follows_cause (Ok setup) cause before after ends = by_cause setup cause before after ends
+
+logon_cause : (job : Result Job WordsRefused) (cause : NoAnswerCause) (shelf shelf_after : Shelf) (before after : Sight) → LogonAsked job shelf shelf_after before after (exits.NoAnswer cause) → ShowsCause cause before after
+logon_cause (Err Memory) cause shelf shelf_after before after runs = absurd (let is = runs.1.0 in cc)
+logon_cause (Err (BadWords number)) cause shelf shelf_after before after runs = absurd (let is = runs.1.0 in cc)
+logon_cause (Ok job) cause shelf shelf_after before after runs = follows_cause runs.setup cause before after runs.follows
+
+service_cause : (role : Role) (words : List (List ℕ)) (cause : NoAnswerCause) (shelf shelf_after : Shelf) (before after : Sight) →
+    ServiceRuns role words shelf shelf_after before after (exits.NoAnswer cause) → ShowsCause cause before after
+service_cause Controller words cause shelf shelf_after before after runs = absurd (controller_answers runs.job cause shelf shelf_after before after runs.runs)
+service_cause Member words cause shelf shelf_after before after runs = absurd runs
+service_cause Logon words cause shelf shelf_after before after runs = logon_cause runs.job cause shelf shelf_after before after runs.runs
+
+-- a dial that failed, and a link that was lost
+pub dial_fault : (role : Role) (words : List (List ℕ)) (shelf shelf_after : Shelf) (before after : Sight) (exit : Exit) →
+    ServiceRuns role words shelf shelf_after before after exit → exit ≡ exits.NoAnswer DialFailed → Rose before.link_faults after.link_faults
+dial_fault role words shelf shelf_after before after exit runs is =
+    service_cause role words DialFailed shelf shelf_after before after (subst (λ (e : Exit). ServiceRuns role words shelf shelf_after before after e) is runs)
+
+pub link_lost : (role : Role) (words : List (List ℕ)) (shelf shelf_after : Shelf) (before after : Sight) (exit : Exit) →
+    ServiceRuns role words shelf shelf_after before after exit → exit ≡ exits.NoAnswer LinkClosed → LosesLink before after
+link_lost role words shelf shelf_after before after exit runs is =
+    service_cause role words LinkClosed shelf shelf_after before after (subst (λ (e : Exit). ServiceRuns role words shelf shelf_after before after e) is runs)

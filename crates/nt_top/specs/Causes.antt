@@ -17,7 +17,7 @@ use Rattle.logon_client.specs.declared.outcome.RefusedCause.{RefusedCause}
 use Rattle.logon_client.specs.declared.outcome.RefusedCause.TheVariants.{Response}
 use Rattle.nt_top.specs.Check.{AskedAccepted, AskedRefused}
 use Rattle.nt_top.specs.Ends.{SinkChange}
-use Rattle.nt_top.specs.Serve.{ActsByWords}
+use Rattle.nt_top.specs.Service.{ActsByWords}
 use Rattle.nt_top.specs.Show.{AskedShown, ShowsAs}
 
 -- the exit is that one, or want of memory
@@ -44,10 +44,10 @@ is_built (jobs.Check job) = true
 is_built (jobs.Show job) = true
 is_built _ = false
 
--- The words come to that number; and to 0 where they ask a program without a serving command for a command that isn't built yet.
+-- The words come to that number; and to 0 where they ask for a command that isn't built yet.
 pub data IsBadWords (role : Role) (words : List (List ℕ)) (number : ℕ) : Type 0 where
   OutOfForm : job_of role words ≡ Err (refusals.BadWords number) → IsBadWords role words number
-  NotBuilt : (job : Job) → number ≡ 0 → ActsByWords role → job_of role words ≡ Ok job → is_built job ≡ false → IsBadWords role words number
+  NotBuilt : (job : Job) → number ≡ 0 → ActsByWords role words → job_of role words ≡ Ok job → is_built job ≡ false → IsBadWords role words number
 
 -- ---- `BadInput`
 

@@ -4,7 +4,10 @@ pub mod Check
 pub mod Ends
 pub mod Exits
 pub mod Lines
+pub mod Logon
+pub mod LogonExits
 pub mod Needs
 pub mod Refusals
 pub mod Serve
+pub mod Service
 pub mod Show

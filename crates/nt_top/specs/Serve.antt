@@ -1,20 +1,18 @@
 -- A command that serves an end (this project's own choice): its files are read and judged, the challenges are started, the port listens, and the
 -- end's machine runs.
-use Rattle.std.specs.Prelude.{◌≡◌, ◌⊎◌, ℕ, Bool, true, false, List, [], ◌∷◌, Option, Some, Result, Ok, Err}
-use Rattle.outside.specs.Drawing.{Drawing}
+use Rattle.std.specs.Prelude.{◌≡◌, ◌⊎◌, ℕ, List, [], ◌∷◌, Option, Some, Result, Ok, Err}
 use Rattle.outside.specs.Machine.{Machine}
-use Rattle.outside.specs.declared.event.Happening.{Happening}
-use Rattle.end_loop.specs.Seen.{Sight, sight_of}
+use Rattle.end_loop.specs.Seen.{Sight}
 use Rattle.end_loop.specs.Served.{Served, ServedUntil}
 use Rattle.end_loop.specs.declared.halt.Halt.{Halt}
 use Rattle.end_loop.specs.declared.halt.Halt.TheVariants as halts
 use Rattle.domain_controller.specs.Step.{controller_machine, first_state}
-use Rattle.nt_words.specs.Files.{ControllerFiles, ReadsFiles, Shelf, controller_files, shelf_of, table_number}
+use Rattle.nt_words.specs.Files.{ControllerFiles, ReadsFiles, Shelf, controller_files, table_number}
 use Rattle.nt_words.specs.Jobs.{ControllerJob, controller_job}
 use Rattle.nt_words.specs.declared.files.FilesRefused.{FilesRefused}
 use Rattle.nt_words.specs.declared.job.Job.{Job}
 use Rattle.nt_words.specs.declared.job.Role.{Role}
-use Rattle.nt_words.specs.declared.job.Role.TheVariants.{Controller, Member, Logon}
+use Rattle.nt_words.specs.declared.job.Role.TheVariants.{Controller}
 use Rattle.nt_words.specs.declared.options.WordsRefused.{WordsRefused}
 use Rattle.nt_words.specs.declared.options.WordsRefused.TheVariants as words
 use Rattle.wire_base.specs.Memory.{UpToMemory}
@@ -73,15 +71,6 @@ IsRefusal asked = (refused : WordsRefused) × (asked ≡ Err refused)
 
 -- ---- `nt_controller`, which has no other command
 
-abbrev pub is_controller : Role → Bool
-is_controller Controller = true
-is_controller Member = false
-is_controller Logon = false
-
--- what the program does is told by its words: it has no command that serves
-abbrev pub ActsByWords : Role → Type 0
-ActsByWords role = is_controller role ≡ false
-
 -- What follows the words: their refusal is the exit, and no file is read; else the command runs.
 abbrev pub ControllerAsked : Result ControllerJob WordsRefused → Shelf → Shelf → Sight → Sight → Exit → Type 0
 ControllerAsked (Err refused) shelf shelf_after before after exit = (shelf_after ≡ shelf) × IsLeft (words_exit refused) before after exit
@@ -92,15 +81,6 @@ pub record ControllerRuns (asked : List (List ℕ)) (shelf shelf_after : Shelf) 
   pub job : Result ControllerJob WordsRefused
   pub is : UpToMemory words.Memory job (controller_job asked)
   pub runs : ControllerAsked job shelf shelf_after before after exit
-
--- What a controller does, by what the outside tells, by the meanings of its traits, before and after.
-abbrev pub ControllerActs : {P F S C Q : Type 0} → Role → List (List ℕ) → (P → Option (List Happening)) → (P → ℕ) →
-    (F → ℕ) → (F → Option (List (List ℕ × List ℕ))) → (F → Option (List (List ℕ × Bool))) → (S → Option (List ℕ)) → (C → Option (List ℕ)) → (Q → Drawing) →
-    P → F → S → C → Q → P → F → S → C → Q → Exit → Type 0
-ControllerActs role asked story link_faults faults contents reads taken moments drawing port files out clock chances port_after files_after out_after clock_after chances_after exit =
-    is_controller role ≡ true → ControllerRuns asked (shelf_of faults contents reads files) (shelf_of faults contents reads files_after)
-    (sight_of story link_faults moments drawing taken port clock chances out)
-    (sight_of story link_faults moments drawing taken port_after clock_after chances_after out_after) exit
 
 -- A controller's words are of their form, and the files that they name are told and are of theirs.
 pub record IsServeOfForm (role : Role) (asked : List (List ℕ)) (contents : Option (List (List ℕ × List ℕ))) : Type 0 where

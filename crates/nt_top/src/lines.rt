@@ -47,7 +47,7 @@ fn put_names(line: &mut Vec<u8>, domain: &Units, user: &Units) -> Result<(), All
 }
 
 /// Adds a text, each unit as one byte.
-fn put_text(line: &mut Vec<u8>, units: &[u16]) -> Result<(), AllocError>
+pub(crate) fn put_text(line: &mut Vec<u8>, units: &[u16]) -> Result<(), AllocError>
     ensures { OnOk result (line.new.items ≡ line.old.items ++ shown_text units.now) }
 {
     for unit in units {

@@ -61,7 +61,7 @@ pub(crate) fn run_controller<P: Port, F: Files, S: Sink, C: Clock, Q: Chances>(
 }
 
 /// The exit of words that are refused.
-fn exit_of_words(refused: WordsRefused) -> Exit
+pub(crate) fn exit_of_words(refused: WordsRefused) -> Exit
     ensures exit { result ≡ words_exit refused }
     ensures no_fault { ¬ (result ≡ Exit.FileFault) }
     ensures no_port { ¬ (result ≡ Exit.PortFault) }
@@ -104,7 +104,7 @@ pub(crate) fn serve_controller<P: Port, F: Files, S: Sink, C: Clock, Q: Chances>
 }
 
 /// The exit of files that are refused.
-fn exit_of_files(refused: FilesRefused) -> Exit
+pub(crate) fn exit_of_files(refused: FilesRefused) -> Exit
     ensures exit { result ≡ files_exit refused }
     ensures fault { result ≡ Exit.FileFault → refused ≡ FilesRefused.FileFault }
     ensures no_port { ¬ (result ≡ Exit.PortFault) }

@@ -4,20 +4,24 @@ ghost use Rattle.std.specs.Prelude.{◌≡◌, ◌≤◌, ℕ, List, Ok, Err, So
 ghost use Rattle.std.specs.String.{string_bytes};
 ghost use Rattle.outside.specs.Causes.{Rose};
 ghost use Rattle.wire_base.specs.Memory.{UpToMemory};
+ghost use Rattle.end_loop.specs.Seen.{Between};
 ghost use Rattle.nt_words.specs.Roles.{job_of};
-ghost use Rattle.nt_top.specs.Serve.{ActsByWords, ControllerActs, IsRefusal, IsServed, IsServeOfForm, is_controller};
+ghost use Rattle.nt_top.specs.Serve.{IsRefusal, IsServed, IsServeOfForm};
+ghost use Rattle.nt_top.specs.LogonExits.{IsAnswered, IsLogonOfForm, LosesLink};
+ghost use Rattle.nt_top.specs.Service.{ActsByWords, ServiceActs};
 ghost use Rattle.nt_top.specs.Answers.{answer_of, exit_at_once, job_answer, job_exit_at_once};
 ghost use Rattle.nt_top.specs.Causes.{Comes, IsBadInput, IsBadWords, IsDone, IsOfForm, IsOfTheCommands, IsRefused, IsWorkDone};
 ghost use Rattle.nt_top.specs.Check.{AskedAccepted, AskedRefused, verdict_answer};
 ghost use Rattle.nt_top.specs.Ends.{Ends, IsExitOf, change_of};
 ghost use Rattle.nt_top.specs.Show.{AskedShown, shown};
 ghost use Rattle.nt_top.specs.declared.exit.Exit.{Exit};
+ghost use Rattle.logon_client.specs.declared.outcome.NoAnswerCause.{NoAnswerCause};
 ghost use Rattle.logon_client.specs.declared.outcome.RefusedCause.{RefusedCause};
 
 use crate::answer::Answer;
 use crate::check::check;
 use crate::exit::Exit;
-use crate::serve::run_controller;
+use crate::service::{run_service, uses_port};
 use crate::show::show;
 use end_loop::put_all;
 use nt_words::{Job, Role, job_of};
@@ -27,11 +31,12 @@ use std::alloc::Global;
 /// Runs the command that the words name, as this program, over the outside. The words are those after the program's name.
 ///
 /// A domain controller has `serve`: its files are read and judged, the challenges are started, the port listens, and the controller is served, until the
-/// port gives `Stop` or as many events as the words say. A member server has `check HASH CHALLENGE MESSAGE`, a logon client `show MESSAGE`, all in hex. The
-/// words of the other commands are judged, and what they ask for isn't built yet: `BadWords(0)`, as every other command line is. `BadInput(n)` is
-/// the first word, or the first option's file, that isn't of its form. `Refused(Response)` is a response that isn't that of the hash. `FileFault`,
-/// `PortFault` and `SinkFault` come only where a count of that kind rose in this call, `Spent` where the controller draws more challenges than are left,
-/// `NoMemory` where no memory was found; a command that doesn't serve has put nothing then, and uses neither port, files, clock nor challenges.
+/// port gives `Stop` or as many events as the words say. A logon client has `logon`: its files are read and judged, the challenges are started, the server is
+/// dialled, and a client runs to its outcome, which is the exit. A member server has `check HASH CHALLENGE MESSAGE`, a logon client `show MESSAGE`, all
+/// in hex. The words of the other commands are judged, and what they ask for isn't built yet: `BadWords(0)`, as every other command line is.
+/// `BadInput(n)` is the first word, or the first option's file, that isn't of its form. `Refused(Response)` is a response that isn't that of the hash.
+/// `FileFault`, `PortFault` and `SinkFault` come only where a count of that kind rose in this call, `Spent` where the end draws more challenges than are
+/// left, `NoMemory` where no memory was found; `check` and `show` have put nothing then, and use neither port, files, clock nor challenges.
 pub fn run<P: Port, F: Files, S: Sink, C: Clock, Q: Chances>(
     alloc: Global,
     role: Role,
@@ -42,15 +47,17 @@ pub fn run<P: Port, F: Files, S: Sink, C: Clock, Q: Chances>(
     clock: &mut C,
     chances: &mut Q,
 ) -> Exit
-    // A domain controller serves, by what its words and its files say, or its words are refused.
-    ensures controller { ControllerActs role (map string_bytes words.now) P.story P.link_faults
+    // A domain controller serves, and a logon client logs on, by what the words and the files say, or
+    // the words are refused.
+    ensures service { ServiceActs role (map string_bytes words.now) P.story P.link_faults
         F.faults F.contents F.reads S.taken C.moments Q.drawing port.old files.old out.old
         clock.old chances.old port.new files.new out.new clock.new chances.new result }
-    // The other programs have no command that serves yet, and what they do is told by their words.
+    // What the other commands do is told by their words.
     // The exit is that of what the words come to, and what is put is told by it.
-    ensures ends { ActsByWords role → Ends (answer_of role (map string_bytes words.now))
+    ensures ends { ActsByWords role (map string_bytes words.now) →
+        Ends (answer_of role (map string_bytes words.now))
         (change_of S.taken S.faults out.old out.new) result }
-    ensures exit { ActsByWords role →
+    ensures exit { ActsByWords role (map string_bytes words.now) →
         IsExitOf (answer_of role (map string_bytes words.now)) result }
     // A check is answered `accepted` where the response verifies, and `refused` where it doesn't.
     ensures accepted { AskedAccepted role (map string_bytes words.now) →
@@ -60,10 +67,11 @@ pub fn run<P: Port, F: Files, S: Sink, C: Clock, Q: Chances>(
     // A logon client asked to show a message puts its lines.
     ensures shown { (asked : AskedShown role (map string_bytes words.now)) →
         Ends (Ok (shown asked.lines)) (change_of S.taken S.faults out.old out.new) result }
-    // Only there does a command of these programs end so.
-    ensures done { ActsByWords role → result ≡ Exit.Done →
+    // Only there does another command end so.
+    ensures done { ActsByWords role (map string_bytes words.now) →
+        result ≡ Exit.Done →
         IsDone role (map string_bytes words.now) (change_of S.taken S.faults out.old out.new) }
-    ensures refused_only { ActsByWords role →
+    ensures refused_only { ActsByWords role (map string_bytes words.now) →
         (cause : RefusedCause) → result ≡ Exit.Refused cause → IsRefused
         role (map string_bytes words.now) cause (change_of S.taken S.faults out.old out.new) }
     // The command line isn't of its form exactly there, but for want of memory.
@@ -74,7 +82,8 @@ pub fn run<P: Port, F: Files, S: Sink, C: Clock, Q: Chances>(
     // A word isn't of its form exactly there, but for want of memory.
     ensures input { (number : ℕ) → IsBadInput role (map string_bytes words.now) number →
         Comes (Exit.BadInput number) result }
-    ensures input_only { ActsByWords role → (number : ℕ) → result ≡ Exit.BadInput number →
+    ensures input_only { ActsByWords role (map string_bytes words.now) →
+        (number : ℕ) → result ≡ Exit.BadInput number →
         IsBadInput role (map string_bytes words.now) number }
     // What is seen in the words without memory comes whether there is memory or not.
     ensures at_once { IfSome (exit_at_once role (map string_bytes words.now))
@@ -83,12 +92,19 @@ pub fn run<P: Port, F: Files, S: Sink, C: Clock, Q: Chances>(
     ensures idle { IsRefusal (job_of role (map string_bytes words.now)) →
         (port.new ≡ port.old) × (files.new ≡ files.old) × (out.new ≡ out.old) ×
         (clock.new ≡ clock.old) × (chances.new ≡ chances.old) }
-    // No command of the other programs reads a file, listens or draws.
-    ensures others { ActsByWords role → IsOfTheCommands result }
+    // No other command reads a file, listens or draws.
+    ensures others { ActsByWords role (map string_bytes words.now) →
+        IsOfTheCommands result }
     // A failure of the outside is told only where a count of it rose.
     ensures file_cause { result ≡ Exit.FileFault → Rose (F.faults files.old) (F.faults files.new) }
     ensures port_cause { result ≡ Exit.PortFault → Rose (P.faults port.old) (P.faults port.new) }
     ensures sink_cause { result ≡ Exit.SinkFault → Rose (S.faults out.old) (S.faults out.new) }
+    // A logon finds its dial failed only where a dial did, and its link closed only where that was shown.
+    ensures dial_failed { result ≡ Exit.NoAnswer NoAnswerCause.DialFailed →
+        Rose (P.link_faults port.old) (P.link_faults port.new) }
+    ensures link_lost { result ≡ Exit.NoAnswer NoAnswerCause.LinkClosed → Between
+        P.story P.link_faults C.moments Q.drawing S.taken
+        port.old clock.old chances.old out.old port.new clock.new chances.new out.new LosesLink }
     // Words and inputs of their forms come to their work, where the sink doesn't fail.
     ensures complete { IsOfForm role (map string_bytes words.now) →
         ¬ Rose (S.faults out.old) (S.faults out.new) → IsWorkDone role result }
@@ -96,32 +112,35 @@ pub fn run<P: Port, F: Files, S: Sink, C: Clock, Q: Chances>(
     ensures served { IsServeOfForm role (map string_bytes words.now) (F.contents files.old) →
         ¬ Rose (F.faults files.old) (F.faults files.new) → ¬ Rose (P.faults port.old)
         (P.faults port.new) → ¬ Rose (S.faults out.old) (S.faults out.new) → IsServed result }
-    // Of the other programs words that come to an exit alone leave the sink as it was, and so does
+    // A logon whose words and files are of their forms comes to its outcome or to none, where no
+    // count rises.
+    ensures logged_on { IsLogonOfForm role (map string_bytes words.now) (F.contents files.old) →
+        ¬ Rose (F.faults files.old) (F.faults files.new) → ¬ Rose (P.faults port.old)
+        (P.faults port.new) → ¬ Rose (S.faults out.old) (S.faults out.new) → IsAnswered result }
+    // Of the other commands words that come to an exit alone leave the sink as it was, and so does
     // want of memory.
-    ensures untouched { ActsByWords role →
+    ensures untouched { ActsByWords role (map string_bytes words.now) →
         (exit : Exit) → answer_of role (map string_bytes words.now) ≡ Err exit →
         out.new ≡ out.old }
-    ensures memory { ActsByWords role → result ≡ Exit.NoMemory → out.new ≡ out.old }
+    ensures memory { ActsByWords role (map string_bytes words.now) →
+        result ≡ Exit.NoMemory → out.new ≡ out.old }
     ensures faults { S.faults out.old ≤ S.faults out.new }
     ensures file_faults { F.faults files.old ≤ F.faults files.new }
     ensures port_faults { P.faults port.old ≤ P.faults port.new }
     ensures link_faults { P.link_faults port.old ≤ P.link_faults port.new }
-    ensures port { ActsByWords role → port.new ≡ port.old }
-    ensures files { ActsByWords role → files.new ≡ files.old }
-    ensures clock { ActsByWords role → clock.new ≡ clock.old }
-    ensures chances { ActsByWords role → chances.new ≡ chances.old }
+    ensures port { ActsByWords role (map string_bytes words.now) →
+        port.new ≡ port.old }
+    ensures files { ActsByWords role (map string_bytes words.now) →
+        files.new ≡ files.old }
+    ensures clock { ActsByWords role (map string_bytes words.now) →
+        clock.new ≡ clock.old }
+    ensures chances { ActsByWords role (map string_bytes words.now) →
+        chances.new ≡ chances.old }
 {
-    if is_controller(role) {
-        return run_controller(alloc, words, port, files, out, clock, chances);
+    if uses_port(role, words) {
+        return run_service(alloc, role, words, port, files, out, clock, chances);
     }
     perform(alloc, role, words, out)
-}
-
-/// Whether the program is the domain controller.
-fn is_controller(role: Role) -> bool
-    ensures { result ≡ is_controller role }
-{
-    matches!(role, Role::Controller)
 }
 
 /// Puts what the words come to.

@@ -2,6 +2,7 @@ use Rattle.std.proofs.Common.{map, subst, sym}
 use Rattle.std.specs.String.{string_bytes}
 use Rattle.nt_top.specs.Causes.{IsOfTheCommands}
 use Rattle.nt_top.proofs.EndLaws.{exit_is, accepted_ends, refused_ends, shown_ends, done_is, refused_is, bad_words_come, words_only, bad_input_comes, input_only, others, fault_rose, work_done}
+use Rattle.nt_top.proofs.ServeLaws.{dial_fault, link_lost, not_logon}
 use Rattle.nt_top.proofs.top.run.Goals as goal
 
 pub returns-clause-exit : goal.returns-clause-exit
@@ -26,7 +27,7 @@ pub returns-clause-words : goal.returns-clause-words
 returns-clause-words g c number bad = bad_words_come _ _ _ _ number c.perform.ensures.ends bad
 
 pub returns-clause-words_only : goal.returns-clause-words_only
-returns-clause-words_only g c number is = words_only _ (sym c.if-is_controller.ensures) _ _ _ number c.perform.ensures.ends is
+returns-clause-words_only g c number is = words_only _ _ (sym c.if-uses_port.ensures) _ _ number c.perform.ensures.ends is
 
 pub returns-clause-input : goal.returns-clause-input
 returns-clause-input g c number bad = bad_input_comes _ _ _ _ number c.perform.ensures.ends bad
@@ -50,3 +51,20 @@ returns-clause-file_cause g c is =
 pub returns-clause-port_cause : goal.returns-clause-port_cause
 returns-clause-port_cause g c is =
     absurd (subst IsOfTheCommands is (others c.args.role (map string_bytes c.args.words.now) _ _ c.perform.ensures.ends))
+
+pub returns-clause-dial_failed : goal.returns-clause-dial_failed
+returns-clause-dial_failed g c is =
+    absurd (subst IsOfTheCommands is (others c.args.role (map string_bytes c.args.words.now) _ _ c.perform.ensures.ends))
+
+pub returns-clause-link_lost : goal.returns-clause-link_lost
+returns-clause-link_lost g c is =
+    absurd (subst IsOfTheCommands is (others c.args.role (map string_bytes c.args.words.now) _ _ c.perform.ensures.ends))
+
+pub returns-then-uses_port-clause-dial_failed : goal.returns-then-uses_port-clause-dial_failed
+returns-then-uses_port-clause-dial_failed g c is = dial_fault _ _ _ _ _ _ _ c.run_service.ensures.runs is
+
+pub returns-then-uses_port-clause-link_lost : goal.returns-then-uses_port-clause-link_lost
+returns-then-uses_port-clause-link_lost g c is = link_lost _ _ _ _ _ _ _ c.run_service.ensures.runs is
+
+pub returns-clause-logged_on : goal.returns-clause-logged_on
+returns-clause-logged_on g c form file port sink = absurd (not_logon _ _ _ (sym c.if-uses_port.ensures) form)

@@ -1,0 +1,517 @@
+-- How a logon begins and ends.
+use Rattle.std.proofs.Common.{ℕ, ◌≡◌, ◌⊎◌, inl, inr, ◌<◌, List, [], ◌∷◌, ◌++◌, length, Option, Some, None, true, false, Err, refl, sym, ap, subst, ◌∙◌, arith, append-nil}
+use Rattle.std.specs.List.{flat_map}
+use Rattle.std.proofs.lemmas.List.{append_cancel_left, append_cancel_right}
+use Rattle.outside.specs.Causes.{Rose}
+use Rattle.outside.specs.Drawing.{Drawing, DrawsAll}
+use Rattle.outside.specs.Telling.{Appends, AppendsFront}
+use Rattle.outside.specs.declared.action.Action.{Action}
+use Rattle.outside.specs.declared.action.Action.TheVariants as action
+use Rattle.outside.specs.declared.action.StepRefused.TheVariants as refusals
+use Rattle.outside.specs.Stories.{events_in}
+use Rattle.outside.specs.declared.event.Event.{Event}
+use Rattle.outside.specs.declared.event.Event.TheVariants as event
+use Rattle.outside.specs.declared.event.Happening.{Happening}
+use Rattle.outside.specs.declared.event.Happening.TheVariants as happening
+use Rattle.outside.proofs.TellingLaws.{Appends-trans, Appends-nothing, AppendsFront-append, AppendsFront-part}
+use Rattle.end_loop.specs.Acts.{Performs, made_events, next_line, puts}
+use Rattle.end_loop.specs.Begun.{Begun, BegunUntil}
+use Rattle.end_loop.specs.Runs.{Standing, Step, AreSteps, Chooses, Closes, Halts, RanInto, asked_by, drawn_of, lines_of, moments_of, step_story, story_of, standing_at}
+use Rattle.end_loop.specs.Seen.{Sight, Shows}
+use Rattle.end_loop.specs.Served.{Opens}
+use Rattle.end_loop.specs.declared.halt.Halt.{Halt}
+use Rattle.end_loop.specs.declared.halt.Halt.TheVariants as halts
+use Rattle.end_loop.proofs.AskingLaws.{asks_for}
+use Rattle.end_loop.proofs.RunLaws.{Shows-none, Shows-trans}
+use Rattle.logon_client.specs.declared.outcome.ClientOutcome.{ClientOutcome}
+use Rattle.logon_client.specs.declared.outcome.ClientOutcome.TheVariants as outcomes
+use Rattle.logon_client.specs.declared.outcome.NoAnswerCause.TheVariants.{DialFailed, LinkClosed, NoController}
+use Rattle.logon_client.specs.declared.plan.ClientPlan.{ClientPlan}
+use Rattle.logon_client.specs.Losses.{is_dial_failed, is_link_closed}
+use Rattle.logon_client.specs.Machine.{client_machine, step_of}
+use Rattle.logon_client.specs.State.{State}
+use Rattle.nt_top.specs.declared.exit.Exit.{Exit}
+use Rattle.nt_top.specs.declared.exit.Exit.TheVariants.{Done, Refused, BadWords, FileFault, BadTable, BadInput, PortFault, SinkFault, NoMemory, NoAnswer, BadPeer, Spent}
+use Rattle.nt_top.specs.Logon.{Concludes, LogonEnds, Says, dialling, first_actions, in_lines, most_answers, outcome_exit, outcome_lines}
+use Rattle.nt_top.specs.Serve.{halt_exit}
+use Rattle.nt_top.specs.LogonExits.{ComesTo, ComesToSpent, IsExcuse, IsOfClients, LogonLaws, LosesLink, Gone, SendFailed, Stopped, TookAll, Puts, TellsRun, end_at, start_of}
+use Rattle.nt_top.proofs.DialLaws.{dial_cause}
+use Rattle.nt_top.proofs.LinkLaws.{loses_link}
+use Rattle.nt_top.proofs.PairLaws.{both_whole, performs_same, spent_not_whole}
+
+-- the challenges were started, and nothing else was done
+pub started : (story : Option (List Happening)) (faults : ℕ) (moments : Option (List ℕ)) (old new : Drawing) (taken : Option (List ℕ)) (seed : List ℕ) (boot : ℕ) →
+    new.seed ≡ seed → new.boot ≡ boot → new.drawn ≡ [] →
+    Opens seed boot (record { story = story; link_faults = faults; moments = moments; drawing = old; taken = taken; written = None }) (record { story = story; link_faults = faults; moments = moments; drawing = new; taken = taken; written = None }) []
+started story faults moments old new taken seed boot seed_is boot_is drawn =
+    record { seed_is = seed_is; boot_is = boot_is; none_drawn = drawn; story = Appends-nothing story; link_faults = refl; moments = refl; taken = refl; written = refl }
+
+-- ---- what a run shows, from the first actions on
+
+record Told (plan : ClientPlan) (before after : Sight) (steps : List Step) (last : Standing State) (later : List Happening) (moments_later : List ℕ) : Type 0 where
+  happened : List Happening
+  performs : Performs [] (first_actions plan) happened
+  are : AreSteps client_machine (start_of plan happened after.drawing) steps last
+  story : Appends before.story after.story (happened ++ (story_of steps ++ later))
+  moments : Appends before.moments after.moments (moments_of steps ++ moments_later)
+
+-- what was left at first is what was drawn and what is left
+left_is : (opened middle ended : Drawing) (draws : List (List ℕ)) → opened.drawn ≡ [] → DrawsAll opened middle [] → DrawsAll opened ended draws → middle.left ≡ ended.drawn ++ ended.left
+left_is opened middle ended draws none first all =
+    let drawn : ended.drawn ≡ draws = all.drawn ∙ ap (λ (d : List (List ℕ)). d ++ draws) none in
+    sym first.left ∙ all.left ∙ ap (λ (d : List (List ℕ)). d ++ ended.left) (sym drawn)
+
+told_by : (plan : ClientPlan) (seed : List ℕ) (boot : ℕ) (before opened middle ran ended : Sight) (happened : List Happening) (steps : List Step) (last : Standing State)
+    (later : List Happening) (moments_later : List ℕ) (drawn_later : List (List ℕ)) (put put2 put3 : List ℕ) →
+    Opens seed boot before opened [] → Performs [] (first_actions plan) happened → Shows opened middle happened [] [] put →
+    AreSteps client_machine (standing_at (dialling plan) (made_events happened) middle) steps last → Shows middle ran (story_of steps) (moments_of steps) (drawn_of steps) put2 →
+    Shows ran ended later moments_later drawn_later put3 → Told plan before ended steps last later moments_later
+told_by plan seed boot before opened middle ran ended happened steps last later moments_later drawn_later put put2 put3 opens performs first are run more =
+    let rest = Shows-trans middle ran ended (story_of steps) later (moments_of steps) moments_later (drawn_of steps) drawn_later put2 put3 run more in
+    let all = Shows-trans opened middle ended happened (story_of steps ++ later) [] (moments_of steps ++ moments_later) [] (drawn_of steps ++ drawn_later) put (put2 ++ put3) first rest in
+    let left = left_is opened.drawing middle.drawing ended.drawing (drawn_of steps ++ drawn_later) opens.none_drawn first.drawing all.drawing in
+    record {
+      happened = happened;
+      performs = performs;
+      are = subst (λ (l : List (List ℕ)). AreSteps client_machine (record { state = dialling plan; queue = made_events happened; left = l }) steps last) left are;
+      story = Appends-trans before.story opened.story ended.story [] (happened ++ (story_of steps ++ later)) opens.story all.story;
+      moments = subst (λ (m : Option (List ℕ)). Appends m ended.moments (moments_of steps ++ moments_later)) opens.moments all.moments;
+    }
+
+-- ---- two runs that the same outside shows
+
+told_items : {X : Type 0} (old new : Option (List X)) (all items more : List X) → old ≡ Some all → new ≡ Some (all ++ more) → Appends old new items → items ≡ more
+told_items {X} old new all items more is now told =
+    let here : Appends old (Some (all ++ more)) items = subst (λ (n : Option (List X)). Appends old n items) now told in
+    let there : all ++ more ≡ all ++ items = subst (λ (o : Option (List X)). Appends o (Some (all ++ more)) items) is here in
+    append_cancel_left all items more (sym there)
+
+record Compared (plan : ClientPlan) (drawing : Drawing) (steps others : List Step) (last other : Standing State) (later later2 : List Happening) (given given2 : List ℕ) : Type 0 where
+  happened : List Happening
+  are : AreSteps client_machine (start_of plan happened drawing) steps last
+  others_are : AreSteps client_machine (start_of plan happened drawing) others other
+  story : story_of steps ++ later ≡ story_of others ++ later2
+  moments : moments_of steps ++ given ≡ moments_of others ++ given2
+
+compare : (plan : ClientPlan) (before after : Sight) (steps others : List Step) (last other : Standing State) (later later2 : List Happening) (moments moments2 : List ℕ) →
+    Told plan before after steps last later moments → TellsRun plan before after others other later2 moments2 → Compared plan after.drawing steps others last other later later2 moments moments2
+compare plan before after steps others last other later later2 moments moments2 one two =
+    let story = told_items before.story after.story two.story (one.happened ++ (story_of steps ++ later)) (two.happened ++ (story_of others ++ later2)) two.story_before two.story_after one.story in
+    let times = told_items before.moments after.moments two.moments (moments_of steps ++ moments) (moments_of others ++ moments2) two.moments_before two.moments_after one.moments in
+    let same = performs_same [] (first_actions plan) one.happened two.happened (story_of steps ++ later) (story_of others ++ later2) one.performs two.performs story in
+    record {
+      happened = one.happened;
+      are = one.are;
+      others_are = subst (λ (h : List Happening). AreSteps client_machine (start_of plan h after.drawing) others other) (sym same.0) two.are;
+      story = same.1;
+      moments = times;
+    }
+
+-- the one was spent, the other is whole
+spent_is_none : (plan : ClientPlan) (drawing : Drawing) (steps others : List Step) (last other : Standing State) (step : Step) (waiting : List Event) (stop : List Happening) →
+    Compared plan drawing steps others last other (step_story step) stop (step.moment ∷ []) [] → Chooses client_machine last.state last.queue step waiting →
+    (step_of last.state step.event step.moment last.left).answer ≡ Err refusals.Spent → ⊥
+spent_is_none plan drawing steps others last other step waiting stop same chooses spent =
+    let story : story_of steps ++ (step_story step ++ []) ≡ story_of others ++ stop = ap (λ (h : List Happening). story_of steps ++ h) (append-nil (step_story step)) ∙ same.story in
+    spent_not_whole client_machine (start_of plan same.happened drawing) last other steps others step waiting [] stop same.are chooses spent same.others_are story
+    (same.moments ∙ append-nil (moments_of others))
+
+-- ---- the exit
+
+says_exit : (outcome : Option ClientOutcome) (before now : Option (List ℕ)) (exit : Exit) → Says outcome before now exit → (exit ≡ outcome_exit outcome) ⊎ IsExcuse exit
+says_exit outcome before now Done says = inl says.0
+says_exit outcome before now (Refused cause) says = inl says.0
+says_exit outcome before now (BadWords number) says = inl says.0
+says_exit outcome before now FileFault says = inl says.0
+says_exit outcome before now (BadTable cause) says = inl says.0
+says_exit outcome before now (BadInput number) says = inl says.0
+says_exit outcome before now PortFault says = inl says.0
+says_exit outcome before now SinkFault says = inr tt
+says_exit outcome before now NoMemory says = inr tt
+says_exit outcome before now (NoAnswer cause) says = inl says.0
+says_exit outcome before now (BadPeer fault) says = inl says.0
+says_exit outcome before now Spent says = inl says.0
+
+concluded : (plan : ClientPlan) (seed : List ℕ) (boot : ℕ) (before opened after : Sight) (exit : Exit) (opens : Opens seed boot before opened []) (ends : Concludes plan opened after exit) →
+    Told plan before after ends.run.run.ran.steps (end_at ends.last ends.run.run.left) ends.run.run.stop []
+concluded plan seed boot before opened after exit opens ends =
+    subst (λ (s : Sight). Told plan before s ends.run.run.ran.steps (end_at ends.last ends.run.run.left) ends.run.run.stop []) (sym ends.only)
+    (let told = told_by plan seed boot before opened ends.run.middle ends.run.run.middle ends.ended ends.run.happened ends.run.run.ran.steps (end_at ends.last ends.run.run.left) ends.run.run.stop [] [] _ _ [] opens
+    ends.run.performs ends.run.shows ends.run.run.ran.are ends.run.run.ran.shows ends.run.run.shows in
+    record { happened = told.happened; performs = told.performs; are = told.are; story = told.story; moments = told.moments })
+
+record Spends (plan : ClientPlan) (before after : Sight) : Type 0 where
+  steps : List Step
+  last : Standing State
+  step : Step
+  waiting : List Event
+  told : Told plan before after steps last (step_story step) (step.moment ∷ [])
+  chooses : Chooses client_machine last.state last.queue step waiting
+  spent : (step_of last.state step.event step.moment last.left).answer ≡ Err refusals.Spent
+
+spends : (plan : ClientPlan) (seed : List ℕ) (boot : ℕ) (before opened after : Sight) → Opens seed boot before opened [] →
+    BegunUntil client_machine (first_actions plan) (dialling plan) most_answers opened after halts.Spent → Spends plan before after
+spends plan seed boot before opened after opens (inl cut) = absurd cut.0
+spends plan seed boot before opened after opens (inr half) = record {
+  steps = half.run.ran.steps;
+  last = half.run.last;
+  step = half.run.step;
+  waiting = half.run.begins.waiting;
+  told = told_by plan seed boot before opened half.middle half.run.middle after half.happened half.run.ran.steps half.run.last (step_story half.run.step) (half.run.step.moment ∷ []) half.run.step.drawn _ _ _ opens
+      half.performs half.shows half.run.ran.are half.run.ran.shows half.run.shows;
+  chooses = half.run.begins.chooses;
+  spent = half.run.begins.breaks.0;
+}
+
+-- the run came to where it would ask for one more event
+record AsksStill (plan : ClientPlan) (before after : Sight) : Type 0 where
+  steps : List Step
+  last : Standing State
+  told : Told plan before after steps last [] []
+  more : asked_by steps < most_answers
+  open_still : client_machine.is_over last.state ≡ false
+
+asks_still : (plan : ClientPlan) (seed : List ℕ) (boot : ℕ) (before opened after : Sight) → Opens seed boot before opened [] →
+    BegunUntil client_machine (first_actions plan) (dialling plan) most_answers opened after halts.PortFault → AsksStill plan before after
+asks_still plan seed boot before opened after opens (inl cut) = absurd cut.0
+asks_still plan seed boot before opened after opens (inr half) = record {
+  steps = half.run.ran.steps;
+  last = half.run.last;
+  told = told_by plan seed boot before opened half.middle after after half.happened half.run.ran.steps half.run.last [] [] [] _ _ _ opens
+      half.performs half.shows half.run.ran.are half.run.ran.shows (Shows-none after);
+  more = subst (λ (n : ℕ). n < most_answers) half.run.ran.count half.run.more;
+  open_still = half.run.open_still;
+}
+
+-- a run that would ask for one more event isn't at its end
+asks_not_closed : (steps others : List Step) (state : State) (left : List (List ℕ)) (last : Standing State) (stop : List Happening) (start : Standing State) → AreSteps client_machine start steps last →
+    AreSteps client_machine start others (end_at state left) → story_of steps ++ [] ≡ story_of others ++ stop → last ≡ end_at state left → [] ≡ stop →
+    asked_by steps < most_answers → client_machine.is_over last.state ≡ false → Closes client_machine (end_at state left) (asked_by others) most_answers stop → ⊥
+asks_not_closed steps others state left last stop start are others_are story same none more open_still (inl over) =
+    let wrong : false ≡ true = sym open_still ∙ ap (λ (s : Standing State). client_machine.is_over s.state) same ∙ over.0 in cc
+asks_not_closed steps others state left last stop start are others_are story same none more open_still (inr (inl took)) =
+    let alike : story_of steps ≡ story_of others = sym (append-nil (story_of steps)) ∙ story ∙ ap (λ (h : List Happening). story_of others ++ h) took.1 ∙ append-nil (story_of others) in
+    let count : asked_by steps ≡ asked_by others = sym (asks_for client_machine start last steps are).count ∙ ap (λ (h : List Happening). length (events_in h)) alike ∙ (asks_for client_machine start (end_at state left) others others_are).count in
+    omega (arith, more, count, took.0)
+asks_not_closed steps others state left last stop start are others_are story same none more open_still (inr (inr stopped)) =
+    let wrong : [] ≡ happening.Given event.Stop (client_machine.want state) ∷ [] = none ∙ stopped.2 in cc
+
+outcome_by : (plan : ClientPlan) (seed : List ℕ) (boot : ℕ) (before opened after : Sight) (exit : Exit) (outcome : Option ClientOutcome) → Opens seed boot before opened [] → ComesTo plan before after outcome →
+    (halt : Halt) → exit ≡ halt_exit halt → BegunUntil client_machine (first_actions plan) (dialling plan) most_answers opened after halt → (exit ≡ outcome_exit outcome) ⊎ IsExcuse exit
+outcome_by plan seed boot before opened after exit outcome opens comes halts.PortFault is run =
+    let asks = asks_still plan seed boot before opened after opens run in
+    let same = compare plan before after asks.steps comes.steps asks.last (end_at comes.state comes.left) [] comes.stop [] [] asks.told comes.tells in
+    let whole = both_whole client_machine (start_of plan same.happened after.drawing) asks.last (end_at comes.state comes.left) asks.steps comes.steps [] comes.stop same.are same.others_are
+    same.story (append_cancel_right (moments_of asks.steps) (moments_of comes.steps) [] same.moments) in
+    absurd (asks_not_closed asks.steps comes.steps comes.state comes.left asks.last comes.stop (start_of plan same.happened after.drawing) same.are same.others_are same.story whole.0 whole.1 asks.more asks.open_still comes.closes)
+outcome_by plan seed boot before opened after exit outcome opens comes halts.SinkFault is run = inr (subst IsExcuse (sym is) tt)
+outcome_by plan seed boot before opened after exit outcome opens comes halts.NoMemory is run = inr (subst IsExcuse (sym is) tt)
+outcome_by plan seed boot before opened after exit outcome opens comes halts.Spent is run =
+    let spent = spends plan seed boot before opened after opens run in
+    absurd (spent_is_none plan after.drawing spent.steps comes.steps spent.last (end_at comes.state comes.left) spent.step spent.waiting comes.stop
+    (compare plan before after spent.steps comes.steps spent.last (end_at comes.state comes.left) (step_story spent.step) comes.stop (spent.step.moment ∷ []) [] spent.told comes.tells) spent.chooses spent.spent)
+
+outcome_law : (plan : ClientPlan) (seed : List ℕ) (boot : ℕ) (before after : Sight) (exit : Exit) (outcome : Option ClientOutcome) →
+    LogonEnds plan seed boot before after exit → ComesTo plan before after outcome → (exit ≡ outcome_exit outcome) ⊎ IsExcuse exit
+outcome_law plan seed boot before after exit outcome logon comes =
+    elim logon.ends [
+      | inl none ↦ inr (subst IsExcuse (sym none.0) tt)
+      | inr begun ↦ elim begun [
+        | inl breaks ↦ outcome_by plan seed boot before logon.opened after exit outcome logon.opens comes breaks.halt breaks.exit_is breaks.run
+        | inr ends ↦
+            let told = concluded plan seed boot before logon.opened after exit logon.opens ends in
+            let same = compare plan before after ends.run.run.ran.steps comes.steps (end_at ends.last ends.run.run.left) (end_at comes.state comes.left) ends.run.run.stop comes.stop [] [] told comes.tells in
+            let whole = both_whole client_machine (start_of plan same.happened after.drawing) (end_at ends.last ends.run.run.left) (end_at comes.state comes.left) ends.run.run.ran.steps comes.steps ends.run.run.stop comes.stop same.are same.others_are
+            same.story (append_cancel_right (moments_of ends.run.run.ran.steps) (moments_of comes.steps) [] same.moments) in
+            let outcome_is : ends.last.outcome ≡ outcome = ap (λ (s : Standing State). s.state.outcome) whole.0 ∙ comes.outcome_is in
+            subst (λ (o : Option ClientOutcome). (exit ≡ outcome_exit o) ⊎ IsExcuse exit) outcome_is (says_exit ends.last.outcome ends.ended.taken after.taken exit ends.says)
+      ]
+    ]
+
+-- which event is stepped doesn't depend on what happens then
+quiet_chooses : (state : State) (queue : List Event) (step : Step) (waiting : List Event) → Chooses client_machine state queue step waiting → Chooses client_machine state queue (record step { happened = [] }) waiting
+quiet_chooses state [] step waiting chooses = chooses
+quiet_chooses state (first ∷ later) step waiting chooses = chooses
+
+-- a run that is told to come to a step that draws too many isn't whole
+spent_not_told : (plan : ClientPlan) (before after : Sight) (steps : List Step) (last : Standing State) (stop : List Happening) → Told plan before after steps last stop [] → ComesToSpent plan before after → ⊥
+spent_not_told plan before after steps last stop told comes =
+    let same = compare plan before after steps comes.steps last comes.last stop comes.step.asked [] (comes.step.moment ∷ []) told comes.tells in
+    let quiet : Step = record comes.step { happened = [] } in
+    let story : story_of comes.steps ++ (step_story quiet ++ []) ≡ story_of steps ++ stop =
+    ap (λ (h : List Happening). story_of comes.steps ++ h) (append-nil (step_story quiet) ∙ append-nil comes.step.asked) ∙ sym same.story in
+    spent_not_whole client_machine (start_of plan same.happened after.drawing) comes.last last comes.steps steps quiet comes.waiting [] stop
+    same.others_are (quiet_chooses comes.last.state comes.last.queue comes.step comes.waiting comes.chooses) comes.spent same.are story (sym same.moments ∙ append-nil (moments_of steps))
+
+spent_by : (plan : ClientPlan) (seed : List ℕ) (boot : ℕ) (before opened after : Sight) (exit : Exit) → Opens seed boot before opened [] → ComesToSpent plan before after →
+    (halt : Halt) → exit ≡ halt_exit halt → BegunUntil client_machine (first_actions plan) (dialling plan) most_answers opened after halt → (exit ≡ Spent) ⊎ IsExcuse exit
+spent_by plan seed boot before opened after exit opens comes halts.PortFault is run =
+    let asks = asks_still plan seed boot before opened after opens run in
+    absurd (spent_not_told plan before after asks.steps asks.last [] asks.told comes)
+spent_by plan seed boot before opened after exit opens comes halts.SinkFault is run = inr (subst IsExcuse (sym is) tt)
+spent_by plan seed boot before opened after exit opens comes halts.NoMemory is run = inr (subst IsExcuse (sym is) tt)
+spent_by plan seed boot before opened after exit opens comes halts.Spent is run = inl is
+
+spent_law : (plan : ClientPlan) (seed : List ℕ) (boot : ℕ) (before after : Sight) (exit : Exit) →
+    LogonEnds plan seed boot before after exit → ComesToSpent plan before after → (exit ≡ Spent) ⊎ IsExcuse exit
+spent_law plan seed boot before after exit logon comes =
+    elim logon.ends [
+      | inl none ↦ inr (subst IsExcuse (sym none.0) tt)
+      | inr begun ↦ elim begun [
+        | inl breaks ↦ spent_by plan seed boot before logon.opened after exit logon.opens comes breaks.halt breaks.exit_is breaks.run
+        | inr ends ↦ absurd (spent_not_told plan before after ends.run.run.ran.steps (end_at ends.last ends.run.run.left) ends.run.run.stop (concluded plan seed boot before logon.opened after exit logon.opens ends) comes)
+      ]
+    ]
+
+-- ---- what is put: a client puts no line while it runs
+
+no_line : (what : Action) → puts client_machine what ≡ []
+no_line (action.Send link bytes) = refl
+no_line (action.Dial peer) = refl
+no_line (action.Close link cause) = refl
+no_line (action.Told link outcome) = refl
+no_line (action.Judged judged) = refl
+
+no_lines : (actions : List Action) → flat_map (puts client_machine) actions ≡ []
+no_lines [] = refl
+no_lines (what ∷ actions) = ap (λ (l : List ℕ). l ++ flat_map (puts client_machine) actions) (no_line what) ∙ no_lines actions
+
+no_run_lines : (steps : List Step) → lines_of (puts client_machine) steps ≡ []
+no_run_lines [] = refl
+no_run_lines (step ∷ steps) = ap (λ (l : List ℕ). l ++ lines_of (puts client_machine) steps) (no_lines step.actions) ∙ no_run_lines steps
+
+no_next : (rest : List Action) → next_line (puts client_machine) rest ≡ []
+no_next [] = refl
+no_next (what ∷ rest) = no_line what
+
+no_front : {X : Type 0} (part more : List X) → part ++ more ≡ [] → part ≡ []
+no_front [] more is = refl
+no_front (x ∷ part) more is = absurd cc
+
+no_part : (part more : List ℕ) (rest : List Action) → part ++ more ≡ next_line (puts client_machine) rest → part ≡ []
+no_part part more rest front = no_front part more (front ∙ no_next rest)
+
+quiet : (before after : Sight) (happened : List Happening) (given : List ℕ) (drawn : List (List ℕ)) (put : List ℕ) → put ≡ [] → Shows before after happened given drawn put → Appends before.taken after.taken []
+quiet before after happened given drawn put none shows = subst (λ (p : List ℕ). Appends before.taken after.taken p) none shows.taken
+
+joined : (first second third : Option (List ℕ)) → Appends first second [] → Appends second third [] → Appends first third []
+joined first second third one other = Appends-trans first second third [] [] one other
+
+into_quiet : (start : Standing State) (most : ℕ) (before after : Sight) (halt : Halt) → RanInto client_machine start most before after halt → Appends before.taken after.taken []
+into_quiet start most before after halt into =
+    joined before.taken into.middle.taken after.taken (quiet before into.middle _ _ _ _ (no_run_lines into.ran.steps) into.ran.shows)
+    (quiet into.middle after _ _ _ _ (ap (λ (l : List ℕ). l ++ into.part) (no_lines into.step.actions) ∙ no_part into.part into.begins.more into.begins.rest into.begins.front) into.shows)
+
+halts_quiet : (start : Standing State) (most : ℕ) (before after : Sight) (halt : Halt) → Halts client_machine start most before after halt → Appends before.taken after.taken []
+halts_quiet start most before after halts.PortFault run = quiet before after _ _ _ _ (no_run_lines run.ran.steps) run.ran.shows
+halts_quiet start most before after halts.SinkFault run = into_quiet start most before after halts.SinkFault run
+halts_quiet start most before after halts.NoMemory (inl run) = quiet before after _ _ _ _ (no_run_lines run.ran.steps) run.ran.shows
+halts_quiet start most before after halts.NoMemory (inr run) = into_quiet start most before after halts.NoMemory run
+halts_quiet start most before after halts.Spent run = into_quiet start most before after halts.Spent run
+
+until_quiet : (first : List Action) (old : State) (most : ℕ) (before after : Sight) (halt : Halt) → BegunUntil client_machine first old most before after halt → Appends before.taken after.taken []
+until_quiet first old most before after halt (inl cut) =
+    quiet before after _ _ _ _ (ap (λ (l : List ℕ). l ++ cut.1.part) (no_lines cut.1.done) ∙ no_part cut.1.part cut.1.more cut.1.rest cut.1.front) cut.1.shows
+until_quiet first old most before after halt (inr half) =
+    joined before.taken half.middle.taken after.taken (quiet before half.middle _ _ _ _ (no_lines first) half.shows) (halts_quiet _ most half.middle after halt half.run)
+
+begun_quiet : (first : List Action) (old new : State) (most : ℕ) (before after : Sight) → Begun client_machine first old new most before after → Appends before.taken after.taken []
+begun_quiet first old new most before after begun =
+    joined before.taken begun.middle.taken after.taken (quiet before begun.middle _ _ _ _ (no_lines first) begun.shows)
+    (joined begun.middle.taken begun.run.middle.taken after.taken (quiet begun.middle begun.run.middle _ _ _ _ (no_run_lines begun.run.ran.steps) begun.run.ran.shows) (quiet begun.run.middle after _ _ _ _ refl begun.run.shows))
+
+nothing_front : (before now : Option (List ℕ)) (items : List ℕ) → Appends before now [] → AppendsFront before now items
+nothing_front before now items none = AppendsFront-append before now [] items none
+
+halt_puts : (halt : Halt) (exit : Exit) (before now : Option (List ℕ)) → exit ≡ halt_exit halt → Appends before now [] → Puts exit before now
+halt_puts halts.PortFault exit before now is none = subst (λ (e : Exit). Puts e before now) (sym is) none
+halt_puts halts.SinkFault exit before now is none = subst (λ (e : Exit). Puts e before now) (sym is) ([], 0, nothing_front before now (in_lines [] 0) none)
+halt_puts halts.NoMemory exit before now is none = subst (λ (e : Exit). Puts e before now) (sym is) none
+halt_puts halts.Spent exit before now is none = subst (λ (e : Exit). Puts e before now) (sym is) none
+
+outcome_puts : (outcome : Option ClientOutcome) (before now : Option (List ℕ)) → Appends before now (outcome_lines outcome) → Puts (outcome_exit outcome) before now
+outcome_puts None before now told = told
+outcome_puts (Some (outcomes.In name key echoed)) before now told = (name, echoed, told)
+outcome_puts (Some (outcomes.Refused cause)) before now told = told
+outcome_puts (Some (outcomes.NoAnswer cause)) before now told = told
+outcome_puts (Some (outcomes.BadPeer fault)) before now told = told
+
+whole_puts : (outcome : Option ClientOutcome) (before now : Option (List ℕ)) (exit : Exit) → exit ≡ outcome_exit outcome → Appends before now (outcome_lines outcome) → Puts exit before now
+whole_puts outcome before now exit is told = subst (λ (e : Exit). Puts e before now) (sym is) (outcome_puts outcome before now told)
+
+front_nothing : (before now : Option (List ℕ)) → AppendsFront before now [] → Appends before now []
+front_nothing before now told =
+    let part = AppendsFront-part before now [] told in
+    subst (λ (p : List ℕ). Appends before now p) (no_front part.part part.more part.all) part.told
+
+cut_puts : (outcome : Option ClientOutcome) (before now : Option (List ℕ)) → AppendsFront before now (outcome_lines outcome) → Puts SinkFault before now
+cut_puts None before now told = ([], 0, nothing_front before now (in_lines [] 0) (front_nothing before now told))
+cut_puts (Some (outcomes.In name key echoed)) before now told = (name, echoed, told)
+cut_puts (Some (outcomes.Refused cause)) before now told = ([], 0, nothing_front before now (in_lines [] 0) (front_nothing before now told))
+cut_puts (Some (outcomes.NoAnswer cause)) before now told = ([], 0, nothing_front before now (in_lines [] 0) (front_nothing before now told))
+cut_puts (Some (outcomes.BadPeer fault)) before now told = ([], 0, nothing_front before now (in_lines [] 0) (front_nothing before now told))
+
+says_puts : (outcome : Option ClientOutcome) (before now : Option (List ℕ)) (exit : Exit) → Says outcome before now exit → Puts exit before now
+says_puts outcome before now Done says = whole_puts outcome before now Done says.0 says.1
+says_puts outcome before now (Refused cause) says = whole_puts outcome before now (Refused cause) says.0 says.1
+says_puts outcome before now (BadWords number) says = whole_puts outcome before now (BadWords number) says.0 says.1
+says_puts outcome before now FileFault says = whole_puts outcome before now FileFault says.0 says.1
+says_puts outcome before now (BadTable cause) says = whole_puts outcome before now (BadTable cause) says.0 says.1
+says_puts outcome before now (BadInput number) says = whole_puts outcome before now (BadInput number) says.0 says.1
+says_puts outcome before now PortFault says = whole_puts outcome before now PortFault says.0 says.1
+says_puts outcome before now SinkFault says = cut_puts outcome before now says
+says_puts outcome before now NoMemory says = subst (λ (n : Option (List ℕ)). Appends before n []) (sym says) (Appends-nothing before)
+says_puts outcome before now (NoAnswer cause) says = whole_puts outcome before now (NoAnswer cause) says.0 says.1
+says_puts outcome before now (BadPeer fault) says = whole_puts outcome before now (BadPeer fault) says.0 says.1
+says_puts outcome before now Spent says = whole_puts outcome before now Spent says.0 says.1
+
+front_since : (first second third : Option (List ℕ)) (items : List ℕ) → Appends first second [] → AppendsFront second third items → AppendsFront first third items
+front_since first second third items none told =
+    let part = AppendsFront-part second third items told in
+    subst (λ (i : List ℕ). AppendsFront first third i) part.all (AppendsFront-append first third part.part part.more (Appends-trans first second third [] part.part none part.told))
+
+-- what was told before nothing was put is what is told
+since : (exit : Exit) (first second third : Option (List ℕ)) → Appends first second [] → Puts exit second third → Puts exit first third
+since Done first second third none puts = (puts.0, puts.1, Appends-trans first second third [] (in_lines puts.0 puts.1) none puts.2)
+since SinkFault first second third none puts = (puts.0, puts.1, front_since first second third (in_lines puts.0 puts.1) none puts.2)
+since (Refused cause) first second third none puts = joined first second third none puts
+since (BadWords number) first second third none puts = joined first second third none puts
+since FileFault first second third none puts = joined first second third none puts
+since (BadTable cause) first second third none puts = joined first second third none puts
+since (BadInput number) first second third none puts = joined first second third none puts
+since PortFault first second third none puts = joined first second third none puts
+since NoMemory first second third none puts = joined first second third none puts
+since (NoAnswer cause) first second third none puts = joined first second third none puts
+since (BadPeer fault) first second third none puts = joined first second third none puts
+since Spent first second third none puts = joined first second third none puts
+
+puts_law : (plan : ClientPlan) (seed : List ℕ) (boot : ℕ) (before after : Sight) (exit : Exit) → LogonEnds plan seed boot before after exit → Puts exit before.taken after.taken
+puts_law plan seed boot before after exit logon =
+    subst (λ (t : Option (List ℕ)). Puts exit t after.taken) logon.opens.taken
+    (elim logon.ends [
+      | inl none ↦ subst (λ (e : Exit). Puts e logon.opened.taken after.taken) (sym none.0) (subst (λ (s : Sight). Appends logon.opened.taken s.taken []) (sym none.1) (Appends-nothing logon.opened.taken))
+      | inr begun ↦ elim begun [
+        | inl breaks ↦ halt_puts breaks.halt exit logon.opened.taken after.taken breaks.exit_is (until_quiet (first_actions plan) (dialling plan) most_answers logon.opened after breaks.halt breaks.run)
+        | inr ends ↦ since exit logon.opened.taken ends.ended.taken after.taken (begun_quiet (first_actions plan) (dialling plan) ends.last most_answers logon.opened ends.ended ends.run) (says_puts ends.last.outcome ends.ended.taken after.taken exit ends.says)
+      ]
+    ])
+
+-- ---- a dial that failed
+
+fails_by : (outcome : Option ClientOutcome) → NoAnswer DialFailed ≡ outcome_exit outcome → is_dial_failed outcome ≡ true
+fails_by None is = absurd cc
+fails_by (Some (outcomes.In name key echoed)) is = absurd cc
+fails_by (Some (outcomes.Refused cause)) is = absurd cc
+fails_by (Some (outcomes.NoAnswer DialFailed)) is = refl
+fails_by (Some (outcomes.NoAnswer LinkClosed)) is = absurd cc
+fails_by (Some (outcomes.NoAnswer NoController)) is = absurd cc
+fails_by (Some (outcomes.BadPeer fault)) is = absurd cc
+
+never_dial : (halt : Halt) → NoAnswer DialFailed ≡ halt_exit halt → ⊥
+never_dial halts.PortFault is = absurd cc
+never_dial halts.SinkFault is = absurd cc
+never_dial halts.NoMemory is = absurd cc
+never_dial halts.Spent is = absurd cc
+
+dial_law : (plan : ClientPlan) (seed : List ℕ) (boot : ℕ) (before after : Sight) (exit : Exit) → LogonEnds plan seed boot before after exit → exit ≡ NoAnswer DialFailed → Rose before.link_faults after.link_faults
+dial_law plan seed boot before after exit logon is =
+    elim logon.ends [
+      | inl none ↦ absurd (let never : NoMemory ≡ NoAnswer DialFailed = sym none.0 ∙ is in cc)
+      | inr begun ↦ elim begun [
+        | inl breaks ↦ absurd (never_dial breaks.halt (sym is ∙ breaks.exit_is))
+        | inr ends ↦
+            let says : Says ends.last.outcome ends.ended.taken after.taken (NoAnswer DialFailed) = subst (λ (e : Exit). Says ends.last.outcome ends.ended.taken after.taken e) is ends.says in
+            let rose = dial_cause plan ends.last most_answers logon.opened ends.ended ends.run (fails_by ends.last.outcome says.0) in
+            let faults : after.link_faults ≡ ends.ended.link_faults = ap (λ (s : Sight). s.link_faults) ends.only in
+            subst (λ (n : ℕ). Rose before.link_faults n) (sym faults) (subst (λ (n : ℕ). Rose n ends.ended.link_faults) logon.opens.link_faults rose)
+      ]
+    ]
+
+-- ---- a link that was lost
+
+closed_by : (outcome : Option ClientOutcome) → NoAnswer LinkClosed ≡ outcome_exit outcome → (outcome ≡ None) ⊎ (is_link_closed outcome ≡ true)
+closed_by None is = inl refl
+closed_by (Some (outcomes.In name key echoed)) is = absurd cc
+closed_by (Some (outcomes.Refused cause)) is = absurd cc
+closed_by (Some (outcomes.NoAnswer DialFailed)) is = absurd cc
+closed_by (Some (outcomes.NoAnswer LinkClosed)) is = inr refl
+closed_by (Some (outcomes.NoAnswer NoController)) is = absurd cc
+closed_by (Some (outcomes.BadPeer fault)) is = absurd cc
+
+never_closed : (halt : Halt) → NoAnswer LinkClosed ≡ halt_exit halt → ⊥
+never_closed halts.PortFault is = absurd cc
+never_closed halts.SinkFault is = absurd cc
+never_closed halts.NoMemory is = absurd cc
+never_closed halts.Spent is = absurd cc
+
+around : (seed : List ℕ) (boot : ℕ) (before opened ended after : Sight) (happened : List Happening) → Opens seed boot before opened [] → after ≡ record ended { taken = after.taken } →
+    Appends opened.story ended.story happened → Appends before.story after.story happened
+around seed boot before opened ended after happened opens only told =
+    subst (λ (s : Option (List Happening)). Appends before.story s happened) (sym (ap (λ (s : Sight). s.story) only))
+    (Appends-trans before.story opened.story ended.story [] happened opens.story told)
+
+-- the challenges were started before, and the outcome was said after it
+loses_around : (seed : List ℕ) (boot : ℕ) (before opened ended after : Sight) → Opens seed boot before opened [] → after ≡ record ended { taken = after.taken } → LosesLink opened ended → LosesLink before after
+loses_around seed boot before opened ended after opens only (Gone happened told gone) = Gone happened (around seed boot before opened ended after happened opens only told) gone
+loses_around seed boot before opened ended after opens only (Stopped happened told stops) = Stopped happened (around seed boot before opened ended after happened opens only told) stops
+loses_around seed boot before opened ended after opens only (TookAll happened told all) = TookAll happened (around seed boot before opened ended after happened opens only told) all
+loses_around seed boot before opened ended after opens only (SendFailed rose) =
+    SendFailed (subst (λ (n : ℕ). Rose before.link_faults n) (sym (ap (λ (s : Sight). s.link_faults) only)) (subst (λ (n : ℕ). Rose n ended.link_faults) opens.link_faults rose))
+
+closed_law : (plan : ClientPlan) (seed : List ℕ) (boot : ℕ) (before after : Sight) (exit : Exit) → LogonEnds plan seed boot before after exit → exit ≡ NoAnswer LinkClosed → LosesLink before after
+closed_law plan seed boot before after exit logon is =
+    elim logon.ends [
+      | inl none ↦ absurd (let never : NoMemory ≡ NoAnswer LinkClosed = sym none.0 ∙ is in cc)
+      | inr begun ↦ elim begun [
+        | inl breaks ↦ absurd (never_closed breaks.halt (sym is ∙ breaks.exit_is))
+        | inr ends ↦
+            let says : Says ends.last.outcome ends.ended.taken after.taken (NoAnswer LinkClosed) = subst (λ (e : Exit). Says ends.last.outcome ends.ended.taken after.taken e) is ends.says in
+            loses_around seed boot before logon.opened ends.ended after logon.opens ends.only (loses_link plan ends.last logon.opened ends.ended ends.run (closed_by ends.last.outcome says.0))
+      ]
+    ]
+
+-- ---- the exits of a client
+
+halt_is : (halt : Halt) → IsOfClients (halt_exit halt)
+halt_is halts.PortFault = tt
+halt_is halts.SinkFault = tt
+halt_is halts.NoMemory = tt
+halt_is halts.Spent = tt
+
+outcome_exit_is : (outcome : Option ClientOutcome) → IsOfClients (outcome_exit outcome)
+outcome_exit_is None = tt
+outcome_exit_is (Some (outcomes.In name key echoed)) = tt
+outcome_exit_is (Some (outcomes.Refused cause)) = tt
+outcome_exit_is (Some (outcomes.NoAnswer cause)) = tt
+outcome_exit_is (Some (outcomes.BadPeer fault)) = tt
+
+excuse_is : (exit : Exit) → IsExcuse exit → IsOfClients exit
+excuse_is Done is = absurd is
+excuse_is (Refused cause) is = absurd is
+excuse_is (BadWords number) is = absurd is
+excuse_is FileFault is = absurd is
+excuse_is (BadTable cause) is = absurd is
+excuse_is (BadInput number) is = absurd is
+excuse_is PortFault is = absurd is
+excuse_is SinkFault is = tt
+excuse_is NoMemory is = tt
+excuse_is (NoAnswer cause) is = absurd is
+excuse_is (BadPeer fault) is = absurd is
+excuse_is Spent is = absurd is
+
+either_is : (outcome : Option ClientOutcome) (exit : Exit) → (exit ≡ outcome_exit outcome) ⊎ IsExcuse exit → IsOfClients exit
+either_is outcome exit (inl is) = subst IsOfClients (sym is) (outcome_exit_is outcome)
+either_is outcome exit (inr is) = excuse_is exit is
+
+exits_law : (plan : ClientPlan) (seed : List ℕ) (boot : ℕ) (before after : Sight) (exit : Exit) → LogonEnds plan seed boot before after exit → IsOfClients exit
+exits_law plan seed boot before after exit logon =
+    elim logon.ends [
+      | inl none ↦ subst IsOfClients (sym none.0) tt
+      | inr begun ↦ elim begun [
+        | inl breaks ↦ subst IsOfClients (sym breaks.exit_is) (halt_is breaks.halt)
+        | inr ends ↦ either_is ends.last.outcome exit (says_exit ends.last.outcome ends.ended.taken after.taken exit ends.says)
+      ]
+    ]
+
+pub logon_laws : LogonLaws
+logon_laws = record { outcome = outcome_law; spent = spent_law; puts = puts_law; dial = dial_law; closed = closed_law; exits = exits_law }

@@ -1,0 +1,160 @@
+-- When each exit of `logon` comes, by what the outside tells, and what is put then (this project's own choice).
+use Rattle.std.specs.Prelude.{ℕ, ◌≡◌, ◌⊎◌, ◌==◌, ◌++◌, Bool, true, false, List, [], ◌∷◌, length, Option, Some, Ok, Err}
+use Rattle.std.specs.List.{list_any}
+use Rattle.outside.specs.Causes.{Rose}
+use Rattle.outside.specs.Drawing.{Drawing}
+use Rattle.outside.specs.Telling.{Appends, AppendsFront}
+use Rattle.outside.specs.declared.action.StepRefused.TheVariants as refusals
+use Rattle.outside.specs.declared.event.Event.{Event}
+use Rattle.outside.specs.declared.event.Event.TheVariants as event
+use Rattle.outside.specs.declared.event.Happening.{Happening}
+use Rattle.outside.specs.declared.event.Happening.TheVariants as happening
+use Rattle.outside.specs.Stories.{events_in}
+use Rattle.end_loop.specs.Acts.{Performs, made_events}
+use Rattle.end_loop.specs.Runs.{Standing, Step, AreSteps, Chooses, Closes, asked_by, moments_of, story_of}
+use Rattle.end_loop.specs.Seen.{Sight}
+use Rattle.logon_client.specs.declared.outcome.ClientOutcome.{ClientOutcome}
+use Rattle.logon_client.specs.declared.outcome.NoAnswerCause.TheVariants.{DialFailed, LinkClosed}
+use Rattle.logon_client.specs.declared.plan.ClientPlan.{ClientPlan}
+use Rattle.logon_client.specs.Machine.{client_machine, step_of}
+use Rattle.logon_client.specs.State.{State}
+use Rattle.nt_words.specs.Files.{SecretFiles, secret_files}
+use Rattle.nt_words.specs.Jobs.{LogonJob}
+use Rattle.nt_words.specs.Roles.{job_of}
+use Rattle.nt_words.specs.declared.job.Job.TheVariants as jobs
+use Rattle.nt_words.specs.declared.job.Role.{Role}
+use Rattle.nt_words.specs.declared.job.Role.TheVariants.{Logon}
+use Rattle.nt_top.specs.declared.exit.Exit.{Exit}
+use Rattle.nt_top.specs.declared.exit.Exit.TheVariants.{Done, Refused, BadWords, FileFault, BadTable, BadInput, SinkFault, NoMemory, NoAnswer, BadPeer, Spent}
+use Rattle.nt_top.specs.Logon.{LogonEnds, dialling, first_actions, in_lines, most_answers, outcome_exit}
+
+-- ---- the runs that the outside tells
+
+-- where a client stands once its first actions were performed: what they made waits, and the challenges are left that were drawn later and
+-- those that still are
+abbrev pub start_of : ClientPlan → List Happening → Drawing → Standing State
+start_of plan happened drawing = record { state = dialling plan; queue = made_events happened; left = drawing.drawn ++ drawing.left }
+
+-- The outside tells that the client's first actions were performed, that it made these steps, and that this happened at the port and these
+-- moments were given after them.
+pub record TellsRun (plan : ClientPlan) (before after : Sight) (steps : List Step) (last : Standing State) (later : List Happening)
+    (moments_later : List ℕ) : Type 0 where
+  pub story : List Happening
+  pub story_before : before.story ≡ Some story
+  pub moments : List ℕ
+  pub moments_before : before.moments ≡ Some moments
+  pub happened : List Happening
+  pub performs : Performs [] (first_actions plan) happened
+  pub are : AreSteps client_machine (start_of plan happened after.drawing) steps last
+  pub story_after : after.story ≡ Some (story ++ (happened ++ (story_of steps ++ later)))
+  pub moments_after : after.moments ≡ Some (moments ++ (moments_of steps ++ moments_later))
+
+abbrev pub end_at : State → List (List ℕ) → Standing State
+end_at state left = record { state = state; queue = []; left = left }
+
+-- It tells that the client ran to its end, with that outcome or none.
+pub record ComesTo (plan : ClientPlan) (before after : Sight) (outcome : Option ClientOutcome) : Type 0 where
+  pub state : State
+  pub left : List (List ℕ)
+  pub steps : List Step
+  pub stop : List Happening
+  pub tells : TellsRun plan before after steps (end_at state left) stop []
+  pub closes : Closes client_machine (end_at state left) (asked_by steps) most_answers stop
+  pub outcome_is : state.outcome ≡ outcome
+
+-- It tells that the client came to a step that draws more challenges than were left.
+pub record ComesToSpent (plan : ClientPlan) (before after : Sight) : Type 0 where
+  pub last : Standing State
+  pub steps : List Step
+  pub step : Step
+  pub waiting : List Event
+  pub tells : TellsRun plan before after steps last step.asked (step.moment ∷ [])
+  pub chooses : Chooses client_machine last.state last.queue step waiting
+  pub spent : (step_of last.state step.event step.moment last.left).answer ≡ Err refusals.Spent
+
+-- an exit that may come in place of another: a fault of the sink, or want of memory
+abbrev pub IsExcuse : Exit → Type 0
+IsExcuse SinkFault = Unit {0}
+IsExcuse NoMemory = Unit {0}
+IsExcuse _ = ⊥
+
+-- ---- what is put
+
+-- All the lines of a name and what was echoed at `Done`, a front of such lines where the sink failed, and else nothing.
+abbrev pub Puts : Exit → Option (List ℕ) → Option (List ℕ) → Type 0
+Puts Done before now = (name : List ℕ) × (echoed : ℕ) × Appends before now (in_lines name echoed)
+Puts SinkFault before now = (name : List ℕ) × (echoed : ℕ) × AppendsFront before now (in_lines name echoed)
+Puts _ before now = Appends before now []
+
+-- an exit of a client's run
+abbrev pub IsOfClients : Exit → Type 0
+IsOfClients (BadWords number) = ⊥
+IsOfClients FileFault = ⊥
+IsOfClients (BadTable cause) = ⊥
+IsOfClients (BadInput number) = ⊥
+IsOfClients _ = Unit {0}
+
+-- ---- a link that is lost
+
+-- the event shows that the link is gone that the client waits for: it was closed, or another was opened under its number
+abbrev pub is_gone : Event → Option ℕ → Bool
+is_gone (event.Closed link) (Some own) = link == own
+is_gone (event.Opened link) (Some own) = link == own
+is_gone _ _ = false
+
+-- the port gave such an event
+abbrev pub tells_gone : Happening → Bool
+tells_gone (happening.Given what want) = is_gone what want
+tells_gone _ = false
+
+-- it gave `Stop`
+abbrev pub gives_stop : Happening → Bool
+gives_stop (happening.Given event.Stop want) = true
+gives_stop _ = false
+
+-- Why a client finds its link closed: by what happened at the port, which gave an event that shows it, or `Stop`, or as many events as a logon
+-- takes; or a send failed, and the count of link faults rose.
+pub data LosesLink (before after : Sight) : Type 0 where
+  Gone : (happened : List Happening) → Appends before.story after.story happened → list_any tells_gone happened ≡ true → LosesLink before after
+  SendFailed : Rose before.link_faults after.link_faults → LosesLink before after
+  Stopped : (happened : List Happening) → Appends before.story after.story happened → list_any gives_stop happened ≡ true → LosesLink before after
+  TookAll : (happened : List Happening) → Appends before.story after.story happened → length (events_in happened) ≡ most_answers → LosesLink before after
+
+-- ---- where words and files are of their forms
+
+-- The words ask a logon client to log on, and the files that they name are told and are of their forms.
+pub record IsLogonOfForm (role : Role) (asked : List (List ℕ)) (contents : Option (List (List ℕ × List ℕ))) : Type 0 where
+  pub logon : role ≡ Logon
+  pub job : LogonJob
+  pub job_is : job_of Logon asked ≡ Ok (jobs.Logon job)
+  pub told : List (List ℕ × List ℕ)
+  pub told_is : contents ≡ Some told
+  pub files : SecretFiles
+  pub files_are : secret_files 5 job.hash 9 job.seed told ≡ Ok files
+
+-- it is the exit of an outcome, or that there is none, or the challenges were spent, or memory ran out
+abbrev pub IsAnswered : Exit → Type 0
+IsAnswered Done = Unit {0}
+IsAnswered (Refused cause) = Unit {0}
+IsAnswered (NoAnswer cause) = Unit {0}
+IsAnswered (BadPeer fault) = Unit {0}
+IsAnswered Spent = Unit {0}
+IsAnswered NoMemory = Unit {0}
+IsAnswered _ = ⊥
+
+-- ---- laws of `LogonEnds`
+
+-- What the outside tells decides the exit; what was put; that a dial failed, or why the link was lost, where that is the exit; and which exits come.
+pub record LogonLaws : Type 0 where
+  pub outcome : (plan : ClientPlan) (seed : List ℕ) (boot : ℕ) (before after : Sight) (exit : Exit) (outcome : Option ClientOutcome) →
+      LogonEnds plan seed boot before after exit → ComesTo plan before after outcome → (exit ≡ outcome_exit outcome) ⊎ IsExcuse exit
+  pub spent : (plan : ClientPlan) (seed : List ℕ) (boot : ℕ) (before after : Sight) (exit : Exit) →
+      LogonEnds plan seed boot before after exit → ComesToSpent plan before after → (exit ≡ Spent) ⊎ IsExcuse exit
+  pub puts : (plan : ClientPlan) (seed : List ℕ) (boot : ℕ) (before after : Sight) (exit : Exit) →
+      LogonEnds plan seed boot before after exit → Puts exit before.taken after.taken
+  pub dial : (plan : ClientPlan) (seed : List ℕ) (boot : ℕ) (before after : Sight) (exit : Exit) →
+      LogonEnds plan seed boot before after exit → exit ≡ NoAnswer DialFailed → Rose before.link_faults after.link_faults
+  pub closed : (plan : ClientPlan) (seed : List ℕ) (boot : ℕ) (before after : Sight) (exit : Exit) →
+      LogonEnds plan seed boot before after exit → exit ≡ NoAnswer LinkClosed → LosesLink before after
+  pub exits : (plan : ClientPlan) (seed : List ℕ) (boot : ℕ) (before after : Sight) (exit : Exit) →
+      LogonEnds plan seed boot before after exit → IsOfClients exit
