@@ -26,6 +26,8 @@ use Rattle.end_loop.proofs.RunLaws.{Shows-none, Shows-trans}
 use Rattle.logon_client.specs.declared.outcome.ClientOutcome.{ClientOutcome}
 use Rattle.logon_client.specs.declared.outcome.ClientOutcome.TheVariants as outcomes
 use Rattle.logon_client.specs.declared.outcome.NoAnswerCause.TheVariants.{DialFailed, LinkClosed, NoController}
+use Rattle.logon_client.specs.declared.outcome.PeerFault.{PeerFault}
+use Rattle.logon_client.specs.declared.outcome.RefusedCause.{RefusedCause}
 use Rattle.logon_client.specs.declared.plan.ClientPlan.{ClientPlan}
 use Rattle.logon_client.specs.Losses.{is_dial_failed, is_link_closed}
 use Rattle.logon_client.specs.Machine.{client_machine, step_of}
@@ -34,7 +36,7 @@ use Rattle.nt_top.specs.declared.exit.Exit.{Exit}
 use Rattle.nt_top.specs.declared.exit.Exit.TheVariants.{Done, Refused, BadWords, FileFault, BadTable, BadInput, PortFault, SinkFault, NoMemory, NoAnswer, BadPeer, Spent}
 use Rattle.nt_top.specs.Logon.{Concludes, LogonEnds, Says, dialling, first_actions, in_lines, most_answers, outcome_exit, outcome_lines}
 use Rattle.nt_top.specs.Serve.{halt_exit}
-use Rattle.nt_top.specs.LogonExits.{ComesTo, ComesToSpent, IsExcuse, IsOfClients, LogonLaws, LosesLink, Gone, SendFailed, Stopped, TookAll, Puts, TellsRun, end_at, start_of}
+use Rattle.nt_top.specs.LogonExits.{ComesBy, IsIn, RanTo, ComesTo, ComesToSpent, IsExcuse, IsOfClients, LogonLaws, LosesLink, Gone, SendFailed, Stopped, TookAll, Puts, TellsRun, end_at, start_of}
 use Rattle.nt_top.proofs.DialLaws.{dial_cause}
 use Rattle.nt_top.proofs.LinkLaws.{loses_link}
 use Rattle.nt_top.proofs.PairLaws.{both_whole, performs_same, spent_not_whole}
@@ -396,6 +398,97 @@ puts_law plan seed boot before after exit logon =
       ]
     ])
 
+-- ---- what an exit shows of the run
+
+halt_comes : (plan : ClientPlan) (seed : List ℕ) (boot : ℕ) (before opened after : Sight) (halt : Halt) (exit : Exit) → Opens seed boot before opened [] → exit ≡ halt_exit halt →
+    BegunUntil client_machine (first_actions plan) (dialling plan) most_answers opened after halt → ComesBy exit plan seed boot before after
+halt_comes plan seed boot before opened after halts.PortFault exit opens is run = subst (λ (e : Exit). ComesBy e plan seed boot before after) (sym is) (record { opened = opened; opens = opens; run = run })
+halt_comes plan seed boot before opened after halts.SinkFault exit opens is run = subst (λ (e : Exit). ComesBy e plan seed boot before after) (sym is) tt
+halt_comes plan seed boot before opened after halts.NoMemory exit opens is run = subst (λ (e : Exit). ComesBy e plan seed boot before after) (sym is) tt
+halt_comes plan seed boot before opened after halts.Spent exit opens is run = subst (λ (e : Exit). ComesBy e plan seed boot before after) (sym is) (record { opened = opened; opens = opens; run = run })
+
+ran_to : (plan : ClientPlan) (seed : List ℕ) (boot : ℕ) (before opened after : Sight) (exit : Exit) (outcome : Option ClientOutcome) → Opens seed boot before opened [] → (ends : Concludes plan opened after exit) →
+    ends.last.outcome ≡ outcome → RanTo plan seed boot before after outcome
+ran_to plan seed boot before opened after exit outcome opens ends is = record { opened = opened; opens = opens; last = ends.last; ended = ends.ended; run = ends.run; outcome_is = is; only = ends.only }
+
+-- an outcome whose exit is `Done`, with its lines
+record Lets (outcome : Option ClientOutcome) (before now : Option (List ℕ)) : Type 0 where
+  name : List ℕ
+  key : List ℕ
+  echoed : ℕ
+  is : outcome ≡ Some (outcomes.In name key echoed)
+  put : Appends before now (in_lines name echoed)
+
+lets_in : (outcome : Option ClientOutcome) (before now : Option (List ℕ)) → Done ≡ outcome_exit outcome → Appends before now (outcome_lines outcome) → Lets outcome before now
+lets_in None before now is put = absurd cc
+lets_in (Some (outcomes.In name key echoed)) before now is put = record { name = name; key = key; echoed = echoed; is = refl; put = put }
+lets_in (Some (outcomes.Refused cause)) before now is put = absurd cc
+lets_in (Some (outcomes.NoAnswer cause)) before now is put = absurd cc
+lets_in (Some (outcomes.BadPeer fault)) before now is put = absurd cc
+
+refused_by : (outcome : Option ClientOutcome) (cause : RefusedCause) → Refused cause ≡ outcome_exit outcome → outcome ≡ Some (outcomes.Refused cause)
+refused_by None cause is = absurd cc
+refused_by (Some (outcomes.In name key echoed)) cause is = absurd cc
+refused_by (Some (outcomes.Refused other)) cause is = let same : other ≡ cause = cc in ap (λ (c : RefusedCause). Some (outcomes.Refused c)) same
+refused_by (Some (outcomes.NoAnswer other)) cause is = absurd cc
+refused_by (Some (outcomes.BadPeer fault)) cause is = absurd cc
+
+bad_by : (outcome : Option ClientOutcome) (fault : PeerFault) → BadPeer fault ≡ outcome_exit outcome → outcome ≡ Some (outcomes.BadPeer fault)
+bad_by None fault is = absurd cc
+bad_by (Some (outcomes.In name key echoed)) fault is = absurd cc
+bad_by (Some (outcomes.Refused cause)) fault is = absurd cc
+bad_by (Some (outcomes.NoAnswer cause)) fault is = absurd cc
+bad_by (Some (outcomes.BadPeer other)) fault is = let same : other ≡ fault = cc in ap (λ (f : PeerFault). Some (outcomes.BadPeer f)) same
+
+no_port_outcome : (outcome : Option ClientOutcome) → PortFault ≡ outcome_exit outcome → ⊥
+no_port_outcome None is = cc
+no_port_outcome (Some (outcomes.In name key echoed)) is = cc
+no_port_outcome (Some (outcomes.Refused cause)) is = cc
+no_port_outcome (Some (outcomes.NoAnswer cause)) is = cc
+no_port_outcome (Some (outcomes.BadPeer fault)) is = cc
+
+no_spent_outcome : (outcome : Option ClientOutcome) → Spent ≡ outcome_exit outcome → ⊥
+no_spent_outcome None is = cc
+no_spent_outcome (Some (outcomes.In name key echoed)) is = cc
+no_spent_outcome (Some (outcomes.Refused cause)) is = cc
+no_spent_outcome (Some (outcomes.NoAnswer cause)) is = cc
+no_spent_outcome (Some (outcomes.BadPeer fault)) is = cc
+
+is_in : (plan : ClientPlan) (seed : List ℕ) (boot : ℕ) (before opened after : Sight) → Opens seed boot before opened [] → (ends : Concludes plan opened after Done) → Lets ends.last.outcome ends.ended.taken after.taken →
+    IsIn plan seed boot before after
+is_in plan seed boot before opened after opens ends lets = record {
+  name = lets.name;
+  key = lets.key;
+  echoed = lets.echoed;
+  ran = ran_to plan seed boot before opened after Done (Some (outcomes.In lets.name lets.key lets.echoed)) opens ends lets.is;
+  put = subst (λ (t : Option (List ℕ)). Appends t after.taken (in_lines lets.name lets.echoed)) opens.taken
+      (Appends-trans opened.taken ends.ended.taken after.taken [] (in_lines lets.name lets.echoed) (begun_quiet (first_actions plan) (dialling plan) ends.last most_answers opened ends.ended ends.run) lets.put);
+}
+
+says_comes : (plan : ClientPlan) (seed : List ℕ) (boot : ℕ) (before opened after : Sight) (exit : Exit) → Opens seed boot before opened [] → Concludes plan opened after exit → ComesBy exit plan seed boot before after
+says_comes plan seed boot before opened after Done opens ends = is_in plan seed boot before opened after opens ends (lets_in ends.last.outcome ends.ended.taken after.taken ends.says.0 ends.says.1)
+says_comes plan seed boot before opened after (Refused cause) opens ends = ran_to plan seed boot before opened after _ _ opens ends (refused_by ends.last.outcome cause ends.says.0)
+says_comes plan seed boot before opened after (NoAnswer cause) opens ends = record { outcome = ends.last.outcome; ran = ran_to plan seed boot before opened after _ _ opens ends refl; exit_is = sym ends.says.0 }
+says_comes plan seed boot before opened after (BadPeer fault) opens ends = ran_to plan seed boot before opened after _ _ opens ends (bad_by ends.last.outcome fault ends.says.0)
+says_comes plan seed boot before opened after PortFault opens ends = absurd (no_port_outcome ends.last.outcome ends.says.0)
+says_comes plan seed boot before opened after Spent opens ends = absurd (no_spent_outcome ends.last.outcome ends.says.0)
+says_comes plan seed boot before opened after (BadWords number) opens ends = tt
+says_comes plan seed boot before opened after FileFault opens ends = tt
+says_comes plan seed boot before opened after (BadTable cause) opens ends = tt
+says_comes plan seed boot before opened after (BadInput number) opens ends = tt
+says_comes plan seed boot before opened after SinkFault opens ends = tt
+says_comes plan seed boot before opened after NoMemory opens ends = tt
+
+comes_law : (plan : ClientPlan) (seed : List ℕ) (boot : ℕ) (before after : Sight) (exit : Exit) → LogonEnds plan seed boot before after exit → ComesBy exit plan seed boot before after
+comes_law plan seed boot before after exit logon =
+    elim logon.ends [
+      | inl none ↦ subst (λ (e : Exit). ComesBy e plan seed boot before after) (sym none.0) tt
+      | inr begun ↦ elim begun [
+        | inl breaks ↦ halt_comes plan seed boot before logon.opened after breaks.halt exit logon.opens breaks.exit_is breaks.run
+        | inr ends ↦ says_comes plan seed boot before logon.opened after exit logon.opens ends
+      ]
+    ]
+
 -- ---- a dial that failed
 
 fails_by : (outcome : Option ClientOutcome) → NoAnswer DialFailed ≡ outcome_exit outcome → is_dial_failed outcome ≡ true
@@ -514,4 +607,4 @@ exits_law plan seed boot before after exit logon =
     ]
 
 pub logon_laws : LogonLaws
-logon_laws = record { outcome = outcome_law; spent = spent_law; puts = puts_law; dial = dial_law; closed = closed_law; exits = exits_law }
+logon_laws = record { outcome = outcome_law; spent = spent_law; comes = comes_law; puts = puts_law; dial = dial_law; closed = closed_law; exits = exits_law }

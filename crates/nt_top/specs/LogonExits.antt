@@ -12,8 +12,14 @@ use Rattle.outside.specs.declared.event.Happening.TheVariants as happening
 use Rattle.outside.specs.Stories.{events_in}
 use Rattle.end_loop.specs.Acts.{Performs, made_events}
 use Rattle.end_loop.specs.Runs.{Standing, Step, AreSteps, Chooses, Closes, asked_by, moments_of, story_of}
+use Rattle.end_loop.specs.Begun.{Begun, BegunUntil}
 use Rattle.end_loop.specs.Seen.{Sight}
+use Rattle.end_loop.specs.Served.{Opens}
+use Rattle.end_loop.specs.declared.halt.Halt.{Halt}
+use Rattle.end_loop.specs.declared.halt.Halt.TheVariants as halts
 use Rattle.logon_client.specs.declared.outcome.ClientOutcome.{ClientOutcome}
+use Rattle.logon_client.specs.declared.outcome.ClientOutcome.TheVariants as outcomes
+use Rattle.logon_client.specs.declared.outcome.NoAnswerCause.{NoAnswerCause}
 use Rattle.logon_client.specs.declared.outcome.NoAnswerCause.TheVariants.{DialFailed, LinkClosed}
 use Rattle.logon_client.specs.declared.plan.ClientPlan.{ClientPlan}
 use Rattle.logon_client.specs.Machine.{client_machine, step_of}
@@ -25,7 +31,7 @@ use Rattle.nt_words.specs.declared.job.Job.TheVariants as jobs
 use Rattle.nt_words.specs.declared.job.Role.{Role}
 use Rattle.nt_words.specs.declared.job.Role.TheVariants.{Logon}
 use Rattle.nt_top.specs.declared.exit.Exit.{Exit}
-use Rattle.nt_top.specs.declared.exit.Exit.TheVariants.{Done, Refused, BadWords, FileFault, BadTable, BadInput, SinkFault, NoMemory, NoAnswer, BadPeer, Spent}
+use Rattle.nt_top.specs.declared.exit.Exit.TheVariants.{Done, Refused, BadWords, FileFault, BadTable, BadInput, SinkFault, NoMemory, NoAnswer, BadPeer, Spent, PortFault}
 use Rattle.nt_top.specs.Logon.{LogonEnds, dialling, first_actions, in_lines, most_answers, outcome_exit}
 
 -- ---- the runs that the outside tells
@@ -86,6 +92,48 @@ Puts Done before now = (name : List ℕ) × (echoed : ℕ) × Appends before now
 Puts SinkFault before now = (name : List ℕ) × (echoed : ℕ) × AppendsFront before now (in_lines name echoed)
 Puts _ before now = Appends before now []
 
+-- ---- what an exit shows of the run
+
+-- The challenges were started, and the client ran to its end, with that outcome or none; after that the sink alone was used.
+pub record RanTo (plan : ClientPlan) (seed : List ℕ) (boot : ℕ) (before after : Sight) (outcome : Option ClientOutcome) : Type 0 where
+  pub opened : Sight
+  pub opens : Opens seed boot before opened []
+  pub last : State
+  pub ended : Sight
+  pub run : Begun client_machine (first_actions plan) (dialling plan) last most_answers opened ended
+  pub outcome_is : last.outcome ≡ outcome
+  pub only : after ≡ record ended { taken = after.taken }
+
+-- The challenges were started, and the client's run halted.
+pub record RanUntil (plan : ClientPlan) (seed : List ℕ) (boot : ℕ) (before after : Sight) (halt : Halt) : Type 0 where
+  pub opened : Sight
+  pub opens : Opens seed boot before opened []
+  pub run : BegunUntil client_machine (first_actions plan) (dialling plan) most_answers opened after halt
+
+-- the client is in, and its lines were put
+pub record IsIn (plan : ClientPlan) (seed : List ℕ) (boot : ℕ) (before after : Sight) : Type 0 where
+  pub name : List ℕ
+  pub key : List ℕ
+  pub echoed : ℕ
+  pub ran : RanTo plan seed boot before after (Some (outcomes.In name key echoed))
+  pub put : Appends before.taken after.taken (in_lines name echoed)
+
+-- it has no answer for that cause, or no outcome at all
+pub record HasNoAnswer (plan : ClientPlan) (seed : List ℕ) (boot : ℕ) (before after : Sight) (cause : NoAnswerCause) : Type 0 where
+  pub outcome : Option ClientOutcome
+  pub ran : RanTo plan seed boot before after outcome
+  pub exit_is : outcome_exit outcome ≡ NoAnswer cause
+
+-- Each exit comes only so: an outcome's where the client ran to it, and that of the port or of the challenges where its run halted for that.
+abbrev pub ComesBy : Exit → ClientPlan → List ℕ → ℕ → Sight → Sight → Type 0
+ComesBy Done plan seed boot before after = IsIn plan seed boot before after
+ComesBy (Refused cause) plan seed boot before after = RanTo plan seed boot before after (Some (outcomes.Refused cause))
+ComesBy (NoAnswer cause) plan seed boot before after = HasNoAnswer plan seed boot before after cause
+ComesBy (BadPeer fault) plan seed boot before after = RanTo plan seed boot before after (Some (outcomes.BadPeer fault))
+ComesBy PortFault plan seed boot before after = RanUntil plan seed boot before after halts.PortFault
+ComesBy Spent plan seed boot before after = RanUntil plan seed boot before after halts.Spent
+ComesBy _ plan seed boot before after = Unit {0}
+
 -- an exit of a client's run
 abbrev pub IsOfClients : Exit → Type 0
 IsOfClients (BadWords number) = ⊥
@@ -144,12 +192,14 @@ IsAnswered _ = ⊥
 
 -- ---- laws of `LogonEnds`
 
--- What the outside tells decides the exit; what was put; that a dial failed, or why the link was lost, where that is the exit; and which exits come.
+-- What the outside tells decides the exit; each exit comes only of its run; what was put; that a dial failed, or why the link was lost, where that is the exit; and which exits come.
 pub record LogonLaws : Type 0 where
   pub outcome : (plan : ClientPlan) (seed : List ℕ) (boot : ℕ) (before after : Sight) (exit : Exit) (outcome : Option ClientOutcome) →
       LogonEnds plan seed boot before after exit → ComesTo plan before after outcome → (exit ≡ outcome_exit outcome) ⊎ IsExcuse exit
   pub spent : (plan : ClientPlan) (seed : List ℕ) (boot : ℕ) (before after : Sight) (exit : Exit) →
       LogonEnds plan seed boot before after exit → ComesToSpent plan before after → (exit ≡ Spent) ⊎ IsExcuse exit
+  pub comes : (plan : ClientPlan) (seed : List ℕ) (boot : ℕ) (before after : Sight) (exit : Exit) →
+      LogonEnds plan seed boot before after exit → ComesBy exit plan seed boot before after
   pub puts : (plan : ClientPlan) (seed : List ℕ) (boot : ℕ) (before after : Sight) (exit : Exit) →
       LogonEnds plan seed boot before after exit → Puts exit before.taken after.taken
   pub dial : (plan : ClientPlan) (seed : List ℕ) (boot : ℕ) (before after : Sight) (exit : Exit) →

@@ -99,7 +99,7 @@ pub fn run<P: Port, F: Files, S: Sink, C: Clock, Q: Chances>(
     ensures file_cause { result ≡ Exit.FileFault → Rose (F.faults files.old) (F.faults files.new) }
     ensures port_cause { result ≡ Exit.PortFault → Rose (P.faults port.old) (P.faults port.new) }
     ensures sink_cause { result ≡ Exit.SinkFault → Rose (S.faults out.old) (S.faults out.new) }
-    // A logon finds its dial failed only where a dial did, and its link closed only where that was shown.
+    // A logon finds its dial failed only where one did, its link closed only where that was shown.
     ensures dial_failed { result ≡ Exit.NoAnswer NoAnswerCause.DialFailed →
         Rose (P.link_faults port.old) (P.link_faults port.new) }
     ensures link_lost { result ≡ Exit.NoAnswer NoAnswerCause.LinkClosed → Between
