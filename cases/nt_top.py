@@ -3,8 +3,7 @@
 `top.run ROLE FAILING WORD..` (the exit, its status, its line, what was put as text, and that all that the outside in memory kept is still
 told; `-` is an empty word), `top.narrow ROLE FAILING WORD..` (the same over a sink that takes at most three bytes of a piece),
 `top.exit NAME NUMBER` (the exit, its status and its line), `top.say FAILING NAME NUMBER` (the status of the exit that is reported to a sink of
-errors, and what was put). FAILING are the numbers of the sink's calls that fail. `lines.in LINK DOMAIN USER`, `lines.out LINK STATUS` and `lines.none LINK`
-are the lines of a serving member server: a link is a decimal number, a status eight hex digits.
+errors, and what was put). FAILING are the numbers of the sink's calls that fail.
 
 The commands, exits and lines are this project's own choice (docs/FORMATS.md, "Commands, exits and what is printed"); whether a response
 stands is a published value.
@@ -314,23 +313,6 @@ def of_exits():
     return out
 
 
-def of_lines():
-    """The lines of a serving member server; a unit outside 0x20 to 0x7E is a question mark."""
-    out = []
-    for domain, user, shown_as in [
-        ("CORP", "ann", "CORP\\\\ann"),
-        ("", "", "\\\\"),
-        (" ~", "a\u007f\u001f\u00e9\U0001f600\n", " ~\\\\a??????"),
-        ("a?b", "\\", "a?b\\\\\\\\"),
-    ]:
-        words = [utf16(domain), utf16(user)]
-        out.append((line("lines.in", 4294967295, *words), f'"link 4294967295 in {shown_as}\\n"'))
-    for link, status in [(0, "c000006a"), (1, "00000000"), (1000, "C0000234")]:
-        out.append((line("lines.out", link, status), f'"link {link} out {status.lower()}\\n"'))
-    out.append((line("lines.none", 7), '"link 7 no controller\\n"'))
-    return out
-
-
 def cases():
     """Each line and its answer."""
     return (
@@ -341,5 +323,4 @@ def cases():
         + of_words()
         + of_sinks()
         + of_exits()
-        + of_lines()
     )

@@ -5,16 +5,23 @@
 sink each from 0.
 
 The bind is one of C706 12.6.4.3 for Netlogon's interface (MS-NRPC 3.5), and its answer and the fault are units of C706 12.6.4.4 and 12.6.4.7, written here byte by byte. What is
-sent and put for calls is worked out by the controller of `domain_controller.py`, from the rules of docs/FORMATS.md, MS-NRPC 3.1.4 and 3.5.4 and the layouts of C706 12.6.
+sent and put for calls is worked out by the controller of `domain_controller.py`, from the rules of docs/FORMATS.md, MS-NRPC 3.1.4 and 3.5.4 and the layouts of C706 12.6. What a
+member sends and puts is worked out by the member of `member_server.py`, beside that controller and clients of `logon_client.py`: bytes are carried between them, and the member's
+events are given to the program.
 """
 
+import re
+
 from documents import ANN, FILE1, document
+import member_server
 from domain_controller import DRAWS, Controller
 from forms import line
+from logon_client import Client
 from logon_stubs import LOGON as LOGON_CALL
+from member_server import Member, answer_of_controller, authenticate, controller_of, turns
 
-from nt_top import ending, text
-from nt_words import CONTROLLER, SEED, SERVE, files_of, words_of
+from nt_top import MEMBER, ending, text
+from nt_words import CONTROLLER, SEED, SERVE, SERVE_MEMBER, ascii_hex, files_of, words_of
 
 TABLE = document([ANN], [FILE1]).hex()
 BIND = (
@@ -164,6 +171,247 @@ def of_lines():
     ]
 
 
+# ---- a member server that serves
+
+MEMBER_SECRET = "41" * 16
+MEMBER_DRAWS = member_server.DRAWS
+MEMBER_FILES = {"k": ascii_hex(MEMBER_SECRET), "s": SEED}
+
+
+def member_line(given, failing="", reads="", puts="", draws="", files=None, **options):
+    """A line that runs a member server."""
+    held = MEMBER_FILES if files is None else files
+    words = words_of("serve", {**SERVE_MEMBER, "controller": "there", **options})
+    return line("serves.run", given, failing, reads, puts, draws, files_of(**held), MEMBER, *words)
+
+
+class Served(Member):
+    """A member over a scripted port: the events of its dials, and of its sends that fail, are made and not given. What is done has the number of its call of the
+    port, of which `listen` is 0 and the `next` of each event given the one before its actions."""
+
+    def __init__(self, **plan):
+        super().__init__(**{"draws": MEMBER_DRAWS, **plan})
+        self.given, self.done, self.last, self.calls, self.failing = [], [], [], 1, []
+
+    def event(self, word, run=lambda: None, made=False):
+        # What a dial makes is stepped before the port is asked for an event.
+        assert word.startswith(("dialled/", "failed")) or not any(action[0] == "dial" for _, action in self.last), word
+        super().event(word, run)
+        if not made and not word.startswith(("dialled/", "failed")):
+            self.given.append(word.replace("/", ":"))
+            self.calls += 1
+        self.last = []
+        for action in [] if self.stopped else self.actions:
+            self.last.append((self.calls, action))
+            self.calls += action[0] in ("dial", "send")
+        self.done += self.last
+        return self
+
+    def failed(self):
+        """The dial of the last step fails."""
+        self.failing += [call for call, action in self.last if action[0] == "dial"]
+        return super().failed()
+
+    def cut(self, link):
+        """The one send of the last step on that link fails, and the link is closed."""
+        [one] = [each for each in self.last if each[1][:2] == ("send", link)]
+        self.failing.append(one[0])
+        self.done.remove(one)
+        return self.event(f"closed/{link}", lambda: self.take_close(link), made=True)
+
+    def sends(self, done=None):
+        return ",".join(f"{action[1]}:{action[2].hex()}" for _, action in self.done[:done] if action[0] == "send") or "-"
+
+    def puts(self, done=None):
+        return "".join(line_told(*action[1:]) for _, action in self.done[:done] if action[0] == "told")
+
+
+def ascii_of(units):
+    """Units in the form of a list, as printable ASCII."""
+    numbers = [int(each) for each in units.split(", ") if each]
+    return "".join(chr(each) if 0x20 <= each <= 0x7E else "?" for each in numbers)
+
+
+def line_told(link, outcome):
+    """The line of the outcome of a logon."""
+    if outcome.startswith("In "):
+        domain, user = [ascii_of(each) for each in re.findall(r"\[([0-9, ]*)\]", outcome)[:2]]
+        return f"link {link} in {domain}\\{user}\n"
+    if outcome.startswith("Out("):
+        return f"link {link} out {int(outcome[4:-1]):08x}\n"
+    return f"link {link} no controller\n"
+
+
+def served(member, exit_text=DONE, done=None, puts="", **how):
+    """A case of a served member, by what `member_server.py` says of its events: of its actions that many are done, or all."""
+    failing = ",".join(map(str, member.failing))
+    put = text(member.puts(done).replace("\\", "\\\\"))
+    draws = member.words[4]
+    return (
+        member_line(",".join(member.given + ["stop"]), failing=failing, puts=puts, draws="" if draws == "-" else draws, **how),
+        ";".join([exit_text, put, member.sends(done), "told"]),
+    )
+
+
+def sink_fails(member, put):
+    """The same where the put of that number fails, counted from 0: what stands before it is done."""
+    told = [place for place, (_, action) in enumerate(member.done) if action[0] == "told"]
+    return served(member, ending("SinkFault"), told[put], str(put))
+
+
+def logs_on(member, controller, link=1, dialled=1000, **plan):
+    """A client logs on, and asks for what it asks."""
+    client, rest = authenticate(member, link, Client(**plan).dialled(link))
+    turns(member, controller, dialled)
+    while rest:
+        member.bytes(rest, link)
+        client.bytes(member.sent(link), link)
+        rest = client.sent()
+    return client
+
+
+def of_member_logons():
+    """Whole logons at each level: with the right password, with a wrong one, of a user who may not, and where nobody is known."""
+    out = []
+    for level, kind in [(6, "v2"), (5, "v1ess"), (2, "v1")]:
+        for users, secret in [((ANN,), ANN["hash"]), ((ANN,), "22" * 16), ((ANN | {"disabled": True},), ANN["hash"]), ((), ANN["hash"])]:
+            member = Served()
+            client = logs_on(member, controller_of(users), level=level, kind=kind, secret=secret, echo=4096)
+            member.closed()
+            # The client's own model came to its outcome over the same bytes.
+            assert client.outcome.startswith("Some(In ") == (users == (ANN,) and secret == ANN["hash"]), client.outcome
+            out.append(served(member))
+    # A unit outside 0x20 to 0x7E is a question mark.
+    for name, shown_as in [("ann\u00e9", "ann?"), (" ~\u007f\u001f\u00e9\U0001f600\n", " ~??????"), ("a?b\\", "a?b\\")]:
+        member = Served()
+        logs_on(member, controller_of(({"name": name, "rid": 1001, "hash": ANN["hash"]},)), user=name, secret=ANN["hash"])
+        assert member.puts() == f"link 1 in CORP\\{shown_as}\n", member.puts()
+        out.append(served(member))
+    return out
+
+
+def finished(member, controller, request):
+    """The turn whose bind went out on link 1000, to its end, and then the other turns."""
+    controller.opened(1000)
+    while request:
+        controller.bytes(request, 1000)
+        member.bytes(answer_of_controller(controller, 1000), 1000)
+        request = member.sent(1000)
+    controller.closed(1000)
+    turns(member, controller, 1001)
+    return member
+
+
+def three_at_once():
+    """Three links that ask before the first reply comes: one Challenge, one Authenticate, three Logons, in five dials."""
+    member = Served()
+    authenticate(member, 1, Client(secret=ANN["hash"]).dialled(1))
+    bind = member.dialled(1000).sent(1000)
+    authenticate(member, 2, Client(secret=ANN["hash"]).dialled(2))
+    authenticate(member, 3, Client(kind="v1", level=2, user="bob", secret="22" * 16).dialled(3))
+    finished(member, controller_of(), bind)
+    assert sum(action[0] == "dial" for _, action in member.done) == 5
+    return member
+
+
+def of_member_turns():
+    """Logons that wait for others, and turns that are lost: at the dial, and at a send that fails; and a send to a client that fails."""
+    out = [served(three_at_once())]
+    lost = Served()
+    authenticate(lost)
+    out.append(served(lost.failed()))
+    # The first turn is lost, and the next logon, which waits, has one of its own.
+    lost = Served()
+    authenticate(lost, 1, Client(secret=ANN["hash"]).dialled(1))
+    lost.dialled(1000)
+    authenticate(lost, 2, Client(secret=ANN["hash"]).dialled(2))
+    turns(lost.closed(1000), controller_of(), 1001)
+    out.append(served(lost))
+    lost = Served()
+    authenticate(lost)
+    out.append(served(lost.dialled(1000).cut(1000)))
+    # The bind's answer doesn't go out: the link is closed, and what comes later on it is of no link.
+    lost = Served()
+    bind = Client().dialled(1).sent()
+    out.append(served(lost.opened(1).bytes(bind, 1).cut(1).bytes(bind, 1)))
+    # The port closes the dialled link, and the link of the client while it waits: its outcome is told all the same.
+    lost = Served()
+    authenticate(lost)
+    out.append(served(lost.dialled(1000).closed(1000)))
+    lost = Served()
+    authenticate(lost, 1, Client(secret=ANN["hash"]).dialled(1))
+    bind = lost.dialled(1000).sent(1000)
+    out.append(served(finished(lost.closed(1), controller_of(), bind)))
+    return out
+
+
+def of_member_challenges():
+    """A challenge is drawn for each bind that is answered with one, and for each first call of a channel; the step that finds none left ends the service."""
+    spent = ending("Spent")
+    bind = Client().dialled(1).sent()
+    out = []
+    # One challenge: of two links that bind the first is answered.
+    out.append(served(Served(draws=MEMBER_DRAWS[:1]).opened(1).bytes(bind, 1).opened(2).bytes(bind, 2), spent))
+    out.append(served(Served(draws=MEMBER_DRAWS[:1]).opened(1).bytes(bind, 1).opened(2)))
+    out.append(served(Served(draws=[]).opened(1).bytes(bind, 1), spent))
+    out.append(served(Served(draws=[]).opened(1)))
+    member = Served(draws=MEMBER_DRAWS[:1])
+    authenticate(member)
+    out.append(served(member, spent))
+    return out
+
+
+def of_member_sinks():
+    """A line is put for each outcome, in front of what its step does later; where the sink fails nothing later is done."""
+    out = [sink_fails(three_at_once(), put) for put in range(3)]
+    lost = Served()
+    authenticate(lost)
+    out.append(sink_fails(lost.failed(), 0))
+    return out
+
+
+def of_member_ports():
+    """`listen` and `next` fail, and as many events are asked for as the words say."""
+    fault = ending("PortFault")
+    bind = Client().dialled(1).sent()
+    member = Served().opened(1).bytes(bind, 1)
+    events, draws = ",".join(member.given + ["stop"]), member.words[4]
+
+    def comes(exit_text, sent, **how):
+        return member_line(events, draws=draws, **how), ";".join([exit_text, text(""), sent, "told"])
+
+    sent = member.sends()
+    out = [comes(fault, "-", failing=str(call)) for call in range(3)]
+    # Call 3 is the send, call 4 the last `next`.
+    out += [comes(DONE, "-", failing="3"), comes(fault, sent, failing="4"), comes(DONE, sent, failing="5")]
+    out += [comes(DONE, "-" if int(most) < 2 else sent, events=most) for most in ["0", "1", "2", "3", "4294967295"]]
+    # The third `next` would fail and is never made.
+    out.append(comes(DONE, sent, events="2", failing="4"))
+    return out
+
+
+def of_member_files():
+    """The secret is judged before the seed is read, and both before the port listens."""
+    fault = ending("FileFault")
+    secret = MEMBER_FILES["k"]
+
+    def comes(exit_text, **how):
+        return member_line("stop", **how), ";".join([exit_text, text(""), "-", "told"])
+
+    out = [comes(DONE), comes(fault, files={}), comes(fault, files={"k": secret}), comes(fault, files={"s": SEED}), comes(fault, reads="0"), comes(fault, reads="1"), comes(DONE, reads="2")]
+    for wrong in ["", secret[:-2], secret + "30", secret + "0a0a", ascii_hex("g" * 32)]:
+        out.append(comes(ending("BadInput", 4), files={"k": wrong, "s": SEED}, reads="1", failing="0"))
+    out.append(comes(DONE, files={"k": secret + "0a", "s": SEED}))
+    for seed in ["", "00" * 31, "00" * 33]:
+        out.append(comes(ending("BadInput", 6), files={"k": secret, "s": seed}, failing="0"))
+    return out
+
+
+def of_members():
+    """A member server that serves."""
+    return of_member_logons() + of_member_turns() + of_member_challenges() + of_member_sinks() + of_member_ports() + of_member_files()
+
+
 def cases():
     """The cases of commands that serve."""
-    return of_the_port() + of_counts() + of_the_files() + of_challenges() + of_lines()
+    return of_the_port() + of_counts() + of_the_files() + of_challenges() + of_lines() + of_members()

@@ -1,5 +1,5 @@
 -- A command that serves, by the results of its parts.
-use Rattle.std.proofs.Common.{◌≡◌, ◌⊎◌, inl, inr, ℕ, Bool, true, false, List, [], ◌∷◌, codes, Option, Some, None, IfSome, Result, Ok, Err, OnOk, IfErr, refl, sym, ap, subst, ◌∙◌}
+use Rattle.std.proofs.Common.{◌≡◌, inl, inr, ℕ, Bool, true, false, List, [], ◌∷◌, codes, Option, Some, None, IfSome, Result, Ok, Err, OnOk, IfErr, refl, sym, ap, subst, ◌∙◌}
 use Rattle.std.proofs.lemmas.Slice.Eq.{bytes_eq-Decides}
 use Rattle.outside.specs.Causes.{Rose}
 use Rattle.outside.specs.Machine.{Machine}
@@ -8,11 +8,11 @@ use Rattle.end_loop.specs.Served.{Served, ServedUntil}
 use Rattle.end_loop.specs.declared.halt.Halt.{Halt}
 use Rattle.end_loop.specs.declared.halt.Halt.TheVariants as halts
 use Rattle.wire_base.specs.Memory.{UpToMemory}
-use Rattle.nt_words.specs.Files.{ControllerFiles, FaultRose, HasFault, SecretFiles, Shelf, UpToFaults, and_then, controller_files, secret_files}
-use Rattle.nt_words.specs.Jobs.{ControllerJob, LogonJob, controller_job, is_led_by, logon_form, logon_job, logon_job_from, named_rows}
+use Rattle.nt_words.specs.Files.{FaultRose, HasFault, SecretFiles, Shelf, UpToFaults, and_then}
+use Rattle.nt_words.specs.Jobs.{LogonJob, is_led_by, logon_form, logon_job, logon_job_from, named_rows}
+use Rattle.nt_words.specs.Roles.{drill_by, job_at_once, job_from, job_of, logon_by, show, unless_led}
 use Rattle.nt_words.specs.Setups.{setup_due}
 use Rattle.nt_words.specs.declared.drill.DrillWords.{DrillWords}
-use Rattle.nt_words.specs.Roles.{drill_by, job_from, job_of, logon_at_once, logon_by, show}
 use Rattle.nt_words.specs.declared.job.Job.{Job}
 use Rattle.nt_words.specs.declared.job.Job.TheVariants as jobs
 use Rattle.nt_words.specs.declared.job.Role.{Role}
@@ -21,6 +21,8 @@ use Rattle.nt_words.specs.declared.options.WordsRefused.{WordsRefused}
 use Rattle.nt_words.specs.declared.options.WordsRefused.TheVariants.{BadWords, Memory}
 use Rattle.nt_words.specs.declared.files.FilesRefused.{FilesRefused}
 use Rattle.nt_words.specs.declared.files.FilesRefused.TheVariants as files
+use Rattle.nt_words.specs.declared.setup.Setup.{Setup}
+use Rattle.nt_words.specs.declared.setup.Setup.TheVariants as setups
 use Rattle.logon_client.specs.declared.outcome.NoAnswerCause.{NoAnswerCause}
 use Rattle.logon_client.specs.declared.outcome.NoAnswerCause.TheVariants.{DialFailed, LinkClosed, NoController}
 use Rattle.nt_top.specs.declared.exit.Exit.{Exit}
@@ -30,13 +32,11 @@ use Rattle.nt_top.specs.Causes.{Comes, IsBadInput, IsBadWords, IsOfForm, OutOfFo
 use Rattle.nt_top.specs.Check.{AskedAccepted, AskedRefused}
 use Rattle.nt_top.specs.Show.{AskedShown}
 use Rattle.nt_top.specs.Refusals.{files_exit, words_exit}
-use Rattle.nt_top.specs.Serve.{ControllerAsked, ControllerRuns, ControllerServes, IsServed, IsServeOfForm, ServesTo, halt_exit, service_exit}
-use Rattle.nt_top.specs.Logon.{LogonAsked, LogonBy, LogonFollows, LogonRuns, plan_of}
+use Rattle.nt_top.specs.Serve.{IsServed, MayServe, ServesTo, halt_exit, service_exit}
+use Rattle.nt_top.specs.Logon.{plan_of}
 use Rattle.nt_top.specs.LogonExits.{IsAnswered, IsLogonOfForm, IsOfClients, LosesLink}
-use Rattle.nt_top.specs.Service.{ServiceRuns, uses_port}
+use Rattle.nt_top.specs.Service.{IsBadOfFiles, IsOfContents, IsServedBy, IsServiceOfForm, ServiceAsked, ServiceBy, ServiceFollows, ServiceReads, ServiceRuns, uses_port}
 use Rattle.nt_top.proofs.LogonLaws.{logon_laws}
-use Rattle.nt_words.specs.declared.setup.Setup.{Setup}
-use Rattle.nt_words.specs.declared.setup.Setup.TheVariants as setups
 
 halt_serves : {S : Type 0} (machine : Machine S) (old : S) (address seed : List ℕ) (boot most : ℕ) (before after : Sight) (halt : Halt) →
     ServedUntil machine old address seed boot most before after halt → ServesTo machine old address seed boot most before after (halt_exit halt)
@@ -77,93 +77,116 @@ pub fault_rose : {T : Type 0} (r : Result T FilesRefused) (refused : FilesRefuse
     r ≡ Err refused → refused ≡ files.FileFault → HasFault r before after → Rose before.faults after.faults
 fault_rose r refused before after is fault has = subst (λ f. FaultRose f before after) fault (subst (λ z. HasFault z before after) is has)
 
--- the same where the files were taken
-pub files_ok : (job : ControllerJob) (read : Result ControllerFiles FilesRefused) (setup : ControllerFiles) (before after : Sight) (exit : Exit) →
-    read ≡ Ok setup → ControllerServes job (Ok setup) before after exit → ControllerServes job read before after exit
-files_ok job read setup before after exit is serves = subst (λ z. ControllerServes job z before after exit) (sym is) serves
+-- what follows the files, by their result
+pub follows_ok : (read : Result Setup FilesRefused) (setup : Setup) (before after : Sight) (exit : Exit) →
+    read ≡ Ok setup → ServiceBy setup before after exit → ServiceFollows read before after exit
+follows_ok read setup before after exit is serves = subst (λ z. ServiceFollows z before after exit) (sym is) serves
 
--- ---- the words of a controller
+pub follows_err : (read : Result Setup FilesRefused) (refused : FilesRefused) (sight : Sight) (exit : Exit) →
+    read ≡ Err refused → exit ≡ files_exit refused → ServiceFollows read sight sight exit
+follows_err read refused sight exit is due = subst (λ z. ServiceFollows z sight sight exit) (sym is) (due, refl)
 
-pub job_is : (memory : WordsRefused) (result : Result Job WordsRefused) (r : Result ControllerJob WordsRefused) (job : ControllerJob) →
-    UpToMemory memory result (job_from jobs.Controller r) → result ≡ Ok (jobs.Controller job) → r ≡ Ok job
-job_is memory result (Ok other) job up is =
-    let same : ◌≡◌ {A = Result Job WordsRefused} (Ok (jobs.Controller other)) (Ok (jobs.Controller job)) = subst (λ z. UpToMemory memory z (Ok (jobs.Controller other))) is up in
-    cc
-job_is memory result (Err refused) job up is =
-    let same : ◌≡◌ {A = Result Job WordsRefused} (Err refused) (Ok (jobs.Controller job)) = subst (λ z. UpToMemory memory z (Err refused)) is up in
-    absurd cc
+-- what follows the words, by their result
+pub asked_ok : (asked : Result Job WordsRefused) (job : Job) (shelf shelf_after : Shelf) (before after : Sight) (exit : Exit) →
+    asked ≡ Ok job → ServiceReads job shelf shelf_after before after exit → ServiceAsked asked shelf shelf_after before after exit
+asked_ok asked job shelf shelf_after before after exit is reads = subst (λ z. ServiceAsked z shelf shelf_after before after exit) (sym is) reads
 
-pub refusal_is : (memory : WordsRefused) (result : Result Job WordsRefused) (r : Result ControllerJob WordsRefused) (refused : WordsRefused) →
-    UpToMemory memory result (job_from jobs.Controller r) → result ≡ Err refused → (refused ≡ memory) ⊎ (r ≡ Err refused)
-refusal_is memory result r refused up is = by_value r (subst (λ z. UpToMemory memory z (job_from jobs.Controller r)) is up)
-  where
-    by_value : (r : Result ControllerJob WordsRefused) → (refused ≡ memory) ⊎ (job_from jobs.Controller r ≡ Err refused) → (refused ≡ memory) ⊎ (r ≡ Err refused)
-    by_value r (inl is) = inl is
-    by_value (Ok job) (inr e) = absurd cc
-    by_value (Err other) (inr e) = inr (let same : other ≡ refused = cc in ap (λ z. Err z) same)
+pub asked_err : (asked : Result Job WordsRefused) (refused : WordsRefused) (shelf : Shelf) (sight : Sight) (exit : Exit) →
+    asked ≡ Err refused → exit ≡ words_exit refused → ServiceAsked asked shelf shelf sight sight exit
+asked_err asked refused shelf sight exit is due = subst (λ z. ServiceAsked z shelf shelf sight sight exit) (sym is) (refl, (due, refl))
 
 -- ---- a command that uses the port isn't asked to check or to show
 
-not_member : (role : Role) (words : List (List ℕ)) → uses_port role words ≡ true → role ≡ Member → ⊥
-not_member role words uses member = let e : uses_port Member words ≡ true = subst (λ r. uses_port r words ≡ true) member uses in cc
+not_check : (role : Role) (words : List (List ℕ)) (more : List (List ℕ)) → uses_port role words ≡ true → role ≡ Member → words ≡ codes "check" ∷ more → ⊥
+not_check role words more uses member is =
+    let e : uses_port Member (codes "check" ∷ more) ≡ true = subst (λ w. uses_port Member w ≡ true) is (subst (λ r. uses_port r words ≡ true) member uses) in cc
 
-not_show : (role : Role) (words : List (List ℕ)) (text : List ℕ) → uses_port role words ≡ true → role ≡ Logon → words ≡ codes "show" ∷ text ∷ [] → ⊥
-not_show role words text uses logon is =
-    let e : uses_port Logon (codes "show" ∷ text ∷ []) ≡ true = subst (λ w. uses_port Logon w ≡ true) is (subst (λ r. uses_port r words ≡ true) logon uses) in cc
+not_show : (role : Role) (words : List (List ℕ)) (more : List (List ℕ)) → uses_port role words ≡ true → role ≡ Logon → words ≡ codes "show" ∷ more → ⊥
+not_show role words more uses logon is =
+    let e : uses_port Logon (codes "show" ∷ more) ≡ true = subst (λ w. uses_port Logon w ≡ true) is (subst (λ r. uses_port r words ≡ true) logon uses) in cc
 
 pub not_accepted : (role : Role) (words : List (List ℕ)) → uses_port role words ≡ true → AskedAccepted role words → ⊥
-not_accepted role words uses asked = not_member role words uses asked.asks.member
+not_accepted role words uses asked = not_check role words _ uses asked.asks.member asked.asks.words_are
 
 pub not_rejected : (role : Role) (words : List (List ℕ)) → uses_port role words ≡ true → AskedRefused role words → ⊥
-not_rejected role words uses asked = not_member role words uses asked.asks.member
+not_rejected role words uses asked = not_check role words _ uses asked.asks.member asked.asks.words_are
 
 pub not_shown : (role : Role) (words : List (List ℕ)) → uses_port role words ≡ true → AskedShown role words → ⊥
-not_shown role words uses asked = not_show role words asked.asks.text uses asked.asks.logon asked.asks.words_are
+not_shown role words uses asked = not_show role words _ uses asked.asks.logon asked.asks.words_are
 
 pub not_input : (role : Role) (words : List (List ℕ)) (number : ℕ) → uses_port role words ≡ true → IsBadInput role words number → ⊥
-not_input role words number uses (inl asked) = not_member role words uses asked.member
-not_input role words number uses (inr asked) = not_show role words asked.message uses asked.logon asked.words_are
+not_input role words number uses (inl asked) = not_check role words _ uses asked.member asked.words_are
+not_input role words number uses (inr asked) = not_show role words _ uses asked.logon asked.words_are
 
 pub not_of_form : (role : Role) (words : List (List ℕ)) → uses_port role words ≡ true → IsOfForm role words → ⊥
 not_of_form role words uses (inl (inl asked)) = not_accepted role words uses asked
 not_of_form role words uses (inl (inr asked)) = not_rejected role words uses asked
 not_of_form role words uses (inr asked) = not_shown role words uses asked
 
+-- ---- what is seen of the words without memory
+
+-- what is seen of them is a refusal, or nothing
+abbrev SeesRefusal : Option (Result Job WordsRefused) → Type 0
+SeesRefusal None = Unit {0}
+SeesRefusal (Some (Ok job)) = ⊥
+SeesRefusal (Some (Err refused)) = Unit {0}
+
+unless_sees : (led : Bool) → SeesRefusal (unless_led led)
+unless_sees true = tt
+unless_sees false = tt
+
+member_sees : (words : List (List ℕ)) → is_led_by (codes "serve") words ≡ true → SeesRefusal (job_at_once Member words)
+member_sees [] led = absurd cc
+member_sees (word ∷ words) led =
+    let is : word ≡ codes "serve" = (bytes_eq-Decides word (codes "serve")).0 led in
+    subst (λ w. SeesRefusal (job_at_once Member (w ∷ words))) (sym is) tt
+
+logon_sees : (words : List (List ℕ)) → is_led_by (codes "logon") words ≡ true → SeesRefusal (job_at_once Logon words)
+logon_sees [] led = absurd cc
+logon_sees (word ∷ words) led =
+    let is : word ≡ codes "logon" = (bytes_eq-Decides word (codes "logon")).0 led in
+    subst (λ w. SeesRefusal (job_at_once Logon (w ∷ words))) (sym is) tt
+
+sees : (role : Role) (words : List (List ℕ)) → uses_port role words ≡ true → SeesRefusal (job_at_once role words)
+sees Controller words uses = unless_sees (is_led_by (codes "serve") words)
+sees Member words uses = member_sees words uses
+sees Logon words uses = logon_sees words uses
+
+by_sight : (seen : Option (Result Job WordsRefused)) (asked : Result Job WordsRefused) (exit : Exit) →
+    SeesRefusal seen → IfSome seen (λ due. asked ≡ due) → IfErr asked (λ refused. exit ≡ words_exit refused) → IfSome (from_at_once seen) (λ due. exit ≡ due)
+by_sight None asked exit refusal is due = tt
+by_sight (Some (Ok job)) asked exit refusal is due = absurd refusal
+by_sight (Some (Err refused)) asked exit refusal is due = subst (λ (r : Result Job WordsRefused). IfErr r (λ why. exit ≡ words_exit why)) is due
+
+-- the exit that is seen in the words without memory
+pub seen_at_once : (role : Role) (words : List (List ℕ)) (asked : Result Job WordsRefused) (exit : Exit) → uses_port role words ≡ true →
+    IfSome (job_at_once role words) (λ due. asked ≡ due) → IfErr asked (λ refused. exit ≡ words_exit refused) → IfSome (exit_at_once role words) (λ due. exit ≡ due)
+seen_at_once role words asked exit uses is due = by_sight (job_at_once role words) asked exit (sees role words uses) is due
+
+pub err_of : {T E : Type 0} (result : Result T E) (why : E) (P : E → Type 0) → result ≡ Err why → P why → IfErr result P
+err_of result why P is holds = subst (λ r. IfErr r P) (sym is) holds
+
+pub ok_of : {T E : Type 0} (result : Result T E) (x : T) (P : E → Type 0) → result ≡ Ok x → IfErr result P
+ok_of result x P is = subst (λ r. IfErr r P) (sym is) tt
+
 -- ---- the number of words that are refused
 
-come_by : (job : Result ControllerJob WordsRefused) (number : ℕ) (shelf shelf_after : Shelf) (before after : Sight) (exit : Exit) →
-    UpToMemory Memory job (Err (BadWords number)) → ControllerAsked job shelf shelf_after before after exit → Comes (exits.BadWords number) exit
+come_by : (asked : Result Job WordsRefused) (number : ℕ) (shelf shelf_after : Shelf) (before after : Sight) (exit : Exit) →
+    UpToMemory Memory asked (Err (BadWords number)) → ServiceAsked asked shelf shelf_after before after exit → Comes (exits.BadWords number) exit
 come_by (Ok job) number shelf shelf_after before after exit is runs = absurd (cc)
 come_by (Err refused) number shelf shelf_after before after exit (inl memory) runs = inr (runs.1.0 ∙ ap words_exit memory)
 come_by (Err refused) number shelf shelf_after before after exit (inr is) runs =
     let same : refused ≡ BadWords number = cc in inl (runs.1.0 ∙ ap words_exit same)
 
-job_from_err : (r : Result ControllerJob WordsRefused) (refused : WordsRefused) → job_from jobs.Controller r ≡ Err refused → r ≡ Err refused
-job_from_err (Ok job) refused e = absurd cc
-job_from_err (Err other) refused e = let same : other ≡ refused = cc in ap (λ z. Err z) same
-
-bad_of_controller : (words : List (List ℕ)) (number : ℕ) → IsBadWords Controller words number → controller_job words ≡ Err (BadWords number)
-bad_of_controller words number (OutOfForm is) = job_from_err (controller_job words) (BadWords number) is
-bad_of_controller words number (NotBuilt job none other is unbuilt) = absurd (let wrong : true ≡ false = other in cc)
-
-logon_come_by : (job : Result Job WordsRefused) (number : ℕ) (shelf shelf_after : Shelf) (before after : Sight) (exit : Exit) →
-    UpToMemory Memory job (Err (BadWords number)) → LogonAsked job shelf shelf_after before after exit → Comes (exits.BadWords number) exit
-logon_come_by (Ok job) number shelf shelf_after before after exit is runs = absurd (cc)
-logon_come_by (Err refused) number shelf shelf_after before after exit (inl memory) runs = inr (runs.1.0 ∙ ap words_exit memory)
-logon_come_by (Err refused) number shelf shelf_after before after exit (inr is) runs =
-    let same : refused ≡ BadWords number = cc in inl (runs.1.0 ∙ ap words_exit same)
-
-bad_of_logon : (words : List (List ℕ)) (number : ℕ) → uses_port Logon words ≡ true → IsBadWords Logon words number → job_of Logon words ≡ Err (BadWords number)
-bad_of_logon words number uses (OutOfForm is) = is
-bad_of_logon words number uses (NotBuilt job none other is unbuilt) = absurd (let wrong : true ≡ false = sym uses ∙ other in cc)
+bad_of_service : (role : Role) (words : List (List ℕ)) (number : ℕ) → uses_port role words ≡ true → IsBadWords role words number → job_of role words ≡ Err (BadWords number)
+bad_of_service role words number uses (OutOfForm is) = is
+bad_of_service role words number uses (NotBuilt job none other is unbuilt) = absurd (let wrong : true ≡ false = sym uses ∙ other in cc)
 
 pub words_come : (role : Role) (words : List (List ℕ)) (number : ℕ) (shelf shelf_after : Shelf) (before after : Sight) (exit : Exit) → uses_port role words ≡ true →
     ServiceRuns role words shelf shelf_after before after exit → IsBadWords role words number → Comes (exits.BadWords number) exit
-words_come Controller words number shelf shelf_after before after exit uses runs bad =
-    come_by runs.job number shelf shelf_after before after exit (subst (λ z. UpToMemory Memory runs.job z) (bad_of_controller words number bad) runs.is) runs.runs
-words_come Member words number shelf shelf_after before after exit uses runs bad = absurd runs
-words_come Logon words number shelf shelf_after before after exit uses runs bad =
-    logon_come_by runs.job number shelf shelf_after before after exit (subst (λ z. UpToMemory Memory runs.job z) (bad_of_logon words number uses bad) runs.is) runs.runs
+words_come role words number shelf shelf_after before after exit uses runs bad =
+    let due = bad_of_service role words number uses bad in
+    come_by runs.job number shelf shelf_after before after exit (subst (λ z. UpToMemory Memory runs.job z) due runs.is) runs.runs
 
 words_is : (refused : WordsRefused) (number : ℕ) → words_exit refused ≡ exits.BadWords number → refused ≡ BadWords number
 words_is (BadWords other) number e = let same : other ≡ number = cc in ap (λ n. BadWords n) same
@@ -175,55 +198,167 @@ files_no_words (files.BadTable cause) number e = cc
 files_no_words (files.BadInput other) number e = cc
 files_no_words files.NoMemory number e = cc
 
-serves_no_words : (job : ControllerJob) (read : Result ControllerFiles FilesRefused) (before after : Sight) (number : ℕ) →
-    ControllerServes job read before after (exits.BadWords number) → ⊥
-serves_no_words job (Err refused) before after number left = files_no_words refused number (sym left.0)
-serves_no_words job (Ok setup) before after number (inl left) = cc
-serves_no_words job (Ok setup) before after number (inr serves) = serves
+-- an exit that only words and files have
+abbrev IsOfInputs : Exit → Type 0
+IsOfInputs (exits.BadWords number) = Unit {0}
+IsOfInputs exits.FileFault = Unit {0}
+IsOfInputs (exits.BadTable cause) = Unit {0}
+IsOfInputs (exits.BadInput number) = Unit {0}
+IsOfInputs _ = ⊥
 
-only_by : (job due : Result ControllerJob WordsRefused) (number : ℕ) (shelf shelf_after : Shelf) (before after : Sight) →
-    UpToMemory Memory job due → ControllerAsked job shelf shelf_after before after (exits.BadWords number) → due ≡ Err (BadWords number)
-only_by (Ok job) due number shelf shelf_after before after is runs = absurd (serves_no_words job runs.files before after number runs.serves)
+serves_inputs : {S : Type 0} (machine : Machine S) (old : S) (address seed : List ℕ) (boot most : ℕ) (before after : Sight) (exit : Exit) →
+    IsOfInputs exit → ServesTo machine old address seed boot most before after exit → ⊥
+serves_inputs machine old address seed boot most before after exits.Done is serves = is
+serves_inputs machine old address seed boot most before after (exits.Refused cause) is serves = is
+serves_inputs machine old address seed boot most before after (exits.BadWords number) is serves = serves
+serves_inputs machine old address seed boot most before after exits.FileFault is serves = serves
+serves_inputs machine old address seed boot most before after (exits.BadTable cause) is serves = serves
+serves_inputs machine old address seed boot most before after (exits.BadInput number) is serves = serves
+serves_inputs machine old address seed boot most before after exits.PortFault is serves = is
+serves_inputs machine old address seed boot most before after exits.SinkFault is serves = is
+serves_inputs machine old address seed boot most before after exits.NoMemory is serves = is
+serves_inputs machine old address seed boot most before after (exits.NoAnswer cause) is serves = is
+serves_inputs machine old address seed boot most before after (exits.BadPeer fault) is serves = is
+serves_inputs machine old address seed boot most before after exits.Spent is serves = is
+
+may_inputs : {S : Type 0} (machine : Machine S) (old : S) (address seed : List ℕ) (boot most : ℕ) (before after : Sight) (exit : Exit) →
+    IsOfInputs exit → MayServe machine old address seed boot most before after exit → ⊥
+may_inputs machine old address seed boot most before after exit is (inl left) = subst IsOfInputs left.0 is
+may_inputs machine old address seed boot most before after exit is (inr serves) = serves_inputs machine old address seed boot most before after exit is serves
+
+client_inputs : (exit : Exit) → IsOfInputs exit → IsOfClients exit → ⊥
+client_inputs exits.Done is of = is
+client_inputs (exits.Refused cause) is of = is
+client_inputs (exits.BadWords number) is of = of
+client_inputs exits.FileFault is of = of
+client_inputs (exits.BadTable cause) is of = of
+client_inputs (exits.BadInput number) is of = of
+client_inputs exits.PortFault is of = is
+client_inputs exits.SinkFault is of = is
+client_inputs exits.NoMemory is of = is
+client_inputs (exits.NoAnswer cause) is of = is
+client_inputs (exits.BadPeer fault) is of = is
+client_inputs exits.Spent is of = is
+
+by_inputs : (setup : Setup) (before after : Sight) (exit : Exit) → IsOfInputs exit → ServiceBy setup before after exit → ⊥
+by_inputs (setups.Controller job files) before after exit is serves = may_inputs _ _ _ _ _ _ before after exit is serves
+by_inputs (setups.Member job files) before after exit is serves = may_inputs _ _ _ _ _ _ before after exit is serves
+by_inputs (setups.Check job) before after exit is left = subst IsOfInputs left.0 is
+by_inputs (setups.Logon job files) before after exit is ends = client_inputs exit is (logon_laws.exits (plan_of job files) files.seed job.boot before after exit ends)
+by_inputs (setups.Show job) before after exit is left = subst IsOfInputs left.0 is
+by_inputs (setups.Drill job) before after exit is left = subst IsOfInputs left.0 is
+
+follows_no_words : (read : Result Setup FilesRefused) (before after : Sight) (number : ℕ) → ServiceFollows read before after (exits.BadWords number) → ⊥
+follows_no_words (Err refused) before after number left = files_no_words refused number (sym left.0)
+follows_no_words (Ok setup) before after number serves = by_inputs setup before after (exits.BadWords number) tt serves
+
+only_by : (asked due : Result Job WordsRefused) (number : ℕ) (shelf shelf_after : Shelf) (before after : Sight) →
+    UpToMemory Memory asked due → ServiceAsked asked shelf shelf_after before after (exits.BadWords number) → due ≡ Err (BadWords number)
+only_by (Ok job) due number shelf shelf_after before after is runs = absurd (follows_no_words runs.setup before after number runs.follows)
 only_by (Err refused) due number shelf shelf_after before after (inl memory) runs =
     let same = words_is refused number (sym runs.1.0) in absurd cc
 only_by (Err refused) due number shelf shelf_after before after (inr is) runs =
     let same = words_is refused number (sym runs.1.0) in is ∙ ap (λ z. Err z) same
 
--- a client's exits are no refusal of words
-client_no_words : (exit : Exit) (number : ℕ) → IsOfClients exit → exit ≡ exits.BadWords number → ⊥
-client_no_words exit number is e = subst IsOfClients e is
-
-by_no_words : (setup : Setup) (before after : Sight) (number : ℕ) → LogonBy setup before after (exits.BadWords number) → ⊥
-by_no_words (setups.Logon job files) before after number ends =
-    client_no_words (exits.BadWords number) number (logon_laws.exits (plan_of job files) files.seed job.boot before after (exits.BadWords number) ends) refl
-by_no_words (setups.Controller job files) before after number left = cc
-by_no_words (setups.Member job files) before after number left = cc
-by_no_words (setups.Check job) before after number left = cc
-by_no_words (setups.Show job) before after number left = cc
-by_no_words (setups.Drill job) before after number left = cc
-
-follows_no_words : (setup : Result Setup FilesRefused) (before after : Sight) (number : ℕ) → LogonFollows setup before after (exits.BadWords number) → ⊥
-follows_no_words (Err refused) before after number left = files_no_words refused number (sym left.0)
-follows_no_words (Ok setup) before after number ends = by_no_words setup before after number ends
-
-logon_only_by : (job due : Result Job WordsRefused) (number : ℕ) (shelf shelf_after : Shelf) (before after : Sight) →
-    UpToMemory Memory job due → LogonAsked job shelf shelf_after before after (exits.BadWords number) → due ≡ Err (BadWords number)
-logon_only_by (Ok job) due number shelf shelf_after before after is runs = absurd (follows_no_words runs.setup before after number runs.follows)
-logon_only_by (Err refused) due number shelf shelf_after before after (inl memory) runs =
-    let same = words_is refused number (sym runs.1.0) in absurd cc
-logon_only_by (Err refused) due number shelf shelf_after before after (inr is) runs =
-    let same = words_is refused number (sym runs.1.0) in is ∙ ap (λ z. Err z) same
-
-pub words_only_by : (role : Role) (words : List (List ℕ)) (number : ℕ) (shelf shelf_after : Shelf) (before after : Sight) (exit : Exit) → uses_port role words ≡ true →
+pub words_only_by : (role : Role) (words : List (List ℕ)) (number : ℕ) (shelf shelf_after : Shelf) (before after : Sight) (exit : Exit) →
     ServiceRuns role words shelf shelf_after before after exit → exit ≡ exits.BadWords number → IsBadWords role words number
-words_only_by Controller words number shelf shelf_after before after exit uses runs is =
-    let asked = subst (λ z. ControllerAsked runs.job shelf shelf_after before after z) is runs.runs in
-    let due = only_by runs.job (controller_job words) number shelf shelf_after before after runs.is asked in
-    OutOfForm (ap (λ z. job_from jobs.Controller z) due)
-words_only_by Member words number shelf shelf_after before after exit uses runs is = absurd runs
-words_only_by Logon words number shelf shelf_after before after exit uses runs is =
-    let asked = subst (λ z. LogonAsked runs.job shelf shelf_after before after z) is runs.runs in
-    OutOfForm (logon_only_by runs.job (job_of Logon words) number shelf shelf_after before after runs.is asked)
+words_only_by role words number shelf shelf_after before after exit runs is =
+    let asked = subst (λ z. ServiceAsked runs.job shelf shelf_after before after z) is runs.runs in
+    OutOfForm (only_by runs.job (job_of role words) number shelf shelf_after before after runs.is asked)
+
+-- ---- files that are refused
+
+files_come_by : (read due : Result Setup FilesRefused) (refused : FilesRefused) (before after : Sight) (exit : Exit) →
+    due ≡ Err refused → UpToFaults read due → (exit ≡ exits.FileFault → ⊥) → ServiceFollows read before after exit → Comes (files_exit refused) exit
+files_come_by (Err files.FileFault) due refused before after exit is up file left = absurd (file left.0)
+files_come_by (Err files.NoMemory) due refused before after exit is up file left = inr left.0
+files_come_by (Err (files.BadTable cause)) due refused before after exit is up file left =
+    let same : files.BadTable cause ≡ refused = cc in inl (left.0 ∙ ap files_exit same)
+files_come_by (Err (files.BadInput number)) due refused before after exit is up file left =
+    let same : files.BadInput number ≡ refused = cc in inl (left.0 ∙ ap files_exit same)
+files_come_by (Ok read) due refused before after exit is up file serves = absurd cc
+
+asked_files_come : (asked due : Result Job WordsRefused) (job : Job) (told : List (List ℕ × List ℕ)) (refused : FilesRefused) (shelf shelf_after : Shelf) (before after : Sight) (exit : Exit) →
+    UpToMemory Memory asked due → due ≡ Ok job → shelf.contents ≡ Some told → setup_due job told ≡ Err refused → (exit ≡ exits.FileFault → ⊥) →
+    ServiceAsked asked shelf shelf_after before after exit → Comes (files_exit refused) exit
+asked_files_come (Err why) due job told refused shelf shelf_after before after exit (inl memory) is tells of file runs = inr (runs.1.0 ∙ ap words_exit memory)
+asked_files_come (Err why) due job told refused shelf shelf_after before after exit (inr other) is tells of file runs = absurd cc
+asked_files_come (Ok other) due job told refused shelf shelf_after before after exit up is tells of file runs =
+    let same : other ≡ job = cc in
+    let there = subst (λ z. IfSome z (λ contents. UpToFaults runs.setup (setup_due other contents))) tells runs.reads.exact in
+    let due_is = subst (λ (z : Job). setup_due z told ≡ Err refused) (sym same) of in
+    files_come_by runs.setup (setup_due other told) refused before after exit due_is there file runs.follows
+
+-- files that are refused come to the exit of their refusal, where no read fails
+pub files_come : (role : Role) (words : List (List ℕ)) (refused : FilesRefused) (shelf shelf_after : Shelf) (before after : Sight) (exit : Exit) →
+    ServiceRuns role words shelf shelf_after before after exit → IsBadOfFiles role words shelf.contents refused → (exit ≡ exits.FileFault → ⊥) → Comes (files_exit refused) exit
+files_come role words refused shelf shelf_after before after exit runs bad file =
+    asked_files_come runs.job (job_of role words) bad.job bad.told refused shelf shelf_after before after exit runs.is bad.job_is bad.told_is bad.due file runs.runs
+
+contents_inputs : (refused : FilesRefused) → IsOfContents refused → IsOfInputs (files_exit refused)
+contents_inputs files.FileFault is = absurd is
+contents_inputs files.NoMemory is = absurd is
+contents_inputs (files.BadTable cause) is = tt
+contents_inputs (files.BadInput number) is = tt
+
+contents_due : (refused : FilesRefused) (due : Result Setup FilesRefused) → IsOfContents refused → UpToFaults (Err refused) due → due ≡ Err refused
+contents_due files.FileFault due is up = absurd is
+contents_due files.NoMemory due is up = absurd is
+contents_due (files.BadTable cause) due is up = up
+contents_due (files.BadInput number) due is up = up
+
+-- the refusal of an exit of contents
+contents_exit : (other refused : FilesRefused) → IsOfContents refused → files_exit other ≡ files_exit refused → other ≡ refused
+contents_exit other files.FileFault is e = absurd is
+contents_exit other files.NoMemory is e = absurd is
+contents_exit files.FileFault (files.BadTable cause) is e = absurd cc
+contents_exit files.NoMemory (files.BadTable cause) is e = absurd cc
+contents_exit (files.BadInput number) (files.BadTable cause) is e = absurd cc
+contents_exit (files.BadTable other) (files.BadTable cause) is e = let same : other ≡ cause = cc in ap (λ z. files.BadTable z) same
+contents_exit files.FileFault (files.BadInput number) is e = absurd cc
+contents_exit files.NoMemory (files.BadInput number) is e = absurd cc
+contents_exit (files.BadTable cause) (files.BadInput number) is e = absurd cc
+contents_exit (files.BadInput other) (files.BadInput number) is e = let same : other ≡ number = cc in ap (λ z. files.BadInput z) same
+
+words_no_contents : (why : WordsRefused) (refused : FilesRefused) → IsOfContents refused → words_exit why ≡ files_exit refused → ⊥
+words_no_contents why files.FileFault is e = is
+words_no_contents why files.NoMemory is e = is
+words_no_contents (BadWords number) (files.BadTable cause) is e = cc
+words_no_contents (BadWords number) (files.BadInput other) is e = cc
+words_no_contents Memory (files.BadTable cause) is e = cc
+words_no_contents Memory (files.BadInput other) is e = cc
+
+follows_only : (read due : Result Setup FilesRefused) (refused : FilesRefused) (before after : Sight) (exit : Exit) →
+    IsOfContents refused → exit ≡ files_exit refused → UpToFaults read due → ServiceFollows read before after exit → due ≡ Err refused
+follows_only (Err why) due refused before after exit is e up left =
+    let same = contents_exit why refused is (sym left.0 ∙ e) in
+    contents_due refused due is (subst (λ z. UpToFaults (Err z) due) same up)
+follows_only (Ok setup) due refused before after exit is e up serves =
+    absurd (by_inputs setup before after exit (subst IsOfInputs (sym e) (contents_inputs refused is)) serves)
+
+asked_only : (role : Role) (words : List (List ℕ)) (asked : Result Job WordsRefused) (told : List (List ℕ × List ℕ)) (refused : FilesRefused) (shelf shelf_after : Shelf) (before after : Sight) (exit : Exit) →
+    uses_port role words ≡ true → UpToMemory Memory asked (job_of role words) → shelf.contents ≡ Some told → IsOfContents refused → exit ≡ files_exit refused →
+    ServiceAsked asked shelf shelf_after before after exit → IsBadOfFiles role words shelf.contents refused
+asked_only role words (Err why) told refused shelf shelf_after before after exit uses up tells is e runs = absurd (words_no_contents why refused is (sym runs.1.0 ∙ e))
+asked_only role words (Ok job) told refused shelf shelf_after before after exit uses up tells is e runs =
+    let there = subst (λ z. IfSome z (λ contents. UpToFaults runs.setup (setup_due job contents))) tells runs.reads.exact in record {
+      uses = uses;
+      job = job;
+      job_is = up;
+      told = told;
+      told_is = tells;
+      due = follows_only runs.setup (setup_due job told) refused before after exit is e there runs.follows;
+    }
+
+-- the exit of what a file holds comes only where files are refused so
+pub files_only : (role : Role) (words : List (List ℕ)) (told : List (List ℕ × List ℕ)) (refused : FilesRefused) (shelf shelf_after : Shelf) (before after : Sight) (exit : Exit) →
+    uses_port role words ≡ true → ServiceRuns role words shelf shelf_after before after exit → shelf.contents ≡ Some told → IsOfContents refused → exit ≡ files_exit refused →
+    IsBadOfFiles role words shelf.contents refused
+files_only role words told refused shelf shelf_after before after exit uses runs tells is e =
+    asked_only role words runs.job told refused shelf shelf_after before after exit uses runs.is tells is e runs.runs
+
+pub not_files : (role : Role) (words : List (List ℕ)) (contents : Option (List (List ℕ × List ℕ))) (refused : FilesRefused) → uses_port role words ≡ false → IsBadOfFiles role words contents refused → ⊥
+not_files role words contents refused other bad = let wrong : true ≡ false = sym bad.uses ∙ other in cc
 
 -- ---- completeness
 
@@ -242,39 +377,10 @@ service_served machine old address seed boot most before after (exits.BadInput n
 service_served machine old address seed boot most before after (exits.NoAnswer cause) port sink serves = absurd serves
 service_served machine old address seed boot most before after (exits.BadPeer fault) port sink serves = absurd serves
 
-files_served : (job : ControllerJob) (read due : Result ControllerFiles FilesRefused) (setup : ControllerFiles) (before after : Sight) (exit : Exit) →
-    due ≡ Ok setup → UpToFaults read due → (exit ≡ exits.FileFault → ⊥) → (exit ≡ exits.PortFault → ⊥) → (exit ≡ exits.SinkFault → ⊥) →
-    ControllerServes job read before after exit → IsServed exit
-files_served job (Err files.FileFault) due setup before after exit is up file port sink left = absurd (file left.0)
-files_served job (Err files.NoMemory) due setup before after exit is up file port sink left = subst IsServed (sym left.0) tt
-files_served job (Err (files.BadTable cause)) due setup before after exit is up file port sink left = absurd cc
-files_served job (Err (files.BadInput number)) due setup before after exit is up file port sink left = absurd cc
-files_served job (Ok read) due setup before after exit is up file port sink (inl left) = subst IsServed (sym left.0) tt
-files_served job (Ok read) due setup before after exit is up file port sink (inr serves) = service_served _ _ _ _ _ _ before after exit port sink serves
-
-asked_served : (asked due : Result ControllerJob WordsRefused) (job : ControllerJob) (told : List (List ℕ × List ℕ)) (setup : ControllerFiles) (shelf shelf_after : Shelf) (before after : Sight) (exit : Exit) →
-    UpToMemory Memory asked due → due ≡ Ok job → shelf.contents ≡ Some told → controller_files job.table job.seed told ≡ Ok setup →
-    (exit ≡ exits.FileFault → ⊥) → (exit ≡ exits.PortFault → ⊥) → (exit ≡ exits.SinkFault → ⊥) →
-    ControllerAsked asked shelf shelf_after before after exit → IsServed exit
-asked_served (Err refused) due job told setup shelf shelf_after before after exit (inl memory) is tells of file port sink runs = subst IsServed (sym (runs.1.0 ∙ ap words_exit memory)) tt
-asked_served (Err refused) due job told setup shelf shelf_after before after exit (inr other) is tells of file port sink runs = absurd cc
-asked_served (Ok other) due job told setup shelf shelf_after before after exit up is tells of file port sink runs =
-    let same : other ≡ job = cc in
-    let there = subst (λ z. IfSome z (λ contents. UpToFaults runs.files (controller_files other.table other.seed contents))) tells runs.reads.exact in
-    let due_is = subst (λ (z : ControllerJob). controller_files z.table z.seed told ≡ Ok setup) (sym same) of in
-    files_served other runs.files (controller_files other.table other.seed told) setup before after exit due_is there file port sink runs.serves
-
-pub serve_done : (role : Role) (words : List (List ℕ)) (shelf shelf_after : Shelf) (before after : Sight) (exit : Exit) →
-    ServiceRuns role words shelf shelf_after before after exit → IsServeOfForm role words shelf.contents →
-    (exit ≡ exits.FileFault → ⊥) → (exit ≡ exits.PortFault → ⊥) → (exit ≡ exits.SinkFault → ⊥) → IsServed exit
-serve_done role words shelf shelf_after before after exit service form file port sink =
-    let runs : ControllerRuns words shelf shelf_after before after exit = subst (λ (r : Role). ServiceRuns r words shelf shelf_after before after exit) form.controller service in
-    asked_served runs.job (controller_job words) form.job form.told form.files shelf shelf_after before after exit runs.is form.job_is form.told_is form.files_are file port sink runs.runs
-
-pub not_serve : (role : Role) (words : List (List ℕ)) (contents : Option (List (List ℕ × List ℕ))) → uses_port role words ≡ false → IsServeOfForm role words contents → ⊥
-not_serve role words contents other form = let e : uses_port Controller words ≡ false = subst (λ r. uses_port r words ≡ false) form.controller other in cc
-
--- ---- completeness of a logon
+may_served : {S : Type 0} (machine : Machine S) (old : S) (address seed : List ℕ) (boot most : ℕ) (before after : Sight) (exit : Exit) →
+    (exit ≡ exits.PortFault → ⊥) → (exit ≡ exits.SinkFault → ⊥) → MayServe machine old address seed boot most before after exit → IsServed exit
+may_served machine old address seed boot most before after exit port sink (inl left) = subst IsServed (sym left.0) tt
+may_served machine old address seed boot most before after exit port sink (inr serves) = service_served machine old address seed boot most before after exit port sink serves
 
 client_answered : (exit : Exit) → IsOfClients exit → (exit ≡ exits.PortFault → ⊥) → (exit ≡ exits.SinkFault → ⊥) → IsAnswered exit
 client_answered exits.Done is port sink = _
@@ -290,41 +396,54 @@ client_answered (exits.BadWords number) is port sink = absurd is
 client_answered (exits.BadTable cause) is port sink = absurd is
 client_answered (exits.BadInput number) is port sink = absurd is
 
-by_answered : (setup : Setup) (before after : Sight) (exit : Exit) → (exit ≡ exits.PortFault → ⊥) → (exit ≡ exits.SinkFault → ⊥) → LogonBy setup before after exit → IsAnswered exit
-by_answered (setups.Logon job files) before after exit port sink ends =
+-- want of memory is one of both
+memory_served : (setup : Setup) (exit : Exit) → exit ≡ exits.NoMemory → IsServedBy setup exit
+memory_served (setups.Controller job files) exit is = subst IsServed (sym is) tt
+memory_served (setups.Member job files) exit is = subst IsServed (sym is) tt
+memory_served (setups.Logon job files) exit is = subst IsAnswered (sym is) tt
+memory_served (setups.Check job) exit is = subst IsServed (sym is) tt
+memory_served (setups.Show job) exit is = subst IsServed (sym is) tt
+memory_served (setups.Drill job) exit is = subst IsServed (sym is) tt
+
+by_served : (setup : Setup) (before after : Sight) (exit : Exit) → (exit ≡ exits.PortFault → ⊥) → (exit ≡ exits.SinkFault → ⊥) → ServiceBy setup before after exit → IsServedBy setup exit
+by_served (setups.Controller job files) before after exit port sink serves = may_served _ _ _ _ _ _ before after exit port sink serves
+by_served (setups.Member job files) before after exit port sink serves = may_served _ _ _ _ _ _ before after exit port sink serves
+by_served (setups.Logon job files) before after exit port sink ends =
     client_answered exit (logon_laws.exits (plan_of job files) files.seed job.boot before after exit ends) port sink
-by_answered (setups.Controller job files) before after exit port sink left = subst IsAnswered (sym left.0) tt
-by_answered (setups.Member job files) before after exit port sink left = subst IsAnswered (sym left.0) tt
-by_answered (setups.Check job) before after exit port sink left = subst IsAnswered (sym left.0) tt
-by_answered (setups.Show job) before after exit port sink left = subst IsAnswered (sym left.0) tt
-by_answered (setups.Drill job) before after exit port sink left = subst IsAnswered (sym left.0) tt
+by_served (setups.Check job) before after exit port sink left = subst IsServed (sym left.0) tt
+by_served (setups.Show job) before after exit port sink left = subst IsServed (sym left.0) tt
+by_served (setups.Drill job) before after exit port sink left = subst IsServed (sym left.0) tt
 
-follows_answered : (setup due : Result Setup FilesRefused) (start : Setup) (before after : Sight) (exit : Exit) → due ≡ Ok start → UpToFaults setup due →
-    (exit ≡ exits.FileFault → ⊥) → (exit ≡ exits.PortFault → ⊥) → (exit ≡ exits.SinkFault → ⊥) → LogonFollows setup before after exit → IsAnswered exit
-follows_answered (Err files.FileFault) due start before after exit is up file port sink left = absurd (file left.0)
-follows_answered (Err files.NoMemory) due start before after exit is up file port sink left = subst IsAnswered (sym left.0) tt
-follows_answered (Err (files.BadTable cause)) due start before after exit is up file port sink left = absurd cc
-follows_answered (Err (files.BadInput number)) due start before after exit is up file port sink left = absurd cc
-follows_answered (Ok setup) due start before after exit is up file port sink ends = by_answered setup before after exit port sink ends
+files_served : (read due : Result Setup FilesRefused) (setup : Setup) (before after : Sight) (exit : Exit) →
+    due ≡ Ok setup → UpToFaults read due → (exit ≡ exits.FileFault → ⊥) → (exit ≡ exits.PortFault → ⊥) → (exit ≡ exits.SinkFault → ⊥) →
+    ServiceFollows read before after exit → IsServedBy setup exit
+files_served (Err files.FileFault) due setup before after exit is up file port sink left = absurd (file left.0)
+files_served (Err files.NoMemory) due setup before after exit is up file port sink left = memory_served setup exit left.0
+files_served (Err (files.BadTable cause)) due setup before after exit is up file port sink left = absurd cc
+files_served (Err (files.BadInput number)) due setup before after exit is up file port sink left = absurd cc
+files_served (Ok read) due setup before after exit is up file port sink serves =
+    let same : read ≡ setup = cc in subst (λ z. IsServedBy z exit) same (by_served read before after exit port sink serves)
 
-logon_answered : (asked due : Result Job WordsRefused) (job : LogonJob) (told : List (List ℕ × List ℕ)) (held : SecretFiles) (shelf shelf_after : Shelf) (before after : Sight) (exit : Exit) →
-    UpToMemory Memory asked due → due ≡ Ok (jobs.Logon job) → shelf.contents ≡ Some told → secret_files 5 job.hash 9 job.seed told ≡ Ok held →
-    (exit ≡ exits.FileFault → ⊥) → (exit ≡ exits.PortFault → ⊥) → (exit ≡ exits.SinkFault → ⊥) → LogonAsked asked shelf shelf_after before after exit → IsAnswered exit
-logon_answered (Err refused) due job told held shelf shelf_after before after exit (inl memory) is tells of file port sink runs = subst IsAnswered (sym (runs.1.0 ∙ ap words_exit memory)) tt
-logon_answered (Err refused) due job told held shelf shelf_after before after exit (inr other) is tells of file port sink runs = absurd cc
-logon_answered (Ok other) due job told held shelf shelf_after before after exit up is tells of file port sink runs =
-    let same : other ≡ jobs.Logon job = cc in
+asked_served : (asked due : Result Job WordsRefused) (job : Job) (told : List (List ℕ × List ℕ)) (setup : Setup) (shelf shelf_after : Shelf) (before after : Sight) (exit : Exit) →
+    UpToMemory Memory asked due → due ≡ Ok job → shelf.contents ≡ Some told → setup_due job told ≡ Ok setup →
+    (exit ≡ exits.FileFault → ⊥) → (exit ≡ exits.PortFault → ⊥) → (exit ≡ exits.SinkFault → ⊥) →
+    ServiceAsked asked shelf shelf_after before after exit → IsServedBy setup exit
+asked_served (Err refused) due job told setup shelf shelf_after before after exit (inl memory) is tells of file port sink runs = memory_served setup exit (runs.1.0 ∙ ap words_exit memory)
+asked_served (Err refused) due job told setup shelf shelf_after before after exit (inr other) is tells of file port sink runs = absurd cc
+asked_served (Ok other) due job told setup shelf shelf_after before after exit up is tells of file port sink runs =
+    let same : other ≡ job = cc in
     let there = subst (λ z. IfSome z (λ contents. UpToFaults runs.setup (setup_due other contents))) tells runs.reads.exact in
-    let of_job : setup_due (jobs.Logon job) told ≡ Ok (setups.Logon job held) = ap (λ (r : Result SecretFiles FilesRefused). and_then r (λ z. Ok (setups.Logon job z))) of in
-    let due_is = subst (λ (z : Job). setup_due z told ≡ Ok (setups.Logon job held)) (sym same) of_job in
-    follows_answered runs.setup (setup_due other told) (setups.Logon job held) before after exit due_is there file port sink runs.follows
+    let due_is = subst (λ (z : Job). setup_due z told ≡ Ok setup) (sym same) of in
+    files_served runs.setup (setup_due other told) setup before after exit due_is there file port sink runs.follows
 
-pub logon_done : (role : Role) (words : List (List ℕ)) (shelf shelf_after : Shelf) (before after : Sight) (exit : Exit) →
-    ServiceRuns role words shelf shelf_after before after exit → IsLogonOfForm role words shelf.contents →
-    (exit ≡ exits.FileFault → ⊥) → (exit ≡ exits.PortFault → ⊥) → (exit ≡ exits.SinkFault → ⊥) → IsAnswered exit
-logon_done role words shelf shelf_after before after exit service form file port sink =
-    let runs : LogonRuns words shelf shelf_after before after exit = subst (λ (r : Role). ServiceRuns r words shelf shelf_after before after exit) form.logon service in
-    logon_answered runs.job (job_of Logon words) form.job form.told form.files shelf shelf_after before after exit runs.is form.job_is form.told_is form.files_are file port sink runs.runs
+pub serve_done : (role : Role) (words : List (List ℕ)) (shelf shelf_after : Shelf) (before after : Sight) (exit : Exit) →
+    ServiceRuns role words shelf shelf_after before after exit → (form : IsServiceOfForm role words shelf.contents) →
+    (exit ≡ exits.FileFault → ⊥) → (exit ≡ exits.PortFault → ⊥) → (exit ≡ exits.SinkFault → ⊥) → IsServedBy form.setup exit
+serve_done role words shelf shelf_after before after exit runs form file port sink =
+    asked_served runs.job (job_of role words) form.job form.told form.setup shelf shelf_after before after exit runs.is form.job_is form.told_is form.setup_is file port sink runs.runs
+
+pub not_serve : (role : Role) (words : List (List ℕ)) (contents : Option (List (List ℕ × List ℕ))) → uses_port role words ≡ false → IsServiceOfForm role words contents → ⊥
+not_serve role words contents other form = let wrong : true ≡ false = sym form.uses ∙ other in cc
 
 -- ---- words that ask for a logon are led by its name
 
@@ -358,38 +477,34 @@ led_past_show : (shows : Bool) (words : List (List ℕ)) (job : LogonJob) → lo
 led_past_show true words job is = absurd (show_is_none words job is)
 led_past_show false words job is = led_past_drill (is_led_by (codes "drill") words) words job is
 
-pub not_logon : (role : Role) (words : List (List ℕ)) (contents : Option (List (List ℕ × List ℕ))) → uses_port role words ≡ false → IsLogonOfForm role words contents → ⊥
-not_logon role words contents other form =
-    let here : uses_port Logon words ≡ false = subst (λ r. uses_port r words ≡ false) form.logon other in
+-- such words use the port
+logon_uses : (role : Role) (words : List (List ℕ)) (contents : Option (List (List ℕ × List ℕ))) → IsLogonOfForm role words contents → uses_port role words ≡ true
+logon_uses role words contents form =
     let led = led_past_show (is_led_by (codes "show") words) words form.job form.job_is in
-    let wrong : true ≡ false = sym led ∙ here in cc
+    subst (λ r. uses_port r words ≡ true) (sym form.logon) led
 
--- ---- a logon takes memory before its exit is known
+logon_form_of : (role : Role) (words : List (List ℕ)) (contents : Option (List (List ℕ × List ℕ))) (form : IsLogonOfForm role words contents) → IsServiceOfForm role words contents
+logon_form_of role words contents form = record {
+  uses = logon_uses role words contents form;
+  job = jobs.Logon form.job;
+  job_is = subst (λ r. job_of r words ≡ Ok (jobs.Logon form.job)) (sym form.logon) form.job_is;
+  told = form.told;
+  told_is = form.told_is;
+  setup = setups.Logon form.job form.files;
+  setup_is = ap (λ (r : Result SecretFiles FilesRefused). and_then r (λ z. Ok (setups.Logon form.job z))) form.files_are;
+}
 
-none_at_once : (words : List (List ℕ)) → is_led_by (codes "logon") words ≡ true → logon_at_once (is_led_by (codes "show") words) words ≡ None
-none_at_once [] led = absurd cc
-none_at_once (word ∷ more) led =
-    let name : word ≡ codes "logon" = (bytes_eq-Decides word (codes "logon")).0 led in
-    subst (λ (w : List ℕ). logon_at_once (is_led_by (codes "show") (w ∷ more)) (w ∷ more) ≡ None) (sym name) refl
+pub logon_done : (role : Role) (words : List (List ℕ)) (shelf shelf_after : Shelf) (before after : Sight) (exit : Exit) →
+    ServiceRuns role words shelf shelf_after before after exit → IsLogonOfForm role words shelf.contents →
+    (exit ≡ exits.FileFault → ⊥) → (exit ≡ exits.PortFault → ⊥) → (exit ≡ exits.SinkFault → ⊥) → IsAnswered exit
+unfolding logon_form_of
+logon_done role words shelf shelf_after before after exit service form file port sink =
+    serve_done role words shelf shelf_after before after exit service (logon_form_of role words shelf.contents form) file port sink
 
-pub logon_not_at_once : (words : List (List ℕ)) (exit : Exit) → uses_port Logon words ≡ true → IfSome (exit_at_once Logon words) (λ due. exit ≡ due)
-logon_not_at_once words exit uses =
-    subst (λ (due : Option (Result Job WordsRefused)). IfSome (from_at_once due) (λ due. exit ≡ due)) (sym (none_at_once words uses)) tt
+pub not_logon : (role : Role) (words : List (List ℕ)) (contents : Option (List (List ℕ × List ℕ))) → uses_port role words ≡ false → IsLogonOfForm role words contents → ⊥
+not_logon role words contents other form = let wrong : true ≡ false = sym (logon_uses role words contents form) ∙ other in cc
 
 -- ---- a client that has no answer
-
-controller_answers : (job : Result ControllerJob WordsRefused) (cause : NoAnswerCause) (shelf shelf_after : Shelf) (before after : Sight) → ControllerAsked job shelf shelf_after before after (exits.NoAnswer cause) → ⊥
-controller_answers (Err Memory) cause shelf shelf_after before after runs = let is = runs.1.0 in cc
-controller_answers (Err (BadWords number)) cause shelf shelf_after before after runs = let is = runs.1.0 in cc
-controller_answers (Ok job) cause shelf shelf_after before after runs = by_files runs.files runs.serves
-  where
-    by_files : (read : Result ControllerFiles FilesRefused) → ControllerServes job read before after (exits.NoAnswer cause) → ⊥
-    by_files (Err files.FileFault) left = let is = left.0 in cc
-    by_files (Err files.NoMemory) left = let is = left.0 in cc
-    by_files (Err (files.BadTable why)) left = let is = left.0 in cc
-    by_files (Err (files.BadInput number)) left = let is = left.0 in cc
-    by_files (Ok setup) (inl left) = let is = left.0 in cc
-    by_files (Ok setup) (inr serves) = serves
 
 -- what a client's exit without an answer shows
 abbrev ShowsCause : NoAnswerCause → Sight → Sight → Type 0
@@ -397,33 +512,33 @@ ShowsCause DialFailed before after = Rose before.link_faults after.link_faults
 ShowsCause LinkClosed before after = LosesLink before after
 ShowsCause NoController before after = Unit {0}
 
-by_cause : (setup : Setup) (cause : NoAnswerCause) (before after : Sight) → LogonBy setup before after (exits.NoAnswer cause) → ShowsCause cause before after
+by_cause : (setup : Setup) (cause : NoAnswerCause) (before after : Sight) → ServiceBy setup before after (exits.NoAnswer cause) → ShowsCause cause before after
 by_cause (setups.Logon job files) DialFailed before after ends = logon_laws.dial (plan_of job files) files.seed job.boot before after _ ends refl
 by_cause (setups.Logon job files) LinkClosed before after ends = logon_laws.closed (plan_of job files) files.seed job.boot before after _ ends refl
 by_cause (setups.Logon job files) NoController before after ends = tt
-by_cause (setups.Controller job files) cause before after left = absurd (let is = left.0 in cc)
-by_cause (setups.Member job files) cause before after left = absurd (let is = left.0 in cc)
+by_cause (setups.Controller job files) cause before after (inl left) = absurd (let is = left.0 in cc)
+by_cause (setups.Controller job files) cause before after (inr serves) = absurd serves
+by_cause (setups.Member job files) cause before after (inl left) = absurd (let is = left.0 in cc)
+by_cause (setups.Member job files) cause before after (inr serves) = absurd serves
 by_cause (setups.Check job) cause before after left = absurd (let is = left.0 in cc)
 by_cause (setups.Show job) cause before after left = absurd (let is = left.0 in cc)
 by_cause (setups.Drill job) cause before after left = absurd (let is = left.0 in cc)
 
-follows_cause : (setup : Result Setup FilesRefused) (cause : NoAnswerCause) (before after : Sight) → LogonFollows setup before after (exits.NoAnswer cause) → ShowsCause cause before after
+follows_cause : (setup : Result Setup FilesRefused) (cause : NoAnswerCause) (before after : Sight) → ServiceFollows setup before after (exits.NoAnswer cause) → ShowsCause cause before after
 follows_cause (Err files.FileFault) cause before after left = absurd (let is = left.0 in cc)
 follows_cause (Err files.NoMemory) cause before after left = absurd (let is = left.0 in cc)
 follows_cause (Err (files.BadTable why)) cause before after left = absurd (let is = left.0 in cc)
 follows_cause (Err (files.BadInput number)) cause before after left = absurd (let is = left.0 in cc)
 follows_cause (Ok setup) cause before after ends = by_cause setup cause before after ends
 
-logon_cause : (job : Result Job WordsRefused) (cause : NoAnswerCause) (shelf shelf_after : Shelf) (before after : Sight) → LogonAsked job shelf shelf_after before after (exits.NoAnswer cause) → ShowsCause cause before after
-logon_cause (Err Memory) cause shelf shelf_after before after runs = absurd (let is = runs.1.0 in cc)
-logon_cause (Err (BadWords number)) cause shelf shelf_after before after runs = absurd (let is = runs.1.0 in cc)
-logon_cause (Ok job) cause shelf shelf_after before after runs = follows_cause runs.setup cause before after runs.follows
+asked_cause : (job : Result Job WordsRefused) (cause : NoAnswerCause) (shelf shelf_after : Shelf) (before after : Sight) → ServiceAsked job shelf shelf_after before after (exits.NoAnswer cause) → ShowsCause cause before after
+asked_cause (Err Memory) cause shelf shelf_after before after runs = absurd (let is = runs.1.0 in cc)
+asked_cause (Err (BadWords number)) cause shelf shelf_after before after runs = absurd (let is = runs.1.0 in cc)
+asked_cause (Ok job) cause shelf shelf_after before after runs = follows_cause runs.setup cause before after runs.follows
 
 service_cause : (role : Role) (words : List (List ℕ)) (cause : NoAnswerCause) (shelf shelf_after : Shelf) (before after : Sight) →
     ServiceRuns role words shelf shelf_after before after (exits.NoAnswer cause) → ShowsCause cause before after
-service_cause Controller words cause shelf shelf_after before after runs = absurd (controller_answers runs.job cause shelf shelf_after before after runs.runs)
-service_cause Member words cause shelf shelf_after before after runs = absurd runs
-service_cause Logon words cause shelf shelf_after before after runs = logon_cause runs.job cause shelf shelf_after before after runs.runs
+service_cause role words cause shelf shelf_after before after runs = asked_cause runs.job cause shelf shelf_after before after runs.runs
 
 -- a dial that failed, and a link that was lost
 pub dial_fault : (role : Role) (words : List (List ℕ)) (shelf shelf_after : Shelf) (before after : Sight) (exit : Exit) →

@@ -1,6 +1,6 @@
 -- The command `logon`: a client of the plan that the words and the files make dials the server and runs to its outcome, whose lines are put
 -- then (this project's own choice). Texts are lists of 16-bit units, a line is a list of bytes.
-use Rattle.std.specs.Prelude.{ℕ, ◌≡◌, ◌⊎◌, ◌==◌, ◌++◌, Bool, true, false, List, [], Option, Some, None, Result, Ok, Err, IfOk, codes}
+use Rattle.std.specs.Prelude.{ℕ, ◌≡◌, ◌⊎◌, ◌==◌, ◌++◌, Bool, true, false, List, [], Option, Some, None, codes}
 use Rattle.std.specs.Fmt.{decimal}
 use Rattle.outside.specs.Telling.{Appends, AppendsFront}
 use Rattle.outside.specs.declared.action.Action.{Action}
@@ -14,23 +14,12 @@ use Rattle.logon_client.specs.declared.outcome.NoAnswerCause.TheVariants.{LinkCl
 use Rattle.logon_client.specs.declared.plan.ClientPlan.{ClientPlan}
 use Rattle.logon_client.specs.Machine.{begin_of, client_machine, fresh_client}
 use Rattle.logon_client.specs.State.{State}
-use Rattle.nt_words.specs.Files.{SecretFiles, ReadsFiles, Shelf}
+use Rattle.nt_words.specs.Files.{SecretFiles}
 use Rattle.nt_words.specs.Jobs.{LogonJob}
-use Rattle.nt_words.specs.Roles.{job_of}
-use Rattle.nt_words.specs.Setups.{file_names, job_in, setup_due}
-use Rattle.nt_words.specs.declared.files.FilesRefused.{FilesRefused}
-use Rattle.nt_words.specs.declared.job.Job.{Job}
-use Rattle.nt_words.specs.declared.job.Role.TheVariants as roles
-use Rattle.nt_words.specs.declared.options.WordsRefused.{WordsRefused}
-use Rattle.nt_words.specs.declared.options.WordsRefused.TheVariants as words
-use Rattle.nt_words.specs.declared.setup.Setup.{Setup}
-use Rattle.nt_words.specs.declared.setup.Setup.TheVariants as setups
-use Rattle.wire_base.specs.Memory.{UpToMemory}
 use Rattle.nt_top.specs.declared.exit.Exit.{Exit}
 use Rattle.nt_top.specs.declared.exit.Exit.TheVariants.{Done, Refused, SinkFault, NoMemory, NoAnswer, BadPeer}
 use Rattle.nt_top.specs.Lines.{shown_text}
-use Rattle.nt_top.specs.Refusals.{files_exit, words_exit}
-use Rattle.nt_top.specs.Serve.{IsLeft, halt_exit}
+use Rattle.nt_top.specs.Serve.{halt_exit}
 
 -- ---- the client
 
@@ -113,33 +102,3 @@ pub record LogonEnds (plan : ClientPlan) (seed : List ℕ) (boot : ℕ) (before 
   pub opened : Sight
   pub opens : Opens seed boot before opened []
   pub ends : ClientEnds plan opened after exit
-
--- ---- `nt_logon logon`
-
--- A client of the plan that the words and the files make comes to its exit. The program has no other command with files.
-abbrev pub LogonBy : Setup → Sight → Sight → Exit → Type 0
-LogonBy (setups.Logon job files) before after exit = LogonEnds (plan_of job files) files.seed job.boot before after exit
-LogonBy _ before after exit = IsLeft NoMemory before after exit
-
--- What follows the files: their refusal is the exit; else a client comes to its exit.
-abbrev pub LogonFollows : Result Setup FilesRefused → Sight → Sight → Exit → Type 0
-LogonFollows (Err refused) before after exit = IsLeft (files_exit refused) before after exit
-LogonFollows (Ok setup) before after exit = LogonBy setup before after exit
-
--- The files of the job were read in their order, and then what follows them came.
-pub record LogonReads (job : Job) (shelf shelf_after : Shelf) (before after : Sight) (exit : Exit) : Type 0 where
-  pub setup : Result Setup FilesRefused
-  pub reads : ReadsFiles (file_names job) (setup_due job) setup shelf shelf_after
-  pub is_of_job : IfOk setup (λ s. job_in s ≡ job)
-  pub follows : LogonFollows setup before after exit
-
--- What follows the words: their refusal is the exit, and no file is read; else the job's files are read.
-abbrev pub LogonAsked : Result Job WordsRefused → Shelf → Shelf → Sight → Sight → Exit → Type 0
-LogonAsked (Err refused) shelf shelf_after before after exit = (shelf_after ≡ shelf) × IsLeft (words_exit refused) before after exit
-LogonAsked (Ok job) shelf shelf_after before after exit = LogonReads job shelf shelf_after before after exit
-
--- The command ran: its words were judged, and then what follows them came.
-pub record LogonRuns (asked : List (List ℕ)) (shelf shelf_after : Shelf) (before after : Sight) (exit : Exit) : Type 0 where
-  pub job : Result Job WordsRefused
-  pub is : UpToMemory words.Memory job (job_of roles.Logon asked)
-  pub runs : LogonAsked job shelf shelf_after before after exit

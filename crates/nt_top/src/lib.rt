@@ -3,11 +3,13 @@
 
 mod answer;
 mod check;
+mod controller_serving;
 mod exit;
 mod launch;
 mod laws;
 mod lines;
 mod logon;
+mod member_serving;
 mod serve;
 mod service;
 mod show;
@@ -18,7 +20,6 @@ mod words;
 pub use exit::Exit;
 pub use launch::start;
 pub use laws::what_is_told_decides_the_exit;
-pub use lines::told_line;
 pub use nt_words::Role;
 pub use texts::{exit_line, exit_text, report};
 pub use top::run;

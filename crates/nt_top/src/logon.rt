@@ -1,121 +1,20 @@
 //! The command `logon`.
 
-ghost use Rattle.std.specs.Prelude.{◌≡◌, ◌≤◌, ◌==◌, ◌++◌, IfOk, IfSome, OnOk, Some, map, option_copied, true};
-ghost use Rattle.std.specs.String.{string_bytes};
+ghost use Rattle.std.specs.Prelude.{◌≡◌, ◌≤◌, ◌==◌, ◌++◌, IfOk, OnOk, Some, option_copied};
 ghost use Rattle.outside.specs.Causes.{Rose};
 ghost use Rattle.end_loop.specs.Seen.{Between};
 ghost use Rattle.logon_client.specs.Plans.{CanLogOn};
-ghost use Rattle.nt_words.specs.Files.{shelf_of};
-ghost use Rattle.nt_words.specs.Roles.{job_of};
-ghost use Rattle.nt_top.specs.Answers.{exit_at_once};
-ghost use Rattle.nt_top.specs.Service.{uses_port};
-ghost use Rattle.nt_top.specs.Serve.{IsRefusal, halt_exit};
-ghost use Rattle.nt_top.specs.Logon.{ClientEnds, LogonBy, LogonEnds, LogonReads, LogonRuns, Says, echo_line, in_lines, plan_of};
+ghost use Rattle.nt_top.specs.Serve.{halt_exit};
+ghost use Rattle.nt_top.specs.Logon.{ClientEnds, LogonEnds, Says, echo_line, in_lines, plan_of};
 
 use crate::exit::Exit;
 use crate::lines::put_text;
-use crate::serve::{exit_of_files, exit_of_words};
 use end_loop::{Halt, begin_with, put_all};
 use logon_client::{Client, ClientOutcome, ClientPlan, NoAnswerCause};
-use nt_words::{Job, LogonWords, Role, SecretSetup, Setup, job_of, set_up};
-use outside::{Chances, Clock, Failed, Files, Port, Sink};
+use nt_words::{LogonWords, SecretSetup};
+use outside::{Chances, Clock, Failed, Port, Sink};
 use std::alloc::{AllocError, Global};
 use wire_base::{Blob, NoMemory, Units};
-
-/// Runs the command `logon`. Words that are refused are the exit, and then nothing is read or done.
-pub(crate) fn run_logon<P: Port, F: Files, S: Sink, C: Clock, Q: Chances>(
-    alloc: Global,
-    words: &[String],
-    port: &mut P,
-    files: &mut F,
-    out: &mut S,
-    clock: &mut C,
-    chances: &mut Q,
-) -> Exit
-    requires { uses_port Role.Logon (map string_bytes words.now) ≡ true }
-    ensures runs { let shelf = shelf_of F.faults F.contents F.reads in Between
-        P.story P.link_faults C.moments Q.drawing S.taken
-        port.old clock.old chances.old out.old port.new clock.new chances.new out.new
-        (λ before after. LogonRuns (map string_bytes words.now)
-        (shelf files.old) (shelf files.new) before after result) }
-    ensures at_once { IfSome (exit_at_once Role.Logon (map string_bytes words.now))
-        (λ exit. result ≡ exit) }
-    ensures idle { IsRefusal (job_of Role.Logon (map string_bytes words.now)) →
-        (port.new ≡ port.old) × (files.new ≡ files.old) × (out.new ≡ out.old) ×
-        (clock.new ≡ clock.old) × (chances.new ≡ chances.old) }
-    ensures file_cause { result ≡ Exit.FileFault → Rose (F.faults files.old) (F.faults files.new) }
-    ensures port_cause { result ≡ Exit.PortFault → Rose (P.faults port.old) (P.faults port.new) }
-    ensures sink_cause { result ≡ Exit.SinkFault → Rose (S.faults out.old) (S.faults out.new) }
-    ensures files { F.faults files.old ≤ F.faults files.new }
-    ensures port { P.faults port.old ≤ P.faults port.new }
-    ensures links { P.link_faults port.old ≤ P.link_faults port.new }
-    ensures sink { S.faults out.old ≤ S.faults out.new }
-{
-    match job_of(alloc, Role::Logon, words) {
-        Ok(job) => read_and_log_on(alloc, job, port, files, out, clock, chances),
-        Err(refused) => exit_of_words(refused),
-    }
-}
-
-/// Reads the files of the job, and logs on.
-fn read_and_log_on<P: Port, F: Files, S: Sink, C: Clock, Q: Chances>(
-    alloc: Global,
-    job: Job,
-    port: &mut P,
-    files: &mut F,
-    out: &mut S,
-    clock: &mut C,
-    chances: &mut Q,
-) -> Exit
-    ensures runs { let shelf = shelf_of F.faults F.contents F.reads in Between
-        P.story P.link_faults C.moments Q.drawing S.taken
-        port.old clock.old chances.old out.old port.new clock.new chances.new out.new
-        (λ before after. LogonReads job.entry
-        (shelf files.old) (shelf files.new) before after result) }
-    ensures file_cause { result ≡ Exit.FileFault → Rose (F.faults files.old) (F.faults files.new) }
-    ensures port_cause { result ≡ Exit.PortFault → Rose (P.faults port.old) (P.faults port.new) }
-    ensures sink_cause { result ≡ Exit.SinkFault → Rose (S.faults out.old) (S.faults out.new) }
-    ensures files { F.faults files.old ≤ F.faults files.new }
-    ensures port { P.faults port.old ≤ P.faults port.new }
-    ensures links { P.link_faults port.old ≤ P.link_faults port.new }
-    ensures sink { S.faults out.old ≤ S.faults out.new }
-{
-    match set_up(alloc, files, job) {
-        Ok(setup) => log_on_by(alloc, setup, port, out, clock, chances),
-        Err(refused) => exit_of_files(refused),
-    }
-}
-
-/// Logs on, as the words and the files of the job say.
-fn log_on_by<P: Port, S: Sink, C: Clock, Q: Chances>(
-    alloc: Global,
-    setup: Setup,
-    port: &mut P,
-    out: &mut S,
-    clock: &mut C,
-    chances: &mut Q,
-) -> Exit
-    ensures follows { Between
-        P.story P.link_faults C.moments Q.drawing S.taken
-        port.old clock.old chances.old out.old port.new clock.new chances.new out.new
-        (λ before after. LogonBy setup.entry before after result) }
-    ensures no_file { ¬ (result ≡ Exit.FileFault) }
-    ensures sink_cause { result ≡ Exit.SinkFault → Rose (S.faults out.old) (S.faults out.new) }
-    ensures port_cause { result ≡ Exit.PortFault → Rose (P.faults port.old) (P.faults port.new) }
-    ensures sink { S.faults out.old ≤ S.faults out.new }
-    ensures port { P.faults port.old ≤ P.faults port.new }
-    ensures links { P.link_faults port.old ≤ P.link_faults port.new }
-{
-    match setup {
-        Setup::Logon(words, files) => logon(alloc, &words, &files, port, out, clock, chances),
-        // The job is another command's.
-        Setup::Controller(_words, _files) => Exit::NoMemory,
-        Setup::Member(_words, _files) => Exit::NoMemory,
-        Setup::Check(_words) => Exit::NoMemory,
-        Setup::Show(_words) => Exit::NoMemory,
-        Setup::Drill(_words) => Exit::NoMemory,
-    }
-}
 
 /// Logs a user on at a member server, as the words say (this project's own choice): starts the challenges, dials the server, and runs a client
 /// to its outcome.

@@ -6,9 +6,10 @@ ghost use Rattle.outside.specs.Causes.{Rose};
 ghost use Rattle.wire_base.specs.Memory.{UpToMemory};
 ghost use Rattle.end_loop.specs.Seen.{Between};
 ghost use Rattle.nt_words.specs.Roles.{job_of};
-ghost use Rattle.nt_top.specs.Serve.{IsRefusal, IsServed, IsServeOfForm};
 ghost use Rattle.nt_top.specs.LogonExits.{IsAnswered, IsLogonOfForm, LosesLink};
-ghost use Rattle.nt_top.specs.Service.{ActsByWords, ServiceActs};
+ghost use Rattle.nt_top.specs.Service.{ActsByWords, IsBadOfFiles, IsOfContents, IsRefusal, IsServedBy, IsServiceOfForm, ServiceActs, uses_port};
+ghost use Rattle.nt_top.specs.Refusals.{files_exit};
+ghost use Rattle.nt_words.specs.declared.files.FilesRefused.{FilesRefused};
 ghost use Rattle.nt_top.specs.Answers.{answer_of, exit_at_once, job_answer, job_exit_at_once};
 ghost use Rattle.nt_top.specs.Causes.{Comes, IsBadInput, IsBadWords, IsDone, IsOfForm, IsOfTheCommands, IsRefused, IsWorkDone};
 ghost use Rattle.nt_top.specs.Check.{AskedAccepted, AskedRefused, verdict_answer};
@@ -30,10 +31,10 @@ use std::alloc::Global;
 
 /// Runs the command that the words name, as this program, over the outside. The words are those after the program's name.
 ///
-/// A domain controller has `serve`: its files are read and judged, the challenges are started, the port listens, and the controller is served, until the
-/// port gives `Stop` or as many events as the words say. A logon client has `logon`: its files are read and judged, the challenges are started, the server is
+/// A domain controller and a member server have `serve`: the files are read and judged, the challenges are started, the port listens, and the end is served, until
+/// the port gives `Stop` or as many events as the words say. A logon client has `logon`: its files are read and judged, the challenges are started, the server is
 /// dialled, and a client runs to its outcome, which is the exit. A member server has `check HASH CHALLENGE MESSAGE`, a logon client `show MESSAGE`, all
-/// in hex. The words of the other commands are judged, and what they ask for isn't built yet: `BadWords(0)`, as every other command line is.
+/// in hex. The words of `drill` are judged, and what they ask for isn't built yet: `BadWords(0)`, as every other command line is.
 /// `BadInput(n)` is the first word, or the first option's file, that isn't of its form. `Refused(Response)` is a response that isn't that of the hash.
 /// `FileFault`, `PortFault` and `SinkFault` come only where a count of that kind rose in this call, `Spent` where the end draws more challenges than are
 /// left, `NoMemory` where no memory was found; `check` and `show` have put nothing then, and use neither port, files, clock nor challenges.
@@ -47,8 +48,8 @@ pub fn run<P: Port, F: Files, S: Sink, C: Clock, Q: Chances>(
     clock: &mut C,
     chances: &mut Q,
 ) -> Exit
-    // A domain controller serves, and a logon client logs on, by what the words and the files say, or
-    // the words are refused.
+    // A domain controller or a member server is served, and a logon client logs on, by what the words
+    // and the files say, or the words are refused.
     ensures service { ServiceActs role (map string_bytes words.now) P.story P.link_faults
         F.faults F.contents F.reads S.taken C.moments Q.drawing port.old files.old out.old
         clock.old chances.old port.new files.new out.new clock.new chances.new result }
@@ -85,6 +86,15 @@ pub fn run<P: Port, F: Files, S: Sink, C: Clock, Q: Chances>(
     ensures input_only { ActsByWords role (map string_bytes words.now) →
         (number : ℕ) → result ≡ Exit.BadInput number →
         IsBadInput role (map string_bytes words.now) number }
+    // A file that the words name is refused exactly there, where what files hold is told and no
+    // read fails, but for want of memory.
+    ensures contents { (refused : FilesRefused) →
+        IsBadOfFiles role (map string_bytes words.now) (F.contents files.old) refused →
+        ¬ Rose (F.faults files.old) (F.faults files.new) → Comes (files_exit refused) result }
+    ensures contents_only { uses_port role (map string_bytes words.now) ≡ true →
+        (told : List (List ℕ × List ℕ)) (refused : FilesRefused) →
+        F.contents files.old ≡ Some told → IsOfContents refused → result ≡ files_exit refused →
+        IsBadOfFiles role (map string_bytes words.now) (F.contents files.old) refused }
     // What is seen in the words without memory comes whether there is memory or not.
     ensures at_once { IfSome (exit_at_once role (map string_bytes words.now))
         (λ exit. result ≡ exit) }
@@ -108,10 +118,12 @@ pub fn run<P: Port, F: Files, S: Sink, C: Clock, Q: Chances>(
     // Words and inputs of their forms come to their work, where the sink doesn't fail.
     ensures complete { IsOfForm role (map string_bytes words.now) →
         ¬ Rose (S.faults out.old) (S.faults out.new) → IsWorkDone role result }
-    // A controller whose words and files are of their forms serves, where no count rises.
-    ensures served { IsServeOfForm role (map string_bytes words.now) (F.contents files.old) →
-        ¬ Rose (F.faults files.old) (F.faults files.new) → ¬ Rose (P.faults port.old)
-        (P.faults port.new) → ¬ Rose (S.faults out.old) (S.faults out.new) → IsServed result }
+    // A command whose words and files are of their forms serves its end, or comes to an outcome or to
+    // none, where no count rises.
+    ensures served { (form : IsServiceOfForm role (map string_bytes words.now)
+        (F.contents files.old)) → ¬ Rose (F.faults files.old) (F.faults files.new) →
+        ¬ Rose (P.faults port.old) (P.faults port.new) →
+        ¬ Rose (S.faults out.old) (S.faults out.new) → IsServedBy form.setup result }
     // A logon whose words and files are of their forms comes to its outcome or to none, where no
     // count rises.
     ensures logged_on { IsLogonOfForm role (map string_bytes words.now) (F.contents files.old) →

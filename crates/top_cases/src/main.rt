@@ -1,5 +1,4 @@
-//! Cases of the top call: what a command line comes to over an outside in memory, what its words ask for, what its files come to, and the
-//! lines that are put.
+//! Cases of the top call: what a command line comes to over an outside in memory, what its words ask for, and what its files come to.
 //!
 //! Each line of the input is an operation, as `top.run`, and its values, as `case_words` has them; each line of the output is what the
 //! operation gives.
@@ -7,7 +6,6 @@
 
 mod jobs;
 mod line;
-mod lines;
 mod narrow;
 mod serves;
 mod top;
@@ -21,7 +19,6 @@ fn answer(alloc: Global, words: &[&str]) -> anyhow::Result<String> {
     match part {
         "top" => top::answer(alloc, operation, words),
         "jobs" => jobs::answer(alloc, operation, words),
-        "lines" => lines::answer(alloc, operation, words),
         "serves" => serves::answer(alloc, operation, words),
         _ => no_case(alloc),
     }

@@ -2,7 +2,7 @@ use Rattle.std.proofs.Common.{map, subst, sym}
 use Rattle.std.specs.String.{string_bytes}
 use Rattle.nt_top.specs.Causes.{IsOfTheCommands}
 use Rattle.nt_top.proofs.EndLaws.{exit_is, accepted_ends, refused_ends, shown_ends, done_is, refused_is, bad_words_come, words_only, bad_input_comes, input_only, others, fault_rose, work_done}
-use Rattle.nt_top.proofs.ServeLaws.{dial_fault, link_lost, not_logon}
+use Rattle.nt_top.proofs.ServeLaws.{dial_fault, files_come, link_lost, not_logon, serve_done}
 use Rattle.nt_top.proofs.top.run.Goals as goal
 
 pub returns-clause-exit : goal.returns-clause-exit
@@ -60,11 +60,20 @@ pub returns-clause-link_lost : goal.returns-clause-link_lost
 returns-clause-link_lost g c is =
     absurd (subst IsOfTheCommands is (others c.args.role (map string_bytes c.args.words.now) _ _ c.perform.ensures.ends))
 
+pub returns-then-uses_port-clause-contents : goal.returns-then-uses_port-clause-contents
+returns-then-uses_port-clause-contents g c refused bad still =
+    files_come c.args.role _ refused _ _ _ _ _ c.run_service.ensures.runs bad (λ is. still (c.run_service.ensures.file_cause is))
+
+pub returns-then-uses_port-clause-served : goal.returns-then-uses_port-clause-served
+returns-then-uses_port-clause-served g c form files port sink =
+    serve_done c.args.role _ _ _ _ _ _ c.run_service.ensures.runs form (λ is. files (c.run_service.ensures.file_cause is))
+    (λ is. port (c.run_service.ensures.port_cause is)) (λ is. sink (c.run_service.ensures.sink_cause is))
+
 pub returns-then-uses_port-clause-dial_failed : goal.returns-then-uses_port-clause-dial_failed
-returns-then-uses_port-clause-dial_failed g c is = dial_fault _ _ _ _ _ _ _ c.run_service.ensures.runs is
+returns-then-uses_port-clause-dial_failed g c is = dial_fault c.args.role _ _ _ _ _ _ c.run_service.ensures.runs is
 
 pub returns-then-uses_port-clause-link_lost : goal.returns-then-uses_port-clause-link_lost
-returns-then-uses_port-clause-link_lost g c is = link_lost _ _ _ _ _ _ _ c.run_service.ensures.runs is
+returns-then-uses_port-clause-link_lost g c is = link_lost c.args.role _ _ _ _ _ _ c.run_service.ensures.runs is
 
 pub returns-clause-logged_on : goal.returns-clause-logged_on
-returns-clause-logged_on g c form file port sink = absurd (not_logon _ _ _ (sym c.if-uses_port.ensures) form)
+returns-clause-logged_on g c form files port sink = absurd (not_logon c.args.role _ _ (sym c.if-uses_port.ensures) form)
