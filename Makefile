@@ -1,14 +1,11 @@
-# Builds the programs, proved, into bin/, and runs the main job on a built-in sample.
+# Builds the programs, proved, into bin/, and runs a domain of three machines on the loopback address.
 
 PROGRAMS = nt_controller nt_member nt_logon
-
-# The sample: the NT hash of `Password`, a challenge, and the AUTHENTICATE message that answers it.
-SAMPLE = $(shell cat crates/nt_member/args)
 
 .PHONY: demo bench cases programs $(PROGRAMS)
 
 demo: programs
-	@bin/nt_member $(SAMPLE)
+	@demo/run.sh bin
 
 # How long each operation takes on this machine: lines `ours OPERATION NANOSECONDS`, and where their headers are there, the same of OpenSSL and
 # nettle for the operations on DES.
