@@ -1,6 +1,6 @@
 //! A bind on a link on which nothing is bound.
 
-ghost use Rattle.std.specs.Prelude.{◌≡◌, ◌≤◌, ◌<◌, ◌%◌, ◌==◌, ◌&&◌, [], ◌∷◌, length, IfOk, IsTrue};
+ghost use Rattle.std.specs.Prelude.{◌≡◌, ◌≤◌, ◌<◌, ◌%◌, ◌==◌, ◌&&◌, true, [], ◌∷◌, length, Some, IfOk, IsTrue};
 ghost use Rattle.wire_base.specs.Units.{utf16_of};
 ghost use Rattle.ntlm_messages.specs.Challenge.{CanWriteChallenge, challenge_fields, written_challenge};
 ghost use Rattle.ntlm_messages.specs.Fields.{FieldsFit};
@@ -9,14 +9,17 @@ ghost use Rattle.outside.specs.Drawing.{DrawsSome};
 ghost use Rattle.outside.specs.Machine.{AnswersBy};
 ghost use Rattle.rpc_units.specs.Reading.{unit_of};
 ghost use Rattle.rpc_units.specs.Writing.{written, ContextsFit, IsWritable};
-ghost use Rattle.member_server.specs.Binds.{is_enough, offer_by, offer_at, offer_in, challenge_message, challenge_trailer, challenge_ack, ack_fits, bound_by, refusal_of_bind, answer_of_bind, bind_by, fresh_unit, memo_syntax, ClosesBy};
+ghost use Rattle.member_server.specs.Binds.{is_enough, offer_by, offer_at, offer_in, challenge_message, challenge_trailer, challenge_ack, ack_fits, bound_by, refusal_of_bind, answer_of_bind, answer_bind, bind_by, fresh_unit, memo_syntax, ClosesBy};
 ghost use Rattle.member_server.specs.Levels.{is_plain, is_served};
 ghost use Rattle.member_server.specs.Units.{first_unit};
+ghost use Rattle.member_server.specs.Work.{send_unit, stay};
+ghost use Rattle.member_server.specs.declared.state.Phase.TheVariants as phase;
+ghost use Rattle.end_links.specs.Binding.{nak_of};
 
 use crate::levels::{is_plain, is_served};
 use crate::plan::MemberPlan;
 use crate::state::{AtLink, Bound, Phase, Talk};
-use crate::work::{send, send_unit, shut};
+use crate::work::{let_go, send, send_unit, shut_call};
 use end_links::{Binding, bind_ack, bind_nak, unit_bytes};
 use memo_stubs::{MEMO_UUID, MEMO_VERSION};
 use ntlm_flags::{
@@ -24,7 +27,7 @@ use ntlm_flags::{
     challenge_flags, has_flag,
 };
 use ntlm_messages::{Challenge, Pairs, WriteRefused, view_negotiate, write_challenge, write_pairs};
-use outside::{Chances, CloseCause, StepRefused};
+use outside::{Chances, CloseCause, Spent, StepRefused};
 use rpc_units::{
     Body, Contexts, Joiner, Syntax, Trailer, Unit, UnitRefused, UnitWriteRefused, read_unit,
     write_unit,
@@ -199,6 +202,13 @@ fn ack_fits(
     }
 }
 
+/// A bind_nak is sent.
+fn send_nak(alloc: Global, call: u32, at: AtLink) -> Result<AtLink, NoMemory>
+    ensures { IfOk result (λ sent. sent ≡ send_unit at (nak_of call)) }
+{
+    send_unit(alloc, at, &bind_nak(call))
+}
+
 /// A bind is refused.
 fn refuse_bind(
     alloc: Global,
@@ -208,16 +218,82 @@ fn refuse_bind(
 ) -> Result<(AtLink, Option<Talk>), NoMemory>
     ensures { IfOk result (λ served. served ≡ refusal_of_bind call joiner at) }
 {
-    let at = send_unit(alloc, at, &bind_nak(call))?;
-    let talk = Talk {
-        joiner,
-        phase: Phase::Fresh,
-    };
-    Ok((at, Some(talk)))
+    match send_nak(alloc, call, at) {
+        Ok(at) => {
+            let phase = Phase::Fresh;
+            Ok((at, Some(Talk { joiner, phase })))
+        }
+        Err(NoMemory) => Err(let_go(joiner)),
+    }
+}
+
+/// What a link is bound to, where its bind is answered.
+fn bound_by(
+    alloc: Global,
+    offer: Offer,
+    receive: u16,
+    contexts: &Contexts,
+) -> Result<Bound, NoMemory>
+    ensures { IfOk result (λ bound. bound ≡ bound_by offer receive contexts.now) }
+{
+    let binding = Binding::new(alloc, &MEMO, receive, contexts)?;
+    Ok(Bound {
+        binding,
+        level: offer.level,
+        context: offer.context,
+    })
+}
+
+/// The bytes of the bind_ack that carries the CHALLENGE.
+#[tactic(auto, using(crate::proofs::BindLaws::ack_short))]
+fn ack_bytes(
+    alloc: Global,
+    offer: Offer,
+    plan: &MemberPlan,
+    call: u32,
+    receive: u16,
+    contexts: &Contexts,
+    challenge: [u8; 8],
+) -> Result<Blob, NoMemory>
+    requires few { length contexts.now ≤ 242 }
+    requires fits { IsTrue (ack_fits offer plan.now call receive contexts.now) }
+    ensures { IfOk result (λ bytes. bytes
+        ≡ written (challenge_ack offer plan.now call receive contexts.now challenge)) }
+{
+    let ack = challenge_ack(alloc, offer, plan, call, receive, contexts, challenge)?;
+    unit_bytes(alloc, &ack)
+}
+
+/// It is sent.
+fn send_ack(
+    alloc: Global,
+    offer: Offer,
+    call: u32,
+    receive: u16,
+    contexts: &Contexts,
+    challenge: [u8; 8],
+    at: AtLink,
+) -> Result<AtLink, NoMemory>
+    requires few { length contexts.now ≤ 242 }
+    requires fits { IsTrue (ack_fits offer at.logons.plan call receive contexts.now) }
+    ensures { IfOk result (λ sent. sent
+        ≡ send_unit at (challenge_ack offer at.logons.plan call receive contexts.now challenge)) }
+{
+    match ack_bytes(
+        alloc,
+        offer,
+        &at.logons.plan,
+        call,
+        receive,
+        contexts,
+        challenge,
+    ) {
+        Ok(bytes) => send(at, bytes),
+        Err(NoMemory) => Err(NoMemory),
+    }
 }
 
 /// A bind is answered with this challenge.
-#[tactic(auto, using(crate::proofs::BindLaws::ack_short))]
 fn answer_bind(
     alloc: Global,
     offer: Offer,
@@ -233,28 +309,70 @@ fn answer_bind(
     ensures { IfOk result (λ served. served
         ≡ answer_of_bind offer call receive contexts.now challenge joiner at) }
 {
-    let ack = challenge_ack(
-        alloc,
-        offer,
-        &at.logons.plan,
-        call,
-        receive,
-        contexts,
-        challenge,
-    )?;
-    let bytes = unit_bytes(alloc, &ack)?;
-    let at = send(at, bytes)?;
-    let bound = Bound {
-        binding: Binding::new(alloc, &MEMO, receive, contexts)?,
-        level: offer.level,
-        context: offer.context,
+    match send_ack(alloc, offer, call, receive, contexts, challenge, at) {
+        Ok(at) => stay_challenged(alloc, offer, receive, contexts, challenge, joiner, at),
+        Err(NoMemory) => Err(let_go(joiner)),
+    }
+}
+
+/// The link was sent its CHALLENGE.
+fn stay_challenged(
+    alloc: Global,
+    offer: Offer,
+    receive: u16,
+    contexts: &Contexts,
+    challenge: [u8; 8],
+    joiner: Joiner,
+    at: AtLink,
+) -> Result<(AtLink, Option<Talk>), NoMemory>
+    ensures { IfOk result (λ served. served ≡ stay at (record {
+      joiner = joiner;
+      phase = phase.Challenged (bound_by offer receive contexts.now) challenge offer.flags;
+    })) }
+{
+    match bound_by(alloc, offer, receive, contexts) {
+        Ok(bound) => {
+            let phase = Phase::Challenged {
+                bound,
+                challenge,
+                flags: offer.flags,
+            };
+            Ok((at, Some(Talk { joiner, phase })))
+        }
+        Err(NoMemory) => Err(let_go(joiner)),
+    }
+}
+
+/// A bind whose answer fits a unit: a challenge is drawn, and answers it.
+#[tactic(auto, using(crate::proofs::BindLaws::drawing))]
+fn draw_bind<Q: Chances>(
+    alloc: Global,
+    offer: Offer,
+    call: u32,
+    receive: u16,
+    contexts: &Contexts,
+    joiner: Joiner,
+    at: AtLink,
+    chances: &mut Q,
+) -> Result<(AtLink, Option<Talk>), StepRefused>
+    requires few { length contexts.now ≤ 242 }
+    requires fits { IsTrue (ack_fits offer at.logons.plan call receive contexts.now) }
+    ensures draws { DrawsSome (Q.drawing chances.old) (Q.drawing chances.new) }
+    ensures answer { AnswersBy result
+        (answer_bind true offer call receive contexts.now joiner at (Q.drawing chances.old).left)
+        (Q.drawing chances.new).left }
+{
+    let challenge = match chances.next() {
+        Ok(challenge) => challenge,
+        Err(Spent) => {
+            drop(joiner);
+            return Err(StepRefused::Spent);
+        }
     };
-    let phase = Phase::Challenged {
-        bound,
-        challenge,
-        flags: offer.flags,
-    };
-    Ok((at, Some(Talk { joiner, phase })))
+    match answer_bind(alloc, offer, call, receive, contexts, challenge, joiner, at) {
+        Ok(served) => Ok(served),
+        Err(NoMemory) => Err(StepRefused::Memory),
+    }
 }
 
 /// A bind with that trailer: a challenge is drawn, where it is answered.
@@ -275,16 +393,47 @@ fn take_bind<Q: Chances>(
         (bind_by (offer_in trailer.now) call receive contexts.now joiner at (Q.drawing chances.old).left)
         (Q.drawing chances.new).left }
 {
-    let Some(offer) = offer_in(trailer) else {
-        return Ok(refuse_bind(alloc, call, joiner, at)?);
-    };
-    match ack_fits(alloc, offer, &at.logons.plan, call, receive, contexts) {
-        Ok(true) => {}
-        Ok(false) => return Ok(refuse_bind(alloc, call, joiner, at)?),
-        Err(NoMemory) => return Err(StepRefused::Memory),
+    match offer_in(trailer) {
+        Some(offer) => take_offer(alloc, offer, call, receive, contexts, joiner, at, chances),
+        None => match refuse_bind(alloc, call, joiner, at) {
+            Ok(served) => Ok(served),
+            Err(NoMemory) => Err(StepRefused::Memory),
+        },
     }
-    let challenge = chances.next()?;
-    Ok(answer_bind(alloc, offer, call, receive, contexts, challenge, joiner, at)?)
+}
+
+/// The same with what its trailer offers.
+#[tactic(auto, using(crate::proofs::BindLaws::drawing))]
+fn take_offer<Q: Chances>(
+    alloc: Global,
+    offer: Offer,
+    call: u32,
+    receive: u16,
+    contexts: &Contexts,
+    joiner: Joiner,
+    at: AtLink,
+    chances: &mut Q,
+) -> Result<(AtLink, Option<Talk>), StepRefused>
+    requires { length contexts.now ≤ 242 }
+    ensures draws { DrawsSome (Q.drawing chances.old) (Q.drawing chances.new) }
+    ensures answer { AnswersBy result
+        (bind_by (Some offer) call receive contexts.now joiner at (Q.drawing chances.old).left)
+        (Q.drawing chances.new).left }
+{
+    let fits = match ack_fits(alloc, offer, &at.logons.plan, call, receive, contexts) {
+        Ok(fits) => fits,
+        Err(NoMemory) => {
+            drop(joiner);
+            return Err(StepRefused::Memory);
+        }
+    };
+    if fits {
+        return draw_bind(alloc, offer, call, receive, contexts, joiner, at, chances);
+    }
+    match refuse_bind(alloc, call, joiner, at) {
+        Ok(served) => Ok(served),
+        Err(NoMemory) => Err(StepRefused::Memory),
+    }
 }
 
 /// A unit where nothing is bound: a bind is taken.
@@ -322,15 +471,19 @@ fn take_unit<Q: Chances>(
         | Body::Auth3
         | Body::Request { .. }
         | Body::Response { .. }
-        | Body::Fault { .. } => close(at, CloseCause::OutOfPlace),
+        | Body::Fault { .. } => close(joiner, at, CloseCause::OutOfPlace),
     }
 }
 
 /// The link is closed.
-fn close(at: AtLink, cause: CloseCause) -> Result<(AtLink, Option<Talk>), StepRefused>
+fn close(
+    joiner: Joiner,
+    at: AtLink,
+    cause: CloseCause,
+) -> Result<(AtLink, Option<Talk>), StepRefused>
     ensures { ClosesBy result cause at }
 {
-    match shut(at, cause) {
+    match shut_call(joiner, at, cause) {
         Ok(served) => Ok(served),
         Err(NoMemory) => Err(StepRefused::Memory),
     }
@@ -352,7 +505,10 @@ pub(crate) fn fresh_unit<Q: Chances>(
 {
     match read_unit(alloc, bytes) {
         Ok(unit) => take_unit(alloc, &unit, joiner, at, chances),
-        Err(UnitRefused::Memory) => Err(StepRefused::Memory),
-        Err(_) => close(at, CloseCause::BadUnit),
+        Err(UnitRefused::Memory) => {
+            drop(joiner);
+            Err(StepRefused::Memory)
+        }
+        Err(_) => close(joiner, at, CloseCause::BadUnit),
     }
 }

@@ -9,13 +9,19 @@ ghost use Rattle.ntlm_messages.specs.Text.{units_of_text};
 ghost use Rattle.logon_stubs.specs.Writing.{CanWriteNetworkInfo};
 ghost use Rattle.ndr_codec.specs.Parts.{FitsText};
 ghost use Rattle.channel_client.specs.Machine.{ask_of};
+ghost use Rattle.rpc_units.specs.Numbers.{rpc_s_server_unavailable};
 ghost use Rattle.rpc_units.specs.Views.{trailer_shown};
-ghost use Rattle.member_server.specs.Messages.{is_fit, info_of, with_logon, wait_for, ask_by, take_message, take_trailer, take_auth3};
+ghost use Rattle.outside.specs.declared.action.Action.TheVariants as action;
+ghost use Rattle.outside.specs.declared.action.DropCause.TheVariants as drop_cause;
+ghost use Rattle.outside.specs.declared.action.Outcome.TheVariants as outcome;
+ghost use Rattle.member_server.specs.declared.state.Phase.TheVariants as phase;
+ghost use Rattle.member_server.specs.Work.{stay, tell};
+ghost use Rattle.member_server.specs.Messages.{is_fit, info_of, with_logon, wait_by, wait_for, ask_by, take_message, take_trailer, take_auth3};
 
 use crate::held::Held;
 use crate::levels::is_plain;
 use crate::state::{AtLink, Bound, Logon, Logons, Phase, Talk};
-use crate::work::{shut, tell};
+use crate::work::{let_go, shut_call, tell};
 use channel_client::AskRefused;
 use logon_stubs::NetworkInfo;
 use ntlm_flags::{
@@ -27,7 +33,8 @@ use ntlm_responses::challenge_for;
 use outside::{Action, CloseCause, DropCause, Outcome};
 use rpc_units::{Joiner, NO_CONTROLLER, TrailerView};
 use std::alloc::Global;
-use wire_base::{Blob, NoMemory, Units, put_number};
+use std::mem;
+use wire_base::{Blob, List, NoMemory, Units, put_number};
 
 /// Whether what is agreed serves the level.
 fn is_fit(level: u8, agreed: u32, message: &Authenticate) -> bool
@@ -78,12 +85,18 @@ fn info_of(
 }
 
 /// The logon of that place is kept.
-fn keep(logons: Logons, place: u32, logon: Logon) -> Result<Logons, NoMemory>
+fn keep(alloc: Global, logons: Logons, place: u32, logon: Logon) -> Result<Logons, NoMemory>
     ensures { IfOk result (λ kept. kept ≡ with_logon logons place logon) }
 {
     let mut logons = logons;
-    logons.asked = put_number(logons.asked, place, logon)?;
-    Ok(logons)
+    let asked = mem::replace(&mut logons.asked, List::new(alloc));
+    match put_number(asked, place, logon) {
+        Ok(asked) => {
+            logons.asked = asked;
+            Ok(logons)
+        }
+        Err(NoMemory) => Err(NoMemory),
+    }
 }
 
 /// The logon is asked, and waits.
@@ -106,7 +119,43 @@ fn wait_for(
     } = at;
     match logons.channel.ask(info) {
         Ok(place) => {
-            let logons = keep(logons, place, logon)?;
+            let at = AtLink {
+                link,
+                logons,
+                actions,
+            };
+            wait_at(alloc, place, logon, bound, joiner, at)
+        }
+        Err(AskRefused::QueueFull) => {
+            let at = AtLink {
+                link,
+                logons,
+                actions,
+            };
+            refuse_full(bound, joiner, at)
+        }
+        Err(AskRefused::Memory) => Err(let_go(joiner)),
+    }
+}
+
+/// It waits at that place.
+fn wait_at(
+    alloc: Global,
+    place: u32,
+    logon: Logon,
+    bound: Bound,
+    joiner: Joiner,
+    at: AtLink,
+) -> Result<(AtLink, Option<Talk>), NoMemory>
+    ensures { IfOk result (λ served. served ≡ wait_by (Ok place) at.logons logon bound joiner at) }
+{
+    let AtLink {
+        link,
+        logons,
+        actions,
+    } = at;
+    match keep(alloc, logons, place, logon) {
+        Ok(logons) => {
             let phase = Phase::Asked {
                 bound,
                 place,
@@ -119,21 +168,26 @@ fn wait_for(
             };
             Ok((at, Some(Talk { joiner, phase })))
         }
-        Err(AskRefused::QueueFull) => {
-            let at = AtLink {
-                link,
-                logons,
-                actions,
-            };
-            let what = Action::Told(link, Outcome::NoController(DropCause::QueueFull));
-            let at = tell(at, what)?;
+        Err(NoMemory) => Err(let_go(joiner)),
+    }
+}
+
+/// As many wait as may, so that no controller will answer it.
+fn refuse_full(bound: Bound, joiner: Joiner, at: AtLink) -> Result<(AtLink, Option<Talk>), NoMemory>
+    ensures { IfOk result (λ served. served
+        ≡ stay (tell at (action.Told at.link (outcome.NoController drop_cause.QueueFull)))
+        (record { joiner = joiner; phase = phase.Out bound rpc_s_server_unavailable })) }
+{
+    let what = Action::Told(at.link, Outcome::NoController(DropCause::QueueFull));
+    match tell(at, what) {
+        Ok(at) => {
             let phase = Phase::Out {
                 bound,
                 status: NO_CONTROLLER,
             };
             Ok((at, Some(Talk { joiner, phase })))
         }
-        Err(AskRefused::Memory) => Err(NoMemory),
+        Err(NoMemory) => Err(let_go(joiner)),
     }
 }
 
@@ -176,16 +230,20 @@ fn ask_by(
         ≡ ask_by fit message agreed challenge bound joiner at) }
 {
     if !fit {
-        return shut(at, CloseCause::BadAuthentication);
+        return shut_call(joiner, at, CloseCause::BadAuthentication);
     }
-    let info = info_of(alloc, &message, agreed, challenge)?;
-    let logon = Logon {
-        link: at.link,
-        challenge,
-        message,
-        agreed,
-    };
-    wait_for(alloc, info, logon, bound, joiner, at)
+    match info_of(alloc, &message, agreed, challenge) {
+        Ok(info) => {
+            let logon = Logon {
+                link: at.link,
+                challenge,
+                message,
+                agreed,
+            };
+            wait_for(alloc, info, logon, bound, joiner, at)
+        }
+        Err(NoMemory) => Err(let_go(joiner)),
+    }
 }
 
 /// An auth3 on a link that was sent its CHALLENGE, with this challenge and these flags.
@@ -202,14 +260,14 @@ pub(crate) fn take_auth3(
         ≡ take_auth3 (option_map trailer_shown trailer.now) bound challenge flags joiner at) }
 {
     let Some(trailer) = trailer else {
-        return shut(at, CloseCause::OutOfPlace);
+        return shut_call(joiner, at, CloseCause::OutOfPlace);
     };
     if trailer.kind != 10 {
-        return shut(at, CloseCause::OutOfPlace);
+        return shut_call(joiner, at, CloseCause::OutOfPlace);
     }
     match read_authenticate(alloc, trailer.value) {
         Ok(message) => take_message(alloc, message, bound, challenge, flags, joiner, at),
-        Err(MessageRefused::Memory) => Err(NoMemory),
-        Err(_) => shut(at, CloseCause::BadAuthentication),
+        Err(MessageRefused::Memory) => Err(let_go(joiner)),
+        Err(_) => shut_call(joiner, at, CloseCause::BadAuthentication),
     }
 }

@@ -6,8 +6,9 @@ ghost use Rattle.member_server.specs.Units.{serve_held};
 ghost use Rattle.member_server.specs.Outcomes.{at_link, tell_at, without_link, keep_link, after_served, name_in, key_in, session_in, outcome_of, phase_after, waiting_at, waiting_on, turn_alone, turn_link, reach_link, without_logon, end_logon};
 
 use crate::held::Held;
-use crate::state::{AtLink, Bound, LoggedOn, Logon, Logons, Phase, Talk, Work};
+use crate::state::{AtLink, Bound, LoggedOn, Logon, Phase, Talk, Work};
 use crate::units::serve_held;
+use crate::work::let_go;
 use end_links::{Link, Links};
 use logon_stubs::SamInfo;
 use ntlm_flags::{NTLMSSP_NEGOTIATE_EXTENDED_SESSIONSECURITY, has_flag};
@@ -16,7 +17,8 @@ use ntlm_seal::{Session, Side};
 use outside::{Action, DropCause, Outcome};
 use rpc_units::{ACCESS_DENIED, Inflow, Joiner, NO_CONTROLLER};
 use std::alloc::Global;
-use wire_base::{NoMemory, Units, take_number};
+use std::mem;
+use wire_base::{List, NoMemory, Units, take_number};
 
 /// How a logon ended: the controller granted it, or refused it with this NTSTATUS, or none gave an answer.
 #[derive(Debug, Drop)]
@@ -235,18 +237,41 @@ fn turn_waiting(
         (record { joiner = joiner; phase = phase_after how.now logon.now bound }))
         flow.held logon.now.link work) }
 {
-    let phase = phase_after(alloc, how, logon, bound)?;
+    match phase_after(alloc, how, logon, bound) {
+        Ok(phase) => serve_waiting(alloc, logon.link, held, Talk { joiner, phase }, flow, work),
+        Err(NoMemory) => Err(let_go(joiner)),
+    }
+}
+
+/// What is held on a link is served, with what is said on it then.
+fn serve_waiting(
+    alloc: Global,
+    number: u32,
+    held: Held,
+    talk: Talk,
+    flow: Inflow,
+    work: Work,
+) -> Result<Work, NoMemory>
+    requires runs { flow.broken ≡ false }
+    requires waits { length flow.held ≤ 5839 }
+    requires room { length work.links < 256 }
+    ensures { IfOk result (λ served. served
+        ≡ after_served (serve_held held (at_link number work) talk) flow.held number work) }
+{
     let Work {
         logons,
         links,
         actions,
     } = work;
     let at = AtLink {
-        link: logon.link,
+        link: number,
         logons,
         actions,
     };
-    let (at, said) = serve_held(alloc, held.units(), at, Talk { joiner, phase })?;
+    let (at, said) = match serve_held(alloc, held.units(), at, talk) {
+        Ok(served) => served,
+        Err(NoMemory) => return Err(NoMemory),
+    };
     let AtLink {
         logons,
         actions,
@@ -257,7 +282,7 @@ fn turn_waiting(
         links,
         actions,
     };
-    keep_link(flow, said, logon.link, work)
+    keep_link(flow, said, number, work)
 }
 
 /// The link of the logon, where it waits for this place, is in or out; any other stays as it is.
@@ -295,31 +320,14 @@ fn reach_link(
 // ---- the logon of a place
 
 /// The logon of that place, which is kept no more. It takes no memory.
-fn take_logon(place: u32, work: Work) -> (Work, Option<Logon>)
+fn take_logon(alloc: Global, place: u32, work: Work) -> (Work, Option<Logon>)
     ensures work { result.0 ≡ without_logon place work }
     ensures logon { result.1 ≡ lookup same_number place work.logons.asked }
 {
-    let Work {
-        logons,
-        links,
-        actions,
-    } = work;
-    let Logons {
-        plan,
-        channel,
-        asked,
-    } = logons;
+    let mut work = work;
+    let asked = mem::replace(&mut work.logons.asked, List::new(alloc));
     let (asked, found) = take_number(asked, place);
-    let logons = Logons {
-        plan,
-        channel,
-        asked,
-    };
-    let work = Work {
-        logons,
-        links,
-        actions,
-    };
+    work.logons.asked = asked;
     (work, found)
 }
 
@@ -332,7 +340,7 @@ pub(crate) fn end_logon(
 ) -> Result<Work, NoMemory>
     ensures { IfOk result (λ ended. ended ≡ end_logon place how.now work) }
 {
-    let (work, found) = take_logon(place, work);
+    let (work, found) = take_logon(alloc, place, work);
     let Some(logon) = found else {
         return Ok(work);
     };

@@ -7,20 +7,24 @@ ghost use Rattle.rpc_units.specs.Joining.{HasStub, answer_of, cut_of, open_after
 ghost use Rattle.rpc_units.specs.Reading.{unit_of};
 ghost use Rattle.rpc_units.specs.Views.{body_shown, unit_shown};
 ghost use Rattle.end_links.specs.Agreed.{accepts};
-ghost use Rattle.end_links.specs.Sending.{response_of};
+ghost use Rattle.end_links.specs.Sending.{fault_of, response_of};
+ghost use Rattle.rpc_units.specs.Calls.{bytes_of_call};
+ghost use Rattle.member_server.specs.declared.state.Phase.TheVariants as phase;
 ghost use Rattle.member_server.specs.Held.{held_size, held_limit};
-ghost use Rattle.member_server.specs.Levels.{is_plain};
+ghost use Rattle.member_server.specs.Levels.{is_plain, is_sealing};
 ghost use Rattle.member_server.specs.Memo.{IsShortAnswer, call_answer};
 ghost use Rattle.member_server.specs.Requests.{talk_in, reply_with, send_sealed, seal_reply, send_reply, reply, answer_call, join_by, join_request, join_unit, cause_by, signed_cause, join_if, after_opening, open_unit, signed_unit, unit_in, body_out, unit_out, hold_by, body_asked, unit_asked};
 ghost use Rattle.member_server.specs.Sealing.{HasSignature, IsReady, blank_trailer, frames_by, opening_by};
+ghost use Rattle.member_server.specs.Work.{send, send_unit, stay};
 
 use crate::held::Held;
 use crate::levels::{is_plain, is_sealing};
 use crate::memo::{Answer, call_answer};
 use crate::sealing::{is_due, send_all, take};
 use crate::state::{AtLink, Bound, LoggedOn, Phase, Talk};
-use crate::work::{send, send_unit, shut};
+use crate::work::{let_go, send, send_unit, shut_call};
 use end_links::{call_bytes, fault, response};
+use ntlm_seal::Session;
 use outside::CloseCause;
 use rpc_units::{
     Body, BodyView, JoinRefused, Joiner, Trailer, Unit, UnitList, UnitView, cut_call, view_unit,
@@ -42,16 +46,49 @@ pub(crate) fn unit_out(
     ensures { IfOk result (λ served. served ≡ unit_out (unit_of bytes.now) bound status joiner at) }
 {
     let Ok(unit) = view_unit(bytes) else {
-        return shut(at, CloseCause::BadUnit);
+        return shut_call(joiner, at, CloseCause::BadUnit);
     };
     match unit.body {
         BodyView::Request { context, .. } => {
-            let at = send_unit(alloc, at, &fault(unit.call, context, status))?;
+            answer_out(alloc, unit.call, context, bound, status, joiner, at)
+        }
+        _ => shut_call(joiner, at, CloseCause::OutOfPlace),
+    }
+}
+
+/// A request is answered with a fault of that status.
+fn answer_out(
+    alloc: Global,
+    call: u32,
+    context: u16,
+    bound: Bound,
+    status: u32,
+    joiner: Joiner,
+    at: AtLink,
+) -> Result<(AtLink, Option<Talk>), NoMemory>
+    ensures { IfOk result (λ served. served ≡ stay (send_unit at (fault_of call context status))
+        (record { joiner = joiner; phase = phase.Out bound status })) }
+{
+    match send_fault(alloc, call, context, status, at) {
+        Ok(at) => {
             let phase = Phase::Out { bound, status };
             Ok((at, Some(Talk { joiner, phase })))
         }
-        _ => shut(at, CloseCause::OutOfPlace),
+        Err(NoMemory) => Err(let_go(joiner)),
     }
+}
+
+/// A fault is sent.
+fn send_fault(
+    alloc: Global,
+    call: u32,
+    context: u16,
+    status: u32,
+    at: AtLink,
+) -> Result<AtLink, NoMemory>
+    ensures { IfOk result (λ sent. sent ≡ send_unit at (fault_of call context status)) }
+{
+    send_unit(alloc, at, &fault(call, context, status))
 }
 
 // ---- the logon is asked
@@ -69,11 +106,11 @@ pub(crate) fn unit_asked(
     ensures { IfOk result (λ served. served ≡ unit_asked (unit_of bytes.now) bytes.now bound place held joiner at) }
 {
     let Ok(unit) = view_unit(bytes) else {
-        return shut(at, CloseCause::BadUnit);
+        return shut_call(joiner, at, CloseCause::BadUnit);
     };
     match unit.body {
         BodyView::Request { .. } => hold(alloc, bytes, bound, place, held, joiner, at),
-        _ => shut(at, CloseCause::OutOfPlace),
+        _ => shut_call(joiner, at, CloseCause::OutOfPlace),
     }
 }
 
@@ -91,11 +128,15 @@ fn hold(
         ≡ hold_by (nat_le (held_size held + length bytes.now) held_limit) bytes.now bound place held joiner at) }
 {
     if !held.has_room(bytes.len()) {
-        return shut(at, CloseCause::TooMuchHeld);
+        return shut_call(joiner, at, CloseCause::TooMuchHeld);
     }
-    let held = held.hold(alloc, bytes)?;
-    let phase = Phase::Asked { bound, place, held };
-    Ok((at, Some(Talk { joiner, phase })))
+    match held.hold(alloc, bytes) {
+        Ok(held) => {
+            let phase = Phase::Asked { bound, place, held };
+            Ok((at, Some(Talk { joiner, phase })))
+        }
+        Err(NoMemory) => Err(let_go(joiner)),
+    }
 }
 
 // ---- replies
@@ -125,8 +166,10 @@ fn reply(
 {
     match answer {
         Answer::Fault(status) => {
-            let at = send_unit(alloc, at, &fault(call, context, status))?;
-            Ok((at, Some(talk_in(joiner, on))))
+            match send_fault(alloc, call, context, status, at) {
+                Ok(at) => Ok((at, Some(talk_in(joiner, on)))),
+                Err(NoMemory) => Err(let_go(joiner)),
+            }
         }
         Answer::Stub(stub) => send_reply(alloc, stub, call, context, on, joiner, at),
     }
@@ -148,10 +191,41 @@ fn send_reply(
     if !is_plain(on.bound.level) {
         return seal_reply(alloc, stub, call, context, on, joiner, at);
     }
+    match plain_reply(alloc, stub, call, context, &on.bound) {
+        Ok(bytes) => send_in(bytes, on, joiner, at),
+        Err(NoMemory) => Err(let_go(joiner)),
+    }
+}
+
+/// The bytes of a reply as it is.
+fn plain_reply(
+    alloc: Global,
+    stub: Blob,
+    call: u32,
+    context: u16,
+    bound: &Bound,
+) -> Result<Blob, NoMemory>
+    requires { length stub < 2 ^ 32 }
+    ensures { IfOk result (λ bytes. bytes
+        ≡ bytes_of_call (response_of call context stub) bound.now.binding.limit) }
+{
     let unit = response(call, context, stub);
-    let bytes = call_bytes(alloc, &unit, on.bound.binding.limit())?;
-    let at = send(at, bytes)?;
-    Ok((at, Some(talk_in(joiner, on))))
+    call_bytes(alloc, &unit, bound.binding.limit())
+}
+
+/// These bytes are sent on a link on which a user is logged on.
+fn send_in(
+    bytes: Blob,
+    on: LoggedOn,
+    joiner: Joiner,
+    at: AtLink,
+) -> Result<(AtLink, Option<Talk>), NoMemory>
+    ensures { IfOk result (λ served. served ≡ stay (send at bytes) (talk_in joiner on)) }
+{
+    match send(at, bytes) {
+        Ok(at) => Ok((at, Some(talk_in(joiner, on)))),
+        Err(NoMemory) => Err(let_go(joiner)),
+    }
 }
 
 /// A reply is signed or sealed, fragment by fragment, and sent. Where the session refuses one, the link is closed.
@@ -174,21 +248,40 @@ fn seal_reply(
         session,
     } = on;
     let Some(session) = session else {
-        return shut(at, CloseCause::BadAuthentication);
+        return shut_call(joiner, at, CloseCause::BadAuthentication);
     };
-    let units = reply_units(alloc, stub, call, context, &bound)?;
-    match send_all(alloc, is_sealing(bound.level), session, units.items())? {
-        Some((bytes, session)) => {
-            let at = send(at, bytes)?;
+    match sealed_reply(alloc, stub, call, context, &bound, session) {
+        Ok(Some((bytes, session))) => {
             let on = LoggedOn {
                 bound,
                 name,
                 key,
                 session: Some(session),
             };
-            Ok((at, Some(talk_in(joiner, on))))
+            send_in(bytes, on, joiner, at)
         }
-        None => shut(at, CloseCause::BadAuthentication),
+        Ok(None) => shut_call(joiner, at, CloseCause::BadAuthentication),
+        Err(NoMemory) => Err(let_go(joiner)),
+    }
+}
+
+/// The bytes of a reply that is signed or sealed, and the session afterwards. None where the session refuses a fragment.
+fn sealed_reply(
+    alloc: Global,
+    stub: Blob,
+    call: u32,
+    context: u16,
+    bound: &Bound,
+    session: Session,
+) -> Result<Option<(Blob, Session)>, NoMemory>
+    requires { length stub < 2 ^ 32 }
+    ensures { IfOk result (λ sent. sent ≡ frames_by (is_sealing bound.now.level) session
+        (cut_of (reply_with (blank_trailer bound.now.level bound.now.context) call context stub)
+        bound.now.binding.limit)) }
+{
+    match reply_units(alloc, stub, call, context, bound) {
+        Ok(units) => send_all(alloc, is_sealing(bound.level), session, units.items()),
+        Err(NoMemory) => Err(NoMemory),
     }
 }
 
@@ -240,11 +333,26 @@ fn answer_call(
             ..
         } => {
             let accepted = on.bound.binding.accepts(*context);
-            let answer = call_answer(alloc, accepted, *opnum, &on.name, stub.bytes())?;
-            reply(alloc, answer, unit.call, *context, on, joiner, at)
+            match call_answer(alloc, accepted, *opnum, &on.name, stub.bytes()) {
+                Ok(answer) => reply(alloc, answer, unit.call, *context, on, joiner, at),
+                Err(NoMemory) => Err(let_go(joiner)),
+            }
         }
-        _ => shut(at, CloseCause::OutOfPlace),
+        _ => shut_call(joiner, at, CloseCause::OutOfPlace),
     }
+}
+
+/// A whole call that was joined is answered, and let go.
+fn answer_whole(
+    alloc: Global,
+    unit: Unit,
+    on: LoggedOn,
+    joiner: Joiner,
+    at: AtLink,
+) -> Result<(AtLink, Option<Talk>), NoMemory>
+    ensures { IfOk result (λ served. served ≡ answer_call unit.body unit.call on joiner at) }
+{
+    answer_call(alloc, &unit, on, joiner, at)
 }
 
 /// A unit in plain form: a request is joined, and a whole call answered.
@@ -258,11 +366,11 @@ fn join_unit(
     ensures { IfOk result (λ served. served ≡ join_unit (unit_of bytes.now) on joiner at) }
 {
     let Ok(unit) = view_unit(bytes) else {
-        return shut(at, CloseCause::BadUnit);
+        return shut_call(joiner, at, CloseCause::BadUnit);
     };
     match unit.body {
         BodyView::Request { .. } => join(alloc, &unit, on, joiner, at),
-        _ => shut(at, CloseCause::OutOfPlace),
+        _ => shut_call(joiner, at, CloseCause::OutOfPlace),
     }
 }
 
@@ -281,10 +389,10 @@ fn join(
     let mut joiner = joiner;
     match joiner.add_view(alloc, unit) {
         Ok(None) => Ok((at, Some(talk_in(joiner, on)))),
-        Ok(Some(whole)) => answer_call(alloc, &whole, on, joiner, at),
-        Err(JoinRefused::OutOfPlace) => shut(at, CloseCause::OutOfPlace),
-        Err(JoinRefused::CallTooLong) => shut(at, CloseCause::TooMuchHeld),
-        Err(JoinRefused::Memory) => Err(NoMemory),
+        Ok(Some(whole)) => answer_whole(alloc, whole, on, joiner, at),
+        Err(JoinRefused::OutOfPlace) => shut_call(joiner, at, CloseCause::OutOfPlace),
+        Err(JoinRefused::CallTooLong) => shut_call(joiner, at, CloseCause::TooMuchHeld),
+        Err(JoinRefused::Memory) => Err(let_go(joiner)),
     }
 }
 
@@ -327,7 +435,7 @@ pub(crate) fn unit_in(
         return join_unit(alloc, bytes, on, joiner, at);
     }
     if let Some(cause) = signed_cause(on.bound.level, bytes) {
-        return shut(at, cause);
+        return shut_call(joiner, at, cause);
     }
     open_unit(alloc, bytes, on, joiner, at)
 }
@@ -353,11 +461,11 @@ fn open_unit(
         session,
     } = on;
     let Some(session) = session else {
-        return shut(at, CloseCause::BadAuthentication);
+        return shut_call(joiner, at, CloseCause::BadAuthentication);
     };
     let (taken, session) = take(is_sealing(bound.level), session, bytes);
     if !taken {
-        return shut(at, CloseCause::BadAuthentication);
+        return shut_call(joiner, at, CloseCause::BadAuthentication);
     }
     let on = LoggedOn {
         bound,

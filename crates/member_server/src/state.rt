@@ -73,11 +73,21 @@ pub struct Logon {
 }
 
 /// What logons need: the plan, the one channel that they share, and the logons that are asked, by their places.
-#[derive(Drop)]
 pub struct Logons {
     pub plan: MemberPlan,
     pub channel: Channel,
     pub asked: List<(u32, Logon)>,
+}
+
+impl Drop for Logons {
+    // As it would be derived. Written out, it is one call wherever a value that holds one is let go, which keeps the proofs of those places short.
+    fn drop(self) {
+        let Logons {
+            plan: _plan,
+            channel: _channel,
+            asked: _asked,
+        } = self;
+    }
 }
 
 /// What is said on the link of the turn so far: the fragments of an open reply, and the right to the turn.

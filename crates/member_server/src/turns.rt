@@ -7,14 +7,19 @@ ghost use Rattle.rpc_units.specs.Joining.{answer_of, open_after};
 ghost use Rattle.rpc_units.specs.Reading.{unit_of};
 ghost use Rattle.channel_client.specs.Machine.{start_of, take_of};
 ghost use Rattle.channel_client.specs.declared.answers.Taken.TheVariants as taken;
+ghost use Rattle.outside.specs.declared.action.Action.TheVariants as action;
+ghost use Rattle.end_links.specs.Sending.{joined_frames};
+ghost use Rattle.member_server.specs.declared.state.Dialling.TheVariants as dialling;
+ghost use Rattle.member_server.specs.Outcomes.{tell_at};
 ghost use Rattle.member_server.specs.Turns.{lose_turn, tell_turn_closed, finish_turn, finish_logon, ending_of, do_taken, take_by, break_turn, turn_by_join, turn_unit, timestamp_of, dial_by, next_turn};
 
 use crate::outcomes::{Ending, end_logon, tell_at};
 use crate::state::{AtTurn, Dialling, TurnTalk, Work};
+use crate::work::let_go;
 use channel_client::{TakeRefused, Taken, Turn};
 use end_links::{ServesUnits, join_frames};
 use logon_stubs::Verdict;
-use outside::{Action, Chances, CloseCause, DropCause, StepRefused};
+use outside::{Action, Chances, CloseCause, DropCause, Spent, StepRefused};
 use rpc_units::{JoinRefused, Joiner, Unit, UnitRefused, read_unit};
 use std::alloc::Global;
 use wire_base::{Blob, Frames, NoMemory};
@@ -59,6 +64,20 @@ fn break_turn(
     Ok((AtTurn { link, work }, None))
 }
 
+/// The same, and the fragments of an open reply are let go.
+fn break_call(
+    alloc: Global,
+    cause: CloseCause,
+    turn: Turn,
+    joiner: Joiner,
+    at: AtTurn,
+) -> Result<(AtTurn, Option<TurnTalk>), NoMemory>
+    ensures { IfOk result (λ served. served ≡ break_turn cause at) }
+{
+    drop(joiner);
+    break_turn(alloc, cause, turn, at)
+}
+
 // ---- what the channel makes of a unit
 
 /// The turn is done, and its link is closed.
@@ -96,9 +115,20 @@ fn send_request(
     ensures { IfOk result (λ served. served ≡ do_taken (taken.Next turn frames.now) joiner at) }
 {
     let AtTurn { link, work } = at;
-    let bytes = join_frames(alloc, frames)?;
-    let work = tell_at(work, Action::Send(link, bytes))?;
-    Ok((AtTurn { link, work }, Some(TurnTalk { joiner, turn })))
+    match send_frames(alloc, frames, link, work) {
+        Ok(work) => Ok((AtTurn { link, work }, Some(TurnTalk { joiner, turn }))),
+        Err(NoMemory) => Err(let_go(joiner)),
+    }
+}
+
+/// These frames are sent on that link.
+fn send_frames(alloc: Global, frames: &Frames, link: u32, work: Work) -> Result<Work, NoMemory>
+    ensures { IfOk result (λ sent. sent ≡ tell_at work (action.Send link (joined_frames frames.now))) }
+{
+    match join_frames(alloc, frames) {
+        Ok(bytes) => tell_at(work, Action::Send(link, bytes)),
+        Err(NoMemory) => Err(NoMemory),
+    }
 }
 
 /// How a logon ended that the controller judged so.
@@ -123,12 +153,31 @@ fn do_taken(
     match taken {
         Taken::Skip(turn) => Ok((at, Some(TurnTalk { joiner, turn }))),
         Taken::Next(turn, frames) => send_request(alloc, turn, &frames, joiner, at),
-        Taken::Half | Taken::Opened => finish_turn(at),
-        Taken::Answer(place, verdict) => finish_logon(alloc, place, &ending_of(verdict), at),
+        Taken::Half | Taken::Opened => {
+            drop(joiner);
+            finish_turn(at)
+        }
+        Taken::Answer(place, verdict) => {
+            drop(joiner);
+            finish_by(alloc, place, ending_of(verdict), at)
+        }
         Taken::Dropped(place, cause) => {
-            finish_logon(alloc, place, &Ending::NoController(cause), at)
+            drop(joiner);
+            finish_by(alloc, place, Ending::NoController(cause), at)
         }
     }
+}
+
+/// The logon of that place ends so, and how it ended is let go.
+fn finish_by(
+    alloc: Global,
+    place: u32,
+    how: Ending,
+    at: AtTurn,
+) -> Result<(AtTurn, Option<TurnTalk>), NoMemory>
+    ensures { IfOk result (λ served. served ≡ finish_logon place how at) }
+{
+    finish_logon(alloc, place, &how, at)
 }
 
 /// A whole unit is taken.
@@ -157,8 +206,21 @@ fn take(
             };
             do_taken(alloc, taken, joiner, AtTurn { link, work })
         }
-        Err(TakeRefused::Memory(_)) => Err(NoMemory),
+        Err(TakeRefused::Memory(_)) => Err(let_go(joiner)),
     }
+}
+
+/// A whole unit that was joined is taken, and let go.
+fn take_whole(
+    alloc: Global,
+    unit: Unit,
+    turn: Turn,
+    joiner: Joiner,
+    at: AtTurn,
+) -> Result<(AtTurn, Option<TurnTalk>), NoMemory>
+    ensures { IfOk result (λ served. served ≡ take_by (take_of at.work.logons.channel unit) joiner at) }
+{
+    take(alloc, &unit, turn, joiner, at)
 }
 
 /// A unit on the link of the turn: it is joined, and a whole one taken.
@@ -173,8 +235,8 @@ fn turn_unit(
     let TurnTalk { joiner, turn } = talk;
     match read_unit(alloc, bytes) {
         Ok(unit) => join(alloc, unit, turn, joiner, at),
-        Err(UnitRefused::Memory) => Err(NoMemory),
-        Err(_) => break_turn(alloc, CloseCause::BadUnit, turn, at),
+        Err(UnitRefused::Memory) => Err(let_go(joiner)),
+        Err(_) => break_call(alloc, CloseCause::BadUnit, turn, joiner, at),
     }
 }
 
@@ -192,10 +254,14 @@ fn join(
     let mut joiner = joiner;
     match joiner.add(unit) {
         Ok(None) => Ok((at, Some(TurnTalk { joiner, turn }))),
-        Ok(Some(whole)) => take(alloc, &whole, turn, joiner, at),
-        Err(JoinRefused::OutOfPlace) => break_turn(alloc, CloseCause::OutOfPlace, turn, at),
-        Err(JoinRefused::CallTooLong) => break_turn(alloc, CloseCause::TooMuchHeld, turn, at),
-        Err(JoinRefused::Memory) => Err(NoMemory),
+        Ok(Some(whole)) => take_whole(alloc, whole, turn, joiner, at),
+        Err(JoinRefused::OutOfPlace) => {
+            break_call(alloc, CloseCause::OutOfPlace, turn, joiner, at)
+        }
+        Err(JoinRefused::CallTooLong) => {
+            break_call(alloc, CloseCause::TooMuchHeld, turn, joiner, at)
+        }
+        Err(JoinRefused::Memory) => Err(let_go(joiner)),
     }
 }
 
@@ -213,7 +279,10 @@ impl ServesUnits<TurnTalk> for AtTurn {
         talk: TurnTalk,
         _chances: &mut Q,
     ) -> Result<(AtTurn, Option<TurnTalk>), StepRefused> {
-        Ok(turn_unit(alloc, bytes, self, talk)?)
+        match turn_unit(alloc, bytes, self, talk) {
+            Ok(served) => Ok(served),
+            Err(NoMemory) => Err(StepRefused::Memory),
+        }
     }
 
     #[tactic(auto, using(crate::proofs::TurnLaws::drawing))]
@@ -224,8 +293,11 @@ impl ServesUnits<TurnTalk> for AtTurn {
         talk: TurnTalk,
         _chances: &mut Q,
     ) -> Result<AtTurn, StepRefused> {
-        let (at, _) = break_turn(alloc, CloseCause::BadUnit, talk.turn, self)?;
-        Ok(at)
+        let TurnTalk { joiner, turn } = talk;
+        match break_call(alloc, CloseCause::BadUnit, turn, joiner, self) {
+            Ok((at, _)) => Ok(at),
+            Err(NoMemory) => Err(StepRefused::Memory),
+        }
     }
 
     ghost leaves = { turn_leaves };
@@ -256,22 +328,49 @@ fn dial(
         links,
         actions,
     } = work;
-    let Some((turn, frames)) = logons.channel.start_turn(alloc, timestamp, challenge)? else {
-        let work = Work {
-            logons,
-            links,
-            actions,
-        };
-        return Ok((work, how));
+    match logons.channel.start_turn(alloc, timestamp, challenge) {
+        Ok(Some((turn, frames))) => {
+            drop(how);
+            let work = Work {
+                logons,
+                links,
+                actions,
+            };
+            send_dial(alloc, turn, frames, work)
+        }
+        Ok(None) => {
+            let work = Work {
+                logons,
+                links,
+                actions,
+            };
+            Ok((work, how))
+        }
+        Err(NoMemory) => {
+            drop(how);
+            Err(NoMemory)
+        }
+    }
+}
+
+/// The controller is dialled; these frames go out where it answers.
+fn send_dial(
+    alloc: Global,
+    turn: Turn,
+    frames: Frames,
+    work: Work,
+) -> Result<(Work, Dialling), NoMemory>
+    ensures { IfOk result (λ desk. desk
+        ≡ (tell_at work (action.Dial work.logons.plan.controller), dialling.Waits turn frames)) }
+{
+    let peer = match Blob::copy(alloc, work.logons.plan.controller.bytes()) {
+        Ok(peer) => peer,
+        Err(NoMemory) => return Err(NoMemory),
     };
-    let peer = Blob::copy(alloc, logons.plan.controller.bytes())?;
-    let work = Work {
-        logons,
-        links,
-        actions,
-    };
-    let work = tell_at(work, Action::Dial(peer))?;
-    Ok((work, Dialling::Waits(turn, frames)))
+    match tell_at(work, Action::Dial(peer)) {
+        Ok(work) => Ok((work, Dialling::Waits(turn, frames))),
+        Err(NoMemory) => Err(NoMemory),
+    }
 }
 
 /// The next turn starts, where one can. A challenge is drawn where the channel needs one.
@@ -291,8 +390,20 @@ pub(crate) fn next_turn<Q: Chances>(
         return Ok((work, how));
     }
     if !work.logons.channel.needs_challenge() {
-        return Ok(dial(alloc, timestamp_of(now), [0; 8], work, how)?);
+        return match dial(alloc, timestamp_of(now), [0; 8], work, how) {
+            Ok(desk) => Ok(desk),
+            Err(NoMemory) => Err(StepRefused::Memory),
+        };
     }
-    let challenge = chances.next()?;
-    Ok(dial(alloc, timestamp_of(now), challenge, work, how)?)
+    let challenge = match chances.next() {
+        Ok(challenge) => challenge,
+        Err(Spent) => {
+            drop(how);
+            return Err(StepRefused::Spent);
+        }
+    };
+    match dial(alloc, timestamp_of(now), challenge, work, how) {
+        Ok(desk) => Ok(desk),
+        Err(NoMemory) => Err(StepRefused::Memory),
+    }
 }

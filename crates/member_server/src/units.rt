@@ -8,9 +8,9 @@ use crate::binds::fresh_unit;
 use crate::messages::take_auth3;
 use crate::requests::{unit_asked, unit_in, unit_out};
 use crate::state::{AtLink, Bound, Phase, Talk};
-use crate::work::shut;
+use crate::work::{shut_call, tell};
 use end_links::ServesUnits;
-use outside::{Chances, CloseCause, StepRefused};
+use outside::{Action, Chances, CloseCause, StepRefused};
 use rpc_units::{BodyView, Joiner, UnitRefused, view_unit};
 use std::alloc::Global;
 use wire_base::{Blob, NoMemory};
@@ -29,11 +29,11 @@ fn unit_challenged(
         ≡ unit_challenged (unit_of bytes.now) bound challenge flags joiner at) }
 {
     let Ok(unit) = view_unit(bytes) else {
-        return shut(at, CloseCause::BadUnit);
+        return shut_call(joiner, at, CloseCause::BadUnit);
     };
     match unit.body {
         BodyView::Auth3 => take_auth3(alloc, &unit.trailer, bound, challenge, flags, joiner, at),
-        _ => shut(at, CloseCause::OutOfPlace),
+        _ => shut_call(joiner, at, CloseCause::OutOfPlace),
     }
 }
 
@@ -49,7 +49,7 @@ pub(crate) fn bound_unit(
 {
     let Talk { joiner, phase } = talk;
     match phase {
-        Phase::Fresh => shut(at, CloseCause::OutOfPlace),
+        Phase::Fresh => shut_call(joiner, at, CloseCause::OutOfPlace),
         Phase::Challenged {
             bound,
             challenge,
@@ -61,6 +61,25 @@ pub(crate) fn bound_unit(
         Phase::In(on) => unit_in(alloc, bytes, on, joiner, at),
         Phase::Out { bound, status } => unit_out(alloc, bytes, bound, status, joiner, at),
     }
+}
+
+/// A unit that was held.
+fn serve_one(
+    alloc: Global,
+    unit: &Blob,
+    talk: Talk,
+    at: AtLink,
+) -> Result<(AtLink, Option<Talk>), NoMemory>
+    ensures { IfOk result (λ served. served ≡ bound_unit talk.phase unit.now talk.joiner at) }
+{
+    let mut bytes = match Vec::from_slice(alloc, unit.bytes()) {
+        Ok(bytes) => bytes,
+        Err(_) => {
+            drop(talk);
+            return Err(NoMemory);
+        }
+    };
+    bound_unit(alloc, bytes.as_mut_slice(), talk, at)
 }
 
 /// Units that were held, one after the other, until the link is closed.
@@ -75,8 +94,10 @@ pub(crate) fn serve_held(
     let mut at = at;
     let mut talk = talk;
     for unit in held {
-        let mut bytes = Vec::from_slice(alloc, unit.bytes())?;
-        let (after, open) = bound_unit(alloc, bytes.as_mut_slice(), talk, at)?;
+        let (after, open) = match serve_one(alloc, unit, talk, at) {
+            Ok(served) => served,
+            Err(NoMemory) => return Err(NoMemory),
+        };
         at = after;
         match open {
             Some(still) => talk = still,
@@ -111,7 +132,8 @@ impl ServesUnits<Talk> for AtLink {
         chances: &mut Q,
     ) -> Result<(AtLink, Option<Talk>), StepRefused> {
         if is_fresh(&talk.phase) {
-            let Talk { joiner, .. } = talk;
+            let Talk { joiner, phase } = talk;
+            drop(phase);
             return fresh_unit(alloc, bytes, joiner, self, chances);
         }
         match bound_unit(alloc, bytes, talk, self) {
@@ -125,11 +147,15 @@ impl ServesUnits<Talk> for AtLink {
         self,
         _alloc: Global,
         _why: UnitRefused,
-        _talk: Talk,
+        talk: Talk,
         _chances: &mut Q,
     ) -> Result<AtLink, StepRefused> {
-        let (at, _) = shut(self, CloseCause::BadUnit)?;
-        Ok(at)
+        drop(talk);
+        let link = self.link;
+        match tell(self, Action::Close(link, CloseCause::BadUnit)) {
+            Ok(at) => Ok(at),
+            Err(NoMemory) => Err(StepRefused::Memory),
+        }
     }
 
     ghost leaves = { link_leaves };

@@ -8,7 +8,7 @@ ghost use Rattle.member_server.specs.Work.{tell, send, send_unit, shut};
 use crate::state::{AtLink, Talk};
 use end_links::short_unit_bytes;
 use outside::{Action, CloseCause};
-use rpc_units::Unit;
+use rpc_units::{Joiner, Unit};
 use std::alloc::Global;
 use wire_base::{Blob, NoMemory};
 
@@ -46,4 +46,22 @@ pub(crate) fn shut(at: AtLink, cause: CloseCause) -> Result<(AtLink, Option<Talk
 {
     let link = at.link;
     Ok((tell(at, Action::Close(link, cause))?, None))
+}
+
+/// The link is closed, and the fragments of an open call are let go: here alone, which keeps the callers' proofs short.
+pub(crate) fn shut_call(
+    joiner: Joiner,
+    at: AtLink,
+    cause: CloseCause,
+) -> Result<(AtLink, Option<Talk>), NoMemory>
+    ensures { IfOk result (λ served. served ≡ shut cause at) }
+{
+    drop(joiner);
+    shut(at, cause)
+}
+
+/// No memory was found, and the fragments of an open call are let go: here alone, which keeps the callers' proofs short.
+pub(crate) fn let_go(joiner: Joiner) -> NoMemory {
+    drop(joiner);
+    NoMemory
 }
