@@ -1,8 +1,10 @@
 mod BagLaws
 mod BoundLaws
+mod ClaimLaws
 mod CountLaws
 mod EndLaws
 mod GeneratorLaws
+mod JudgedLaws
 mod MakingLaws
 mod PlaceLaws
 mod RunLaws

@@ -5,6 +5,7 @@
 mod acting;
 mod bag;
 mod choosing;
+mod claims;
 mod counting;
 mod driving;
 mod ends;
@@ -16,6 +17,7 @@ mod plan;
 mod state;
 mod world;
 
+pub use claims::{claims_tell_apart, controllers_pass_the_next};
 pub use counting::Report;
 pub use driving::drive;
 pub use moves::{Move, Moves, moves_from};

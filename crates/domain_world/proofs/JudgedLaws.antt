@@ -1,0 +1,344 @@
+-- Each Logon call that a controller heard in a run was judged by its channel's sequence.
+use Rattle.std.proofs.Common.{◌≡◌, ℕ, Bool, true, false, List, [], ◌∷◌, ◌++◌, drop, length, map, Option, Some, None, Ok, Err, refl, sym, ap, ◌∙◌, subst, slice_get}
+use Rattle.std.specs.List.{AllByRecursion}
+use Rattle.std.proofs.lemmas.Slice.Eq.{bytes_eq-Decides}
+use Rattle.wire_base.specs.Maps.{lookup, same_number}
+use Rattle.wire_base.specs.Names.{same_name}
+use Rattle.wire_base.specs.declared.authenticator.Authenticator.{Authenticator}
+use Rattle.authenticators.specs.Channels.{Channel}
+use Rattle.outside.specs.declared.action.Action.{Action}
+use Rattle.outside.specs.declared.action.Action.TheVariants as action
+use Rattle.outside.specs.declared.action.Judged.{Judged}
+use Rattle.outside.specs.declared.action.Judged.TheVariants as judged
+use Rattle.logon_stubs.specs.declared.calls.Call.TheVariants as call
+use Rattle.logon_stubs.specs.declared.calls.LogonCall.{LogonCall}
+use Rattle.end_links.specs.Links.{LinkState}
+use Rattle.end_links.specs.Serving.{Server, ServedPart}
+use Rattle.rpc_units.specs.Stream.{cut_stream}
+use Rattle.domain_controller.specs.Channels.{ChannelState, key_of_channel, passes_on, return_by, channel_by}
+use Rattle.domain_controller.specs.Hearing.{hear}
+use Rattle.domain_controller.specs.Laws.{IsNext}
+use Rattle.domain_controller.specs.Machine.{Desk, answer_logon, by_heard, controller_server, desk, judge_channel, judge_return, put_channel, take_channel}
+use Rattle.domain_controller.specs.State.{State as ControllerState}
+use Rattle.domain_controller.specs.Step.{first_desk}
+use Rattle.domain_controller.specs.declared.hearing.Heard.{Heard}
+use Rattle.domain_controller.specs.declared.hearing.Heard.TheVariants as heard
+use Rattle.domain_controller.specs.declared.line.Line.{Line}
+use Rattle.domain_controller.specs.declared.state.Computers.{Computers}
+use Rattle.domain_controller.specs.declared.state.Running.{Running}
+use Rattle.domain_controller.specs.declared.state.Talk.{Talk}
+use Rattle.logon_client.specs.State.{State as ClientState}
+use Rattle.member_server.specs.State.{State as MemberState}
+use Rattle.member_server.specs.declared.state.AtTurn.{AtTurn}
+use Rattle.member_server.specs.declared.state.TurnTalk.{TurnTalk}
+use Rattle.domain_world.specs.declared.bag.BagUnit.{BagUnit}
+use Rattle.domain_world.specs.declared.links.EndId.{EndId}
+use Rattle.domain_world.specs.declared.links.EndId.TheVariants.{Controller, Member, Client}
+use Rattle.domain_world.specs.declared.moves.Move.{Move}
+use Rattle.domain_world.specs.declared.moves.Move.TheVariants as move
+use Rattle.domain_world.specs.declared.plan.Plan.{Plan}
+use Rattle.domain_world.specs.declared.state.State.{State}
+use Rattle.domain_world.specs.Acting.{piece_comes}
+use Rattle.domain_world.specs.Bag.{first_waiting, pieces_of}
+use Rattle.domain_world.specs.Choosing.{chosen_in, chosen_place}
+use Rattle.domain_world.specs.Claims.{IsBarredBy, IsJudgedRight, IsRightOf, PassesTheNextCredential}
+use Rattle.domain_world.specs.ControllerNotes.{Answered, Where, answer_on, channel_in, has_passed, heard_answer, judged_in, judging_by, judging_of, logon_answer, opened_by, opening, passing, units_at, units_by, units_of_controller}
+use Rattle.domain_world.specs.History.{Book, Judging, blank}
+use Rattle.domain_world.specs.Links.{handed_links, hearer_of, links_of}
+use Rattle.domain_world.specs.Moving.{settle}
+use Rattle.domain_world.specs.Past.{Coming, answers_of, at_controller, book, controller_of, first_of, judged_of, judged_onto, later_of, note, note_at, note_chosen, note_client, note_coming, note_controller, note_deliver, note_hand, note_member, note_messages, note_on, note_onward, note_own, note_piece, note_pieces, note_turn, note_turns, note_unit, past, with_reply}
+use Rattle.domain_world.specs.MemberNotes.{turn_note, turn_units}
+use Rattle.domain_world.specs.Served.{ServedUnit, served_units, units_on, units_then, work_after}
+use Rattle.domain_world.specs.World.{World, first_world, happens}
+
+-- ---- a Logon call
+
+-- the first thing told after others
+told_first : (old : List Action) (how : Judged) (other : Action) → judged_in (drop (length old) ((old ++ action.Judged how ∷ []) ++ other ∷ [])) ≡ Some how
+told_first [] how other = refl
+told_first (one ∷ old) how other = told_first old how other
+
+-- what a call comes to: how it was judged is the first thing told, and it is right
+abbrev pub Told : List Action → Desk → Computers → LogonCall → Type 0
+Told old after computers c =
+    (how : Judged) × (judged_in (drop (length old) after.work.actions) ≡ Some how) × IsRightOf (Some how) computers c
+
+right_none : (computers : Computers) (c : LogonCall) → (IsNext computers c → ⊥) → (IsBarredBy computers c → ⊥) → IsRightOf (Some judged.NoChannel) computers c
+right_none computers c none free = record {
+  passed = (λ is. absurd cc, λ next. absurd (none next));
+  barred = (λ is. absurd cc, λ barred. absurd (free barred));
+  other = (λ is. (none, free), λ both. refl);
+}
+
+right_barred : (computers : Computers) (c : LogonCall) → (IsNext computers c → ⊥) → IsBarredBy computers c → IsRightOf (Some judged.Barred) computers c
+right_barred computers c none barred = record {
+  passed = (λ is. absurd cc, λ next. absurd (none next));
+  barred = (λ is. barred, λ so. refl);
+  other = (λ is. absurd cc, λ both. absurd (both.1 barred));
+}
+
+right_passed : (status : ℕ) (computers : Computers) (c : LogonCall) → IsNext computers c → (IsBarredBy computers c → ⊥) → IsRightOf (Some (judged.Passed status)) computers c
+right_passed status computers c next free = record {
+  passed = (λ is. next, λ so. refl);
+  barred = (λ is. absurd cc, λ barred. absurd (free barred));
+  other = (λ is. absurd cc, λ both. absurd (both.0 next));
+}
+
+one_given : (given other : Authenticator) → Some given ≡ Some other → given ≡ other
+one_given given other is = cc
+
+one_channel : (computer other : List ℕ) (channel another : ChannelState) (computers : Computers) → Some computer ≡ Some other → lookup same_name computer computers.channels ≡ Some channel →
+    lookup same_name other computers.channels ≡ Some another → channel ≡ another
+one_channel computer other channel another computers is stands also =
+    let same : computer ≡ other = cc in
+    let both : Some channel ≡ Some another = sym stands ∙ ap (λ (n : List ℕ). lookup same_name n computers.channels) same ∙ also in
+    cc
+
+not_both : (channel other : ChannelState) (given more : Authenticator) → channel ≡ other → given ≡ more → passes_on channel given ≡ false → passes_on other more ≡ true → ⊥
+not_both channel other given more same alike fails passes = absurd cc
+
+same_pass : (channel other : ChannelState) (given more : Authenticator) → channel ≡ other → given ≡ more → passes_on channel given ≡ true → passes_on other more ≡ true
+same_pass channel other given more same alike passes = ap (λ (x : ChannelState). passes_on x more) (sym same) ∙ ap (λ (g : Authenticator). passes_on channel g) (sym alike) ∙ passes
+
+none_some : {T : Type 0} {found : Option T} {value : T} → found ≡ None → found ≡ Some value → ⊥
+none_some is so = absurd cc
+
+no_channel_there : (c : LogonCall) (computer : List ℕ) (computers : Computers) (other : List ℕ) (channel : ChannelState) → c.computer ≡ Some computer → lookup same_name computer computers.channels ≡ None →
+    c.computer ≡ Some other → lookup same_name other computers.channels ≡ Some channel → ⊥
+no_channel_there c computer computers other channel named none also stands =
+    let same : Some computer ≡ Some other = sym named ∙ also in
+    let one : computer ≡ other = cc in
+    none_some (ap (λ (n : List ℕ). lookup same_name n computers.channels) (sym one) ∙ none) stands
+
+by_pass : (passes : Bool) (c : LogonCall) (computer : List ℕ) (given : Authenticator) (channel : ChannelState) (computers : Computers) (name : List ℕ) (now : ℕ) (line : Line) (d : Desk) →
+    c.computer ≡ Some computer → c.authenticator ≡ Some given → lookup same_name computer computers.channels ≡ Some channel → passes_on channel given ≡ passes →
+    Told d.work.actions (judge_return (return_by passes channel given) (key_of_channel channel) name now line c.info c.validation d) computers c
+by_pass true c computer given channel computers name now line d named there stands passes = (
+  judged.Passed _,
+  told_first d.work.actions (judged.Passed _) _,
+  right_passed _ computers c
+      (record { computer = computer; given = given; channel = channel; named = named; there = there; stands = stands; passes = (bytes_eq-Decides _ _).0 passes })
+      (λ barred. barred.fails ((bytes_eq-Decides _ _).0 (same_pass channel barred.channel given barred.given
+      (one_channel computer barred.computer channel barred.channel computers (sym named ∙ barred.named) stands barred.stands) (one_given given barred.given (sym there ∙ barred.there)) passes))),
+)
+by_pass false c computer given channel computers name now line d named there stands passes = (
+  judged.Barred,
+  told_first d.work.actions judged.Barred _,
+  right_barred computers c
+      (λ next. not_both channel next.channel given next.given (one_channel computer next.computer channel next.channel computers (sym named ∙ next.named) stands next.stands) (one_given given next.given (sym there ∙ next.there)) passes ((bytes_eq-Decides _ _).1 next.passes))
+      (record { computer = computer; given = given; channel = channel; named = named; there = there; stands = stands; fails = λ is. not_both channel channel given given refl refl passes ((bytes_eq-Decides _ _).1 is) }),
+)
+
+by_channel : (found : Option ChannelState) (c : LogonCall) (computer : List ℕ) (given : Authenticator) (computers : Computers) (name : List ℕ) (now : ℕ) (line : Line) (d : Desk) →
+    c.computer ≡ Some computer → c.authenticator ≡ Some given → lookup same_name computer computers.channels ≡ found →
+    Told d.work.actions (judge_channel found computer given name now line c.info c.validation d) computers c
+by_channel None c computer given computers name now line d named there stands = (
+  judged.NoChannel,
+  told_first d.work.actions judged.NoChannel _,
+  right_none computers c (λ next. no_channel_there c computer computers next.computer next.channel named stands next.named next.stands)
+      (λ barred. no_channel_there c computer computers barred.computer barred.channel named stands barred.named barred.stands),
+)
+by_channel (Some channel) c computer given computers name now line d named there stands =
+    by_pass (passes_on channel given) c computer given channel computers name now line
+    (desk d.table (put_channel computer (channel_by (passes_on channel given) channel given) d.work)) named there stands refl
+
+by_names : (computer : Option (List ℕ)) (given : Option Authenticator) (c : LogonCall) (name : List ℕ) (now : ℕ) (line : Line) (d : Desk) →
+    c.computer ≡ computer → c.authenticator ≡ given →
+    Told d.work.actions (answer_logon computer given name now line c.info c.validation d) d.work.computers c
+by_names None given c name now line d named there = (
+  judged.NoChannel,
+  told_first d.work.actions judged.NoChannel _,
+  right_none d.work.computers c (λ next. none_some named next.named) (λ barred. none_some named barred.named),
+)
+by_names (Some computer) None c name now line d named there = (
+  judged.NoChannel,
+  told_first d.work.actions judged.NoChannel _,
+  right_none d.work.computers c (λ next. none_some there next.there) (λ barred. none_some there barred.there),
+)
+by_names (Some computer) (Some given) c name now line d named there =
+    by_channel (lookup same_name computer d.work.computers.channels) c computer given d.work.computers name now line (desk d.table (take_channel computer d.work)) named there refl
+
+told_right : (old : List Action) (after : Desk) (computers : Computers) (c : LogonCall) → Told old after computers c →
+    IsRightOf (judged_in (drop (length old) after.work.actions)) computers c
+told_right old after computers c told = subst (λ (how : Option Judged). IsRightOf how computers c) (sym told.1) told.2
+
+-- ---- a unit
+
+-- a call that was judged, if one was, was judged right
+abbrev pub RightIf : Option Judging → Type 0
+RightIf None = Unit {0}
+RightIf (Some j) = IsJudgedRight j
+
+passing_right : (channel : Option Channel) (j : Judging) → IsJudgedRight j → RightIf (passing channel j).judging
+passing_right None j right = right
+passing_right (Some channel) j right = right
+
+judging_right : (passed : Bool) (j : Judging) → IsJudgedRight j → RightIf (judging_by passed j).judging
+judging_right false j right = right
+judging_right true j right = passing_right (channel_in j.controller j.logon.computer j.computers) j right
+
+opening_right : (channel : Option Channel) → RightIf (opening channel).judging
+opening_right None = tt
+opening_right (Some channel) = tt
+
+-- what the unit comes to is what the controller makes of it
+abbrev pub IsServedBy : {W T : Type 0} → Server W T → ServedUnit W T → Type 0
+IsServedBy server unit = unit.part ≡ server.unit unit.bytes unit.work unit.talk unit.left
+
+heard_right : (what : Heard) (w : Where) (link : ℕ) (d : Desk) (left : List (List ℕ)) (part : ServedPart Desk Talk) →
+    part ≡ by_heard what link w.name w.moment d left → RightIf (heard_answer what w d (work_after part)).judging
+heard_right (heard.Close cause) w link d left part is = tt
+heard_right (heard.Answer bytes talk) w link d left part is = tt
+heard_right (heard.Waits talk) w link d left part is = tt
+heard_right (heard.Asked line (call.Challenge c) talk) w link d left part is = tt
+heard_right (heard.Asked line (call.Authenticate c) talk) w link d left part is = opening_right (opened_by w.controller c d)
+heard_right (heard.Asked line (call.Logoff c) talk) w link d left part is = tt
+heard_right (heard.Asked line (call.Logon c) talk) w link d left part is =
+    let after : Desk = answer_logon c.computer c.authenticator w.name w.moment line c.info c.validation d in
+    let right : IsJudgedRight (judging_of w line c d (Some after)) =
+    told_right d.work.actions after d.work.computers c (by_names c.computer c.authenticator c w.name w.moment line d refl refl) in
+    subst (λ (p : ServedPart Desk Talk). RightIf (logon_answer (judging_of w line c d (work_after p))).judging) (sym is)
+    (judging_right (has_passed (judging_of w line c d (Some after)).how) (judging_of w line c d (Some after)) right)
+
+unit_right : (w : Where) (link : ℕ) (unit : ServedUnit Desk Talk) → IsServedBy (controller_server w.name w.moment link) unit → RightIf (answer_on link w unit).judging
+unit_right w link unit is = heard_right (hear link unit.bytes unit.talk) w link unit.work unit.left unit.part is
+
+-- ---- the units of a stream
+
+module _ {W T : Type 0} where
+  are_on : (P : ServedUnit W T → Type 0) (later : W → T → List (List ℕ) → List (ServedUnit W T)) → ((work : W) (talk : T) (left : List (List ℕ)) → AllByRecursion P (later work talk left)) →
+      (work : W) (talk : Option T) (left : List (List ℕ)) → AllByRecursion P (units_on work talk left later)
+  are_on P later each work None left = tt
+  are_on P later each work (Some talk) left = each work talk left
+
+  are_then : (P : ServedUnit W T → Type 0) (later : W → T → List (List ℕ) → List (ServedUnit W T)) → ((work : W) (talk : T) (left : List (List ℕ)) → AllByRecursion P (later work talk left)) →
+      (part : ServedPart W T) → AllByRecursion P (units_then part later)
+  are_then P later each (Err why) = tt
+  are_then P later each (Ok part) = are_on P later each part.value.0 part.value.1 part.left
+
+  pub are_served : (server : Server W T) (units : List (List ℕ)) (work : W) (talk : T) (left : List (List ℕ)) → AllByRecursion (IsServedBy server) (served_units server units work talk left)
+  are_served server [] work talk left = tt
+  are_served server (bytes ∷ units) work talk left = (
+    refl,
+    are_then (IsServedBy server) (λ later said rest. served_units server units later said rest) (λ later said rest. are_served server units later said rest) (server.unit bytes work talk left),
+  )
+
+served_at : (link : Option (LinkState Talk)) (number : ℕ) (piece : List ℕ) (c : ControllerState) (running : Running) (now : ℕ) (left : List (List ℕ)) →
+    AllByRecursion (IsServedBy (controller_server c.name now number)) (units_at link number piece c running now left)
+served_at None number piece c running now left = tt
+served_at (Some link) number piece c running now left =
+    are_served (controller_server c.name now number) (cut_stream (link.rest ++ piece)).units (first_desk c.table running) link.talk left
+
+served_by : (running : Option Running) (number : ℕ) (piece : List ℕ) (c : ControllerState) (now : ℕ) (left : List (List ℕ)) →
+    AllByRecursion (IsServedBy (controller_server c.name now number)) (units_by running number piece c now left)
+served_by None number piece c now left = tt
+served_by (Some running) number piece c now left = served_at (lookup same_number number running.links) number piece c running now left
+
+answers_right : (w : Where) (link : ℕ) (units : List (ServedUnit Desk Talk)) → AllByRecursion (IsServedBy (controller_server w.name w.moment link)) units →
+    AllByRecursion (λ (one : Answered). RightIf one.judging) (map (answer_on link w) units)
+answers_right w link [] each = tt
+answers_right w link (unit ∷ units) each = (unit_right w link unit each.0, answers_right w link units each.1)
+
+-- ---- what is written down
+
+abbrev pub AreRight : List Judging → Type 0
+AreRight judgings = AllByRecursion IsJudgedRight judgings
+
+reply_right : (j : Option Judging) (number : Option ℕ) (later : List Judging) → RightIf j → AreRight later → AreRight (with_reply j number ++ later)
+reply_right None number later right each = each
+reply_right (Some j) number later right each = (right, each)
+
+judged_right : (answers : List Answered) (numbers : List ℕ) → AllByRecursion (λ (one : Answered). RightIf one.judging) answers → AreRight (judged_of answers numbers)
+judged_right [] numbers each = tt
+judged_right (one ∷ answers) numbers each =
+    reply_right one.judging (first_of numbers) (judged_of answers (later_of one.sends numbers)) each.0 (judged_right answers (later_of one.sends numbers) each.1)
+
+onto_right : (js old : List Judging) → AreRight js → AreRight old → AreRight (judged_onto js old)
+onto_right [] old each was = was
+onto_right (j ∷ js) old each was = onto_right js (j ∷ old) each.1 (each.0, was)
+
+abbrev pub IsRight : Book → Type 0
+IsRight b = AreRight b.judged
+
+controller_right : (c : Option ControllerState) (controller : ℕ) (w : Coming) (piece : List ℕ) (s after : State) (b : Book) → IsRight b → IsRight (note_controller c controller w piece s after b)
+controller_right None controller w piece s after b was = was
+controller_right (Some c) controller w piece s after b was =
+    onto_right (judged_of (answers_of controller c w piece s) _) b.judged
+    (judged_right (answers_of controller c w piece s) _
+    (answers_right (at_controller controller c w s) w.link (units_of_controller c w.link piece s.moment s.chances.left) (served_by c.running w.link piece c s.moment s.chances.left)))
+    was
+
+turns_right : (controller : ℕ) (units : List (ServedUnit AtTurn TurnTalk)) (unit : Option ℕ) (numbers : List ℕ) (b : Book) → IsRight b → IsRight (note_turns controller units unit numbers b)
+turns_right controller [] unit numbers b was = was
+turns_right controller (served ∷ units) unit numbers b was =
+    turns_right controller units unit (later_of (turn_note controller served).sends numbers) (note_turn (turn_note controller served) served unit (first_of numbers) b) was
+
+member_right : (m : Option MemberState) (member : ℕ) (w : Coming) (piece : List ℕ) (s after : State) (b : Book) → IsRight b → IsRight (note_member m member w piece s after b)
+member_right None member w piece s after b was = was
+member_right (Some m) member w piece s after b was =
+    turns_right (controller_of member s) (turn_units m w.link piece s.chances.left) w.unit _ (note_messages member m w piece s b) was
+
+client_right : (c : Option ClientState) (client : ℕ) (w : Coming) (piece : List ℕ) (s : State) (b : Book) → IsRight b → IsRight (note_client c client w piece s b)
+client_right None client w piece s b was = was
+client_right (Some c) client w piece s b was = was
+
+at_right : (end : Option EndId) (w : Coming) (piece : List ℕ) (s after : State) (b : Book) → IsRight b → IsRight (note_at end w piece s after b)
+at_right None w piece s after b was = was
+at_right (Some (Controller at)) w piece s after b was = controller_right (slice_get s.ends.controllers at) at w piece s after b was
+at_right (Some (Member at)) w piece s after b was = member_right (slice_get s.ends.members at) at w piece s after b was
+at_right (Some (Client at)) w piece s after b was = client_right (slice_get s.ends.clients at) at w piece s b was
+
+pieces_right : (w : Coming) (pieces : List (List ℕ)) (s : State) (b : Book) → IsRight b → IsRight (note_pieces w pieces s b)
+pieces_right w [] s b was = was
+pieces_right w (piece ∷ pieces) s b was =
+    let after : State = (piece_comes w.back w.link piece s).state in
+    pieces_right w pieces after (note_piece w piece s after b) (at_right (hearer_of w.back (lookup same_number w.link s.open_links)) w piece s after b was)
+
+note_unit_right : (unit : Option BagUnit) (number link at : ℕ) (s : State) (b : Book) → IsRight b → IsRight (note_unit unit number link at s b)
+note_unit_right None number link at s b was = was
+note_unit_right (Some unit) number link at s b was = pieces_right _ (pieces_of unit.bytes) (settle number s) b was
+
+own_right : (unit : Option BagUnit) (number at : ℕ) (s : State) (b : Book) → IsRight b → IsRight (note_own unit number at s b)
+own_right None number at s b was = was
+own_right (Some unit) number at s b was = note_unit_right (Some unit) number unit.link at s b was
+
+onward_right : (number : Option ℕ) (at : ℕ) (s : State) (b : Book) → IsRight b → IsRight (note_onward number at s b)
+onward_right None at s b was = was
+onward_right (Some number) at s b was = own_right (slice_get s.bag number) number at s b was
+
+on_right : (link : Option ℕ) (number at : ℕ) (s : State) (b : Book) → IsRight b → IsRight (note_on link number at s b)
+on_right None number at s b was = was
+on_right (Some link) number at s b was = note_unit_right (slice_get s.bag number) number link at s b was
+
+chosen_right : (unit : Option BagUnit) (number link at : ℕ) (s : State) (b : Book) → IsRight b → IsRight (note_chosen unit number link at s b)
+chosen_right None number link at s b was = was
+chosen_right (Some unit) number link at s b was = on_right (chosen_in link (links_of unit.kind s.links)) number at s b was
+
+deliver_right : (number : Option ℕ) (link at : ℕ) (s : State) (b : Book) → IsRight b → IsRight (note_deliver number link at s b)
+deliver_right None link at s b was = was
+deliver_right (Some number) link at s b was = chosen_right (slice_get s.bag number) number link at s b was
+
+hand_right : (link : Option ℕ) (back : Bool) (bytes : List ℕ) (at : ℕ) (s : State) (b : Book) → IsRight b → IsRight (note_hand link back bytes at s b)
+hand_right None back bytes at s b was = was
+hand_right (Some link) back bytes at s b was = pieces_right _ (bytes ∷ []) s b was
+
+coming_right : (what : Move) (at : ℕ) (s : State) (b : Book) → IsRight b → IsRight (note_coming what at s b)
+coming_right move.Onward at s b was = onward_right (first_waiting s.bag) at s b was
+coming_right (move.Deliver unit link) at s b was = deliver_right (chosen_place unit (length s.bag)) link at s b was
+coming_right (move.Hand link back bytes) at s b was = hand_right (chosen_in link (handed_links s.links)) back bytes at s b was
+coming_right (move.Start number) at s b was = was
+coming_right (move.Stranger number) at s b was = was
+coming_right move.Connect at s b was = was
+coming_right move.FailDial at s b was = was
+coming_right move.Lose at s b was = was
+coming_right (move.Shut number) at s b was = was
+coming_right (move.Restart number) at s b was = was
+coming_right (move.Tick more) at s b was = was
+
+book_right : (moves : List Move) (w : World) (b : Book) → IsRight b → IsRight (book moves w b)
+book_right [] w b was = was
+book_right (what ∷ moves) w b was = book_right moves (happens w what) (note w what b) (coming_right what w.moves w.state b was)
+
+-- a controller passes an authenticator exactly where it is the next one, in every run
+pub passes_the_next : (plan : Plan) (moves : List Move) → PassesTheNextCredential (past plan moves)
+passes_the_next plan moves = book_right moves (first_world plan) blank tt

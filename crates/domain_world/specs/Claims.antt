@@ -1,0 +1,279 @@
+-- What is claimed of every run of a world: of a logon through a member server and its domain controller (MS-NLMP 3.2.5.1.2, MS-NRPC 3.1.4.5,
+-- 3.5.4.5.3). What a claim says is this project's own choice, in the standards' terms.
+--
+-- A member server accepts an AUTHENTICATE exactly where it took its controller's answer, the account may log on, and the response is the written
+-- function of the account's stored hash and of that link's unused challenge; client and member then hold one session key; and the controller passes an
+-- authenticator exactly where it is the channel's next one.
+use Rattle.std.specs.Prelude.{ℕ, ◌≡◌, ◌≢◌, ◌+◌, ◌%◌, ◌^◌, ◌==◌, ◌&&◌, ◌↔◌, Bool, true, false, List, [], ◌∷◌, ◌++◌, length, replicate, count_by, find, Option, Some, None, slice_get, AllPairs}
+use Rattle.std.specs.List.{AllByRecursion}
+use Rattle.wire_base.specs.Maps.{lookup}
+use Rattle.wire_base.specs.Names.{same_name}
+use Rattle.wire_base.specs.declared.authenticator.Authenticator.{Authenticator}
+use Rattle.rc4_stream.specs.Rc4.{applied}
+use Rattle.authenticators.specs.Channels.{Channel, channel_key, same_channel}
+use Rattle.authenticators.specs.Sequences.{Passes}
+use Rattle.outside.specs.declared.action.Judged.{Judged}
+use Rattle.outside.specs.declared.action.Judged.TheVariants as judged
+use Rattle.outside.specs.declared.action.Outcome.{Outcome}
+use Rattle.outside.specs.declared.action.Outcome.TheVariants as outcome
+use Rattle.ntlm_responses.specs.Responses.{challenge_for_of}
+use Rattle.ntlm_responses.specs.Verification.{base_key_of}
+use Rattle.logon_stubs.specs.declared.calls.LogonCall.{LogonCall}
+use Rattle.logon_stubs.specs.declared.info.NetworkInfo.{NetworkInfo}
+use Rattle.account_table.specs.declared.account.Account.{Account}
+use Rattle.account_table.specs.LookUps.{account_in}
+use Rattle.sam_logon.specs.MayLogOn.{MayLogOn, ResponseVerifies}
+use Rattle.domain_controller.specs.Channels.{ChannelState, key_of_channel}
+use Rattle.domain_controller.specs.Laws.{IsNext}
+use Rattle.domain_controller.specs.declared.state.Computers.{Computers}
+use Rattle.member_server.specs.Messages.{info_of}
+use Rattle.member_server.specs.declared.plan.MemberPlan.{MemberPlan}
+use Rattle.domain_world.specs.declared.links.EndId.TheVariants.{Controller}
+use Rattle.domain_world.specs.ControllerNotes.{channel_in, has_passed}
+use Rattle.domain_world.specs.Ends.{EndStates}
+use Rattle.domain_world.specs.History.{Book, ChallengeSent, Judging, MessageMade, MessageTaken, OneOf, OutcomeTold}
+use Rattle.domain_world.specs.Moving.{end_of_peer}
+use Rattle.domain_world.specs.Past.{Past}
+use Rattle.domain_world.specs.World.{World}
+
+-- ---- authenticators that pass
+
+-- the channel on which the authenticator of a call passed: none where it didn't pass
+abbrev pub channel_if : Bool → Judging → Option Channel
+channel_if false j = None
+channel_if true j = channel_in j.controller j.logon.computer j.computers
+
+abbrev pub passed_channel : Judging → Option Channel
+passed_channel j = channel_if (has_passed j.how) j
+
+abbrev pub is_same_channel : Option Channel → Channel → Bool
+is_same_channel None channel = false
+is_same_channel (Some other) channel = same_channel other channel
+
+abbrev pub passed_on : Channel → Judging → Bool
+passed_on channel j = is_same_channel (passed_channel j) channel
+
+abbrev pub timestamp_in : Option Authenticator → ℕ
+timestamp_in None = 0
+timestamp_in (Some given) = given.timestamp
+
+abbrev pub timestamp_of : Judging → ℕ
+timestamp_of j = timestamp_in j.logon.authenticator
+
+-- how far the timestamps that passed on a channel moved its seed: the sum of each plus one
+abbrev pub moved_if : Bool → ℕ → ℕ → ℕ
+moved_if false timestamp moved = moved
+moved_if true timestamp moved = timestamp + 1 + moved
+
+abbrev pub moved_on : Channel → List Judging → ℕ
+moved_on channel [] = 0
+moved_on channel (j ∷ js) = moved_if (passed_on channel j) (timestamp_of j) (moved_on channel js)
+
+-- Wrap: two authenticators passed on one channel at its controller, and the timestamps from the first up to but without the second move the seed by a
+-- multiple of 2^32, so that the second met the seed that the first had met.
+pub record Wraps (judgings : List Judging) : Type 0 where
+  pub channel : Channel
+  pub later : List Judging
+  pub second : Judging
+  pub between : List Judging
+  pub first : Judging
+  pub earlier : List Judging
+  pub all : judgings ≡ later ++ second ∷ (between ++ first ∷ earlier)
+  pub first_passed : passed_on channel first ≡ true
+  pub second_passed : passed_on channel second ≡ true
+  pub around : moved_on channel (between ++ first ∷ []) % 2 ^ 32 ≡ 0
+
+-- the run is one of which the claims on answers speak: no credential passed on a unit that was made for another channel, and no seed came round
+pub record IsClear (book : Book) : Type 0 where
+  pub apart : book.clash ≡ false
+  pub onward : Wraps book.judged → ⊥
+
+-- ---- the answer that a member took
+
+abbrev pub same_unit : Option ℕ → Option ℕ → Bool
+same_unit None other = false
+same_unit (Some one) None = false
+same_unit (Some one) (Some other) = one == other
+
+-- The call passed at this step, came in the unit that carries the Logon call which the member made for the place of the message, and was answered by
+-- the unit that the member took in the turn of that place.
+abbrev pub answers : MessageTaken → Judging → Bool
+answers message j = has_passed j.how && same_unit message.call j.unit && same_unit message.reply j.reply
+
+-- the step that gave the answer which a member took for a message, where it took one
+abbrev pub taken_answer : MessageTaken → List Judging → Option Judging
+taken_answer message judgings = find (answers message) judgings
+
+abbrev pub message_on : ℕ → List MessageTaken → Option MessageTaken
+message_on link messages = find (λ (one : MessageTaken). one.link == link) messages
+
+abbrev pub answer_for : Option MessageTaken → List Judging → Option Judging
+answer_for None judgings = None
+answer_for (Some message) judgings = taken_answer message judgings
+
+-- of a link: none where it took no AUTHENTICATE, or no answer was taken
+abbrev pub taken_answer_on : ℕ → Book → Option Judging
+taken_answer_on link book = answer_for (message_on link book.messages) book.judged
+
+-- ---- what a logon is accepted by
+
+-- what the member asked for the message
+abbrev pub info_asked : MessageTaken → NetworkInfo
+info_asked message = info_of message.logon.message message.logon.agreed message.logon.challenge
+
+-- the controller is that of the member's plan
+abbrev pub HasController : Option MemberPlan → EndStates → ℕ → Type 0
+HasController None ends controller = ⊥
+HasController (Some plan) ends controller = end_of_peer plan.controller ends ≡ Some (Controller controller)
+
+-- the unit came to no other step at which it passed
+abbrev pub PassesOnce : Judging → List Judging → Type 0
+PassesOnce j judgings =
+    AllByRecursion (λ (other : Judging). has_passed other.how && same_unit other.unit j.unit ≡ true → other.at ≡ j.at) judgings
+
+-- Its controller's answer: the member took an answer for the message, of the controller of its plan, and the call passed at this step and at no other.
+pub record IsItsControllersAnswer (past : Past) (message : MessageTaken) (j : Judging) : Type 0 where
+  pub taken : taken_answer message past.book.judged ≡ Some j
+  pub controller : HasController (slice_get past.plan.members message.member) past.world.state.ends j.controller
+  pub once : PassesOnce j past.book.judged
+
+-- The account may log on, and the response is the written function of its stored hash: by the accounts and at the moment of that step, of what the
+-- member asked. The names, the responses and the challenge are those of the message as it was sent.
+pub record IsGrantedBy (message : MessageTaken) (j : Judging) : Type 0 where
+  pub may : MayLogOn j.table (info_asked message) j.moment
+  pub verifies : ResponseVerifies j.table (info_asked message)
+
+-- That link's unused challenge: it was drawn for the CHALLENGE of this link, no other draw gave it, and the link took no other message.
+pub record IsUnusedChallenge (past : Past) (message : MessageTaken) (sent : ChallengeSent) : Type 0 where
+  pub link : sent.link ≡ message.link
+  pub challenge : sent.challenge ≡ message.logon.challenge
+  pub drawn : slice_get past.world.state.chances.drawn sent.draw ≡ Some sent.challenge
+  pub only : (other : ℕ) → slice_get past.world.state.chances.drawn other ≡ Some sent.challenge → other ≡ sent.draw
+  pub first : count_by (λ (link : ℕ). link == message.link) past.book.taken ≡ 1
+
+-- ---- the claims
+
+abbrev pub is_in : Outcome → Bool
+is_in (outcome.In domain user key) = true
+is_in _ = false
+
+-- no two challenges that were drawn are alike
+abbrev pub DrawsDiffer : World → Type 0
+DrawsDiffer w = AllPairs (λ one other. one ≢ other) w.state.chances.drawn
+
+-- Challenges: those drawn differ from each other, and a link takes at most one AUTHENTICATE.
+pub record ChallengesServeOnce (past : Past) : Type 0 where
+  pub draws : DrawsDiffer past.world
+  pub messages : AllPairs (λ (one other : ℕ). one ≢ other) past.book.taken
+
+-- what a logon that was accepted rests on
+pub record IsAccepted (past : Past) (message : MessageTaken) : Type 0 where
+  pub judging : Judging
+  pub answer : IsItsControllersAnswer past message judging
+  pub granted : IsGrantedBy message judging
+  pub unused : OneOf (IsUnusedChallenge past message) past.book.challenges
+
+-- Only so: a member lets somebody in on a link only where it took its controller's answer to the link's message, the account may log on, and the
+-- response is the written function of its stored hash and of the link's unused challenge. It may do so for a link that has closed.
+abbrev pub AcceptsOnlyGranted : Past → Type 0
+AcceptsOnlyGranted past =
+    AllByRecursion (λ (told : OutcomeTold). is_in told.outcome ≡ true →
+    OneOf (λ (message : MessageTaken). (message.link ≡ told.link) × IsAccepted past message) past.book.messages) past.book.told
+
+-- Then always: where it took its controller's answer, the account may log on, and the response is that function, it lets him in.
+abbrev pub AcceptsAllGranted : Past → Type 0
+AcceptsAllGranted past =
+    AllByRecursion (λ (message : MessageTaken). (j : Judging) → IsItsControllersAnswer past message j → IsGrantedBy message j →
+    OneOf (λ (told : OutcomeTold). (told.link ≡ message.link) × (is_in told.outcome ≡ true)) past.book.told) past.book.messages
+
+-- the hash that is stored for the user of what is asked
+abbrev pub hash_in : Option Account → List ℕ
+hash_in None = []
+hash_in (Some account) = account.hash
+
+abbrev pub stored_hash : Judging → NetworkInfo → List ℕ
+stored_hash j info = hash_in (account_in j.table.accounts info.user)
+
+abbrev pub base_key_asked : Judging → NetworkInfo → List ℕ
+base_key_asked j info = base_key_of (stored_hash j info) info.user info.domain info.nt
+
+-- the first 16 key bytes of RC4 under the session key of the channel: a key that is these travels as zeros
+abbrev pub key_bytes : Option Channel → List ℕ
+key_bytes None = []
+key_bytes (Some channel) = applied (channel_key channel) 0 (replicate 16 0)
+
+abbrev pub TravelsAsZeros : Judging → NetworkInfo → Type 0
+TravelsAsZeros j info = base_key_asked j info ≡ key_bytes (passed_channel j)
+
+-- the client made the bytes of the message for the bytes of the CHALLENGE that the member sent on the link, and its hash is the one stored
+pub record IsMadeFor (message : MessageTaken) (sent : ChallengeSent) (j : Judging) (made : MessageMade) : Type 0 where
+  pub link : sent.link ≡ message.link
+  pub challenge : made.challenge ≡ sent.bytes
+  pub bytes : made.bytes ≡ message.bytes
+  pub hash : made.plan.hash ≡ stored_hash j (info_asked message)
+
+-- the exported session key of who is let in
+abbrev pub HasKey : Outcome → List ℕ → Type 0
+HasKey (outcome.In domain user key) other = key ≡ other
+HasKey _ other = Unit {0}
+
+-- One session key: the key of who is let in is the exported one that the client kept when it made the message.
+abbrev pub KeysAgree : Past → Type 0
+KeysAgree past =
+    AllByRecursion (λ (told : OutcomeTold). AllByRecursion (λ (message : MessageTaken). message.link ≡ told.link → (j : Judging) →
+    taken_answer message past.book.judged ≡ Some j → (TravelsAsZeros j (info_asked message) → ⊥) →
+    AllByRecursion (λ (sent : ChallengeSent). AllByRecursion (λ (made : MessageMade). IsMadeFor message sent j made → HasKey told.outcome made.key)
+    past.book.made) past.book.challenges) past.book.messages) past.book.told
+
+-- the call names a computer that has a channel and has an authenticator, which isn't the next one of its sequence
+pub record IsBarredBy (computers : Computers) (c : LogonCall) : Type 0 where
+  pub computer : List ℕ
+  pub given : Authenticator
+  pub channel : ChannelState
+  pub named : c.computer ≡ Some computer
+  pub there : c.authenticator ≡ Some given
+  pub stands : lookup same_name computer computers.channels ≡ Some channel
+  pub fails : Passes (key_of_channel channel) channel.seed given → ⊥
+
+-- Next credential: a controller tells that a Logon call passed, with whatever status, exactly where its authenticator is the next one of the channel
+-- of the computer that it names; that it was barred exactly where there is a channel and an authenticator, which isn't the next one; else that there
+-- is no channel.
+pub record IsRightOf (how : Option Judged) (computers : Computers) (c : LogonCall) : Type 0 where
+  pub passed : (has_passed how ≡ true) ↔ IsNext computers c
+  pub barred : (how ≡ Some judged.Barred) ↔ IsBarredBy computers c
+  pub other : (how ≡ Some judged.NoChannel) ↔ ((IsNext computers c → ⊥) × (IsBarredBy computers c → ⊥))
+
+abbrev pub IsJudgedRight : Judging → Type 0
+IsJudgedRight j = IsRightOf j.how j.computers j.logon
+
+abbrev pub PassesTheNextCredential : Past → Type 0
+PassesTheNextCredential past = AllByRecursion IsJudgedRight past.book.judged
+
+-- ---- further claims
+
+-- Replay: where an authenticator passed, and the same bytes come again on the same channel, they pass again exactly where the timestamps that passed
+-- since, the first one's included, move the seed by a multiple of 2^32.
+abbrev pub ReplaysBySum : Past → Type 0
+ReplaysBySum past =
+    (channel : Channel) (later between earlier : List Judging) (second first : Judging) →
+    past.book.judged ≡ later ++ second ∷ (between ++ first ∷ earlier) →
+    passed_on channel first ≡ true →
+    is_same_channel (channel_in second.controller second.logon.computer second.computers) channel ≡ true →
+    second.logon.authenticator ≡ first.logon.authenticator →
+    (has_passed second.how ≡ true) ↔ (moved_on channel (between ++ first ∷ []) % 2 ^ 32 ≡ 0)
+
+-- Plain NTLMv1: no NT response of 24 bytes is accepted on two links over one stored hash where it answers the link's own challenge on both.
+pub record IsPlainlyAccepted (past : Past) (message : MessageTaken) (hash : List ℕ) : Type 0 where
+  pub accepted : IsAccepted past message
+  pub told : OneOf (λ (told : OutcomeTold). (told.link ≡ message.link) × (is_in told.outcome ≡ true)) past.book.told
+  pub short : length message.logon.message.nt ≡ 24
+  pub own : challenge_for_of message.logon.agreed message.logon.challenge message.logon.message.lm message.logon.message.nt
+      ≡ message.logon.challenge
+  pub stored : stored_hash accepted.judging (info_asked message) ≡ hash
+
+abbrev pub ShortResponsesServeOnce : Past → Type 0
+ShortResponsesServeOnce past =
+    (hash : List ℕ) →
+    AllByRecursion (λ (one : MessageTaken). AllByRecursion (λ (other : MessageTaken). one.link ≢ other.link →
+    one.logon.message.nt ≡ other.logon.message.nt → IsPlainlyAccepted past one hash → IsPlainlyAccepted past other hash → ⊥)
+    past.book.messages) past.book.messages

@@ -1,0 +1,335 @@
+-- What is written down of a move, and of a run (this project's own choice). Bytes come at an end only where a unit of the bag is delivered or bytes are
+-- handed in; what members tell and dial is read off the actions that ends give.
+use Rattle.std.specs.Prelude.{ℕ, ◌-◌, ◌==◌, ◌&&◌, ◌||◌, Bool, true, false, not, List, [], ◌∷◌, ◌++◌, length, drop, map, flat_map, replicate, Option, Some, None, slice_get}
+use Rattle.wire_base.specs.Maps.{lookup, same_number}
+use Rattle.authenticators.specs.Channels.{Channel, same_channel}
+use Rattle.outside.specs.declared.action.Action.{Action}
+use Rattle.outside.specs.declared.action.Action.TheVariants as action
+use Rattle.domain_controller.specs.State.{State as ControllerState}
+use Rattle.logon_client.specs.State.{State as ClientState}
+use Rattle.member_server.specs.State.{State as MemberState}
+use Rattle.member_server.specs.declared.plan.MemberPlan.{MemberPlan}
+use Rattle.member_server.specs.declared.state.AtTurn.{AtTurn}
+use Rattle.member_server.specs.declared.state.Running.{Running as MemberRunning}
+use Rattle.member_server.specs.declared.state.TurnTalk.{TurnTalk}
+use Rattle.domain_world.specs.declared.bag.BagUnit.{BagUnit}
+use Rattle.domain_world.specs.declared.links.EndId.{EndId}
+use Rattle.domain_world.specs.declared.links.EndId.TheVariants.{Controller, Member, Client}
+use Rattle.domain_world.specs.declared.moves.Move.{Move}
+use Rattle.domain_world.specs.declared.moves.Move.TheVariants as move
+use Rattle.domain_world.specs.declared.plan.Plan.{Plan}
+use Rattle.domain_world.specs.declared.state.State.{State}
+use Rattle.domain_world.specs.Acting.{Given, piece_comes}
+use Rattle.domain_world.specs.Bag.{first_waiting, pieces_of}
+use Rattle.domain_world.specs.Choosing.{chosen_in, chosen_place, places_from}
+use Rattle.domain_world.specs.ClientNotes.{made_note, units_of_client}
+use Rattle.domain_world.specs.ControllerNotes.{Answered, Where, answer_on, units_of_controller}
+use Rattle.domain_world.specs.Ends.{EndStates}
+use Rattle.domain_world.specs.History.{Book, Judging, LogonTurn, Mark, Plain, For, Calling, ReplyTo, MessageTaken, OutcomeTold, Sent, blank}
+use Rattle.domain_world.specs.Links.{handed_links, hearer_of, links_of}
+use Rattle.domain_world.specs.MemberNotes.{LinkAt, TurnNote, challenge_note, link_of_place, link_units, message_note, taken_link, turn_in, turn_note, turn_units}
+use Rattle.domain_world.specs.Moving.{end_of_peer, settle}
+use Rattle.domain_world.specs.Served.{ServedUnit}
+use Rattle.domain_world.specs.World.{World, first_world, given_at, happens, run}
+
+-- ---- units that were sent
+
+-- the numbers of the units that came into the bag on that link in that direction, where so many were in it before
+abbrev pub is_sent_on : ℕ → Bool → BagUnit → Bool
+is_sent_on link true unit = (unit.link == link) && unit.back
+is_sent_on link false unit = (unit.link == link) && not unit.back
+
+abbrev pub numbers_on : ℕ → Bool → List BagUnit → List BagUnit → List ℕ
+numbers_on link back before after = places_from (is_sent_on link back) (length before) (drop (length before) after)
+
+abbrev pub sent_at : ℕ → Mark → Sent
+sent_at at mark = record { mark = mark; at = at }
+
+-- what the new units of the bag were made for: those on the link in that direction by these marks in order, the others for no channel. The argument:
+-- whether the unit is on the link in that direction
+abbrev pub marks_by : Bool → List Mark → (List Mark → List Mark) → List Mark
+marks_by false marks later = Plain ∷ later marks
+marks_by true [] later = Plain ∷ later []
+marks_by true (mark ∷ marks) later = mark ∷ later marks
+
+abbrev pub marks_of : ℕ → Bool → List BagUnit → List Mark → List Mark
+marks_of link back [] marks = []
+marks_of link back (unit ∷ units) marks =
+    marks_by (is_sent_on link back unit) marks (λ rest. marks_of link back units rest)
+
+abbrev pub with_marks : ℕ → ℕ → Bool → List BagUnit → List Mark → Book → Book
+with_marks at link back units marks b = record b { sent = b.sent ++ map (sent_at at) (marks_of link back units marks) }
+
+-- ---- a clash
+
+-- the channel that a unit was made for
+abbrev pub mark_channel : Mark → Option Channel
+mark_channel Plain = None
+mark_channel (For channel) = Some channel
+mark_channel (Calling channel number) = Some channel
+mark_channel (ReplyTo channel number request) = Some channel
+
+abbrev pub is_channel : Option Channel → Channel → Bool
+is_channel None channel = false
+is_channel (Some other) channel = same_channel other channel
+
+abbrev pub sent_channel : Option Sent → Option Channel
+sent_channel None = None
+sent_channel (Some sent) = mark_channel sent.mark
+
+-- a credential that passed on a channel, in that unit of the bag: the unit wasn't made for that channel. Bytes from outside are no unit of the bag
+abbrev pub clashes_in : Option ℕ → Channel → List Sent → Bool
+clashes_in None channel sent = false
+clashes_in (Some unit) channel sent = not (is_channel (sent_channel (slice_get sent unit)) channel)
+
+abbrev pub clashes : Option Channel → Option ℕ → List Sent → Bool
+clashes None unit sent = false
+clashes (Some channel) unit sent = clashes_in unit channel sent
+
+abbrev pub with_clash : Bool → Book → Book
+with_clash here b = record b { clash = b.clash || here }
+
+-- ---- at a controller
+
+abbrev pub mark_if : Bool → Mark → List Mark
+mark_if false mark = []
+mark_if true mark = mark ∷ []
+
+abbrev pub answered_marks : List Answered → List Mark
+answered_marks answers = flat_map (λ (one : Answered). mark_if one.sends one.mark) answers
+
+-- each send is the next of the units that went into the bag on the link
+abbrev pub first_of : List ℕ → Option ℕ
+first_of [] = None
+first_of (number ∷ numbers) = Some number
+
+abbrev pub later_of : Bool → List ℕ → List ℕ
+later_of false numbers = numbers
+later_of true numbers = drop 1 numbers
+
+abbrev pub with_reply : Option Judging → Option ℕ → List Judging
+with_reply None number = []
+with_reply (Some judging) number = record judging { reply = number } ∷ []
+
+-- the calls that were judged, in order, each with its reply
+abbrev pub judged_of : List Answered → List ℕ → List Judging
+judged_of [] numbers = []
+judged_of (one ∷ answers) numbers =
+    with_reply one.judging (first_of numbers) ++ judged_of answers (later_of one.sends numbers)
+
+abbrev pub any_clash : List Answered → Option ℕ → List Sent → Bool
+any_clash [] unit sent = false
+any_clash (one ∷ answers) unit sent = clashes one.checked unit sent || any_clash answers unit sent
+
+-- the newest first
+abbrev pub judged_onto : List Judging → List Judging → List Judging
+judged_onto [] judged = judged
+judged_onto (j ∷ js) judged = judged_onto js (j ∷ judged)
+
+abbrev pub with_answers : List Answered → Option ℕ → List ℕ → Book → Book
+with_answers answers unit numbers b =
+    with_clash (any_clash answers unit b.sent) (record b { judged = judged_onto (judged_of answers numbers) b.judged })
+
+-- ---- at a member
+
+abbrev pub turn_marks : List TurnNote → List Mark
+turn_marks notes = flat_map (λ (one : TurnNote). mark_if one.sends one.mark) notes
+
+-- the message of that link, with this
+abbrev pub change_if : Bool → (MessageTaken → MessageTaken) → MessageTaken → MessageTaken
+change_if false change one = one
+change_if true change one = change one
+
+abbrev pub change_message : Option ℕ → (MessageTaken → MessageTaken) → List MessageTaken → List MessageTaken
+change_message None change messages = messages
+change_message (Some link) change messages = map (λ (one : MessageTaken). change_if (one.link == link) change one) messages
+
+abbrev pub with_call : Option ℕ → MessageTaken → MessageTaken
+with_call number one = record one { call = number }
+
+abbrev pub with_answer : Option ℕ → MessageTaken → MessageTaken
+with_answer number one = record one { reply = number }
+
+-- a unit that the turn took: the links of the logons are found by their places, as the member kept them before it
+abbrev pub note_turn : TurnNote → ServedUnit AtTurn TurnTalk → Option ℕ → Option ℕ → Book → Book
+note_turn note served unit number b =
+    with_clash (clashes note.checked unit b.sent)
+    (record b {
+      messages = change_message (link_of_place note.answered served.work.work.logons) (with_answer unit)
+          (change_message (link_of_place note.called served.work.work.logons) (with_call number) b.messages);
+    })
+
+abbrev pub note_turns : ℕ → List (ServedUnit AtTurn TurnTalk) → Option ℕ → List ℕ → Book → Book
+note_turns controller [] unit numbers b = b
+note_turns controller (served ∷ units) unit numbers b =
+    note_turns controller units unit (later_of (turn_note controller served).sends numbers)
+    (note_turn (turn_note controller served) served unit (first_of numbers) b)
+
+-- the number of the controller of a member's plan; where the plan names none, a number that none has
+abbrev pub controller_number : Option EndId → ℕ → ℕ
+controller_number (Some (Controller at)) none = at
+controller_number _ none = none
+
+abbrev pub controller_of_plan : Option MemberPlan → EndStates → ℕ
+controller_of_plan None ends = length ends.controllers
+controller_of_plan (Some plan) ends = controller_number (end_of_peer plan.controller ends) (length ends.controllers)
+
+abbrev pub controller_of : ℕ → State → ℕ
+controller_of member s = controller_of_plan (slice_get s.member_plans member) s.ends
+
+-- ---- bytes come at an end
+
+-- after how many moves, in which unit of the bag, on which link, in which direction
+pub record Coming : Type 0 where
+  pub at : ℕ
+  pub unit : Option ℕ
+  pub link : ℕ
+  pub back : Bool
+
+abbrev pub at_controller : ℕ → ControllerState → Coming → State → Where
+at_controller controller c w s = record { at = w.at; controller = controller; unit = w.unit; name = c.name; moment = s.moment }
+
+abbrev pub answers_of : ℕ → ControllerState → Coming → List ℕ → State → List Answered
+answers_of controller c w piece s =
+    map (answer_on w.link (at_controller controller c w s)) (units_of_controller c w.link piece s.moment s.chances.left)
+
+abbrev pub note_controller : Option ControllerState → ℕ → Coming → List ℕ → State → State → Book → Book
+note_controller None controller w piece s after b = b
+note_controller (Some c) controller w piece s after b =
+    with_marks w.at w.link true (drop (length s.bag) after.bag) (answered_marks (answers_of controller c w piece s))
+    (with_answers (answers_of controller c w piece s) w.unit (numbers_on w.link true s.bag after.bag) b)
+
+abbrev pub at_member : ℕ → Coming → State → LinkAt
+at_member member w s =
+    record { at = w.at; member = member; link = w.link; drawn = length s.chances.drawn; left = length s.chances.left }
+
+abbrev pub note_messages : ℕ → MemberState → Coming → List ℕ → State → Book → Book
+note_messages member m w piece s b = record b {
+  challenges = b.challenges ++ flat_map (challenge_note (at_member member w s)) (link_units m w.link piece s.chances.left);
+  taken = b.taken ++ flat_map (taken_link (at_member member w s)) (link_units m w.link piece s.chances.left);
+  messages = b.messages ++ flat_map (message_note (at_member member w s)) (link_units m w.link piece s.chances.left);
+}
+
+abbrev pub note_requests : ℕ → MemberState → Coming → List ℕ → State → State → Book → Book
+note_requests member m w piece s after b =
+    with_marks w.at w.link false (drop (length s.bag) after.bag)
+    (turn_marks (map (turn_note (controller_of member s)) (turn_units m w.link piece s.chances.left)))
+    (note_turns (controller_of member s) (turn_units m w.link piece s.chances.left) w.unit (numbers_on w.link false s.bag after.bag) b)
+
+abbrev pub note_member : Option MemberState → ℕ → Coming → List ℕ → State → State → Book → Book
+note_member None member w piece s after b = b
+note_member (Some m) member w piece s after b = note_requests member m w piece s after (note_messages member m w piece s b)
+
+abbrev pub note_client : Option ClientState → ℕ → Coming → List ℕ → State → Book → Book
+note_client None client w piece s b = b
+note_client (Some c) client w piece s b = record b {
+  made = b.made
+      ++ flat_map (made_note (record { at = w.at; client = client; link = w.link }))
+      (units_of_client c w.link piece s.moment s.chances.left);
+}
+
+abbrev pub note_at : Option EndId → Coming → List ℕ → State → State → Book → Book
+note_at None w piece s after b = b
+note_at (Some (Controller at)) w piece s after b = note_controller (slice_get s.ends.controllers at) at w piece s after b
+note_at (Some (Member at)) w piece s after b = note_member (slice_get s.ends.members at) at w piece s after b
+note_at (Some (Client at)) w piece s after b = note_client (slice_get s.ends.clients at) at w piece s b
+
+-- a piece comes: what it comes to at the end that hears it
+abbrev pub note_piece : Coming → List ℕ → State → State → Book → Book
+note_piece w piece s after b = note_at (hearer_of w.back (lookup same_number w.link s.open_links)) w piece s after b
+
+abbrev pub note_pieces : Coming → List (List ℕ) → State → Book → Book
+note_pieces w [] s b = b
+note_pieces w (piece ∷ pieces) s b =
+    note_pieces w pieces (piece_comes w.back w.link piece s).state
+    (note_piece w piece s (piece_comes w.back w.link piece s).state b)
+
+-- ---- which bytes come at a move
+
+-- the unit of that number on that link
+abbrev pub note_unit : Option BagUnit → ℕ → ℕ → ℕ → State → Book → Book
+note_unit None number link at s b = b
+note_unit (Some unit) number link at s b =
+    note_pieces (record { at = at; unit = Some number; link = link; back = unit.back }) (pieces_of unit.bytes) (settle number s) b
+
+abbrev pub note_own : Option BagUnit → ℕ → ℕ → State → Book → Book
+note_own None number at s b = b
+note_own (Some unit) number at s b = note_unit (Some unit) number unit.link at s b
+
+abbrev pub note_onward : Option ℕ → ℕ → State → Book → Book
+note_onward None at s b = b
+note_onward (Some number) at s b = note_own (slice_get s.bag number) number at s b
+
+abbrev pub note_on : Option ℕ → ℕ → ℕ → State → Book → Book
+note_on None number at s b = b
+note_on (Some link) number at s b = note_unit (slice_get s.bag number) number link at s b
+
+abbrev pub note_chosen : Option BagUnit → ℕ → ℕ → ℕ → State → Book → Book
+note_chosen None number link at s b = b
+note_chosen (Some unit) number link at s b = note_on (chosen_in link (links_of unit.kind s.links)) number at s b
+
+abbrev pub note_deliver : Option ℕ → ℕ → ℕ → State → Book → Book
+note_deliver None link at s b = b
+note_deliver (Some number) link at s b = note_chosen (slice_get s.bag number) number link at s b
+
+abbrev pub note_hand : Option ℕ → Bool → List ℕ → ℕ → State → Book → Book
+note_hand None back bytes at s b = b
+note_hand (Some link) back bytes at s b =
+    note_pieces (record { at = at; unit = None; link = link; back = back }) (bytes ∷ []) s b
+
+-- after so many moves
+abbrev pub note_coming : Move → ℕ → State → Book → Book
+note_coming move.Onward at s b = note_onward (first_waiting s.bag) at s b
+note_coming (move.Deliver unit link) at s b = note_deliver (chosen_place unit (length s.bag)) link at s b
+note_coming (move.Hand link back bytes) at s b = note_hand (chosen_in link (handed_links s.links)) back bytes at s b
+note_coming _ at s b = b
+
+-- ---- what is told and dialled
+
+abbrev pub told_by : EndId → Action → ℕ → List OutcomeTold
+told_by (Member member) (action.Told link outcome) at = record { at = at; member = member; link = link; outcome = outcome } ∷ []
+told_by _ what at = []
+
+abbrev pub told_in : Given → ℕ → List OutcomeTold
+told_in given at = flat_map (λ (one : EndId × Action). told_by one.0 one.1 at) given
+
+abbrev pub running_in : Option MemberState → Option MemberRunning
+running_in None = None
+running_in (Some m) = m.running
+
+-- a member dials exactly where a turn starts, which is out after the move
+abbrev pub turns_by : EndId → Action → State → List LogonTurn
+turns_by (Member member) (action.Dial peer) after =
+    turn_in (controller_of member after) member (running_in (slice_get after.ends.members member))
+turns_by _ what after = []
+
+abbrev pub turns_in : Given → State → List LogonTurn
+turns_in given after = flat_map (λ (one : EndId × Action). turns_by one.0 one.1 after) given
+
+-- the other units that came into the bag were made for no channel
+abbrev pub with_others : ℕ → State → Book → Book
+with_others at after b = record b { sent = b.sent ++ replicate (length after.bag - length b.sent) (sent_at at Plain) }
+
+abbrev pub note_given : ℕ → Given → State → Book → Book
+note_given at given after b =
+    with_others at after (record b { told = b.told ++ told_in given at; turns = b.turns ++ turns_in given after })
+
+-- ---- a run
+
+-- what is written down after a move
+abbrev pub note : World → Move → Book → Book
+note w what b = note_given w.moves (given_at w what) (happens w what).state (note_coming what w.moves w.state b)
+
+abbrev pub book : List Move → World → Book → Book
+book [] w b = b
+book (what ∷ moves) w b = book moves (happens w what) (note w what b)
+
+-- a run from a plan: the plan, the world after it, and what was written down
+pub record Past : Type 0 where
+  pub plan : Plan
+  pub world : World
+  pub book : Book
+
+abbrev pub past : Plan → List Move → Past
+past plan moves =
+    record { plan = plan; world = run moves (first_world plan); book = book moves (first_world plan) blank }

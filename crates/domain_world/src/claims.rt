@@ -1,0 +1,21 @@
+//! What is claimed of runs.
+
+ghost use Rattle.std.specs.Prelude.{List};
+ghost use Rattle.domain_world.specs.declared.moves.Move.{Move};
+ghost use Rattle.domain_world.specs.declared.plan.Plan.{Plan};
+ghost use Rattle.domain_world.specs.ClaimExamples.{ClaimsTellApart};
+ghost use Rattle.domain_world.specs.Claims.{PassesTheNextCredential};
+ghost use Rattle.domain_world.specs.Past.{past};
+
+/// No claim is true, or false, of everything that could be written down of a run: each is met by some small run and not by another.
+#[tactic(auto, using(crate::proofs::ClaimLaws::claims_tell_apart))]
+pub fn claims_tell_apart()
+    ensures { ClaimsTellApart }
+{}
+
+/// In every run, over all moves from a plan on, a controller passes an authenticator exactly where it is the next one of its channel (MS-NRPC 3.1.4.5), whoever
+/// sent it.
+#[tactic(auto, using(crate::proofs::JudgedLaws::passes_the_next))]
+pub fn controllers_pass_the_next()
+    ensures { (plan : Plan) (moves : List Move) → PassesTheNextCredential (past plan moves) }
+{}
