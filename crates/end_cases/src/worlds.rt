@@ -79,7 +79,7 @@ fn moment(alloc: Global, words: &[&str]) -> anyhow::Result<u64> {
 }
 
 /// The plan of a line, of which the seed is 32 zeros.
-fn plan(alloc: Global, words: &[&str]) -> anyhow::Result<Plan> {
+fn read_plan(alloc: Global, words: &[&str]) -> anyhow::Result<Plan> {
     let now = moment(alloc, words)?;
     let tables = tables(alloc, words)?;
     let controllers = names(alloc, words)?;
@@ -107,7 +107,7 @@ fn second(parts: &[&str]) -> u32 {
 
 /// The move of a word: `start/NUMBER`, `stranger/NUMBER`, `connect`, `fail`, `onward`, `lose`, `deliver/UNIT/LINK`, `hand/LINK/WAY/BYTES` (the way `back` or
 /// another), `shut/NUMBER`, `restart/NUMBER`, `tick/NUMBER`. None where it is no move.
-fn what(alloc: Global, parts: &[&str]) -> anyhow::Result<Option<Move>> {
+fn read_move(alloc: Global, parts: &[&str]) -> anyhow::Result<Option<Move>> {
     Ok(Some(match word(parts, 0) {
         "start" => Move::Start(first(parts)),
         "stranger" => Move::Stranger(first(parts)),
@@ -132,11 +132,11 @@ fn what(alloc: Global, parts: &[&str]) -> anyhow::Result<Option<Move>> {
 }
 
 /// The moves of a line.
-fn moves(alloc: Global, words: &[&str]) -> anyhow::Result<Moves> {
+fn read_moves(alloc: Global, words: &[&str]) -> anyhow::Result<Moves> {
     let mut moves = Moves::new(alloc);
     for each in words {
         let parts = parts(alloc, each)?;
-        if let Some(what) = what(alloc, parts.as_slice())? {
+        if let Some(what) = read_move(alloc, parts.as_slice())? {
             moves.push(what)?;
         }
     }
@@ -200,8 +200,8 @@ fn play_if(alloc: Global, plan: Plan, moves: &Moves) -> anyhow::Result<String> {
 
 /// `world.run WORD ..`: the plan's words and the moves: the report, and the outcomes of the clients at the first four places.
 fn run(alloc: Global, words: &[&str]) -> anyhow::Result<String> {
-    let plan = plan(alloc, words)?;
-    let moves = moves(alloc, words)?;
+    let plan = read_plan(alloc, words)?;
+    let moves = read_moves(alloc, words)?;
     play_if(alloc, plan, &moves)
 }
 
@@ -209,7 +209,7 @@ fn run(alloc: Global, words: &[&str]) -> anyhow::Result<String> {
 fn drill(alloc: Global, words: &[&str]) -> anyhow::Result<String> {
     let from = number64(word(words, 1))?;
     let count = number(word(words, 2))?;
-    let plan = plan(alloc, words)?;
+    let plan = read_plan(alloc, words)?;
     let moves = moves_from(alloc, from, count)?;
     play_if(alloc, plan, &moves)
 }
