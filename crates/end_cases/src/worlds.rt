@@ -167,13 +167,6 @@ fn can_log_on(plans: &ClientPlans) -> bool
     plans.items().iter().all(|plan| clients::can_log_on(plan))
 }
 
-/// Whether a world can be made from the plan.
-fn is_plan(plan: &Plan) -> bool
-    ensures { result ≡ true → IsPlan plan.now }
-{
-    plan.tables.len() == plan.controllers.len() && can_log_on(&plan.clients)
-}
-
 /// The report of a world of the plan, driven by the moves, and the outcomes of the clients at the first four places.
 fn play(alloc: Global, plan: Plan, moves: &Moves) -> anyhow::Result<String>
     requires plan { IsPlan plan }
@@ -192,7 +185,10 @@ fn play(alloc: Global, plan: Plan, moves: &Moves) -> anyhow::Result<String>
 
 /// The report and the outcomes, where the plan and the moves are ones that a world can have.
 fn play_if(alloc: Global, plan: Plan, moves: &Moves) -> anyhow::Result<String> {
-    if moves.len() > 100000 || !is_plan(&plan) || !are_moves(moves) {
+    if moves.len() > 100000 || !are_moves(moves) || !can_log_on(&plan.clients) {
+        return no_case(alloc);
+    }
+    if plan.tables.len() != plan.controllers.len() {
         return no_case(alloc);
     }
     play(alloc, plan, moves)
