@@ -8,3 +8,4 @@ pub mod PairLaws
 pub mod DialLaws
 pub mod LinkLaws
 pub mod LogonLaws
+pub mod ServingLaws

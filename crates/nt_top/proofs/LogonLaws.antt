@@ -82,7 +82,7 @@ told_by plan seed boot before opened middle ran ended happened steps last later 
 
 -- ---- two runs that the same outside shows
 
-told_items : {X : Type 0} (old new : Option (List X)) (all items more : List X) → old ≡ Some all → new ≡ Some (all ++ more) → Appends old new items → items ≡ more
+pub told_items : {X : Type 0} (old new : Option (List X)) (all items more : List X) → old ≡ Some all → new ≡ Some (all ++ more) → Appends old new items → items ≡ more
 told_items {X} old new all items more is now told =
     let here : Appends old (Some (all ++ more)) items = subst (λ (n : Option (List X)). Appends old n items) now told in
     let there : all ++ more ≡ all ++ items = subst (λ (o : Option (List X)). Appends o (Some (all ++ more)) items) is here in

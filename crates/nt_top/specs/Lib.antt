@@ -9,5 +9,6 @@ pub mod LogonExits
 pub mod Needs
 pub mod Refusals
 pub mod Serve
+pub mod ServeExits
 pub mod Service
 pub mod Show

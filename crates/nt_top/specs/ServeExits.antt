@@ -1,0 +1,68 @@
+-- When each exit of a service comes, by what the outside tells (this project's own choice).
+use Rattle.std.specs.Prelude.{ℕ, ◌≡◌, ◌⊎◌, ◌<◌, ◌++◌, false, List, [], ◌∷◌, length, Some, Err}
+use Rattle.std.specs.List.{list_any}
+use Rattle.outside.specs.Machine.{Machine}
+use Rattle.outside.specs.Stories.{events_in}
+use Rattle.outside.specs.Telling.{Appends}
+use Rattle.outside.specs.declared.action.StepRefused.TheVariants as refusals
+use Rattle.outside.specs.declared.event.Event.{Event}
+use Rattle.outside.specs.declared.event.Happening.{Happening}
+use Rattle.outside.specs.declared.event.Happening.TheVariants as happening
+use Rattle.end_loop.specs.Asking.{gives_stop}
+use Rattle.end_loop.specs.Runs.{Standing, Step, AreSteps, Chooses, Closes, asked_by, moments_of, story_of}
+use Rattle.end_loop.specs.Seen.{Sight}
+use Rattle.nt_top.specs.declared.exit.Exit.{Exit}
+use Rattle.nt_top.specs.declared.exit.Exit.TheVariants.{Done, PortFault, Spent}
+use Rattle.nt_top.specs.LogonExits.{IsExcuse}
+use Rattle.nt_top.specs.Serve.{MayServe}
+
+-- an end of that state, where no event waits and these challenges are left
+abbrev pub rest_at : {S : Type 0} → S → List (List ℕ) → Standing S
+rest_at state left = record { state = state; queue = []; left = left }
+
+-- The outside tells that the port listened at the address, that the end made these steps, and that this happened at the port and these
+-- moments were given after them.
+pub record TellsService {S : Type 0} (machine : Machine S) (old : S) (address : List ℕ) (before after : Sight) (steps : List Step)
+    (last : Standing S) (later : List Happening) (moments_later : List ℕ) : Type 0 where
+  pub story : List Happening
+  pub story_before : before.story ≡ Some story
+  pub moments : List ℕ
+  pub moments_before : before.moments ≡ Some moments
+  pub are : AreSteps machine (rest_at old (after.drawing.drawn ++ after.drawing.left)) steps last
+  pub story_after : after.story ≡ Some (story ++ (happening.Listened address ∷ (story_of steps ++ later)))
+  pub moments_after : after.moments ≡ Some (moments ++ (moments_of steps ++ moments_later))
+
+-- It tells that the end ran to where `Stop` was given, or as many events as are taken.
+pub record TellsEnd {S : Type 0} (machine : Machine S) (old : S) (address : List ℕ) (most : ℕ) (before after : Sight) : Type 0 where
+  pub state : S
+  pub left : List (List ℕ)
+  pub steps : List Step
+  pub stop : List Happening
+  pub tells : TellsService machine old address before after steps (rest_at state left) stop []
+  pub closes : Closes machine (rest_at state left) (asked_by steps) most stop
+
+-- It tells that the end came to a step that draws more challenges than were left.
+pub record TellsSpent {S : Type 0} (machine : Machine S) (old : S) (address : List ℕ) (before after : Sight) : Type 0 where
+  pub last : Standing S
+  pub steps : List Step
+  pub step : Step
+  pub waiting : List Event
+  pub tells : TellsService machine old address before after steps last step.asked (step.moment ∷ [])
+  pub chooses : Chooses machine last.state last.queue step waiting
+  pub spent : (machine.step last.state step.event step.moment last.left).answer ≡ Err refusals.Spent
+
+-- The port gave no `Stop`, and no event or fewer than are taken.
+pub record GivesFewer (most : ℕ) (before after : Sight) : Type 0 where
+  pub happened : List Happening
+  pub told : Appends before.story after.story happened
+  pub no_stop : list_any gives_stop (events_in happened) ≡ false
+  pub fewer : (events_in happened ≡ []) ⊎ (length (events_in happened) < most)
+
+-- What the outside tells decides the exit of a service; and a failure of the port is the exit only where it gave no `Stop` and too few events.
+pub record ServiceLaws {S : Type 0} (machine : Machine S) : Type 0 where
+  pub done : (old : S) (address seed : List ℕ) (boot most : ℕ) (before after : Sight) (exit : Exit) →
+      MayServe machine old address seed boot most before after exit → TellsEnd machine old address most before after → (exit ≡ Done) ⊎ IsExcuse exit
+  pub spent : (old : S) (address seed : List ℕ) (boot most : ℕ) (before after : Sight) (exit : Exit) →
+      MayServe machine old address seed boot most before after exit → TellsSpent machine old address before after → (exit ≡ Spent) ⊎ IsExcuse exit
+  pub port : (old : S) (address seed : List ℕ) (boot most : ℕ) (before after : Sight) (exit : Exit) →
+      MayServe machine old address seed boot most before after exit → exit ≡ PortFault → GivesFewer most before after
