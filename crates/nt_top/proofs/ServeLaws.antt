@@ -8,13 +8,11 @@ use Rattle.end_loop.specs.Served.{Served, ServedUntil}
 use Rattle.end_loop.specs.declared.halt.Halt.{Halt}
 use Rattle.end_loop.specs.declared.halt.Halt.TheVariants as halts
 use Rattle.wire_base.specs.Memory.{UpToMemory}
-use Rattle.nt_words.specs.Files.{FaultRose, HasFault, SecretFiles, Shelf, UpToFaults, and_then}
-use Rattle.nt_words.specs.Jobs.{LogonJob, is_led_by, logon_form, logon_job, logon_job_from, named_rows}
-use Rattle.nt_words.specs.Roles.{drill_by, job_at_once, job_from, job_of, logon_by, show, unless_led}
+use Rattle.nt_words.specs.Files.{FaultRose, HasFault, Shelf, UpToFaults}
+use Rattle.nt_words.specs.Jobs.{is_led_by}
+use Rattle.nt_words.specs.Roles.{job_at_once, job_of, unless_led}
 use Rattle.nt_words.specs.Setups.{setup_due}
-use Rattle.nt_words.specs.declared.drill.DrillWords.{DrillWords}
 use Rattle.nt_words.specs.declared.job.Job.{Job}
-use Rattle.nt_words.specs.declared.job.Job.TheVariants as jobs
 use Rattle.nt_words.specs.declared.job.Role.{Role}
 use Rattle.nt_words.specs.declared.job.Role.TheVariants.{Controller, Member, Logon}
 use Rattle.nt_words.specs.declared.options.WordsRefused.{WordsRefused}
@@ -34,7 +32,7 @@ use Rattle.nt_top.specs.Show.{AskedShown}
 use Rattle.nt_top.specs.Refusals.{files_exit, words_exit}
 use Rattle.nt_top.specs.Serve.{IsServed, MayServe, ServesTo, halt_exit, service_exit}
 use Rattle.nt_top.specs.Logon.{plan_of}
-use Rattle.nt_top.specs.LogonExits.{IsAnswered, IsLogonOfForm, IsOfClients, LosesLink}
+use Rattle.nt_top.specs.LogonExits.{IsAnswered, IsOfClients, LosesLink}
 use Rattle.nt_top.specs.Service.{IsBadOfFiles, IsOfContents, IsServedBy, IsServiceOfForm, ServiceAsked, ServiceBy, ServiceFollows, ServiceReads, ServiceRuns, uses_port}
 use Rattle.nt_top.proofs.LogonLaws.{logon_laws}
 
@@ -444,65 +442,6 @@ serve_done role words shelf shelf_after before after exit runs form file port si
 
 pub not_serve : (role : Role) (words : List (List ℕ)) (contents : Option (List (List ℕ × List ℕ))) → uses_port role words ≡ false → IsServiceOfForm role words contents → ⊥
 not_serve role words contents other form = let wrong : true ≡ false = sym form.uses ∙ other in cc
-
--- ---- words that ask for a logon are led by its name
-
-led_by_rows : (led : Bool) (words : List (List ℕ)) (job : LogonJob) → logon_job_from (named_rows led logon_form words) ≡ Ok job → led ≡ true
-led_by_rows true words job is = refl
-led_by_rows false words job is = absurd cc
-
-led_by_job : (words : List (List ℕ)) (job : LogonJob) → logon_job words ≡ Ok job → is_led_by (codes "logon") words ≡ true
-unfolding logon_job
-led_by_job words job is = led_by_rows (is_led_by (codes "logon") words) words job is
-
-show_is_none : (words : List (List ℕ)) (job : LogonJob) → show words ≡ Ok (jobs.Logon job) → ⊥
-show_is_none [] job is = cc
-show_is_none (command ∷ []) job is = cc
-show_is_none (command ∷ message ∷ []) job is = cc
-show_is_none (command ∷ message ∷ other ∷ more) job is = cc
-
-drill_is_none : (r : Result DrillWords WordsRefused) (job : LogonJob) → job_from jobs.Drill r ≡ Ok (jobs.Logon job) → ⊥
-drill_is_none (Ok drill) job is = cc
-drill_is_none (Err refused) job is = cc
-
-logon_from : (r : Result LogonJob WordsRefused) (job : LogonJob) → job_from jobs.Logon r ≡ Ok (jobs.Logon job) → r ≡ Ok job
-logon_from (Ok other) job is = let same : other ≡ job = cc in ap (λ z. Ok z) same
-logon_from (Err refused) job is = absurd cc
-
-led_past_drill : (drills : Bool) (words : List (List ℕ)) (job : LogonJob) → drill_by drills words ≡ Ok (jobs.Logon job) → is_led_by (codes "logon") words ≡ true
-led_past_drill true words job is = absurd (drill_is_none _ job is)
-led_past_drill false words job is = led_by_job words job (logon_from (logon_job words) job is)
-
-led_past_show : (shows : Bool) (words : List (List ℕ)) (job : LogonJob) → logon_by shows words ≡ Ok (jobs.Logon job) → is_led_by (codes "logon") words ≡ true
-led_past_show true words job is = absurd (show_is_none words job is)
-led_past_show false words job is = led_past_drill (is_led_by (codes "drill") words) words job is
-
--- such words use the port
-logon_uses : (role : Role) (words : List (List ℕ)) (contents : Option (List (List ℕ × List ℕ))) → IsLogonOfForm role words contents → uses_port role words ≡ true
-logon_uses role words contents form =
-    let led = led_past_show (is_led_by (codes "show") words) words form.job form.job_is in
-    subst (λ r. uses_port r words ≡ true) (sym form.logon) led
-
-logon_form_of : (role : Role) (words : List (List ℕ)) (contents : Option (List (List ℕ × List ℕ))) (form : IsLogonOfForm role words contents) → IsServiceOfForm role words contents
-logon_form_of role words contents form = record {
-  uses = logon_uses role words contents form;
-  job = jobs.Logon form.job;
-  job_is = subst (λ r. job_of r words ≡ Ok (jobs.Logon form.job)) (sym form.logon) form.job_is;
-  told = form.told;
-  told_is = form.told_is;
-  setup = setups.Logon form.job form.files;
-  setup_is = ap (λ (r : Result SecretFiles FilesRefused). and_then r (λ z. Ok (setups.Logon form.job z))) form.files_are;
-}
-
-pub logon_done : (role : Role) (words : List (List ℕ)) (shelf shelf_after : Shelf) (before after : Sight) (exit : Exit) →
-    ServiceRuns role words shelf shelf_after before after exit → IsLogonOfForm role words shelf.contents →
-    (exit ≡ exits.FileFault → ⊥) → (exit ≡ exits.PortFault → ⊥) → (exit ≡ exits.SinkFault → ⊥) → IsAnswered exit
-unfolding logon_form_of
-logon_done role words shelf shelf_after before after exit service form file port sink =
-    serve_done role words shelf shelf_after before after exit service (logon_form_of role words shelf.contents form) file port sink
-
-pub not_logon : (role : Role) (words : List (List ℕ)) (contents : Option (List (List ℕ × List ℕ))) → uses_port role words ≡ false → IsLogonOfForm role words contents → ⊥
-not_logon role words contents other form = let wrong : true ≡ false = sym (logon_uses role words contents form) ∙ other in cc
 
 -- ---- a client that has no answer
 

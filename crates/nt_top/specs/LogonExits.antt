@@ -1,5 +1,5 @@
 -- When each exit of `logon` comes, by what the outside tells, and what is put then (this project's own choice).
-use Rattle.std.specs.Prelude.{ℕ, ◌≡◌, ◌⊎◌, ◌==◌, ◌++◌, Bool, true, false, List, [], ◌∷◌, length, Option, Some, Ok, Err}
+use Rattle.std.specs.Prelude.{ℕ, ◌≡◌, ◌⊎◌, ◌==◌, ◌++◌, Bool, true, false, List, [], ◌∷◌, length, Option, Some, Err}
 use Rattle.std.specs.List.{list_any}
 use Rattle.outside.specs.Causes.{Rose}
 use Rattle.outside.specs.Drawing.{Drawing}
@@ -24,12 +24,6 @@ use Rattle.logon_client.specs.declared.outcome.NoAnswerCause.TheVariants.{DialFa
 use Rattle.logon_client.specs.declared.plan.ClientPlan.{ClientPlan}
 use Rattle.logon_client.specs.Machine.{client_machine, step_of}
 use Rattle.logon_client.specs.State.{State}
-use Rattle.nt_words.specs.Files.{SecretFiles, secret_files}
-use Rattle.nt_words.specs.Jobs.{LogonJob}
-use Rattle.nt_words.specs.Roles.{job_of}
-use Rattle.nt_words.specs.declared.job.Job.TheVariants as jobs
-use Rattle.nt_words.specs.declared.job.Role.{Role}
-use Rattle.nt_words.specs.declared.job.Role.TheVariants.{Logon}
 use Rattle.nt_top.specs.declared.exit.Exit.{Exit}
 use Rattle.nt_top.specs.declared.exit.Exit.TheVariants.{Done, Refused, BadWords, FileFault, BadTable, BadInput, SinkFault, NoMemory, NoAnswer, BadPeer, Spent, PortFault}
 use Rattle.nt_top.specs.Logon.{LogonEnds, dialling, first_actions, in_lines, most_answers, outcome_exit}
@@ -169,16 +163,6 @@ pub data LosesLink (before after : Sight) : Type 0 where
   TookAll : (happened : List Happening) → Appends before.story after.story happened → length (events_in happened) ≡ most_answers → LosesLink before after
 
 -- ---- where words and files are of their forms
-
--- The words ask a logon client to log on, and the files that they name are told and are of their forms.
-pub record IsLogonOfForm (role : Role) (asked : List (List ℕ)) (contents : Option (List (List ℕ × List ℕ))) : Type 0 where
-  pub logon : role ≡ Logon
-  pub job : LogonJob
-  pub job_is : job_of Logon asked ≡ Ok (jobs.Logon job)
-  pub told : List (List ℕ × List ℕ)
-  pub told_is : contents ≡ Some told
-  pub files : SecretFiles
-  pub files_are : secret_files 5 job.hash 9 job.seed told ≡ Ok files
 
 -- it is the exit of an outcome, or that there is none, or the challenges were spent, or memory ran out
 abbrev pub IsAnswered : Exit → Type 0

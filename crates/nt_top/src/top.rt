@@ -6,7 +6,7 @@ ghost use Rattle.outside.specs.Causes.{Rose};
 ghost use Rattle.wire_base.specs.Memory.{UpToMemory};
 ghost use Rattle.end_loop.specs.Seen.{Between};
 ghost use Rattle.nt_words.specs.Roles.{job_of};
-ghost use Rattle.nt_top.specs.LogonExits.{IsAnswered, IsLogonOfForm, LosesLink};
+ghost use Rattle.nt_top.specs.LogonExits.{LosesLink};
 ghost use Rattle.nt_top.specs.Service.{ActsByWords, IsBadOfFiles, IsOfContents, IsRefusal, IsServedBy, IsServiceOfForm, ServiceActs, uses_port};
 ghost use Rattle.nt_top.specs.Refusals.{files_exit};
 ghost use Rattle.nt_words.specs.declared.files.FilesRefused.{FilesRefused};
@@ -124,11 +124,6 @@ pub fn run<P: Port, F: Files, S: Sink, C: Clock, Q: Chances>(
         (F.contents files.old)) → ¬ Rose (F.faults files.old) (F.faults files.new) →
         ¬ Rose (P.faults port.old) (P.faults port.new) →
         ¬ Rose (S.faults out.old) (S.faults out.new) → IsServedBy form.setup result }
-    // A logon whose words and files are of their forms comes to its outcome or to none, where no
-    // count rises.
-    ensures logged_on { IsLogonOfForm role (map string_bytes words.now) (F.contents files.old) →
-        ¬ Rose (F.faults files.old) (F.faults files.new) → ¬ Rose (P.faults port.old)
-        (P.faults port.new) → ¬ Rose (S.faults out.old) (S.faults out.new) → IsAnswered result }
     // Of the other commands words that come to an exit alone leave the sink as it was, and so does
     // want of memory.
     ensures untouched { ActsByWords role (map string_bytes words.now) →

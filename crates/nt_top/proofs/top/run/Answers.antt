@@ -2,7 +2,7 @@ use Rattle.std.proofs.Common.{map, subst, sym}
 use Rattle.std.specs.String.{string_bytes}
 use Rattle.nt_top.specs.Causes.{IsOfTheCommands}
 use Rattle.nt_top.proofs.EndLaws.{exit_is, accepted_ends, refused_ends, shown_ends, done_is, refused_is, bad_words_come, words_only, bad_input_comes, input_only, others, fault_rose, work_done}
-use Rattle.nt_top.proofs.ServeLaws.{dial_fault, files_come, link_lost, not_logon, serve_done}
+use Rattle.nt_top.proofs.ServeLaws.{dial_fault, files_come, link_lost, serve_done}
 use Rattle.nt_top.proofs.top.run.Goals as goal
 
 pub returns-clause-exit : goal.returns-clause-exit
@@ -74,6 +74,3 @@ returns-then-uses_port-clause-dial_failed g c is = dial_fault c.args.role _ _ _ 
 
 pub returns-then-uses_port-clause-link_lost : goal.returns-then-uses_port-clause-link_lost
 returns-then-uses_port-clause-link_lost g c is = link_lost c.args.role _ _ _ _ _ _ c.run_service.ensures.runs is
-
-pub returns-clause-logged_on : goal.returns-clause-logged_on
-returns-clause-logged_on g c form files port sink = absurd (not_logon c.args.role _ _ (sym c.if-uses_port.ensures) form)
