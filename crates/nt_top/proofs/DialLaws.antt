@@ -17,7 +17,7 @@ use Rattle.logon_client.specs.Losses.{is_dial_failed, is_dialling}
 use Rattle.logon_client.specs.Machine.{client_machine, step_of}
 use Rattle.logon_client.specs.State.{State}
 use Rattle.logon_client.proofs.LossLaws.{losses_come_of_events}
-use Rattle.nt_top.specs.Logon.{dialling, first_actions}
+use Rattle.nt_top.specs.Logon.{client_that_dials, first_actions}
 
 -- ---- once the dial was answered, it doesn't wait again, and no outcome says that it failed
 
@@ -57,27 +57,27 @@ dials_once plan happened performs =
     (now.0, performs.3 ∙ ap (λ (h : List Happening). h ++ performs.1) now.1 ∙ ap (λ (h : List Happening). happening.Dialled plan.server now.0 ∷ h) performs.4)
 
 answered : (plan : ClientPlan) (link : ℕ) (left : List (List ℕ)) (last : Places State) (steps : List Step) →
-    AreSteps client_machine (record { state = dialling plan; queue = event.Dialled link ∷ []; left = left }) steps last → is_dial_failed last.state.outcome ≡ false
+    AreSteps client_machine (record { state = client_that_dials plan; queue = event.Dialled link ∷ []; left = left }) steps last → is_dial_failed last.state.outcome ≡ false
 answered plan link left last [] are = subst (λ (p : Places State). is_dial_failed p.state.outcome ≡ false) (sym are) refl
 answered plan link left last (step ∷ steps) are =
     let chosen : step.event ≡ event.Dialled link = are.1.chooses.1 in
-    let is = subst (λ (e : Event). step_of (dialling plan) e step.moment left ≡ record { answer = Ok step.actions; state = are.0.state; drawn = step.drawn; left = are.0.left }) chosen are.1.is in
-    let there : (step_of (dialling plan) (event.Dialled link) step.moment left).state ≡ are.0.state = ap (λ (s : Stepped State). s.state) is in
+    let is = subst (λ (e : Event). step_of (client_that_dials plan) e step.moment left ≡ record { answer = Ok step.actions; state = are.0.state; drawn = step.drawn; left = are.0.left }) chosen are.1.is in
+    let there : (step_of (client_that_dials plan) (event.Dialled link) step.moment left).state ≡ are.0.state = ap (λ (s : Stepped State). s.state) is in
     let settled : Settled are.0.state = subst Settled there (record { still = refl; kept = refl }) in
     (steps_settled are.0 last steps are.2 settled).kept
 
 by_link : (plan : ClientPlan) (link : Option ℕ) (before middle after : ℕ) (left : List (List ℕ)) (last : Places State) (steps : List Step) → RisesWhere (fails_at_links (happening.Dialled plan.server link ∷ [])) before middle → middle ≤ after →
-    AreSteps client_machine (record { state = dialling plan; queue = made_events (happening.Dialled plan.server link ∷ []); left = left }) steps last → is_dial_failed last.state.outcome ≡ true → Rose before after
+    AreSteps client_machine (record { state = client_that_dials plan; queue = made_events (happening.Dialled plan.server link ∷ []); left = left }) steps last → is_dial_failed last.state.outcome ≡ true → Rose before after
 by_link plan None before middle after left last steps first more are failed = rises before middle after (first.1 refl) more
 by_link plan (Some link) before middle after left last steps first more are failed =
     let kept = answered plan link left last steps are in absurd cc
 
 -- a client finds its dial failed only where the count of link faults rose
-pub dial_cause : (plan : ClientPlan) (last : State) (most : ℕ) (opened ended : Sight) → Begun client_machine (first_actions plan) (dialling plan) last most opened ended →
+pub dial_cause : (plan : ClientPlan) (last : State) (most : ℕ) (opened ended : Sight) → Begun client_machine (first_actions plan) (client_that_dials plan) last most opened ended →
     is_dial_failed last.outcome ≡ true → Rose opened.link_faults ended.link_faults
 dial_cause plan last most opened ended begun failed =
     let dial = dials_once plan begun.happened begun.performs in
     let first = subst (λ (h : List Happening). RisesWhere (fails_at_links h) opened.link_faults begun.middle.link_faults) dial.1 begun.shows.links in
-    let are = subst (λ (h : List Happening). AreSteps client_machine (record { state = dialling plan; queue = made_events h; left = begun.middle.drawing.left }) begun.run.ran.steps (record { state = last; queue = []; left = begun.run.left })) dial.1 begun.run.ran.are in
+    let are = subst (λ (h : List Happening). AreSteps client_machine (record { state = client_that_dials plan; queue = made_events h; left = begun.middle.drawing.left }) begun.run.ran.steps (record { state = last; queue = []; left = begun.run.left })) dial.1 begun.run.ran.are in
     by_link plan dial.0 opened.link_faults begun.middle.link_faults ended.link_faults begun.middle.drawing.left _ begun.run.ran.steps first
     (omega (arith, begun.run.ran.shows.links.0, begun.run.shows.links.0)) are failed

@@ -20,7 +20,7 @@ use Rattle.logon_client.specs.declared.outcome.RefusedCause.TheVariants.{Respons
 use Rattle.nt_top.specs.Answers.{answer_of, answer_from}
 use Rattle.nt_top.specs.Causes.{Comes, IsBadInput, IsBadWords, OutOfForm, NotBuilt, IsDone, IsOfForm, IsOfTheCommands, IsRefused, IsWorkDone}
 use Rattle.nt_top.specs.Check.{check_answer, verdict_answer, accepts_of, AsksCheck, AskedAccepted, AskedRefused}
-use Rattle.nt_top.specs.Ends.{Ends, IsExitOf, SinkChange}
+use Rattle.nt_top.specs.Ends.{Ends, SinkChange}
 use Rattle.nt_top.specs.Service.{ActsByWords}
 use Rattle.nt_top.specs.Show.{show_answer, shown, AskedShown}
 use Rattle.nt_top.proofs.CheckLaws.{accepts_is, check_answer-is, check_is_bad, check_ok, decided, refuses_is}
@@ -285,23 +285,6 @@ pub input_only : (role : Role) (words : List (List ℕ)) (s : SinkChange) (exit 
 input_only role words s exit number ends is =
     let came = input_of (answer_of role words) s number (subst (λ (x : Exit). Ends (answer_of role words) s x) is ends) in
     input_why role words number (answer_err (job_of role words) (BadInput number) came)
-
--- ---- the exit alone
-
-pub exit_is : (came : Result Answer Exit) (s : SinkChange) (exit : Exit) → Ends came s exit → IsExitOf came exit
-exit_is (Err refusal) s exit ends = ends.0
-exit_is (Ok answer) s Done ends = ends.0
-exit_is (Ok answer) s (Refused cause) ends = ends.0
-exit_is (Ok answer) s SinkFault ends = _
-exit_is (Ok answer) s NoMemory ends = _
-exit_is (Ok answer) s (BadWords number) ends = absurd ends
-exit_is (Ok answer) s FileFault ends = absurd ends
-exit_is (Ok answer) s (BadTable cause) ends = absurd ends
-exit_is (Ok answer) s (BadInput number) ends = absurd ends
-exit_is (Ok answer) s PortFault ends = absurd ends
-exit_is (Ok answer) s (NoAnswer cause) ends = absurd ends
-exit_is (Ok answer) s (BadPeer fault) ends = absurd ends
-exit_is (Ok answer) s Spent ends = absurd ends
 
 -- ---- other exits
 

@@ -24,7 +24,7 @@ use Rattle.logon_client.specs.Losses.{LinkGoes, is_link_closed}
 use Rattle.logon_client.specs.Machine.{client_machine, has_outcome, step_of, want_by}
 use Rattle.logon_client.specs.State.{State}
 use Rattle.logon_client.proofs.LossLaws.{losses_come_of_events}
-use Rattle.nt_top.specs.Logon.{dialling, first_actions, most_answers}
+use Rattle.nt_top.specs.Logon.{client_that_dials, first_actions, most_answers}
 use Rattle.nt_top.specs.LogonExits.{LosesLink, Gone, SendFailed, Stopped, TookAll, gives_stop, is_gone, tells_gone}
 use Rattle.nt_top.proofs.DialLaws.{dials_once}
 
@@ -141,7 +141,7 @@ asked_events plan happened later stop performs none =
     ∙ stories_add_up.events happened later
     ∙ ap (λ (e : List (Event × Option ℕ)). e ++ events_in later) (dial_asks plan happened performs)
 
-pub loses_link : (plan : ClientPlan) (last : State) (opened ended : Sight) → Begun client_machine (first_actions plan) (dialling plan) last most_answers opened ended →
+pub loses_link : (plan : ClientPlan) (last : State) (opened ended : Sight) → Begun client_machine (first_actions plan) (client_that_dials plan) last most_answers opened ended →
     (last.outcome ≡ None) ⊎ (is_link_closed last.outcome ≡ true) → LosesLink opened ended
 loses_link plan last opened ended begun (inr closed) =
     let steps = begun.run.ran.steps in

@@ -34,7 +34,7 @@ use Rattle.logon_client.specs.Machine.{client_machine, step_of}
 use Rattle.logon_client.specs.State.{State}
 use Rattle.nt_top.specs.declared.exit.Exit.{Exit}
 use Rattle.nt_top.specs.declared.exit.Exit.TheVariants.{Done, Refused, BadWords, FileFault, BadTable, BadInput, PortFault, SinkFault, NoMemory, NoAnswer, BadPeer, Spent}
-use Rattle.nt_top.specs.Logon.{Concludes, LogonEnds, Says, dialling, first_actions, in_lines, most_answers, outcome_exit, outcome_lines}
+use Rattle.nt_top.specs.Logon.{Concludes, LogonEnds, Says, client_that_dials, first_actions, in_lines, most_answers, outcome_exit, outcome_lines}
 use Rattle.nt_top.specs.Serve.{halt_exit}
 use Rattle.nt_top.specs.LogonExits.{ComesBy, IsIn, RanTo, ComesTo, ComesToSpent, IsExcuse, IsOfClients, LogonLaws, LosesLink, Gone, SendFailed, Stopped, TookAll, Puts, TellsRun, end_at, start_of}
 use Rattle.nt_top.proofs.DialLaws.{dial_cause}
@@ -66,7 +66,7 @@ left_is opened middle ended draws none first all =
 told_by : (plan : ClientPlan) (seed : List ℕ) (boot : ℕ) (before opened middle ran ended : Sight) (happened : List Happening) (steps : List Step) (last : Standing State)
     (later : List Happening) (moments_later : List ℕ) (drawn_later : List (List ℕ)) (put put2 put3 : List ℕ) →
     Opens seed boot before opened [] → Performs [] (first_actions plan) happened → Shows opened middle happened [] [] put →
-    AreSteps client_machine (standing_at (dialling plan) (made_events happened) middle) steps last → Shows middle ran (story_of steps) (moments_of steps) (drawn_of steps) put2 →
+    AreSteps client_machine (standing_at (client_that_dials plan) (made_events happened) middle) steps last → Shows middle ran (story_of steps) (moments_of steps) (drawn_of steps) put2 →
     Shows ran ended later moments_later drawn_later put3 → Told plan before ended steps last later moments_later
 told_by plan seed boot before opened middle ran ended happened steps last later moments_later drawn_later put put2 put3 opens performs first are run more =
     let rest = Shows-trans middle ran ended (story_of steps) later (moments_of steps) moments_later (drawn_of steps) drawn_later put2 put3 run more in
@@ -75,7 +75,7 @@ told_by plan seed boot before opened middle ran ended happened steps last later 
     record {
       happened = happened;
       performs = performs;
-      are = subst (λ (l : List (List ℕ)). AreSteps client_machine (record { state = dialling plan; queue = made_events happened; left = l }) steps last) left are;
+      are = subst (λ (l : List (List ℕ)). AreSteps client_machine (record { state = client_that_dials plan; queue = made_events happened; left = l }) steps last) left are;
       story = Appends-trans before.story opened.story ended.story [] (happened ++ (story_of steps ++ later)) opens.story all.story;
       moments = subst (λ (m : Option (List ℕ)). Appends m ended.moments (moments_of steps ++ moments_later)) opens.moments all.moments;
     }
@@ -152,7 +152,7 @@ record Spends (plan : ClientPlan) (before after : Sight) : Type 0 where
   spent : (step_of last.state step.event step.moment last.left).answer ≡ Err refusals.Spent
 
 spends : (plan : ClientPlan) (seed : List ℕ) (boot : ℕ) (before opened after : Sight) → Opens seed boot before opened [] →
-    BegunUntil client_machine (first_actions plan) (dialling plan) most_answers opened after halts.Spent → Spends plan before after
+    BegunUntil client_machine (first_actions plan) (client_that_dials plan) most_answers opened after halts.Spent → Spends plan before after
 spends plan seed boot before opened after opens (inl cut) = absurd cut.0
 spends plan seed boot before opened after opens (inr half) = record {
   steps = half.run.ran.steps;
@@ -174,7 +174,7 @@ record AsksStill (plan : ClientPlan) (before after : Sight) : Type 0 where
   open_still : client_machine.is_over last.state ≡ false
 
 asks_still : (plan : ClientPlan) (seed : List ℕ) (boot : ℕ) (before opened after : Sight) → Opens seed boot before opened [] →
-    BegunUntil client_machine (first_actions plan) (dialling plan) most_answers opened after halts.PortFault → AsksStill plan before after
+    BegunUntil client_machine (first_actions plan) (client_that_dials plan) most_answers opened after halts.PortFault → AsksStill plan before after
 asks_still plan seed boot before opened after opens (inl cut) = absurd cut.0
 asks_still plan seed boot before opened after opens (inr half) = record {
   steps = half.run.ran.steps;
@@ -199,7 +199,7 @@ asks_not_closed steps others state left last stop start are others_are story sam
     let wrong : [] ≡ happening.Given event.Stop (client_machine.want state) ∷ [] = none ∙ stopped.2 in cc
 
 outcome_by : (plan : ClientPlan) (seed : List ℕ) (boot : ℕ) (before opened after : Sight) (exit : Exit) (outcome : Option ClientOutcome) → Opens seed boot before opened [] → ComesTo plan before after outcome →
-    (halt : Halt) → exit ≡ halt_exit halt → BegunUntil client_machine (first_actions plan) (dialling plan) most_answers opened after halt → (exit ≡ outcome_exit outcome) ⊎ IsExcuse exit
+    (halt : Halt) → exit ≡ halt_exit halt → BegunUntil client_machine (first_actions plan) (client_that_dials plan) most_answers opened after halt → (exit ≡ outcome_exit outcome) ⊎ IsExcuse exit
 outcome_by plan seed boot before opened after exit outcome opens comes halts.PortFault is run =
     let asks = asks_still plan seed boot before opened after opens run in
     let same = compare plan before after asks.steps comes.steps asks.last (end_at comes.state comes.left) [] comes.stop [] [] asks.told comes.tells in
@@ -246,7 +246,7 @@ spent_not_told plan before after steps last stop told comes =
     same.others_are (quiet_chooses comes.last.state comes.last.queue comes.step comes.waiting comes.chooses) comes.spent same.are story (sym same.moments ∙ append-nil (moments_of steps))
 
 spent_by : (plan : ClientPlan) (seed : List ℕ) (boot : ℕ) (before opened after : Sight) (exit : Exit) → Opens seed boot before opened [] → ComesToSpent plan before after →
-    (halt : Halt) → exit ≡ halt_exit halt → BegunUntil client_machine (first_actions plan) (dialling plan) most_answers opened after halt → (exit ≡ Spent) ⊎ IsExcuse exit
+    (halt : Halt) → exit ≡ halt_exit halt → BegunUntil client_machine (first_actions plan) (client_that_dials plan) most_answers opened after halt → (exit ≡ Spent) ⊎ IsExcuse exit
 spent_by plan seed boot before opened after exit opens comes halts.PortFault is run =
     let asks = asks_still plan seed boot before opened after opens run in
     absurd (spent_not_told plan before after asks.steps asks.last [] asks.told comes)
@@ -393,15 +393,15 @@ puts_law plan seed boot before after exit logon =
     (elim logon.ends [
       | inl none ↦ subst (λ (e : Exit). Puts e logon.opened.taken after.taken) (sym none.0) (subst (λ (s : Sight). Appends logon.opened.taken s.taken []) (sym none.1) (Appends-nothing logon.opened.taken))
       | inr begun ↦ elim begun [
-        | inl breaks ↦ halt_puts breaks.halt exit logon.opened.taken after.taken breaks.exit_is (until_quiet (first_actions plan) (dialling plan) most_answers logon.opened after breaks.halt breaks.run)
-        | inr ends ↦ since exit logon.opened.taken ends.ended.taken after.taken (begun_quiet (first_actions plan) (dialling plan) ends.last most_answers logon.opened ends.ended ends.run) (says_puts ends.last.outcome ends.ended.taken after.taken exit ends.says)
+        | inl breaks ↦ halt_puts breaks.halt exit logon.opened.taken after.taken breaks.exit_is (until_quiet (first_actions plan) (client_that_dials plan) most_answers logon.opened after breaks.halt breaks.run)
+        | inr ends ↦ since exit logon.opened.taken ends.ended.taken after.taken (begun_quiet (first_actions plan) (client_that_dials plan) ends.last most_answers logon.opened ends.ended ends.run) (says_puts ends.last.outcome ends.ended.taken after.taken exit ends.says)
       ]
     ])
 
 -- ---- what an exit shows of the run
 
 halt_comes : (plan : ClientPlan) (seed : List ℕ) (boot : ℕ) (before opened after : Sight) (halt : Halt) (exit : Exit) → Opens seed boot before opened [] → exit ≡ halt_exit halt →
-    BegunUntil client_machine (first_actions plan) (dialling plan) most_answers opened after halt → ComesBy exit plan seed boot before after
+    BegunUntil client_machine (first_actions plan) (client_that_dials plan) most_answers opened after halt → ComesBy exit plan seed boot before after
 halt_comes plan seed boot before opened after halts.PortFault exit opens is run = subst (λ (e : Exit). ComesBy e plan seed boot before after) (sym is) (record { opened = opened; opens = opens; run = run })
 halt_comes plan seed boot before opened after halts.SinkFault exit opens is run = subst (λ (e : Exit). ComesBy e plan seed boot before after) (sym is) tt
 halt_comes plan seed boot before opened after halts.NoMemory exit opens is run = subst (λ (e : Exit). ComesBy e plan seed boot before after) (sym is) tt
@@ -462,7 +462,7 @@ is_in plan seed boot before opened after opens ends lets = record {
   echoed = lets.echoed;
   ran = ran_to plan seed boot before opened after Done (Some (outcomes.In lets.name lets.key lets.echoed)) opens ends lets.is;
   put = subst (λ (t : Option (List ℕ)). Appends t after.taken (in_lines lets.name lets.echoed)) opens.taken
-      (Appends-trans opened.taken ends.ended.taken after.taken [] (in_lines lets.name lets.echoed) (begun_quiet (first_actions plan) (dialling plan) ends.last most_answers opened ends.ended ends.run) lets.put);
+      (Appends-trans opened.taken ends.ended.taken after.taken [] (in_lines lets.name lets.echoed) (begun_quiet (first_actions plan) (client_that_dials plan) ends.last most_answers opened ends.ended ends.run) lets.put);
 }
 
 says_comes : (plan : ClientPlan) (seed : List ℕ) (boot : ℕ) (before opened after : Sight) (exit : Exit) → Opens seed boot before opened [] → Concludes plan opened after exit → ComesBy exit plan seed boot before after

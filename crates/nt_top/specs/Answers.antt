@@ -13,7 +13,7 @@ use Rattle.nt_top.specs.Check.{check_answer, texts_at_once}
 use Rattle.nt_top.specs.Refusals.{words_exit}
 use Rattle.nt_top.specs.Show.{show_answer}
 
--- what a job comes to; one whose end isn't built yet is no command
+-- what a job comes to by its words alone; one that isn't built yet is no command, and those with an end go another way
 abbrev pub job_answer : Job → Result Answer Exit
 job_answer (jobs.Check job) = check_answer job.hash job.challenge job.message
 job_answer (jobs.Show job) = show_answer job.message
@@ -31,9 +31,8 @@ answer_of role words = answer_from (job_of role words)
 -- the exit that is seen in a job without memory
 abbrev pub job_exit_at_once : Job → Option Exit
 job_exit_at_once (jobs.Check job) = texts_at_once job.hash job.challenge
-job_exit_at_once (jobs.Show job) = None
-job_exit_at_once (jobs.Controller job) = None
-job_exit_at_once _ = Some (BadWords 0)
+job_exit_at_once (jobs.Drill job) = Some (BadWords 0)
+job_exit_at_once _ = None
 
 abbrev pub from_at_once : Option (Result Job WordsRefused) → Option Exit
 from_at_once None = None

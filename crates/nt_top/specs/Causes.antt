@@ -38,7 +38,7 @@ IsRefused role words cause s = (cause ≡ Response) × AskedRefused role words �
 
 -- ---- `BadWords`
 
--- whether the command of a job is built
+-- whether the command of a job is built, of those that their words alone tell
 abbrev pub is_built : Job → Bool
 is_built (jobs.Check job) = true
 is_built (jobs.Show job) = true
@@ -88,7 +88,7 @@ pub record AskedBadShow (role : Role) (words : List (List ℕ)) (number : ℕ) :
 abbrev pub IsBadInput : Role → List (List ℕ) → ℕ → Type 0
 IsBadInput role words number = AskedBadCheck role words number ⊎ AskedBadShow role words number
 
--- ---- exits that no command of today has
+-- ---- exits that no command has which its words alone tell
 
 abbrev pub IsOfTheCommands : Exit → Type 0
 IsOfTheCommands FileFault = ⊥

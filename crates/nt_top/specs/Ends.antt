@@ -39,12 +39,3 @@ Ends (Ok answer) s PortFault = ⊥
 Ends (Ok answer) s (NoAnswer cause) = ⊥
 Ends (Ok answer) s (BadPeer fault) = ⊥
 Ends (Ok answer) s Spent = ⊥
-
--- The exit is one that the words come to, whatever was put: that of their answer, a fault of the sink in its place, or want of memory.
-abbrev pub IsExitOf : Result Answer Exit → Exit → Type 0
-IsExitOf (Err refusal) exit = (exit ≡ NoMemory) ⊎ (exit ≡ refusal)
-IsExitOf (Ok answer) Done = answer.refused ≡ None
-IsExitOf (Ok answer) (Refused cause) = answer.refused ≡ Some cause
-IsExitOf (Ok answer) SinkFault = Unit {0}
-IsExitOf (Ok answer) NoMemory = Unit {0}
-IsExitOf (Ok answer) _ = ⊥

@@ -26,14 +26,14 @@ use Rattle.logon_client.specs.Machine.{client_machine, step_of}
 use Rattle.logon_client.specs.State.{State}
 use Rattle.nt_top.specs.declared.exit.Exit.{Exit}
 use Rattle.nt_top.specs.declared.exit.Exit.TheVariants.{Done, Refused, BadWords, FileFault, BadTable, BadInput, SinkFault, NoMemory, NoAnswer, BadPeer, Spent, PortFault}
-use Rattle.nt_top.specs.Logon.{LogonEnds, dialling, first_actions, in_lines, most_answers, outcome_exit}
+use Rattle.nt_top.specs.Logon.{LogonEnds, client_that_dials, first_actions, in_lines, most_answers, outcome_exit}
 
 -- ---- the runs that the outside tells
 
 -- where a client stands once its first actions were performed: what they made waits, and the challenges are left that were drawn later and
 -- those that still are
 abbrev pub start_of : ClientPlan → List Happening → Drawing → Standing State
-start_of plan happened drawing = record { state = dialling plan; queue = made_events happened; left = drawing.drawn ++ drawing.left }
+start_of plan happened drawing = record { state = client_that_dials plan; queue = made_events happened; left = drawing.drawn ++ drawing.left }
 
 -- The outside tells that the client's first actions were performed, that it made these steps, and that this happened at the port and these
 -- moments were given after them.
@@ -94,7 +94,7 @@ pub record RanTo (plan : ClientPlan) (seed : List ℕ) (boot : ℕ) (before afte
   pub opens : Opens seed boot before opened []
   pub last : State
   pub ended : Sight
-  pub run : Begun client_machine (first_actions plan) (dialling plan) last most_answers opened ended
+  pub run : Begun client_machine (first_actions plan) (client_that_dials plan) last most_answers opened ended
   pub outcome_is : last.outcome ≡ outcome
   pub only : after ≡ record ended { taken = after.taken }
 
@@ -102,7 +102,7 @@ pub record RanTo (plan : ClientPlan) (seed : List ℕ) (boot : ℕ) (before afte
 pub record RanUntil (plan : ClientPlan) (seed : List ℕ) (boot : ℕ) (before after : Sight) (halt : Halt) : Type 0 where
   pub opened : Sight
   pub opens : Opens seed boot before opened []
-  pub run : BegunUntil client_machine (first_actions plan) (dialling plan) most_answers opened after halt
+  pub run : BegunUntil client_machine (first_actions plan) (client_that_dials plan) most_answers opened after halt
 
 -- the client is in, and its lines were put
 pub record IsIn (plan : ClientPlan) (seed : List ℕ) (boot : ℕ) (before after : Sight) : Type 0 where

@@ -13,7 +13,7 @@ ghost use Rattle.nt_words.specs.declared.files.FilesRefused.{FilesRefused};
 ghost use Rattle.nt_top.specs.Answers.{answer_of, exit_at_once, job_answer, job_exit_at_once};
 ghost use Rattle.nt_top.specs.Causes.{Comes, IsBadInput, IsBadWords, IsDone, IsOfForm, IsOfTheCommands, IsRefused, IsWorkDone};
 ghost use Rattle.nt_top.specs.Check.{AskedAccepted, AskedRefused, verdict_answer};
-ghost use Rattle.nt_top.specs.Ends.{Ends, IsExitOf, change_of};
+ghost use Rattle.nt_top.specs.Ends.{Ends, change_of};
 ghost use Rattle.nt_top.specs.Show.{AskedShown, shown};
 ghost use Rattle.nt_top.specs.declared.exit.Exit.{Exit};
 ghost use Rattle.logon_client.specs.declared.outcome.NoAnswerCause.{NoAnswerCause};
@@ -35,7 +35,8 @@ use std::alloc::Global;
 /// the port gives `Stop` or as many events as the words say. A logon client has `logon`: its files are read and judged, the challenges are started, the server is
 /// dialled, and a client runs to its outcome, which is the exit. A member server has `check HASH CHALLENGE MESSAGE`, a logon client `show MESSAGE`, all
 /// in hex. The words of `drill` are judged, and what they ask for isn't built yet: `BadWords(0)`, as every other command line is.
-/// `BadInput(n)` is the first word, or the first option's file, that isn't of its form. `Refused(Response)` is a response that isn't that of the hash.
+/// `BadInput(n)` is the first word, or the first option's file, that isn't of its form, `BadTable` a table that isn't. `Refused(Response)` is a response that
+/// isn't that of the hash; a logon's `Refused`, `NoAnswer` and `BadPeer` are its outcome.
 /// `FileFault`, `PortFault` and `SinkFault` come only where a count of that kind rose in this call, `Spent` where the end draws more challenges than are
 /// left, `NoMemory` where no memory was found; `check` and `show` have put nothing then, and use neither port, files, clock nor challenges.
 pub fn run<P: Port, F: Files, S: Sink, C: Clock, Q: Chances>(
@@ -53,13 +54,11 @@ pub fn run<P: Port, F: Files, S: Sink, C: Clock, Q: Chances>(
     ensures service { ServiceActs role (map string_bytes words.now) P.story P.link_faults
         F.faults F.contents F.reads S.taken C.moments Q.drawing port.old files.old out.old
         clock.old chances.old port.new files.new out.new clock.new chances.new result }
-    // What the other commands do is told by their words.
-    // The exit is that of what the words come to, and what is put is told by it.
+    // What the other commands do is told by their words: the exit is that of what the words come
+    // to, and what is put is told by it.
     ensures ends { ActsByWords role (map string_bytes words.now) →
         Ends (answer_of role (map string_bytes words.now))
         (change_of S.taken S.faults out.old out.new) result }
-    ensures exit { ActsByWords role (map string_bytes words.now) →
-        IsExitOf (answer_of role (map string_bytes words.now)) result }
     // A check is answered `accepted` where the response verifies, and `refused` where it doesn't.
     ensures accepted { AskedAccepted role (map string_bytes words.now) →
         Ends (Ok (verdict_answer true)) (change_of S.taken S.faults out.old out.new) result }

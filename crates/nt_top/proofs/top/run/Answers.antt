@@ -1,12 +1,9 @@
 use Rattle.std.proofs.Common.{map, subst, sym}
 use Rattle.std.specs.String.{string_bytes}
 use Rattle.nt_top.specs.Causes.{IsOfTheCommands}
-use Rattle.nt_top.proofs.EndLaws.{exit_is, accepted_ends, refused_ends, shown_ends, done_is, refused_is, bad_words_come, words_only, bad_input_comes, input_only, others, fault_rose, work_done}
+use Rattle.nt_top.proofs.EndLaws.{accepted_ends, refused_ends, shown_ends, done_is, refused_is, bad_words_come, words_only, bad_input_comes, input_only, others, fault_rose, work_done}
 use Rattle.nt_top.proofs.ServeLaws.{dial_fault, files_come, link_lost, serve_done}
 use Rattle.nt_top.proofs.top.run.Goals as goal
-
-pub returns-clause-exit : goal.returns-clause-exit
-returns-clause-exit g c other = exit_is _ _ _ c.perform.ensures.ends
 
 pub returns-clause-accepted : goal.returns-clause-accepted
 returns-clause-accepted g c asked = accepted_ends _ _ _ _ c.perform.ensures.ends asked
