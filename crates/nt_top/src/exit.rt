@@ -3,6 +3,7 @@
 ghost use Rattle.std.specs.Prelude.{◌≡◌};
 
 use account_table::TableRefused;
+use end_loop::Halt;
 use logon_client::{NoAnswerCause, PeerFault, RefusedCause};
 use nt_words::{FilesRefused, WordsRefused};
 use std::alloc::AllocError;
@@ -85,6 +86,22 @@ impl From<FilesRefused> for Exit {
             FilesRefused::BadTable(cause) => Exit::BadTable(cause),
             FilesRefused::BadInput(number) => Exit::BadInput(number),
             FilesRefused::NoMemory => Exit::NoMemory,
+        }
+    }
+}
+
+impl From<Halt> for Exit {
+    ghost use Rattle.std.specs.Prelude.{◌≡◌};
+    ghost use Rattle.nt_top.specs.Serve.{halt_exit};
+
+    ghost from_gives = { λ halt exit. exit ≡ halt_exit halt };
+
+    fn from(halt: Halt) -> Exit {
+        match halt {
+            Halt::PortFault => Exit::PortFault,
+            Halt::SinkFault => Exit::SinkFault,
+            Halt::NoMemory => Exit::NoMemory,
+            Halt::Spent => Exit::Spent,
         }
     }
 }

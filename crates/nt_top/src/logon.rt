@@ -126,12 +126,7 @@ fn exit_of_halt(halt: Halt) -> Exit
     ensures sink { result ≡ Exit.SinkFault → halt ≡ Halt.SinkFault }
     ensures port { result ≡ Exit.PortFault → halt ≡ Halt.PortFault }
 {
-    match halt {
-        Halt::PortFault => Exit::PortFault,
-        Halt::SinkFault => Exit::SinkFault,
-        Halt::NoMemory => Exit::NoMemory,
-        Halt::Spent => Exit::Spent,
-    }
+    Exit::from(halt)
 }
 
 /// Says an outcome, or that there is none: puts its lines, and gives its exit.

@@ -54,10 +54,7 @@ fn exit_of_service(served: Result<(), Halt>) -> Exit
 {
     match served {
         Ok(()) => Exit::Done,
-        Err(Halt::PortFault) => Exit::PortFault,
-        Err(Halt::SinkFault) => Exit::SinkFault,
-        Err(Halt::NoMemory) => Exit::NoMemory,
-        Err(Halt::Spent) => Exit::Spent,
+        Err(halt) => Exit::from(halt),
     }
 }
 
