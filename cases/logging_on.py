@@ -12,6 +12,7 @@ from sessions import ESS, INTEGRITY, KEY_EXCH, NTLM, PRIVACY
 
 from nt_top import EXITS, LOGON, ending, text
 from nt_words import ASK, SEED, ascii_hex, files_of, words_of
+from rpc_units import NONE
 
 LINK = 1000
 LEVELS = {2: "connect", INTEGRITY: "integrity", PRIVACY: "privacy"}
@@ -137,6 +138,8 @@ def of_outcomes():
         played(on(bound(echo=0), Server(bound(echo=0)).ack(results=[]))),
         played(on(bound(echo=0), Server(bound(echo=0)).ack(call=2))),
         played(on(bound(echo=0), Server(bound(echo=0)).ack(message=b"x"))),
+        # The member server rejects the context.
+        played(on(bound(echo=0), Server(bound(echo=0)).ack(results=[(2, 1, NONE)]))),
     ]
     client, peer = asked({"echo": 0})
     frame = bytearray(b"".join(peer.who()))
@@ -154,6 +157,9 @@ def of_lines():
     """The name and the echo are put once the client is in, and nothing else is."""
     out = [played(logged_on(plan | {"echo": echo})) for plan in PLANS for echo in (0, 16)]
     out.append(played(logged_on({"echo": 4096})))
+    # The longest names.
+    names = {"user": "u" * 64, "domain": "d" * 64, "workstation": "w" * 64}
+    out.append(played(logged_on({"echo": 0, **names}), **names))
     out += [played(logged_on({"echo": 0}, name=name)) for name in ("CORP\\ann", "", "a\u00e9\u007f\n?")]
     # The link is closed behind the last answer: the client is in already.
     out.append(played(logged_on(), events=events_of(logged_on()) + ",closed:1000"))

@@ -60,6 +60,8 @@ def of_the_port():
     failures = [("0", fault, "-"), ("1", fault, "-"), ("2", fault, "-"), ("3", DONE, "-"), ("4", fault, SENT), ("5", DONE, SENT)]
     out = [serve((DONE, SENT))]
     out += [serve((exit_text, sent), failing=call) for call, exit_text, sent in failures]
+    # The longest name.
+    out.append(serve((DONE, SENT), name="N" * 64))
     # A request before the bind has a fault, and the link stays as it is.
     out.append(serve((DONE, f"1:{FAULT}"), events=f"opened:1,bytes:1:{REQUEST},stop"))
     out.append(serve((DONE, f"1:{FAULT},1:{BIND_ACK}"), events=f"opened:1,bytes:1:{REQUEST},bytes:1:{BIND},stop"))
@@ -402,6 +404,8 @@ def of_member_files():
     for wrong in ["", secret[:-2], secret + "30", secret + "0a0a", ascii_hex("g" * 32)]:
         out.append(comes(ending("BadInput", 4), files={"k": wrong, "s": SEED}, reads="1", failing="0"))
     out.append(comes(DONE, files={"k": secret + "0a", "s": SEED}))
+    # The longest names.
+    out.append(comes(DONE, computer="C" * 64, domain="D" * 64, controller="h" * 255))
     for seed in ["", "00" * 31, "00" * 33]:
         out.append(comes(ending("BadInput", 6), files={"k": secret, "s": seed}, failing="0"))
     return out
