@@ -2,22 +2,26 @@
 use Rattle.std.proofs.Common.{ℕ, ◌≡◌, ◌≤◌, true, false, List, [], ◌∷◌, ◌++◌, Option, Some, None, Ok, refl, sym, ap, subst, ◌∙◌, arith, inl, inr}
 use Rattle.std.proofs.lemmas.Bool.{cases_Bool}
 use Rattle.outside.specs.Causes.{Rose, RisesWhere}
-use Rattle.outside.specs.Machine.{Stepped}
+use Rattle.outside.specs.Machine.{Machine, Stepped}
 use Rattle.outside.specs.Stories.{fails_at_links}
+use Rattle.outside.specs.Telling.{Appends}
+use Rattle.outside.specs.declared.action.Action.{Action}
 use Rattle.outside.specs.declared.event.Event.{Event}
 use Rattle.outside.specs.declared.event.Event.TheVariants as event
 use Rattle.outside.specs.declared.event.Happening.{Happening}
 use Rattle.outside.specs.declared.event.Happening.TheVariants as happening
 use Rattle.end_loop.specs.Acts.{Performs, made_events}
 use Rattle.end_loop.specs.Begun.{Begun}
-use Rattle.end_loop.specs.Runs.{Step, AreSteps, Standing as Places}
+use Rattle.end_loop.specs.Runs.{Step, AreSteps, Standing as Places, drawn_of, moments_of, story_of}
 use Rattle.end_loop.specs.Seen.{Sight}
+use Rattle.end_loop.proofs.RunLaws.{Shows-trans}
 use Rattle.logon_client.specs.declared.plan.ClientPlan.{ClientPlan}
 use Rattle.logon_client.specs.Losses.{is_dial_failed, is_dialling}
 use Rattle.logon_client.specs.Machine.{client_machine, step_of}
 use Rattle.logon_client.specs.State.{State}
 use Rattle.logon_client.proofs.LossLaws.{losses_come_of_events}
 use Rattle.nt_top.specs.Logon.{client_that_dials, first_actions}
+use Rattle.nt_top.specs.LogonExits.{FailsToDial}
 
 -- ---- once the dial was answered, it doesn't wait again, and no outcome says that it failed
 
@@ -67,17 +71,32 @@ answered plan link left last (step ∷ steps) are =
     (steps_settled are.0 last steps are.2 settled).kept
 
 by_link : (plan : ClientPlan) (link : Option ℕ) (before middle after : ℕ) (left : List (List ℕ)) (last : Places State) (steps : List Step) → RisesWhere (fails_at_links (happening.Dialled plan.server link ∷ [])) before middle → middle ≤ after →
-    AreSteps client_machine (record { state = client_that_dials plan; queue = made_events (happening.Dialled plan.server link ∷ []); left = left }) steps last → is_dial_failed last.state.outcome ≡ true → Rose before after
-by_link plan None before middle after left last steps first more are failed = rises before middle after (first.1 refl) more
+    AreSteps client_machine (record { state = client_that_dials plan; queue = made_events (happening.Dialled plan.server link ∷ []); left = left }) steps last → is_dial_failed last.state.outcome ≡ true →
+    Rose before after × (link ≡ None)
+by_link plan None before middle after left last steps first more are failed = (rises before middle after (first.1 refl) more, refl)
 by_link plan (Some link) before middle after left last steps first more are failed =
     let kept = answered plan link left last steps are in absurd cc
 
--- a client finds its dial failed only where the count of link faults rose
+-- what happened at the port in such a run
+tells : {S : Type 0} (machine : Machine S) (first : List Action) (old last : S) (most : ℕ) (opened ended : Sight) (begun : Begun machine first old last most opened ended) →
+    Appends opened.story ended.story (begun.happened ++ (story_of begun.run.ran.steps ++ begun.run.stop))
+tells machine first old last most opened ended begun =
+    let rest = Shows-trans begun.middle begun.run.middle ended (story_of begun.run.ran.steps) begun.run.stop (moments_of begun.run.ran.steps) [] (drawn_of begun.run.ran.steps) [] _ [] begun.run.ran.shows begun.run.shows in
+    (Shows-trans opened begun.middle ended begun.happened (story_of begun.run.ran.steps ++ begun.run.stop) [] (moments_of begun.run.ran.steps ++ []) [] (drawn_of begun.run.ran.steps ++ []) _ _ begun.shows rest).story
+
+-- a client finds its dial failed only where the dial of its server failed, and the count of link faults rose
 pub dial_cause : (plan : ClientPlan) (last : State) (most : ℕ) (opened ended : Sight) → Begun client_machine (first_actions plan) (client_that_dials plan) last most opened ended →
-    is_dial_failed last.outcome ≡ true → Rose opened.link_faults ended.link_faults
+    is_dial_failed last.outcome ≡ true → FailsToDial plan.server opened ended
 dial_cause plan last most opened ended begun failed =
     let dial = dials_once plan begun.happened begun.performs in
     let first = subst (λ (h : List Happening). RisesWhere (fails_at_links h) opened.link_faults begun.middle.link_faults) dial.1 begun.shows.links in
     let are = subst (λ (h : List Happening). AreSteps client_machine (record { state = client_that_dials plan; queue = made_events h; left = begun.middle.drawing.left }) begun.run.ran.steps (record { state = last; queue = []; left = begun.run.left })) dial.1 begun.run.ran.are in
-    by_link plan dial.0 opened.link_faults begun.middle.link_faults ended.link_faults begun.middle.drawing.left _ begun.run.ran.steps first
-    (omega (arith, begun.run.ran.shows.links.0, begun.run.shows.links.0)) are failed
+    let fails = by_link plan dial.0 opened.link_faults begun.middle.link_faults ended.link_faults begun.middle.drawing.left _ begun.run.ran.steps first
+    (omega (arith, begun.run.ran.shows.links.0, begun.run.shows.links.0)) are failed in
+    let happened : begun.happened ≡ happening.Dialled plan.server None ∷ [] = dial.1 ∙ ap (λ (l : Option ℕ). happening.Dialled plan.server l ∷ []) fails.1 in
+    record {
+      rose = fails.0;
+      happened = story_of begun.run.ran.steps ++ begun.run.stop;
+      told = subst (λ (h : List Happening). Appends opened.story ended.story (h ++ (story_of begun.run.ran.steps ++ begun.run.stop))) happened
+          (tells client_machine (first_actions plan) (client_that_dials plan) last most opened ended begun);
+    }

@@ -36,7 +36,7 @@ use Rattle.nt_top.specs.declared.exit.Exit.{Exit}
 use Rattle.nt_top.specs.declared.exit.Exit.TheVariants.{Done, Refused, BadWords, FileFault, BadTable, BadInput, PortFault, SinkFault, NoMemory, NoAnswer, BadPeer, Spent}
 use Rattle.nt_top.specs.Logon.{Concludes, LogonEnds, Says, client_that_dials, first_actions, in_lines, most_answers, outcome_exit, outcome_lines}
 use Rattle.nt_top.specs.Serve.{halt_exit}
-use Rattle.nt_top.specs.LogonExits.{ComesBy, IsIn, RanTo, ComesTo, ComesToSpent, IsExcuse, IsOfClients, LogonLaws, LosesLink, Gone, SendFailed, Stopped, TookAll, Puts, TellsRun, end_at, start_of}
+use Rattle.nt_top.specs.LogonExits.{ComesBy, FailsToDial, IsIn, RanTo, ComesTo, ComesToSpent, IsExcuse, IsOfClients, LogonLaws, LosesLink, Gone, SendFailed, Stopped, TookAll, Puts, TellsRun, end_at, start_of}
 use Rattle.nt_top.proofs.DialLaws.{dial_cause}
 use Rattle.nt_top.proofs.LinkLaws.{loses_link}
 use Rattle.nt_top.proofs.PairLaws.{both_whole, performs_same, spent_not_whole}
@@ -506,7 +506,21 @@ never_dial halts.SinkFault is = absurd cc
 never_dial halts.NoMemory is = absurd cc
 never_dial halts.Spent is = absurd cc
 
-dial_law : (plan : ClientPlan) (seed : List ℕ) (boot : ℕ) (before after : Sight) (exit : Exit) → LogonEnds plan seed boot before after exit → exit ≡ NoAnswer DialFailed → Rose before.link_faults after.link_faults
+-- what happened at the port, told around that
+around : (seed : List ℕ) (boot : ℕ) (before opened ended after : Sight) (happened : List Happening) → Opens seed boot before opened [] → after ≡ record ended { taken = after.taken } →
+    Appends opened.story ended.story happened → Appends before.story after.story happened
+around seed boot before opened ended after happened opens only told =
+    subst (λ (s : Option (List Happening)). Appends before.story s happened) (sym (ap (λ (s : Sight). s.story) only))
+    (Appends-trans before.story opened.story ended.story [] happened opens.story told)
+
+fails_around : (server seed : List ℕ) (boot : ℕ) (before opened ended after : Sight) → Opens seed boot before opened [] → after ≡ record ended { taken = after.taken } → FailsToDial server opened ended → FailsToDial server before after
+fails_around server seed boot before opened ended after opens only fails = record {
+  rose = subst (λ (n : ℕ). Rose before.link_faults n) (sym (ap (λ (s : Sight). s.link_faults) only)) (subst (λ (n : ℕ). Rose n ended.link_faults) opens.link_faults fails.rose);
+  happened = fails.happened;
+  told = around seed boot before opened ended after (happening.Dialled server None ∷ fails.happened) opens only fails.told;
+}
+
+dial_law : (plan : ClientPlan) (seed : List ℕ) (boot : ℕ) (before after : Sight) (exit : Exit) → LogonEnds plan seed boot before after exit → exit ≡ NoAnswer DialFailed → FailsToDial plan.server before after
 dial_law plan seed boot before after exit logon is =
     elim logon.ends [
       | inl none ↦ absurd (let never : NoMemory ≡ NoAnswer DialFailed = sym none.0 ∙ is in cc)
@@ -514,9 +528,7 @@ dial_law plan seed boot before after exit logon is =
         | inl breaks ↦ absurd (never_dial breaks.halt (sym is ∙ breaks.exit_is))
         | inr ends ↦
             let says : Says ends.last.outcome ends.ended.taken after.taken (NoAnswer DialFailed) = subst (λ (e : Exit). Says ends.last.outcome ends.ended.taken after.taken e) is ends.says in
-            let rose = dial_cause plan ends.last most_answers logon.opened ends.ended ends.run (fails_by ends.last.outcome says.0) in
-            let faults : after.link_faults ≡ ends.ended.link_faults = ap (λ (s : Sight). s.link_faults) ends.only in
-            subst (λ (n : ℕ). Rose before.link_faults n) (sym faults) (subst (λ (n : ℕ). Rose n ends.ended.link_faults) logon.opens.link_faults rose)
+            fails_around plan.server seed boot before logon.opened ends.ended after logon.opens ends.only (dial_cause plan ends.last most_answers logon.opened ends.ended ends.run (fails_by ends.last.outcome says.0))
       ]
     ]
 
@@ -536,12 +548,6 @@ never_closed halts.PortFault is = absurd cc
 never_closed halts.SinkFault is = absurd cc
 never_closed halts.NoMemory is = absurd cc
 never_closed halts.Spent is = absurd cc
-
-around : (seed : List ℕ) (boot : ℕ) (before opened ended after : Sight) (happened : List Happening) → Opens seed boot before opened [] → after ≡ record ended { taken = after.taken } →
-    Appends opened.story ended.story happened → Appends before.story after.story happened
-around seed boot before opened ended after happened opens only told =
-    subst (λ (s : Option (List Happening)). Appends before.story s happened) (sym (ap (λ (s : Sight). s.story) only))
-    (Appends-trans before.story opened.story ended.story [] happened opens.story told)
 
 -- the challenges were started before, and the outcome was said after it
 loses_around : (seed : List ℕ) (boot : ℕ) (before opened ended after : Sight) → Opens seed boot before opened [] → after ≡ record ended { taken = after.taken } → LosesLink opened ended → LosesLink before after

@@ -452,7 +452,7 @@ ShowsCause LinkClosed before after = LosesLink before after
 ShowsCause NoController before after = Unit {0}
 
 by_cause : (setup : Setup) (cause : NoAnswerCause) (before after : Sight) → ServiceBy setup before after (exits.NoAnswer cause) → ShowsCause cause before after
-by_cause (setups.Logon job files) DialFailed before after ends = logon_laws.dial (plan_of job files) files.seed job.boot before after _ ends refl
+by_cause (setups.Logon job files) DialFailed before after ends = (logon_laws.dial (plan_of job files) files.seed job.boot before after _ ends refl).rose
 by_cause (setups.Logon job files) LinkClosed before after ends = logon_laws.closed (plan_of job files) files.seed job.boot before after _ ends refl
 by_cause (setups.Logon job files) NoController before after ends = tt
 by_cause (setups.Controller job files) cause before after (inl left) = absurd (let is = left.0 in cc)

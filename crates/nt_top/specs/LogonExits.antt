@@ -1,5 +1,5 @@
 -- When each exit of `logon` comes, by what the outside tells, and what is put then (this project's own choice).
-use Rattle.std.specs.Prelude.{ℕ, ◌≡◌, ◌⊎◌, ◌==◌, ◌++◌, Bool, true, false, List, [], ◌∷◌, length, Option, Some, Err}
+use Rattle.std.specs.Prelude.{ℕ, ◌≡◌, ◌⊎◌, ◌==◌, ◌++◌, Bool, true, false, List, [], ◌∷◌, length, Option, Some, None, Err}
 use Rattle.std.specs.List.{list_any}
 use Rattle.outside.specs.Causes.{Rose}
 use Rattle.outside.specs.Drawing.{Drawing}
@@ -136,6 +136,15 @@ IsOfClients (BadTable cause) = ⊥
 IsOfClients (BadInput number) = ⊥
 IsOfClients _ = Unit {0}
 
+-- ---- a dial that fails
+
+-- Why a client finds its dial failed: the first that happened at the port is the dial of its server, which gave no link, and the count of link
+-- faults rose.
+pub record FailsToDial (server : List ℕ) (before after : Sight) : Type 0 where
+  pub rose : Rose before.link_faults after.link_faults
+  pub happened : List Happening
+  pub told : Appends before.story after.story (happening.Dialled server None ∷ happened)
+
 -- ---- a link that is lost
 
 -- the event shows that the link is gone that the client waits for: it was closed, or another was opened under its number
@@ -187,7 +196,7 @@ pub record LogonLaws : Type 0 where
   pub puts : (plan : ClientPlan) (seed : List ℕ) (boot : ℕ) (before after : Sight) (exit : Exit) →
       LogonEnds plan seed boot before after exit → Puts exit before.taken after.taken
   pub dial : (plan : ClientPlan) (seed : List ℕ) (boot : ℕ) (before after : Sight) (exit : Exit) →
-      LogonEnds plan seed boot before after exit → exit ≡ NoAnswer DialFailed → Rose before.link_faults after.link_faults
+      LogonEnds plan seed boot before after exit → exit ≡ NoAnswer DialFailed → FailsToDial plan.server before after
   pub closed : (plan : ClientPlan) (seed : List ℕ) (boot : ℕ) (before after : Sight) (exit : Exit) →
       LogonEnds plan seed boot before after exit → exit ≡ NoAnswer LinkClosed → LosesLink before after
   pub exits : (plan : ClientPlan) (seed : List ℕ) (boot : ℕ) (before after : Sight) (exit : Exit) →
