@@ -1,12 +1,14 @@
 -- The step of an end of a world.
-use Rattle.std.proofs.Common.{◌≡◌, ℕ, zero, suc, ◌<◌, false, List, [], ◌∷◌, length, get_or, All, inl, inr, Some, slice_get, slice_set, refl, ap, sym, subst, ◌∙◌, arith}
+use Rattle.std.proofs.Common.{◌≡◌, ℕ, zero, suc, ◌<◌, false, List, [], ◌∷◌, ◌++◌, Err, length, get_or, All, inl, inr, Some, slice_get, slice_set, refl, ap, sym, subst, ◌∙◌, arith}
 use Rattle.std.specs.List.{insert, remove}
 use Rattle.std.proofs.lemmas.Option.{get_or_from_slice_get, slice_get_cases}
 use Rattle.std.proofs.lemmas.List.{length-set}
 use Rattle.std.proofs.lemmas.List.Elements.{All-set}
 use Rattle.outside.specs.Drawing.{Drawing, DrawsAll}
-use Rattle.outside.specs.Machine.{Takes}
+use Rattle.outside.specs.Machine.{Stepped, StepsBy, Takes}
 use Rattle.outside.specs.declared.action.Action.{Action}
+use Rattle.outside.specs.declared.action.StepRefused.{StepRefused}
+use Rattle.outside.specs.declared.action.StepRefused.TheVariants as refused
 use Rattle.outside.specs.declared.event.Event.{Event}
 use Rattle.account_table.specs.AccountTable.{AccountTable}
 use Rattle.domain_controller.specs.State.{State as ControllerState}
@@ -28,6 +30,18 @@ same_drawing one other seed boot drawn left =
 -- what a step drew is known by what was drawn after it
 drawn_is : (before after : Drawing) (drawn : List (List ℕ)) → DrawsAll before after drawn → drawn_on before drawn after.left ≡ after
 drawn_is before after drawn all = same_drawing (drawn_on before drawn after.left) after (sym all.seed) (sym all.boot) (sym all.drawn) refl
+
+-- where a list is a list and more, there is no more
+no_more : (all more : List (List ℕ)) → all ≡ all ++ more → more ≡ []
+no_more [] more is = sym is
+no_more (item ∷ all) more is = no_more all more cc
+
+-- a step that draws more challenges than were left leaves none
+pub spent_all : {S : Type 0} (why : StepRefused) (stepped : Stepped S) (halted now : S) (before after : Drawing) →
+    StepsBy (Err why) stepped halted now before after → why ≡ refused.Spent → after.left ≡ []
+spent_all refused.Spent stepped halted now before after steps is = no_more before.left after.left steps.draws.left
+spent_all refused.Memory stepped halted now before after steps is = absurd cc
+spent_all refused.Stopped stepped halted now before after steps is = absurd cc
 
 pub controller_took : (old new : ControllerState) (at : ℕ) (what : Event) (now : ℕ) (ends : EndStates) (before after : Drawing) (actions : List Action) →
     slice_get ends.controllers at ≡ Some old → Takes (controller_step_of old what now before.left) new before after actions →

@@ -2,7 +2,8 @@
 use Rattle.std.proofs.Common.{◌≡◌, List, [], ◌∷◌, ◌++◌, refl, ap, sym, ◌∙◌}
 use Rattle.domain_world.specs.declared.moves.Move.{Move}
 use Rattle.domain_world.specs.declared.plan.Plan.{Plan}
-use Rattle.domain_world.specs.World.{World, first_world, happens, report_of, report_of_run, run}
+use Rattle.domain_world.specs.World.{World, first_world, happens, last_of, report_of, report_of_run, run, run_of}
+use Rattle.domain_world.specs.declared.counting.Report.{Report}
 use Rattle.domain_world.proofs.CountLaws.{counts_are_of_actions}
 
 pub run_append : (moves later : List Move) (w : World) → run (moves ++ later) w ≡ run later (run moves w)
@@ -16,3 +17,10 @@ run_on plan earlier moves old new is was = is ∙ ap (run moves) was ∙ sym (ru
 pub counted_on : (plan : Plan) (earlier moves : List Move) (old : World) → old ≡ run earlier (first_world plan) → report_of (run moves old) ≡ report_of_run plan (earlier ++ moves)
 counted_on plan earlier moves old was =
     ap (λ w. report_of (run moves w)) was ∙ ap report_of (sym (run_append earlier moves (first_world plan))) ∙ counts_are_of_actions plan (earlier ++ moves)
+
+pub counted_so : (plan : Plan) (moves : List Move) (w : World) (report : Report) → report ≡ report_of w → w ≡ run moves (first_world plan) → report ≡ report_of_run plan moves
+counted_so plan moves w report is was = is ∙ ap report_of was ∙ counts_are_of_actions plan moves
+
+pub run_ends : (moves : List Move) (w : World) → last_of (run_of moves w) w ≡ run moves w
+run_ends [] w = refl
+run_ends (what ∷ moves) w = run_ends moves (happens w what)

@@ -102,6 +102,11 @@ abbrev pub run_of : List Move → World → List Passed
 run_of [] w = []
 run_of (what ∷ moves) w = record { world = happens w what; given = given_at w what } ∷ run_of moves (happens w what)
 
+-- the world at the end of such a list of states
+abbrev pub last_of : List Passed → World → World
+last_of [] w = w
+last_of (one ∷ passed) w = last_of passed one.world
+
 -- ---- what is counted
 
 abbrev pub actions_in : Given → List Action

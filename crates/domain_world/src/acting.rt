@@ -1,6 +1,6 @@
 //! What an end's actions do in a world.
 
-ghost use Rattle.std.specs.Prelude.{◌≡◌, ◌≢◌, Err, filter, IfOk, OnOk, slice_get};
+ghost use Rattle.std.specs.Prelude.{◌≡◌, ◌≢◌, [], Err, filter, IfOk, OnOk, slice_get};
 ghost use Rattle.wire_base.specs.Maps.{lookup, same_number};
 ghost use Rattle.domain_world.specs.Links.{hearer_of};
 ghost use Rattle.domain_world.specs.Acting.{hear, bag_unit, send_on, perform_quietly, perform_all_quietly, hear_closed, closed_at, close, perform, perform_all, hears, piece_comes, pieces_come, forget, shut_link, is_of_other};
@@ -24,6 +24,7 @@ impl State {
     ) -> Result<Actions, StepRefused>
         ensures answer { IfOk result (λ actions. hear end event.now self.old
             ≡ record { state = self.new; actions = actions }) }
+        ensures spent { result ≡ Err StepRefused.Spent → self.new.chances.left ≡ [] }
         ensures runs { result ≢ Err StepRefused.Stopped }
     {
         let ends = mem::replace(&mut self.ends, Ends::none(alloc));
@@ -112,6 +113,7 @@ impl State {
     /// The end hears that the link was closed.
     fn hear_closed(&mut self, alloc: Global, link: u32, end: EndId) -> Result<(), StepRefused>
         ensures state { OnOk result (self.new ≡ (hear_closed link end self.old).state) }
+        ensures spent { result ≡ Err StepRefused.Spent → self.new.chances.left ≡ [] }
         ensures runs { result ≢ Err StepRefused.Stopped }
     {
         let actions = self.hear(alloc, end, &Event::Closed(link))?;
@@ -126,6 +128,7 @@ impl State {
         link: u32,
     ) -> Result<(), StepRefused>
         ensures state { OnOk result (self.new ≡ (closed_at end link self.old).state) }
+        ensures spent { result ≡ Err StepRefused.Spent → self.new.chances.left ≡ [] }
         ensures runs { result ≢ Err StepRefused.Stopped }
     {
         match end {
@@ -153,6 +156,7 @@ impl State {
     /// An end closes a link: the end at the other side hears of it.
     fn close(&mut self, alloc: Global, end: EndId, link: u32) -> Result<(), StepRefused>
         ensures state { OnOk result (self.new ≡ (close end link self.old).state) }
+        ensures spent { result ≡ Err StepRefused.Spent → self.new.chances.left ≡ [] }
         ensures runs { result ≢ Err StepRefused.Stopped }
     {
         match self.open_link(link) {
@@ -167,6 +171,7 @@ impl State {
     /// An action is done.
     fn perform(&mut self, alloc: Global, end: EndId, action: Action) -> Result<(), StepRefused>
         ensures state { OnOk result (self.new ≡ (perform end action self.old).state) }
+        ensures spent { result ≡ Err StepRefused.Spent → self.new.chances.left ≡ [] }
         ensures runs { result ≢ Err StepRefused.Stopped }
     {
         match action {
@@ -183,6 +188,7 @@ impl State {
         actions: Actions,
     ) -> Result<(), StepRefused>
         ensures state { OnOk result (self.new ≡ (perform_all end actions self.old).state) }
+        ensures spent { result ≡ Err StepRefused.Spent → self.new.chances.left ≡ [] }
         ensures runs { result ≢ Err StepRefused.Stopped }
     {
         for action in actions.into_vec() {
@@ -202,6 +208,7 @@ impl State {
         event: &Event,
     ) -> Result<(), StepRefused>
         ensures state { OnOk result (self.new ≡ (hears end event.now self.old).state) }
+        ensures spent { result ≡ Err StepRefused.Spent → self.new.chances.left ≡ [] }
         ensures runs { result ≢ Err StepRefused.Stopped }
     {
         let actions = self.hear(alloc, end, event)?;
@@ -217,6 +224,7 @@ impl State {
         piece: Blob,
     ) -> Result<(), StepRefused>
         ensures state { OnOk result (self.new ≡ (piece_comes back link piece self.old).state) }
+        ensures spent { result ≡ Err StepRefused.Spent → self.new.chances.left ≡ [] }
         ensures runs { result ≢ Err StepRefused.Stopped }
     {
         match self.hearer(back, link) {
@@ -244,6 +252,7 @@ impl State {
         pieces: Frames,
     ) -> Result<(), StepRefused>
         ensures state { OnOk result (self.new ≡ (pieces_come back link pieces self.old).state) }
+        ensures spent { result ≡ Err StepRefused.Spent → self.new.chances.left ≡ [] }
         ensures runs { result ≢ Err StepRefused.Stopped }
     {
         for piece in pieces.into_vec() {

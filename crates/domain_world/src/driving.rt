@@ -1,6 +1,6 @@
 //! A world that is driven by a list of moves.
 
-ghost use Rattle.std.specs.Prelude.{◌≡◌, ◌+◌, ◌++◌, ◌≤◌, ◌↔◌, true, false, List, Err, length, All, IfOk, OnOk, OnErr, IsTrue};
+ghost use Rattle.std.specs.Prelude.{◌≡◌, ◌+◌, ◌++◌, ◌≤◌, ◌↔◌, [], true, false, List, Err, length, All, IfOk, OnOk, OnErr, IsTrue};
 ghost use Rattle.domain_world.specs.declared.moves.Move.{Move};
 ghost use Rattle.domain_world.specs.declared.plan.Plan.{Plan};
 ghost use Rattle.domain_world.specs.World.{IsMove, move_limit, first_world, run, report_of, report_of_run};
@@ -22,6 +22,8 @@ pub fn drive(alloc: Global, world: &mut World, moves: &Moves) -> Result<Report, 
     ensures stopped { (result ≡ Err WorldRefused.Stopped) ↔ IsTrue world.old.stopped }
     ensures stops { OnErr result (world.new.stopped ≡ true) }
     ensures goes_on { OnOk result (world.new.stopped ≡ false) }
+    // `Spent` comes only where no challenge is left.
+    ensures spent { result ≡ Err WorldRefused.Spent → world.new.state.chances.left ≡ [] }
     // So from a plan on the world is that of all moves, the earlier ones and these, and what was counted are the actions that its ends gave.
     ensures from_plan { OnOk result ((plan : Plan) (earlier : List Move) →
         world.old ≡ run earlier (first_world plan) →

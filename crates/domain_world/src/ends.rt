@@ -1,6 +1,6 @@
 //! The ends of a world.
 
-ghost use Rattle.std.specs.Prelude.{◌≡◌, ◌≢◌, ◌<◌, false, Err, Some, IsSome, length, IfOk, slice_get, slice_set, option_copied};
+ghost use Rattle.std.specs.Prelude.{◌≡◌, ◌≢◌, ◌<◌, [], false, Err, Some, IsSome, length, IfOk, slice_get, slice_set, option_copied};
 ghost use Rattle.domain_controller.specs.State.{State as ControllerState};
 ghost use Rattle.domain_controller.specs.Step.{first_state};
 ghost use Rattle.member_server.specs.Machine.{is_stopped as member_is_stopped};
@@ -126,6 +126,7 @@ impl Ends {
     ) -> Result<(Ends, Actions), StepRefused>
         ensures answer { IfOk result (λ done. end_step end event.now now self chances.old
             ≡ record { ends = done.0; chances = chances.new; actions = done.1 }) }
+        ensures spent { result ≡ Err StepRefused.Spent → chances.new.left ≡ [] }
         ensures runs { result ≢ Err StepRefused.Stopped }
     {
         match end {
@@ -136,7 +137,7 @@ impl Ends {
     }
 
     /// The step of a controller.
-    #[tactic(auto, using(crate::proofs::EndLaws::controller_took))]
+    #[tactic(auto, using(crate::proofs::EndLaws::controller_took, crate::proofs::EndLaws::spent_all))]
     fn step_controller(
         self,
         alloc: Global,
@@ -148,6 +149,7 @@ impl Ends {
         ensures answer { IfOk result (λ done.
             controller_step (slice_get self.controllers at) at event.now now self chances.old
             ≡ record { ends = done.0; chances = chances.new; actions = done.1 }) }
+        ensures spent { result ≡ Err StepRefused.Spent → chances.new.left ≡ [] }
         ensures runs { result ≢ Err StepRefused.Stopped }
     {
         let Ends {
@@ -178,7 +180,7 @@ impl Ends {
     }
 
     /// The step of a member.
-    #[tactic(auto, using(crate::proofs::EndLaws::member_took))]
+    #[tactic(auto, using(crate::proofs::EndLaws::member_took, crate::proofs::EndLaws::spent_all))]
     fn step_member(
         self,
         alloc: Global,
@@ -190,6 +192,7 @@ impl Ends {
         ensures answer { IfOk result (λ done.
             member_step (slice_get self.members at) at event.now now self chances.old
             ≡ record { ends = done.0; chances = chances.new; actions = done.1 }) }
+        ensures spent { result ≡ Err StepRefused.Spent → chances.new.left ≡ [] }
         ensures runs { result ≢ Err StepRefused.Stopped }
     {
         let Ends {
@@ -220,7 +223,7 @@ impl Ends {
     }
 
     /// The step of a client.
-    #[tactic(auto, using(crate::proofs::EndLaws::client_took))]
+    #[tactic(auto, using(crate::proofs::EndLaws::client_took, crate::proofs::EndLaws::spent_all))]
     fn step_client(
         self,
         alloc: Global,
@@ -232,6 +235,7 @@ impl Ends {
         ensures answer { IfOk result (λ done.
             client_step (slice_get self.clients at) at event.now now self chances.old
             ≡ record { ends = done.0; chances = chances.new; actions = done.1 }) }
+        ensures spent { result ≡ Err StepRefused.Spent → chances.new.left ≡ [] }
         ensures runs { result ≢ Err StepRefused.Stopped }
     {
         let Ends {

@@ -17,7 +17,7 @@ mod plan;
 mod state;
 mod world;
 
-pub use claims::{claims_tell_apart, controllers_pass_the_next};
+pub use claims::{a_run_ends_in_its_last_state, claims_tell_apart, controllers_pass_the_next};
 pub use counting::Report;
 pub use driving::drive;
 pub use moves::{Move, Moves, moves_from};

@@ -1,6 +1,6 @@
 //! The moves of a world.
 
-ghost use Rattle.std.specs.Prelude.{◌≡◌, ◌≢◌, Err, ◌<◌, ◌^◌, length, OnOk, slice_get};
+ghost use Rattle.std.specs.Prelude.{◌≡◌, ◌≢◌, [], Err, ◌<◌, ◌^◌, length, OnOk, slice_get};
 ghost use Rattle.domain_world.specs.Moving.{act, start, open_link, stranger, end_of_peer, route_to, answered_link, answer, connect_by, without_first, connect, fail_dial, come, onward, lose, deliver, hand, shut, renewed, restart, moment_after, tick};
 
 use crate::bag::pieces;
@@ -22,6 +22,7 @@ impl State {
     /// The client is made anew from its plan, and begins.
     fn start(&mut self, alloc: Global, number: u32) -> Result<(), StepRefused>
         ensures state { OnOk result (self.new ≡ (start number self.old).state) }
+        ensures spent { result ≡ Err StepRefused.Spent → self.new.chances.left ≡ [] }
         ensures runs { result ≢ Err StepRefused.Stopped }
     {
         let Some(at) = chosen_place(number, self.ends.client_count()) else {
@@ -42,6 +43,7 @@ impl State {
     fn open(&mut self, alloc: Global, route: Route) -> Result<(), StepRefused>
         requires { length self.old.links < 2 ^ 32 }
         ensures state { OnOk result (self.new ≡ (open_link route self.old).state) }
+        ensures spent { result ≡ Err StepRefused.Spent → self.new.chances.left ≡ [] }
         ensures runs { result ≢ Err StepRefused.Stopped }
     {
         let number = self.links.len() as u32;
@@ -60,6 +62,7 @@ impl State {
     fn stranger(&mut self, alloc: Global, number: u32) -> Result<(), StepRefused>
         requires { length self.old.links < 2 ^ 32 }
         ensures state { OnOk result (self.new ≡ (stranger number self.old).state) }
+        ensures spent { result ≡ Err StepRefused.Spent → self.new.chances.left ≡ [] }
         ensures runs { result ≢ Err StepRefused.Stopped }
     {
         let Some(number) = chosen_place(number, self.ends.acceptors()) else {
@@ -98,6 +101,7 @@ impl State {
     /// The end that dialled the link hears that it is answered.
     fn answer(&mut self, alloc: Global, end: EndId, link: u32) -> Result<(), StepRefused>
         ensures state { OnOk result (self.new ≡ (answer end link self.old).state) }
+        ensures spent { result ≡ Err StepRefused.Spent → self.new.chances.left ≡ [] }
         ensures runs { result ≢ Err StepRefused.Stopped }
     {
         match self.open_link(link) {
@@ -121,6 +125,7 @@ impl State {
     ) -> Result<(), StepRefused>
         requires { length self.old.links < 2 ^ 32 }
         ensures state { OnOk result (self.new ≡ (connect_by route end self.old).state) }
+        ensures spent { result ≡ Err StepRefused.Spent → self.new.chances.left ≡ [] }
         ensures runs { result ≢ Err StepRefused.Stopped }
     {
         let Some(route) = route else {
@@ -149,6 +154,7 @@ impl State {
     fn connect(&mut self, alloc: Global) -> Result<(), StepRefused>
         requires { length self.old.links < 2 ^ 32 }
         ensures state { OnOk result (self.new ≡ (connect self.old).state) }
+        ensures spent { result ≡ Err StepRefused.Spent → self.new.chances.left ≡ [] }
         ensures runs { result ≢ Err StepRefused.Stopped }
     {
         match self.next_dial(alloc) {
@@ -163,6 +169,7 @@ impl State {
     /// The oldest dial that waits fails.
     fn fail_dial(&mut self, alloc: Global) -> Result<(), StepRefused>
         ensures state { OnOk result (self.new ≡ (fail_dial self.old).state) }
+        ensures spent { result ≡ Err StepRefused.Spent → self.new.chances.left ≡ [] }
         ensures runs { result ≢ Err StepRefused.Stopped }
     {
         match self.next_dial(alloc) {
@@ -174,6 +181,7 @@ impl State {
     /// A unit comes on the link in its direction.
     fn come(&mut self, alloc: Global, number: usize, link: u32) -> Result<(), StepRefused>
         ensures state { OnOk result (self.new ≡ (come number link self.old).state) }
+        ensures spent { result ≡ Err StepRefused.Spent → self.new.chances.left ≡ [] }
         ensures runs { result ≢ Err StepRefused.Stopped }
     {
         let Some(unit) = self.bag.get(number) else {
@@ -187,6 +195,7 @@ impl State {
     /// The oldest unit that was neither delivered nor lost is delivered on its own link.
     fn onward(&mut self, alloc: Global) -> Result<(), StepRefused>
         ensures state { OnOk result (self.new ≡ (onward self.old).state) }
+        ensures spent { result ≡ Err StepRefused.Spent → self.new.chances.left ≡ [] }
         ensures runs { result ≢ Err StepRefused.Stopped }
     {
         let Some(number) = self.bag.first_waiting() else {
@@ -212,6 +221,7 @@ impl State {
     /// A unit is delivered on a link of its kind.
     fn deliver(&mut self, alloc: Global, unit: u32, link: u32) -> Result<(), StepRefused>
         ensures state { OnOk result (self.new ≡ (deliver unit link self.old).state) }
+        ensures spent { result ≡ Err StepRefused.Spent → self.new.chances.left ≡ [] }
         ensures runs { result ≢ Err StepRefused.Stopped }
     {
         let Some(number) = chosen_place(unit, self.bag.len()) else {
@@ -237,6 +247,7 @@ impl State {
         bytes: &[u8],
     ) -> Result<(), StepRefused>
         ensures state { OnOk result (self.new ≡ (hand link back bytes.now self.old).state) }
+        ensures spent { result ≡ Err StepRefused.Spent → self.new.chances.left ≡ [] }
         ensures runs { result ≢ Err StepRefused.Stopped }
     {
         match self.links.chosen_handed(link) {
@@ -251,6 +262,7 @@ impl State {
     /// A link is shut: each side that is open hears of it.
     fn shut(&mut self, alloc: Global, number: u32) -> Result<(), StepRefused>
         ensures state { OnOk result (self.new ≡ (shut number self.old).state) }
+        ensures spent { result ≡ Err StepRefused.Spent → self.new.chances.left ≡ [] }
         ensures runs { result ≢ Err StepRefused.Stopped }
     {
         let Some(at) = chosen_place(number, self.open_links.len()) else {
@@ -321,6 +333,7 @@ impl State {
     pub(crate) fn act(&mut self, alloc: Global, what: &Move) -> Result<(), StepRefused>
         requires { length self.old.links < 2 ^ 32 }
         ensures state { OnOk result (self.new ≡ (act self.old what.now).state) }
+        ensures spent { result ≡ Err StepRefused.Spent → self.new.chances.left ≡ [] }
         ensures runs { result ≢ Err StepRefused.Stopped }
     {
         match what {

@@ -1,7 +1,9 @@
 //! The world.
 
-ghost use Rattle.std.specs.Prelude.{◌≡◌, ◌≢◌, ◌<◌, ◌↔◌, Err, true, false, IfOk, OnOk, OnErr, IsTrue, option_copied};
-ghost use Rattle.domain_world.specs.World.{IsPlan, IsMove, move_limit, first_world, happens, report_of, outcome_of};
+ghost use Rattle.std.specs.Prelude.{◌≡◌, ◌≢◌, ◌<◌, ◌↔◌, [], List, Err, true, false, IfOk, OnOk, OnErr, IsTrue, option_copied};
+ghost use Rattle.domain_world.specs.declared.moves.Move.{Move};
+ghost use Rattle.domain_world.specs.declared.plan.Plan.{Plan};
+ghost use Rattle.domain_world.specs.World.{IsPlan, IsMove, move_limit, first_world, happens, run, report_of, report_of_run, outcome_of};
 
 use crate::counting::Report;
 use crate::making::first_state;
@@ -72,16 +74,21 @@ impl World {
         ensures stopped { (result ≡ Err WorldRefused.Stopped) ↔ IsTrue self.old.stopped }
         ensures stops { OnErr result (self.new.stopped ≡ true) }
         ensures goes_on { OnOk result (self.new.stopped ≡ false) }
+        // `Spent` comes only where no challenge is left, and what a move that isn't made gave isn't counted.
+        ensures spent { result ≡ Err WorldRefused.Spent → self.new.state.chances.left ≡ [] }
+        ensures kept { OnErr result (report_of self.new ≡ report_of self.old) }
     {
         if self.stopped {
             return Err(WorldRefused::Stopped);
         }
+        let counts = self.state.counts;
         match self.state.act(alloc, what) {
             Ok(()) => {
                 self.moves += 1;
                 Ok(())
             }
             Err(why) => {
+                self.state.counts = counts;
                 self.stopped = true;
                 Err(refusal(why))
             }
@@ -96,8 +103,12 @@ impl World {
     }
 
     /// What was counted since the plan. It takes no memory.
+    #[tactic(auto, using(crate::proofs::RunLaws::counted_so))]
     pub fn report(&self) -> Report
-        ensures { result ≡ report_of self.now }
+        ensures value { result ≡ report_of self.now }
+        // Of a run from a plan what is counted are the actions that its ends gave.
+        ensures counted { (plan : Plan) (moves : List Move) →
+            self.now ≡ run moves (first_world plan) → result ≡ report_of_run plan moves }
     {
         let counts = self.state.counts;
         Report {
@@ -124,7 +135,9 @@ impl World {
 /// Why a move wasn't made, by why an end took no step.
 fn refusal(why: StepRefused) -> WorldRefused
     requires { why ≢ StepRefused.Stopped }
-    ensures { result ≢ WorldRefused.Stopped }
+    ensures memory { (result ≡ WorldRefused.Memory) ↔ (why ≡ StepRefused.Memory) }
+    ensures spent { (result ≡ WorldRefused.Spent) ↔ (why ≡ StepRefused.Spent) }
+    ensures runs { result ≢ WorldRefused.Stopped }
 {
     match why {
         StepRefused::Memory => WorldRefused::Memory,

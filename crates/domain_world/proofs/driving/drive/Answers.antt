@@ -12,4 +12,4 @@ returns-clause-from_plan c =
 pub returns-clause-counted : goal.returns-clause-counted
 returns-clause-counted c =
     let made : c.loop-what.world ≡ run c.args.moves.now c.args.world.now = grind (arith, common_steps) in
-    λ plan earlier was. c.report.ensures ∙ ap report_of made ∙ counted_on plan earlier c.args.moves.now c.args.world.now was
+    λ plan earlier was. c.report.ensures.value ∙ ap report_of made ∙ counted_on plan earlier c.args.moves.now c.args.world.now was
