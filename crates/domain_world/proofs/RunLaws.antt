@@ -18,6 +18,10 @@ pub counted_on : (plan : Plan) (earlier moves : List Move) (old : World) → old
 counted_on plan earlier moves old was =
     ap (λ w. report_of (run moves w)) was ∙ ap report_of (sym (run_append earlier moves (first_world plan))) ∙ counts_are_of_actions plan (earlier ++ moves)
 
+-- a move goes on from a plan
+pub move_on : (plan : Plan) (earlier : List Move) (what : Move) (old new : World) → new ≡ happens old what → old ≡ run earlier (first_world plan) → new ≡ run (earlier ++ what ∷ []) (first_world plan)
+move_on plan earlier what old new is was = run_on plan earlier (what ∷ []) old new is was
+
 pub counted_so : (plan : Plan) (moves : List Move) (w : World) (report : Report) → report ≡ report_of w → w ≡ run moves (first_world plan) → report ≡ report_of_run plan moves
 counted_so plan moves w report is was = is ∙ ap report_of was ∙ counts_are_of_actions plan moves
 

@@ -1,6 +1,6 @@
 //! The world.
 
-ghost use Rattle.std.specs.Prelude.{◌≡◌, ◌≢◌, ◌<◌, ◌↔◌, [], List, Err, true, false, IfOk, OnOk, OnErr, IsTrue, option_copied};
+ghost use Rattle.std.specs.Prelude.{◌≡◌, ◌≢◌, ◌<◌, ◌↔◌, ◌++◌, ◌∷◌, [], List, Err, true, false, IfOk, OnOk, OnErr, IsTrue, option_copied};
 ghost use Rattle.domain_world.specs.declared.moves.Move.{Move};
 ghost use Rattle.domain_world.specs.declared.plan.Plan.{Plan};
 ghost use Rattle.domain_world.specs.World.{IsPlan, IsMove, move_limit, first_world, happens, run, report_of, report_of_run, outcome_of};
@@ -77,6 +77,10 @@ impl World {
         // `Spent` comes only where no challenge is left, and what a move that isn't made gave isn't counted.
         ensures spent { result ≡ Err WorldRefused.Spent → self.new.state.chances.left ≡ [] }
         ensures kept { OnErr result (report_of self.new ≡ report_of self.old) }
+        // So from a plan on the world is that of all moves, the earlier ones and this one.
+        ensures from_plan { OnOk result ((plan : Plan) (earlier : List Move) →
+            self.old ≡ run earlier (first_world plan) →
+            self.new ≡ run (earlier ++ what.now ∷ []) (first_world plan)) }
     {
         if self.stopped {
             return Err(WorldRefused::Stopped);

@@ -1,5 +1,6 @@
-use Rattle.std.proofs.Common.{◌≡◌, true, false}
+use Rattle.std.proofs.Common.{◌≡◌, true, false, rules}
 use Rattle.domain_world.proofs.BoundLaws.{act_bounded}
+use Rattle.domain_world.proofs.RunLaws.{move_on}
 use Rattle.domain_world.proofs.world.World.step.Goals as goal
 
 pub invariant_of-self : goal.invariant_of-self
@@ -8,3 +9,6 @@ invariant_of-self c =
 
 pub invariant_of-self-in-Err : goal.invariant_of-self-in-Err
 invariant_of-self-in-Err c = record { links = λ runs. absurd (let halted : true ≡ false = runs in cc) }
+
+pub returns-in-Ok-clause-from_plan : goal.returns-in-Ok-clause-from_plan
+returns-in-Ok-clause-from_plan c = λ plan earlier was. move_on plan earlier c.args.what.now c.args.self.now _ (search rules) was
