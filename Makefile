@@ -20,8 +20,8 @@ programs: $(PROGRAMS)
 cases:
 	@python3 cases/make.py
 
-# A program is proved, built and run on its stored arguments before it is copied.
+# A program is proved, built and run on its stored arguments, which end with its stored status or 0, before it is copied.
 $(PROGRAMS):
 	@mkdir -p bin
-	@cd crates/$@ && rt run -- $$(cat args) > /dev/null
+	@cd crates/$@ && { rt run -- $$(cat args) > /dev/null; test $$? -eq $$(cat status 2>/dev/null || echo 0); }
 	@cp crates/$@/out/$@ bin/$@
