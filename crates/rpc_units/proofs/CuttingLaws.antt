@@ -5,7 +5,7 @@ use Rattle.std.proofs.lemmas.List.{append-nil, take-append-drop, length-drop, le
 use Rattle.rpc_units.specs.declared.unit.Unit.{Unit as RpcUnit}
 use Rattle.rpc_units.specs.declared.unit.Body.{Body}
 use Rattle.rpc_units.specs.declared.unit.Body.TheVariants.{Bind, BindAck, BindNak, Auth3, Request, Response, Fault}
-use Rattle.std.specs.List.{AllByRecursion}
+use Rattle.std.specs.List.{flat_map, AllByRecursion}
 use Rattle.std.specs.Int.{w32, to_le_bytes}
 use Rattle.rpc_units.specs.declared.unit.Trailer.{Trailer}
 use Rattle.rpc_units.specs.Writing.{zeros, pad_for, value_len, written_body, written_tail, written, HasPieces, HasCounts, HasValue, IsWritable, HasNumbers, IsInRange, IsSendable}
@@ -296,3 +296,48 @@ call_heard call limit h short =
       read = read_again (cut_of call limit) each;
       joined = AddsTo-IsJoined (cut_of call limit) call joined (subst (λ (s : List ℕ). length s ≤ 65536) stubs short);
     }
+
+-- ---- the bytes of a call
+
+tail_bytes : (count : ℕ) (trailer : Option Trailer) → length (written_tail count trailer) ≤ 11 + value_len trailer
+tail_bytes count None = omega arith
+tail_bytes count (Some trailer) =
+    omega (arith, length-append (zeros (pad_for count)) ((trailer.kind ∷ trailer.level ∷ pad_for count ∷ 0 ∷ []) ++ (to_le_bytes w32 trailer.context ++ trailer.value)), length_zeros (pad_for count))
+
+-- a fragment has a header of 16 bytes, 8 of its body before the stub, at most 3 of padding, and 8 of a trailer before its value
+fragment_bytes : (unit : RpcUnit) (first last : Bool) (stub : List ℕ) → HasStub unit.body → length (written (fragment unit first last stub)) ≤ length stub + 35 + value_len unit.trailer
+fragment_bytes unit first last stub h =
+    let body = written_body (with_stub unit.body stub) in
+    let tail = tail_bytes (length body) unit.trailer in
+    omega (arith, body_size unit.body stub h, length_written (fragment unit first last stub), length-append body (written_tail (length body) unit.trailer), tail)
+
+one_fragment : (unit : RpcUnit) (first : Bool) (stub : List ℕ) → HasStub unit.body → value_len unit.trailer ≤ 16 →
+    8 * length (flat_map written (fragment unit first true stub ∷ [])) ≤ 9 * length stub + 408
+one_fragment unit first stub h small =
+    omega (arith, length-append (written (fragment unit first true stub)) [], fragment_bytes unit first true stub h)
+
+fragments_bytes : (most : ℕ) (unit : RpcUnit) (size : ℕ) (first : Bool) (stub : List ℕ) → HasStub unit.body → 408 ≤ size → value_len unit.trailer ≤ 16 →
+    8 * length (flat_map written (fragments_of most unit size first stub)) ≤ 9 * length stub + 408
+fragments_bytes zero unit size first stub h large small = one_fragment unit first stub h small
+fragments_bytes (suc most) unit size first stub h large small =
+    elim (cases_lt size (length stub)) [
+      | inl long ↦
+          let one = fragment unit first false (take size stub) in
+          let more = fragments_of most unit size false (drop size stub) in
+          rw (fragments_more most unit size first stub long) (omega (
+            arith,
+            length-append (written one) (flat_map written more),
+            fragment_bytes unit first false (take size stub) h,
+            fragments_bytes most unit size false (drop size stub) h large small,
+            length-take size stub,
+            length-drop size stub,
+          ))
+      | inr short ↦ rw (fragments_end (suc most) unit size first stub short) (one_fragment unit first stub h small)
+    ]
+
+-- at most nine eighths of its stub, and what a fragment has besides
+pub call_short : (call : RpcUnit) (limit : ℕ) → HasStub call.body → 1432 ≤ limit → value_len call.trailer ≤ 16 →
+    8 * length (bytes_of_call call limit) ≤ 9 * length (stub_of call.body) + 408
+unfolding cut_of
+call_short call limit h least small =
+    fragments_bytes (length (stub_of call.body)) call (stub_size limit) true (stub_of call.body) h (omega arith) small

@@ -1,15 +1,15 @@
 //! What holds of units, of streams and of calls on the wire.
 
-ghost use Rattle.std.specs.Prelude.{◌≡◌, ◌≤◌, ◌++◌, ℕ, List, [], None, Some, Ok, Err, false, take, length, map};
+ghost use Rattle.std.specs.Prelude.{◌≡◌, ◌≤◌, ◌+◌, ◌*◌, ◌++◌, ℕ, List, [], None, Some, Ok, Err, false, take, length, map};
 ghost use Rattle.std.specs.List.{flat_map, AllByRecursion};
 ghost use Rattle.wire_base.specs.Numbers.{AreBytes};
 ghost use Rattle.rpc_units.specs.declared.refused.UnitRefused.{UnitRefused as RefusedUnit};
 ghost use Rattle.rpc_units.specs.declared.unit.Unit.{Unit as RpcUnit};
 ghost use Rattle.rpc_units.specs.Calls.{bytes_of_call, CanBeSent, IsHeard};
-ghost use Rattle.rpc_units.specs.Joining.{stub_of, cut_of};
+ghost use Rattle.rpc_units.specs.Joining.{stub_of, cut_of, HasStub};
 ghost use Rattle.rpc_units.specs.Reading.{unit_of};
 ghost use Rattle.rpc_units.specs.Stream.{Flow, Cut, cut_stream, cut_joined_to, with_unit, with_front, without_front, IsCut, IsStream};
-ghost use Rattle.rpc_units.specs.Writing.{written, IsWritable, IsInRange, IsSendable, IsShortBody, ContextsFit};
+ghost use Rattle.rpc_units.specs.Writing.{written, value_len, IsWritable, IsInRange, IsSendable, IsShortBody, ContextsFit};
 
 use crate::refused::UnitRefused;
 
@@ -30,7 +30,8 @@ pub fn what_is_read_is_written()
 
 /// The units of a stream, its rest and its refusal: they are the stream's by the grammar, and no others are; written units are a stream of just
 /// these; a stream that comes in two pieces has the units of the first and those of its rest with the second, and a refusal stays whatever
-/// follows; and a unit that was lent and taken out, whatever was written to it, leaves what followed it. No stream is refused for want of memory.
+/// follows; and a unit that was lent and taken out, whatever was written to it, leaves what followed it. Each unit has 16 bytes or more. No stream
+/// is refused for want of memory.
 pub fn streams_have_one_reading()
     ensures grammar { (stream : List ℕ)
         → IsStream stream (cut_stream stream).units (cut_stream stream).rest }
@@ -51,16 +52,22 @@ pub fn streams_have_one_reading()
         → done ≡ without_front changed
         → (cut ≡ with_unit (take size came.held) (cut_stream (done.held ++ left)))
         × (done.broken ≡ false) }
+    ensures count { (stream : List ℕ)
+        → 16 * length (cut_stream stream).units + length (cut_stream stream).rest ≤ length stream }
     ensures memory { (stream : List ℕ) → (cut_stream stream).refused ≡ Some UnitRefused.Memory → ⊥ }
 {}
 
 /// The fragments of a whole call in range can be written, each with at most 5,840 bytes. Their bytes, one after the other, are a stream of just
 /// these units and no rest; each is read again, and a new `Joiner` to which they are added gives the call, where its stub has at most 65,536
-/// bytes.
+/// bytes. Where its trailer's value, if it has one, has at most 16 bytes, all fragments have at most nine eighths of the bytes of the stub, and 51
+/// more.
 pub fn what_is_sent_is_heard()
     ensures fragments { (call : RpcUnit) (limit : ℕ)
         → CanBeSent call limit → AllByRecursion IsSendable (cut_of call limit) }
     ensures heard { (call : RpcUnit) (limit : ℕ)
         → CanBeSent call limit → length (stub_of call.body) ≤ 65536
         → IsHeard (bytes_of_call call limit) (cut_of call limit) call }
+    ensures bytes { (call : RpcUnit) (limit : ℕ)
+        → HasStub call.body → 1432 ≤ limit → value_len call.trailer ≤ 16
+        → 8 * length (bytes_of_call call limit) ≤ 9 * length (stub_of call.body) + 408 }
 {}

@@ -1,5 +1,5 @@
 use Rattle.rpc_units.proofs.ComingLaws.{front_done}
-use Rattle.rpc_units.proofs.CutStreamLaws.{cut_is_stream, cut_only, cut_written, cut_joined, cut_stays_refused}
+use Rattle.rpc_units.proofs.CutStreamLaws.{cut_is_stream, cut_only, cut_written, cut_joined, cut_stays_refused, units_counted}
 use Rattle.rpc_units.proofs.RefusalLaws.{stream_memory}
 use Rattle.rpc_units.proofs.laws.streams_have_one_reading.Goals as goal
 
@@ -23,3 +23,6 @@ returns-clause-taken c = front_done
 
 pub returns-clause-memory : goal.returns-clause-memory
 returns-clause-memory c = stream_memory
+
+pub returns-clause-count : goal.returns-clause-count
+returns-clause-count c = units_counted
