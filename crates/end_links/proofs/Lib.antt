@@ -1,3 +1,4 @@
 pub mod BindingLaws
+pub mod BoundLaws
 pub mod LinkLaws
 pub mod ServingLaws

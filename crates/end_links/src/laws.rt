@@ -1,6 +1,7 @@
 //! What holds of bindings, and of the units of a stream that any end serves.
 
 ghost use Rattle.end_links.specs.Binding.{ContextsAnswered};
+ghost use Rattle.end_links.specs.Bounds.{StepsBounded};
 ghost use Rattle.end_links.specs.Serving.{UnitsServed};
 
 /// A context is accepted exactly where the answer to it says so, and only for the interface that is served, with NDR.
@@ -12,4 +13,9 @@ pub fn contexts_are_answered()
 /// from the front. `W` is the end at work, `T` what is said on the link.
 pub fn units_are_served_in_order<W, T>()
     ensures { UnitsServed W T }
+{}
+
+/// Serving a stream draws few challenges, whatever it comes to, and a call leaves no fewer than what it makes.
+pub fn steps_are_bounded<W, T>()
+    ensures { StepsBounded W T }
 {}

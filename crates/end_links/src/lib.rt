@@ -7,12 +7,14 @@ mod link;
 mod links;
 mod sending;
 mod serving;
+mod short_actions;
 
 pub use binding::{Binding, bind, bind_ack, bind_nak, fragment_limit};
-pub use laws::{contexts_are_answered, units_are_served_in_order};
+pub use laws::{contexts_are_answered, steps_are_bounded, units_are_served_in_order};
 pub use link::Link;
 pub use links::{LINK_LIMIT, Links, SaysHeld};
 pub use sending::{
     call_bytes, call_frames, fault, join_frames, request, response, short_unit_bytes, unit_bytes,
 };
 pub use serving::{ServesUnits, serve_piece};
+pub use short_actions::ShortActions;

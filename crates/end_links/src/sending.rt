@@ -1,9 +1,9 @@
 //! What an end sends.
 
-ghost use Rattle.std.specs.Prelude.{◌≡◌, ◌≤◌, ◌<◌, ◌^◌, ◌++◌, IfOk, OnOk, length, None, map};
+ghost use Rattle.std.specs.Prelude.{◌≡◌, ◌≤◌, ◌<◌, ◌+◌, ◌*◌, ◌^◌, ◌++◌, IfOk, OnOk, length, None, map};
 ghost use Rattle.std.specs.List.{flat_map, AllByRecursion};
 ghost use Rattle.rpc_units.specs.Calls.{bytes_of_call};
-ghost use Rattle.rpc_units.specs.Joining.{cut_of, IsWholeCall};
+ghost use Rattle.rpc_units.specs.Joining.{cut_of, stub_of, IsWholeCall};
 ghost use Rattle.rpc_units.specs.Writing.{written, IsWritable, IsShortBody};
 ghost use Rattle.end_links.specs.Sending.{frames_of, joined_frames, request_of, response_of, fault_of};
 
@@ -11,8 +11,34 @@ use rpc_units::{Body, Unit, UnitWriteRefused, cut_call, write_unit};
 use std::alloc::Global;
 use wire_base::{Blob, Frames, NoMemory};
 
-/// The bytes of a call or reply without a trailer, cut into fragments of at most `limit` bytes: what is one send (C706 12.6.2).
+/// The bytes of a call or reply without a trailer, cut into fragments of at most `limit` bytes: what is one send (C706 12.6.2). They are at most
+/// nine eighths of the bytes of the stub, and 51 more.
 pub fn call_bytes(alloc: Global, unit: &Unit, limit: u16) -> Result<Blob, NoMemory>
+    requires whole { IsWholeCall unit.now }
+    requires plain { unit.now.trailer ≡ None }
+    requires least { 1432 ≤ limit }
+    requires most { limit ≤ 5840 }
+    ensures value { IfOk result (λ bytes. bytes ≡ bytes_of_call unit.now limit) }
+    ensures short { IfOk result (λ bytes. 8 * length bytes ≤ 9 * length (stub_of unit.now.body) + 408) }
+{
+    cut_bytes(alloc, unit, limit)
+}
+
+/// The same as frames, each for itself.
+pub fn call_frames(alloc: Global, unit: &Unit, limit: u16) -> Result<Frames, NoMemory>
+    requires whole { IsWholeCall unit.now }
+    requires plain { unit.now.trailer ≡ None }
+    requires least { 1432 ≤ limit }
+    requires most { limit ≤ 5840 }
+    ensures value { IfOk result (λ frames. frames ≡ frames_of unit.now limit) }
+    ensures short { IfOk result (λ frames.
+        8 * length (joined_frames frames) ≤ 9 * length (stub_of unit.now.body) + 408) }
+{
+    cut_frames(alloc, unit, limit)
+}
+
+/// The bytes of a call. A function of its own, so that the number of its bytes is said of all of them at once.
+fn cut_bytes(alloc: Global, unit: &Unit, limit: u16) -> Result<Blob, NoMemory>
     requires whole { IsWholeCall unit.now }
     requires plain { unit.now.trailer ≡ None }
     requires least { 1432 ≤ limit }
@@ -27,9 +53,9 @@ pub fn call_bytes(alloc: Global, unit: &Unit, limit: u16) -> Result<Blob, NoMemo
     Ok(Blob::from_vec(bytes))
 }
 
-/// The same as frames, each for itself.
+/// The frames of a call, likewise.
 #[tactic(auto, unfolding(crate::specs::Sending::frames_of))]
-pub fn call_frames(alloc: Global, unit: &Unit, limit: u16) -> Result<Frames, NoMemory>
+fn cut_frames(alloc: Global, unit: &Unit, limit: u16) -> Result<Frames, NoMemory>
     requires whole { IsWholeCall unit.now }
     requires plain { unit.now.trailer ≡ None }
     requires least { 1432 ≤ limit }
@@ -59,7 +85,8 @@ pub fn join_frames(alloc: Global, frames: &Frames) -> Result<Blob, NoMemory>
 pub fn unit_bytes(alloc: Global, unit: &Unit) -> Result<Blob, NoMemory>
     requires writable { IsWritable unit.now }
     requires short { length (written unit.now) ≤ 5840 }
-    ensures { IfOk result (λ bytes. bytes ≡ written unit.now) }
+    ensures value { IfOk result (λ bytes. bytes ≡ written unit.now) }
+    ensures most { IfOk result (λ bytes. length bytes ≤ 5840) }
 {
     match write_unit(alloc, unit) {
         Ok(bytes) => Ok(bytes),
@@ -74,7 +101,8 @@ pub fn short_unit_bytes(alloc: Global, unit: &Unit) -> Result<Blob, NoMemory>
     requires writable { IsWritable unit.now }
     requires plain { unit.now.trailer ≡ None }
     requires short { IsShortBody unit.now.body }
-    ensures { IfOk result (λ bytes. bytes ≡ written unit.now) }
+    ensures value { IfOk result (λ bytes. bytes ≡ written unit.now) }
+    ensures most { IfOk result (λ bytes. length bytes ≤ 5840) }
 {
     unit_bytes(alloc, unit)
 }

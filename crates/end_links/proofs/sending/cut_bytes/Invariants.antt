@@ -2,7 +2,7 @@
 use Rattle.std.proofs.Common.{◌≡◌, ◌≤◌, ◌++◌, drop, length}
 use Rattle.std.specs.List.{flat_map, AllByRecursion}
 use Rattle.rpc_units.specs.Writing.{written, IsWritable}
-use Rattle.end_links.proofs.sending.call_bytes.Given as goal
+use Rattle.end_links.proofs.sending.cut_bytes.Given as goal
 
 abbrev pub invariant-loop-unit : goal.invariant-loop-unit
 invariant-loop-unit l = record {

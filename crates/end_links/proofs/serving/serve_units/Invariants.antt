@@ -3,7 +3,7 @@ use Rattle.std.proofs.Common.{◌≡◌, ◌++◌, length, false}
 use Rattle.outside.specs.Drawing.{DrawsSome}
 use Rattle.rpc_units.specs.Stream.{cut_stream}
 use Rattle.end_links.specs.Serving.{served_cut}
-use Rattle.end_links.proofs.serving.serve_piece.Given as goal
+use Rattle.end_links.proofs.serving.serve_units.Given as goal
 
 abbrev pub invariant-units : goal.invariant-units
 invariant-units g l = record {

@@ -2,7 +2,7 @@
 use Rattle.std.proofs.Common.{◌≡◌, ◌++◌, ◌≤◌, length, drop, map}
 use Rattle.std.specs.List.{AllByRecursion}
 use Rattle.rpc_units.specs.Writing.{written, IsWritable}
-use Rattle.end_links.proofs.sending.call_frames.Given as goal
+use Rattle.end_links.proofs.sending.cut_frames.Given as goal
 
 abbrev pub invariant-loop-unit : goal.invariant-loop-unit
 invariant-loop-unit l = record {
