@@ -1,11 +1,12 @@
 //! What a channel's calls answer.
 
+use crate::short_frames::ShortFrames;
 use crate::turn::Turn;
 use logon_stubs::Verdict;
 use outside::DropCause;
 use std::alloc::{AllocError, AllocFailed};
 use thiserror::Error;
-use wire_base::{Frames, NoMemory};
+use wire_base::NoMemory;
 
 /// What a unit comes to.
 #[derive(Debug, Drop)]
@@ -13,7 +14,7 @@ pub enum Taken {
     /// It answers nothing that the turn waits for.
     Skip(Turn),
     /// The frames of the request, which go out now.
-    Next(Turn, Frames),
+    Next(Turn, ShortFrames),
     /// Both challenges are known.
     Half,
     /// The channel is open.

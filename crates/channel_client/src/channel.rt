@@ -8,6 +8,7 @@ use crate::answers::{AskRefused, TakeRefused, Taken};
 use crate::caller::Caller;
 use crate::hearing::{Hearing, hear_body};
 use crate::judging::{Judgement, judge};
+use crate::short_frames::ShortFrames;
 use crate::starting::{begin_with, bind_frames};
 use crate::state::{Pending, Standing, Step, Waiting};
 use crate::turn::Turn;
@@ -17,13 +18,12 @@ use rpc_units::Unit;
 use std::alloc::Global;
 use std::marker::Model;
 use std::mem;
-use wire_base::{Frames, Name, NoMemory, Units};
+use wire_base::{Name, NoMemory, Units};
 
 /// The most logons that wait for one channel (this project's own choice).
 pub const WAITING_LIMIT: usize = 64;
 
 /// One end of a secure channel, the one that asks, and the logons that wait for it. Clauses see it as the record of what it keeps.
-#[derive(Drop)]
 pub struct Channel {
     caller: Caller,
     standing: Standing,
@@ -31,6 +31,20 @@ pub struct Channel {
     next_place: u32,
     next_call: u32,
     turn: Option<Pending>,
+}
+
+impl Drop for Channel {
+    // As it would be derived. Written out, it is one call wherever a value that holds one is let go, which keeps the proofs of those places short.
+    fn drop(self) {
+        let Channel {
+            caller: _caller,
+            standing: _standing,
+            waiting: _waiting,
+            next_place: _next_place,
+            next_call: _next_call,
+            turn: _turn,
+        } = self;
+    }
 }
 
 impl Model for Channel {
@@ -125,7 +139,7 @@ impl Channel {
         alloc: Global,
         timestamp: u32,
         challenge: [u8; 8],
-    ) -> Result<Option<(Turn, Frames)>, NoMemory>
+    ) -> Result<Option<(Turn, ShortFrames)>, NoMemory>
         ensures answer { IfOk result (λ given. given ≡ (start_of self.old timestamp challenge).answer) }
         ensures state { OnOk result (self.new ≡ (start_of self.old timestamp challenge).state) }
         ensures unchanged { OnErr result (self.new ≡ self.old) }

@@ -1,19 +1,20 @@
 //! What a unit comes to for the turn that is out.
 
-ghost use Rattle.std.specs.Prelude.{◌≡◌, ◌<◌, ◌^◌, IfOk, Ok, length};
+ghost use Rattle.std.specs.Prelude.{◌≡◌, ◌≤◌, IfOk, Ok, length};
 ghost use Rattle.logon_stubs.specs.Calls.{call_of, opnum_of_call};
 ghost use Rattle.logon_stubs.specs.Writing.{CanWriteCall, written_call};
 ghost use Rattle.end_links.specs.Binding.{limit_of};
 ghost use Rattle.end_links.specs.Sending.{frames_of, request_of};
 ghost use Rattle.channel_client.specs.Machine.{CanWriteStep, question_of, opnum_asked, is_accepting, hear_ack, hear_stub, hear_body};
 
+use crate::short_frames::ShortFrames;
 use crate::state::{Question, Step};
 use end_links::{call_frames, fragment_limit, request};
 use logon_stubs::{Call, Reply, StubRefused, read_reply, write_call};
 use outside::DropCause;
 use rpc_units::{Body, Results};
 use std::alloc::Global;
-use wire_base::{Blob, Frames, NoMemory};
+use wire_base::{Blob, NoMemory};
 
 /// What a unit comes to for the turn that is out.
 #[derive(Debug, Drop)]
@@ -21,7 +22,7 @@ pub enum Hearing {
     /// It answers nothing that the turn waits for.
     Skip,
     /// The request of that question goes out, in these frames.
-    Next(Question, Frames),
+    Next(Question, ShortFrames),
     /// It is the reply to the question.
     Reply(Question, Reply),
     /// The turn ends without an answer.
@@ -87,7 +88,12 @@ fn hear_ack(
 }
 
 /// The frames of the request of a call, on context 0, for a peer that receives so many bytes.
-fn request_frames(alloc: Global, call: &Call, receive: u16, number: u32) -> Result<Frames, NoMemory>
+fn request_frames(
+    alloc: Global,
+    call: &Call,
+    receive: u16,
+    number: u32,
+) -> Result<ShortFrames, NoMemory>
     requires { CanWriteCall call.now }
     ensures { IfOk result (λ frames. frames ≡ frames_of
         (request_of number 0 (opnum_of_call call.now) (written_call call.now))
@@ -95,27 +101,27 @@ fn request_frames(alloc: Global, call: &Call, receive: u16, number: u32) -> Resu
 {
     let stub = call_stub(alloc, call)?;
     let unit = request(number, 0, opnum(call), stub);
-    call_frames(alloc, &unit, fragment_limit(receive))
+    Ok(ShortFrames::new(call_frames(alloc, &unit, fragment_limit(receive))?))
 }
 
-/// The stub of a call, which is short enough for the hint of a request.
+/// The stub of a call, which is short enough for the hint of a request, and for one send.
 fn call_stub(alloc: Global, call: &Call) -> Result<Blob, NoMemory>
     requires { CanWriteCall call.now }
     ensures exact { IfOk result (λ stub. stub ≡ written_call call.now) }
-    ensures short { IfOk result (λ stub. length stub < 2 ^ 32) }
+    ensures short { IfOk result (λ stub. length stub ≤ 459140) }
 {
     let stub = write_call(alloc, call)?;
     read_stub(call, stub.bytes());
     Ok(stub)
 }
 
-/// The stub of a call has fewer than 2^20 bytes. It reads them, so that this is known.
+/// The stub of a call has at most 459,140 bytes. It reads them, so that this is known.
 #[tactic(auto, using(crate::proofs::StubLaws::stub_short))]
 fn read_stub(call: &Call, stub: &[u8])
     requires writable { CanWriteCall call.now }
     requires again { call_of (opnum_of_call call.now) stub.now ≡ Ok call.now }
     requires exact { stub.now ≡ written_call call.now }
-    ensures { length stub.now < 2 ^ 20 }
+    ensures { length stub.now ≤ 459140 }
 {}
 
 /// What a reply is judged by, of a call.

@@ -10,6 +10,7 @@ ghost use Rattle.channel_client.specs.Opened.{after_call};
 
 use crate::caller::Caller;
 use crate::opened::Opened;
+use crate::short_frames::ShortFrames;
 use crate::state::Standing;
 use channel_keys::{SUPPORTED_FLAGS, cred, session_key};
 use end_links::{bind, unit_bytes};
@@ -27,13 +28,13 @@ const NETLOGON: Syntax = Syntax {
 };
 
 /// The frames of the bind of that number.
-pub(crate) fn bind_frames(alloc: Global, number: u32) -> Result<Frames, NoMemory>
+pub(crate) fn bind_frames(alloc: Global, number: u32) -> Result<ShortFrames, NoMemory>
     ensures { IfOk result (λ frames. frames ≡ written (bind_of netlogon_syntax number) ∷ []) }
 {
     let unit = bind(alloc, &NETLOGON, number)?;
     let mut frames = Frames::new(alloc);
     frames.push(unit_bytes(alloc, &unit)?)?;
-    Ok(frames)
+    Ok(ShortFrames::new(frames))
 }
 
 /// The call of a turn, by how far the channel is, and how far it is then. It takes no memory.
