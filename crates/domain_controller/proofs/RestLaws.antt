@@ -1,9 +1,11 @@
--- The challenges that a unit leaves are a rest of those that it is given.
-use Rattle.std.proofs.Common.{ℕ, List, [], ◌∷◌}
+-- The challenges that a unit leaves are a rest of those that it is given, and at most one fewer.
+use Rattle.std.proofs.Common.{ℕ, ◌+◌, ◌≤◌, List, [], ◌∷◌, length, arith}
 use Rattle.outside.specs.Drawing.{IsRest}
 use Rattle.outside.specs.Machine.{left_by}
 use Rattle.outside.proofs.DrawLaws.{IsRest-refl, IsRest-later}
-use Rattle.end_links.specs.Serving.{ServerLeavesRest}
+use Rattle.end_links.specs.Bounds.{ServerDrawsFew, extra_after}
+use Rattle.end_links.specs.Serving.{ServedPart, ServerLeavesRest}
+use Rattle.end_links.proofs.BoundLaws.{nothing_drawn, none_fewer}
 use Rattle.logon_stubs.specs.declared.calls.Call.{Call}
 use Rattle.logon_stubs.specs.declared.calls.Call.TheVariants as call
 use Rattle.logon_stubs.specs.declared.calls.ChallengeCall.{ChallengeCall}
@@ -34,4 +36,32 @@ pub server_leaves : (name : List ℕ) (now link : ℕ) → ServerLeavesRest (con
 server_leaves name now link = record {
   unit = λ bytes d talk left. heard_rest (hear link bytes talk) link name now d left;
   refusal = λ why d talk left. IsRest-refl left;
+}
+
+-- ---- how many are drawn
+
+-- at most one of these, and nothing more is allowed by what is said on a link
+abbrev pub DrawsOne : List (List ℕ) → ServedPart Desk Talk → Type 0
+DrawsOne left part = length left + extra_after (λ talk. 0) part ≤ length (left_by part) + 1 + 0
+
+draw_few : (left : List (List ℕ)) (line : Line) (c : ChallengeCall) (talk : Talk) (d : Desk) → DrawsOne left (draw_challenge left line c talk d)
+draw_few [] line c talk d = omega arith
+draw_few (server ∷ left) line c talk d = omega arith
+
+call_few : (c : Call) (line : Line) (talk : Talk) (name : List ℕ) (now : ℕ) (d : Desk) (left : List (List ℕ)) → DrawsOne left (by_call c line talk name now d left)
+call_few (call.Challenge c) line talk name now d left = draw_few left line c talk d
+call_few (call.Authenticate c) line talk name now d left = nothing_drawn (length left) 0
+call_few (call.Logon c) line talk name now d left = nothing_drawn (length left) 0
+call_few (call.Logoff c) line talk name now d left = nothing_drawn (length left) 0
+
+heard_few : (h : Heard) (link : ℕ) (name : List ℕ) (now : ℕ) (d : Desk) (left : List (List ℕ)) → DrawsOne left (by_heard h link name now d left)
+heard_few (heard.Close cause) link name now d left = nothing_drawn (length left) 0
+heard_few (heard.Answer bytes talk) link name now d left = nothing_drawn (length left) 0
+heard_few (heard.Waits talk) link name now d left = nothing_drawn (length left) 0
+heard_few (heard.Asked line c talk) link name now d left = call_few c line talk name now d left
+
+pub server_few : (name : List ℕ) (now link : ℕ) → ServerDrawsFew (controller_server name now link) (λ talk. 0)
+server_few name now link = record {
+  unit = λ bytes d talk left. heard_few (hear link bytes talk) link name now d left;
+  refusal = λ why d talk left. none_fewer (length left);
 }

@@ -1,6 +1,6 @@
 -- What a unit on a link comes to at a controller, by what was said on the link before (C706 12.6.3, 12.6.4; which unit closes a link, and which is
 -- answered by a fault, is this project's own choice). Neither accounts nor channels are looked at.
-use Rattle.std.specs.Prelude.{ℕ, ◌==◌, ◌≤◌, Bool, true, false, List, [], ◌∷◌, Option, Some, None, Result, Ok, Err}
+use Rattle.std.specs.Prelude.{ℕ, ◌==◌, ◌≤◌, Bool, true, false, List, [], ◌∷◌, length, Option, Some, None, Result, Ok, Err}
 use Rattle.std.specs.List.{list_any}
 use Rattle.outside.specs.declared.action.CloseCause.{CloseCause}
 use Rattle.outside.specs.declared.action.CloseCause.TheVariants as close
@@ -126,9 +126,9 @@ pub record IsLine (line : Line) : Type 0 where
   pub least : 1432 ≤ line.limit
   pub most : line.limit ≤ 5840
 
--- the call that is heard is answered on such a line
-abbrev pub HasLine : Heard → Type 0
-HasLine (heard.Asked line call talk) = IsLine line
-HasLine (heard.Close cause) = Unit {0}
-HasLine (heard.Answer bytes talk) = Unit {0}
-HasLine (heard.Waits talk) = Unit {0}
+-- the call that is heard is answered on such a line, and the bytes that are sent are one unit of at most 5,840
+abbrev pub CanAnswer : Heard → Type 0
+CanAnswer (heard.Asked line call talk) = IsLine line
+CanAnswer (heard.Close cause) = Unit {0}
+CanAnswer (heard.Answer bytes talk) = length bytes ≤ 5840
+CanAnswer (heard.Waits talk) = Unit {0}

@@ -3,7 +3,7 @@
 ghost use Rattle.std.specs.Prelude.{◌≡◌};
 ghost use Rattle.outside.specs.Drawing.{DrawsSome};
 ghost use Rattle.outside.specs.Machine.{AnswersBy};
-ghost use Rattle.domain_controller.specs.Hearing.{IsLine, HasLine};
+ghost use Rattle.domain_controller.specs.Hearing.{IsLine, CanAnswer};
 ghost use Rattle.domain_controller.specs.Machine.{desk, at_desk, draw_challenge, by_call, by_heard};
 
 use crate::authenticating::answer_authenticate;
@@ -31,7 +31,7 @@ pub(crate) fn answer_heard<Q: Chances>(
     work: Work,
     chances: &mut Q,
 ) -> Result<(Work, Option<Talk>), StepRefused>
-    requires { HasLine heard }
+    requires { CanAnswer heard }
     ensures draws { DrawsSome (Q.drawing chances.old) (Q.drawing chances.new) }
     ensures answer { AnswersBy (at_desk table.new result)
         (by_heard heard link name.now now (desk table.old work) (Q.drawing chances.old).left)

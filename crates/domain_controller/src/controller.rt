@@ -1,7 +1,8 @@
 //! The controller.
 
-ghost use Rattle.std.specs.Prelude.{◌≡◌, ◌≤◌, ◌↔◌, OnErr, ◌++◌, [], IfOk, OnOk, Err, IsTrue, false, true};
+ghost use Rattle.std.specs.Prelude.{◌≡◌, ◌≤◌, ◌+◌, ◌↔◌, OnErr, ◌++◌, [], length, IfOk, OnOk, Err, IsTrue, false, true};
 ghost use Rattle.outside.specs.Machine.{StepsBy};
+ghost use Rattle.end_links.specs.Bounds.{AreShortSends, units_at};
 ghost use Rattle.end_loop.specs.Acts.{is_made};
 ghost use Rattle.domain_controller.specs.Step.{first_state, halted, is_stopped, held_of, step_of};
 
@@ -9,7 +10,7 @@ use crate::lines::line_of;
 use crate::links::answer_event;
 use crate::state::{Computers, Running, Work};
 use account_table::Table;
-use end_links::Links;
+use end_links::{Links, ShortActions};
 use end_loop::End;
 use outside::{Action, Actions, Chances, Event, StepRefused};
 use std::alloc::Global;
@@ -73,6 +74,10 @@ impl Controller {
         ensures goes_on { OnOk result (is_stopped self.new ≡ false) }
         // Nothing is done where a link was closed.
         ensures quiet { IfOk result (λ actions. is_made event.now ≡ true → actions ≡ []) }
+        // At most one challenge is drawn for each unit that the event can end, whatever the result; no send is long.
+        ensures few { length (Q.drawing chances.old).left
+            ≤ length (Q.drawing chances.new).left + units_at event.now }
+        ensures short { IfOk result (λ actions. AreShortSends actions) }
     {
         let Some(running) = self.running.take() else {
             return Err(StepRefused::Stopped);
@@ -80,7 +85,7 @@ impl Controller {
         let Running { computers, links } = running;
         let work = Work {
             computers,
-            actions: Actions::new(alloc),
+            actions: ShortActions::new(alloc),
         };
         match answer_event(
             alloc,
@@ -95,7 +100,7 @@ impl Controller {
             Ok((work, links)) => {
                 let Work { computers, actions } = work;
                 self.running = Some(Running { computers, links });
-                Ok(actions)
+                Ok(actions.into_actions())
             }
             Err(why) => Err(why),
         }

@@ -7,7 +7,7 @@ ghost use Rattle.rpc_units.specs.Views.{body_shown, trailer_shown, unit_shown};
 ghost use Rattle.rpc_units.specs.Writing.{ContextsFit, written};
 ghost use Rattle.end_links.specs.Sending.{fault_of};
 ghost use Rattle.channel_client.specs.Machine.{netlogon_syntax};
-ghost use Rattle.domain_controller.specs.Hearing.{IsLine, HasLine, bound_talk, hear, hear_bind, hear_sealed_bind, hear_unbound, hear_fresh, is_served, hear_fault, hear_opnum, hear_context, hear_whole, hear_joined, hear_bound};
+ghost use Rattle.domain_controller.specs.Hearing.{IsLine, CanAnswer, bound_talk, hear, hear_bind, hear_sealed_bind, hear_unbound, hear_fresh, is_served, hear_fault, hear_opnum, hear_context, hear_whole, hear_joined, hear_bound};
 
 use crate::line::Line;
 use crate::state::Talk;
@@ -43,7 +43,7 @@ pub enum Heard {
 /// What the bytes of a unit on the link come to, by what was said on it before.
 pub(crate) fn hear(alloc: Global, link: u32, bytes: &[u8], talk: Talk) -> Result<Heard, NoMemory>
     ensures value { IfOk result (λ heard. heard ≡ hear link bytes.now talk) }
-    ensures line { IfOk result HasLine }
+    ensures can { IfOk result CanAnswer }
 {
     let Talk { joiner, binding } = talk;
     match binding {
@@ -64,7 +64,7 @@ fn hear_fresh(alloc: Global, unit: Unit, joiner: Joiner) -> Result<Heard, NoMemo
     requires { ContextsFit unit.body }
     ensures value { IfOk result (λ heard.
         heard ≡ hear_fresh unit.body unit.trailer unit.call joiner) }
-    ensures line { IfOk result HasLine }
+    ensures can { IfOk result CanAnswer }
 {
     match (unit.body, unit.trailer) {
         (
@@ -91,7 +91,7 @@ fn hear_bind(
 ) -> Result<Heard, NoMemory>
     requires { length contexts.now ≤ 242 }
     ensures value { IfOk result (λ heard. heard ≡ hear_bind call receive contexts.now joiner) }
-    ensures line { IfOk result HasLine }
+    ensures can { IfOk result CanAnswer }
 {
     let answer = bind_ack(alloc, &NETLOGON, call, receive, contexts)?;
     let bytes = short_unit_bytes(alloc, &answer)?;
@@ -102,7 +102,7 @@ fn hear_bind(
 /// A bind with a trailer is answered by a bind_nak.
 fn hear_sealed_bind(alloc: Global, call: u32, joiner: Joiner) -> Result<Heard, NoMemory>
     ensures value { IfOk result (λ heard. heard ≡ hear_sealed_bind call joiner) }
-    ensures line { IfOk result HasLine }
+    ensures can { IfOk result CanAnswer }
 {
     let bytes = short_unit_bytes(alloc, &bind_nak(call))?;
     Ok(Heard::Answer(bytes, fresh_talk(joiner)))
@@ -111,7 +111,7 @@ fn hear_sealed_bind(alloc: Global, call: u32, joiner: Joiner) -> Result<Heard, N
 /// A request on a link that isn't bound is answered by a fault.
 fn hear_unbound(alloc: Global, call: u32, context: u16, joiner: Joiner) -> Result<Heard, NoMemory>
     ensures value { IfOk result (λ heard. heard ≡ hear_unbound call context joiner) }
-    ensures line { IfOk result HasLine }
+    ensures can { IfOk result CanAnswer }
 {
     let bytes = fault_bytes(alloc, call, context, PROTOCOL_ERROR)?;
     Ok(Heard::Answer(bytes, fresh_talk(joiner)))
@@ -144,7 +144,8 @@ pub(crate) fn fault_bytes(
     context: u16,
     status: u32,
 ) -> Result<Blob, NoMemory>
-    ensures { IfOk result (λ bytes. bytes ≡ written (fault_of call context status)) }
+    ensures value { IfOk result (λ bytes. bytes ≡ written (fault_of call context status)) }
+    ensures most { IfOk result (λ bytes. length bytes ≤ 5840) }
 {
     short_unit_bytes(alloc, &fault(call, context, status))
 }
@@ -159,7 +160,7 @@ fn hear_bound(
 ) -> Result<Heard, NoMemory>
     ensures value { IfOk result (λ heard. heard ≡ hear_bound (body_shown unit.now.body)
         (option_map trailer_shown unit.now.trailer) (unit_shown unit.now) link joiner binding) }
-    ensures line { IfOk result HasLine }
+    ensures can { IfOk result CanAnswer }
 {
     match (&unit.body, &unit.trailer) {
         (BodyView::Request { .. }, Some(_)) => Ok(Heard::Close(CloseCause::BadAuthentication)),
@@ -180,7 +181,7 @@ fn hear_fragment(
     ensures value { IfOk result (λ heard. heard ≡ hear_joined
         (answer_of joiner (unit_shown unit.now)) (open_after joiner (unit_shown unit.now))
         link binding) }
-    ensures line { IfOk result HasLine }
+    ensures can { IfOk result CanAnswer }
 {
     let mut joiner = joiner;
     match joiner.add_view(alloc, unit) {
@@ -202,7 +203,7 @@ fn hear_whole(
 ) -> Result<Heard, NoMemory>
     ensures value { IfOk result (λ heard. heard ≡ hear_whole unit.now.body unit.now.call link
         binding (bound_talk joiner binding)) }
-    ensures line { IfOk result HasLine }
+    ensures can { IfOk result CanAnswer }
 {
     match &unit.body {
         Body::Request {
@@ -237,7 +238,7 @@ fn hear_call(
     requires { IsLine line }
     ensures value { IfOk result (λ heard.
         heard ≡ hear_context accepted opnum stub.now line talk) }
-    ensures line { IfOk result HasLine }
+    ensures can { IfOk result CanAnswer }
 {
     if !accepted {
         return hear_fault(alloc, line, PROTOCOL_ERROR, talk);
@@ -262,7 +263,7 @@ fn is_served(opnum: u16) -> bool
 /// A call that isn't served is answered by a fault.
 fn hear_fault(alloc: Global, line: Line, status: u32, talk: Talk) -> Result<Heard, NoMemory>
     ensures value { IfOk result (λ heard. heard ≡ hear_fault line status talk) }
-    ensures line { IfOk result HasLine }
+    ensures can { IfOk result CanAnswer }
 {
     let bytes = fault_bytes(alloc, line.call, line.context, status)?;
     Ok(Heard::Answer(bytes, talk))

@@ -1,9 +1,10 @@
 //! The events of links.
 
-ghost use Rattle.std.specs.Prelude.{◌≡◌, ◌<◌, length, IfOk, None};
+ghost use Rattle.std.specs.Prelude.{◌≡◌, ◌<◌, ◌≤◌, ◌+◌, length, IfOk, None};
 ghost use Rattle.wire_base.specs.Maps.{take_out, same_number};
 ghost use Rattle.outside.specs.Drawing.{DrawsSome};
 ghost use Rattle.outside.specs.Machine.{AnswersBy};
+ghost use Rattle.end_links.specs.Bounds.{units_at, units_in_piece};
 ghost use Rattle.domain_controller.specs.Hearing.{first_talk};
 ghost use Rattle.domain_controller.specs.Machine.{desk, at_desk};
 ghost use Rattle.domain_controller.specs.Step.{open_link, serve_bytes, by_event};
@@ -34,6 +35,8 @@ pub(crate) fn answer_event<Q: Chances>(
         (by_event event.now name.now now (desk table.old work) links (Q.drawing chances.old).left)
         (Q.drawing chances.new).left }
     ensures stays { table.new ≡ table.old }
+    ensures few { length (Q.drawing chances.old).left
+        ≤ length (Q.drawing chances.new).left + units_at event.now }
 {
     match event {
         Event::Opened(link) => Ok(open_link(alloc, *link, work, close_link(*link, links))?),
@@ -106,6 +109,8 @@ fn serve_bytes<Q: Chances>(
         (Q.drawing chances.old).left)
         (Q.drawing chances.new).left }
     ensures stays { table.new ≡ table.old }
+    ensures few { length (Q.drawing chances.old).left
+        ≤ length (Q.drawing chances.new).left + units_in_piece (length piece.now) }
 {
     let (links, found) = links.take(number);
     let Some(link) = found else {

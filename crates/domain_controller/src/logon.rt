@@ -3,6 +3,7 @@
 ghost use Rattle.std.specs.Prelude.{◌≡◌, ◌==◌, IfOk};
 ghost use Rattle.wire_base.specs.Maps.{lookup};
 ghost use Rattle.wire_base.specs.Names.{same_name};
+ghost use Rattle.logon_stubs.specs.Ranges.{HasShortTexts};
 ghost use Rattle.logon_stubs.specs.Writing.{CanWriteSamInfo};
 ghost use Rattle.sam_logon.specs.Verdict.{IfGranted};
 ghost use Rattle.domain_controller.specs.Hearing.{IsLine};
@@ -133,7 +134,7 @@ fn judge_info(
     pass_logon(alloc, verdict, line, validation, key, credential, work)
 }
 
-/// The verdict, at a validation level. What is granted can be written, and is granted at level 2 alone.
+/// The verdict, at a validation level. What is granted can be written, has short texts, and is granted at level 2 alone.
 fn verdict_at(
     alloc: Global,
     table: &mut Table,
@@ -145,6 +146,7 @@ fn verdict_at(
     ensures value { IfOk result (λ verdict. record { verdict = verdict; table = table.new }
         ≡ judge_info table.old name.now now info.now validation) }
     ensures writable { IfOk result (λ verdict. IfGranted verdict CanWriteSamInfo) }
+    ensures short { IfOk result (λ verdict. IfGranted verdict HasShortTexts) }
     ensures level { IfOk result (λ verdict. IfGranted verdict (λ info. validation ≡ 2)) }
     ensures stays { table.new ≡ table.old }
 {
@@ -166,6 +168,7 @@ fn pass_logon(
 ) -> Result<Work, NoMemory>
     requires line { IsLine line }
     requires writable { IfGranted verdict CanWriteSamInfo }
+    requires short { IfGranted verdict HasShortTexts }
     requires level { IfGranted verdict (λ info. validation ≡ 2) }
     ensures { IfOk result (λ w. w ≡ pass_logon verdict line validation key credential work) }
 {

@@ -1,8 +1,10 @@
 //! Replies to calls.
 
-ghost use Rattle.std.specs.Prelude.{◌≡◌, ◌<◌, ◌^◌, IfOk, Ok, length};
+ghost use Rattle.std.specs.Prelude.{◌≡◌, ◌≤◌, IfOk, Ok, length};
 ghost use Rattle.logon_stubs.specs.Calls.{opnum_of_reply, reply_of};
+ghost use Rattle.logon_stubs.specs.Ranges.{IsShortReply};
 ghost use Rattle.logon_stubs.specs.Writing.{CanWriteReply, written_reply};
+ghost use Rattle.end_links.specs.Bounds.{IsShortSend};
 ghost use Rattle.domain_controller.specs.Hearing.{IsLine};
 ghost use Rattle.domain_controller.specs.Machine.{tell, send_fault, send_reply};
 
@@ -17,6 +19,7 @@ use wire_base::{Blob, NoMemory};
 
 /// One action more.
 pub(crate) fn tell(work: Work, what: Action) -> Result<Work, NoMemory>
+    requires { IsShortSend what }
     ensures { IfOk result (λ w. w ≡ tell work what) }
 {
     let mut work = work;
@@ -37,7 +40,7 @@ pub(crate) fn send_fault(
     tell(work, Action::Send(line.link, bytes))
 }
 
-/// The call is answered by the reply, all of its frames in one send.
+/// The call is answered by the reply, all of its frames in one send of at most 131,123 bytes.
 pub(crate) fn send_reply(
     alloc: Global,
     work: Work,
@@ -45,6 +48,7 @@ pub(crate) fn send_reply(
     answer: &Reply,
 ) -> Result<Work, NoMemory>
     requires writable { CanWriteReply answer.now }
+    requires short { IsShortReply answer.now }
     requires line { IsLine line }
     ensures { IfOk result (λ w. w ≡ send_reply work line answer.now) }
 {
@@ -54,22 +58,24 @@ pub(crate) fn send_reply(
     tell(work, Action::Send(line.link, bytes))
 }
 
-/// The stub of a reply, which is short enough for the hint of a response.
+/// The stub of a reply, which is short.
 fn reply_stub(alloc: Global, answer: &Reply) -> Result<Blob, NoMemory>
-    requires { CanWriteReply answer.now }
+    requires writable { CanWriteReply answer.now }
+    requires short { IsShortReply answer.now }
     ensures exact { IfOk result (λ stub. stub ≡ written_reply answer.now) }
-    ensures short { IfOk result (λ stub. length stub < 2 ^ 32) }
+    ensures most { IfOk result (λ stub. length stub ≤ 65536) }
 {
     let stub = write_reply(alloc, answer)?;
     read_stub(answer, stub.bytes());
     Ok(stub)
 }
 
-/// The stub of a reply has fewer than 2^20 bytes. It reads them, so that this is known.
+/// The stub of a reply has at most 65,536 bytes. It reads them, so that this is known.
 #[tactic(auto, using(crate::proofs::StubLaws::stub_short))]
 fn read_stub(answer: &Reply, stub: &[u8])
     requires writable { CanWriteReply answer.now }
+    requires short { IsShortReply answer.now }
     requires again { reply_of (opnum_of_reply answer.now) stub.now ≡ Ok answer.now }
     requires exact { stub.now ≡ written_reply answer.now }
-    ensures { length stub.now < 2 ^ 20 }
+    ensures { length stub.now ≤ 65536 }
 {}

@@ -1,9 +1,10 @@
 //! The units of a link, served in order.
 
-ghost use Rattle.std.specs.Prelude.{◌≡◌, ◌++◌, length};
+ghost use Rattle.std.specs.Prelude.{◌≡◌, ◌≤◌, ◌+◌, ◌++◌, length};
 ghost use Rattle.outside.specs.Drawing.{DrawsSome};
 ghost use Rattle.outside.specs.Machine.{AnswersBy};
 ghost use Rattle.rpc_units.specs.Stream.{cut_stream};
+ghost use Rattle.end_links.specs.Bounds.{units_in_piece};
 ghost use Rattle.end_links.specs.Serving.{StreamsBy, served_cut};
 ghost use Rattle.domain_controller.specs.Hearing.{hear};
 ghost use Rattle.domain_controller.specs.Machine.{desk, at_desk, by_heard, controller_server};
@@ -20,9 +21,36 @@ use std::alloc::Global;
 use wire_base::{Name, NoMemory};
 
 /// The units of the link with the piece that comes on it, one after the other, until the link is closed: what the controller has then, and the link, or
-/// None where it is closed. The table outlasts a step that is given up, so it is lent.
-#[tactic(auto, using(end_links::proofs::ServingLaws::serving, rpc_units::proofs::ComingLaws::front_done))]
+/// None where it is closed. The table outlasts a step that is given up, so it is lent. Whatever the result, at most one challenge is drawn for each 16
+/// bytes of the piece and of the 5,839 that the link can hold.
 pub(crate) fn serve_piece<Q: Chances>(
+    alloc: Global,
+    table: &mut Table,
+    name: &Name,
+    now: u64,
+    number: u32,
+    link: Link<Talk>,
+    piece: &[u8],
+    work: Work,
+    chances: &mut Q,
+) -> Result<(Work, Option<Link<Talk>>), StepRefused>
+    ensures draws { DrawsSome (Q.drawing chances.old) (Q.drawing chances.new) }
+    ensures answer { StreamsBy (at_desk table.new result)
+        (served_cut (controller_server name.now now number) (cut_stream (link.rest ++ piece.now))
+        (desk table.old work) link.talk (Q.drawing chances.old).left)
+        (cut_stream (link.rest ++ piece.now)).rest (Q.drawing chances.new).left }
+    ensures stays { table.new ≡ table.old }
+    ensures few { length (Q.drawing chances.old).left
+        ≤ length (Q.drawing chances.new).left + units_in_piece (length piece.now) }
+{
+    // so that it is known that the link holds at most 5,839 bytes
+    let _held = link.rest_len();
+    serve_units(alloc, table, name, now, number, link, piece, work, chances)
+}
+
+/// The units of the link with the piece that comes on it.
+#[tactic(auto, using(end_links::proofs::ServingLaws::serving, rpc_units::proofs::ComingLaws::front_done))]
+fn serve_units<Q: Chances>(
     alloc: Global,
     table: &mut Table,
     name: &Name,

@@ -1,8 +1,7 @@
 //! What a controller keeps.
 
 use crate::channel::Channel;
-use end_links::{Binding, Links, SaysHeld};
-use outside::Actions;
+use end_links::{Binding, Links, SaysHeld, ShortActions};
 use rpc_units::Joiner;
 use wire_base::{List, Units};
 
@@ -51,5 +50,5 @@ pub struct Running {
 #[derive(Drop)]
 pub struct Work {
     pub computers: Computers,
-    pub actions: Actions,
+    pub actions: ShortActions,
 }

@@ -4,7 +4,7 @@ use Rattle.outside.specs.Drawing.{DrawsSome}
 use Rattle.rpc_units.specs.Stream.{cut_stream}
 use Rattle.end_links.specs.Serving.{served_cut}
 use Rattle.domain_controller.specs.Machine.{desk, controller_server}
-use Rattle.domain_controller.proofs.serving.serve_piece.Given as goal
+use Rattle.domain_controller.proofs.serving.serve_units.Given as goal
 
 abbrev pub invariant-units : goal.invariant-units
 invariant-units g l = record {
