@@ -13,20 +13,15 @@ use Rattle.ntlm_messages.specs.declared.refused.MessageRefused.{MessageRefused}
 use Rattle.ntlm_responses.specs.Keys.{exported_key_by}
 use Rattle.ntlm_responses.specs.Verification.{PairVerifies}
 use Rattle.ntlm_responses.proofs.ResponseLaws.{pair_v1, pair_ess, pair_v2, message_names}
-use Rattle.ntlm_seal.specs.Sessions.{SessionState}
 use Rattle.outside.specs.declared.action.StepRefused.{StepRefused}
 use Rattle.outside.specs.Machine.{Part}
-use Rattle.rpc_units.specs.declared.refused.JoinRefused.{JoinRefused}
 use Rattle.rpc_units.specs.declared.refused.UnitRefused.{UnitRefused}
 use Rattle.rpc_units.specs.declared.unit.Body.{Body}
 use Rattle.rpc_units.specs.declared.unit.Body.TheVariants.{Bind, BindAck, BindNak, Auth3, Request, Response, Fault}
 use Rattle.rpc_units.specs.declared.unit.Syntax.{Syntax}
 use Rattle.rpc_units.specs.declared.unit.Trailer.{Trailer}
 use Rattle.rpc_units.specs.declared.unit.Unit.{Unit as RpcUnit}
-use Rattle.rpc_units.specs.Joining.{answer_of as joined_of, open_after, stub_of}
 use Rattle.rpc_units.specs.Reading.{unit_of}
-use Rattle.memo_stubs.specs.declared.refused.MemoRefused.{MemoRefused}
-use Rattle.memo_stubs.specs.Memo.{who_of, echo_reply_of}
 use Rattle.logon_client.specs.declared.answering.Drawn.{Drawn}
 use Rattle.logon_client.specs.declared.answering.ServerOffer.{ServerOffer}
 use Rattle.logon_client.specs.declared.hearing.Heard.{Heard}
@@ -36,16 +31,13 @@ use Rattle.logon_client.specs.declared.plan.AuthKind.TheVariants.{V1, V1Ess, V2}
 use Rattle.logon_client.specs.declared.plan.ClientPlan.{ClientPlan}
 use Rattle.logon_client.specs.declared.state.Phase.{Phase}
 use Rattle.logon_client.specs.declared.state.Phase.TheVariants.{Bound, Asked}
-use Rattle.logon_client.specs.declared.state.Question.{Question}
-use Rattle.logon_client.specs.declared.state.Question.TheVariants.{Who, Echo}
 use Rattle.logon_client.specs.declared.state.Talk.{Talk}
-use Rattle.logon_client.specs.declared.state.Terms.{Terms}
 use Rattle.logon_client.specs.declared.state.Work.{Work}
 use Rattle.logon_client.specs.Answering.{pairs_by, is_enough, drawn_for, nt_by, lm_by, keys_by, answer_of}
+use Rattle.logon_client.specs.Asked.{HoldsOf, response_holds}
 use Rattle.logon_client.specs.Answers.{IsAgreed, HasChosen, IsDrawn, OffersAgreed, DrawsKeys, AnswersVerify, KeysFound}
-use Rattle.logon_client.specs.Machine.{hear_flags, hear_pairs, hear_challenge, hear_trailer, hear_result, hear_ack, hear_name_by, hear_name, hear_echo_by, hear_echo, hear_reply, hear_joined, hear_fragment, hear_body_opened, hear_unit_opened, hear_opened, hear_secured, hear_response, hear_body, hear_call, hear_unit, offer_by}
-use Rattle.logon_client.specs.Plans.{offer_of, is_sealed, is_signed}
-use Rattle.logon_client.specs.Securing.{Secured, has_level, open_unit}
+use Rattle.logon_client.specs.Machine.{hear_flags, hear_pairs, hear_challenge, hear_trailer, hear_result, hear_ack, hear_body, hear_call, hear_unit, offer_by}
+use Rattle.logon_client.specs.Plans.{offer_of, is_signed}
 
 -- ---- what is agreed
 
@@ -79,65 +71,9 @@ ack_agreed : (results : List (ℕ × ℕ × Syntax)) (trailer : Option Trailer) 
 ack_agreed [] trailer receive link work = tt
 ack_agreed (first ∷ results) trailer receive link work = result_agreed (first.0 == 0) first.1 trailer receive link work
 
-name_by_agreed : (none : Bool) (name : List ℕ) (terms : Terms) (link : ℕ) (work : Work) (plan : ClientPlan) → AgreedBy plan (hear_name_by none name terms link work)
-name_by_agreed true name terms link work plan = tt
-name_by_agreed false name terms link work plan = tt
-
-name_agreed : (name : Result (List ℕ) MemoRefused) (terms : Terms) (link : ℕ) (work : Work) (plan : ClientPlan) → AgreedBy plan (hear_name name terms link work)
-name_agreed (Err why) terms link work plan = tt
-name_agreed (Ok name) terms link work plan = name_by_agreed (work.task.echo == 0) name terms link work plan
-
-echo_by_agreed : (same : Bool) (name : List ℕ) (terms : Terms) (link : ℕ) (work : Work) (plan : ClientPlan) → AgreedBy plan (hear_echo_by same name terms link work)
-echo_by_agreed true name terms link work plan = tt
-echo_by_agreed false name terms link work plan = tt
-
-echo_agreed : (bytes : Result (List ℕ) MemoRefused) (name : List ℕ) (terms : Terms) (link : ℕ) (work : Work) (plan : ClientPlan) → AgreedBy plan (hear_echo bytes name terms link work)
-echo_agreed (Err why) name terms link work plan = tt
-echo_agreed (Ok bytes) name terms link work plan = echo_by_agreed _ name terms link work plan
-
-reply_agreed : (question : Question) (stub : List ℕ) (terms : Terms) (link : ℕ) (work : Work) (plan : ClientPlan) → AgreedBy plan (hear_reply question stub terms link work)
-reply_agreed Who stub terms link work plan = name_agreed (who_of stub) terms link work plan
-reply_agreed (Echo name) stub terms link work plan = echo_agreed (echo_reply_of stub) name terms link work plan
-
-joined_agreed : (joined : Result (Option RpcUnit) JoinRefused) (joiner : Option RpcUnit) (terms : Terms) (question : Question) (link : ℕ) (work : Work) (plan : ClientPlan) →
-    AgreedBy plan (hear_joined joined joiner terms question link work)
-joined_agreed (Err why) joiner terms question link work plan = tt
-joined_agreed (Ok None) joiner terms question link work plan = tt
-joined_agreed (Ok (Some whole)) joiner terms question link work plan = reply_agreed question (stub_of whole.body) terms link work plan
-
-fragment_agreed : (unit : RpcUnit) (joiner : Option RpcUnit) (terms : Terms) (question : Question) (link : ℕ) (work : Work) (plan : ClientPlan) →
-    AgreedBy plan (hear_fragment unit joiner terms question link work)
-fragment_agreed unit joiner terms question link work plan = joined_agreed (joined_of joiner unit) (open_after joiner unit) terms question link work plan
-
-body_opened_agreed : (body : Body) (unit : RpcUnit) (joiner : Option RpcUnit) (terms : Terms) (question : Question) (link : ℕ) (work : Work) (plan : ClientPlan) →
-    AgreedBy plan (hear_body_opened body unit joiner terms question link work)
-body_opened_agreed (Bind send receive group contexts) unit joiner terms question link work plan = tt
-body_opened_agreed (BindAck send receive group results) unit joiner terms question link work plan = tt
-body_opened_agreed (BindNak reason) unit joiner terms question link work plan = tt
-body_opened_agreed Auth3 unit joiner terms question link work plan = tt
-body_opened_agreed (Request hint context opnum stub) unit joiner terms question link work plan = tt
-body_opened_agreed (Response hint context stub) unit joiner terms question link work plan = fragment_agreed unit joiner terms question link work plan
-body_opened_agreed (Fault hint context status) unit joiner terms question link work plan = tt
-
-unit_opened_agreed : (unit : Result RpcUnit UnitRefused) (joiner : Option RpcUnit) (terms : Terms) (question : Question) (link : ℕ) (work : Work) (plan : ClientPlan) →
-    AgreedBy plan (hear_unit_opened unit joiner terms question link work)
-unit_opened_agreed (Err why) joiner terms question link work plan = tt
-unit_opened_agreed (Ok unit) joiner terms question link work plan = body_opened_agreed unit.body unit joiner terms question link work plan
-
-opened_agreed : (opened : Option Secured) (joiner : Option RpcUnit) (terms : Terms) (question : Question) (link : ℕ) (work : Work) (plan : ClientPlan) →
-    AgreedBy plan (hear_opened opened joiner terms question link work)
-opened_agreed None joiner terms question link work plan = tt
-opened_agreed (Some opened) joiner terms question link work plan = unit_opened_agreed (unit_of opened.bytes) joiner _ question link work plan
-
-secured_agreed : (level : Bool) (bytes : List ℕ) (session : SessionState) (joiner : Option RpcUnit) (terms : Terms) (question : Question) (link : ℕ) (work : Work) (plan : ClientPlan) →
-    AgreedBy plan (hear_secured level bytes session joiner terms question link work)
-secured_agreed false bytes session joiner terms question link work plan = tt
-secured_agreed true bytes session joiner terms question link work plan = opened_agreed (open_unit (is_sealed work.task.level) session bytes) joiner terms question link work plan
-
-response_agreed : (session : Option SessionState) (unit : RpcUnit) (bytes : List ℕ) (joiner : Option RpcUnit) (terms : Terms) (question : Question) (link : ℕ) (work : Work) (plan : ClientPlan) →
-    AgreedBy plan (hear_response session unit bytes joiner terms question link work)
-response_agreed None unit bytes joiner terms question link work plan = fragment_agreed unit joiner terms question link work plan
-response_agreed (Some session) unit bytes joiner terms question link work plan = secured_agreed (has_level work.task.level unit.trailer) bytes session joiner terms question link work plan
+-- no offer is answered while a response is waited for
+asked_agreed : (link : ℕ) (work : Work) → HoldsOf (AgreedBy work.task) link work
+asked_agreed link work = record { ends = λ outcome. tt; echoes = λ name terms. tt; goes_on = λ joiner terms question. tt }
 
 body_agreed : (body : Body) (phase : Phase) (unit : RpcUnit) (bytes : List ℕ) (joiner : Option RpcUnit) (link : ℕ) (work : Work) → AgreedBy work.task (hear_body body phase unit bytes joiner link work)
 body_agreed (Bind send receive group contexts) phase unit bytes joiner link work = tt
@@ -147,7 +83,8 @@ body_agreed (BindNak reason) phase unit bytes joiner link work = tt
 body_agreed Auth3 phase unit bytes joiner link work = tt
 body_agreed (Request hint context opnum stub) phase unit bytes joiner link work = tt
 body_agreed (Response hint context stub) Bound unit bytes joiner link work = tt
-body_agreed (Response hint context stub) (Asked terms question) unit bytes joiner link work = response_agreed terms.session unit bytes joiner terms question link work work.task
+body_agreed (Response hint context stub) (Asked terms question) unit bytes joiner link work =
+    response_holds (AgreedBy work.task) terms.session unit bytes joiner terms question link work (asked_agreed link work)
 body_agreed (Fault hint context status) phase unit bytes joiner link work = tt
 
 call_agreed : (same : Bool) (unit : RpcUnit) (bytes : List ℕ) (talk : Talk) (work : Work) → AgreedBy work.task (hear_call same unit bytes talk work)

@@ -6,7 +6,6 @@ use Rattle.ntlm_messages.specs.Challenge.{challenge_of}
 use Rattle.ntlm_messages.specs.declared.messages.Challenge.{Challenge}
 use Rattle.ntlm_messages.specs.declared.pairs.PairsRefused.{PairsRefused}
 use Rattle.ntlm_messages.specs.declared.refused.MessageRefused.{MessageRefused}
-use Rattle.ntlm_seal.specs.Sessions.{SessionState}
 use Rattle.outside.specs.declared.action.Action.{Action}
 use Rattle.outside.specs.declared.action.Action.TheVariants as action
 use Rattle.outside.specs.declared.action.CloseCause.TheVariants.{CallDone}
@@ -14,18 +13,14 @@ use Rattle.outside.specs.declared.action.StepRefused.{StepRefused}
 use Rattle.outside.specs.declared.event.Event.{Event}
 use Rattle.outside.specs.declared.event.Event.TheVariants as event
 use Rattle.outside.specs.Machine.{Part, then_part, step_by}
-use Rattle.rpc_units.specs.declared.refused.JoinRefused.{JoinRefused}
 use Rattle.rpc_units.specs.declared.refused.UnitRefused.{UnitRefused}
 use Rattle.rpc_units.specs.declared.unit.Body.{Body}
 use Rattle.rpc_units.specs.declared.unit.Body.TheVariants.{Bind, BindAck, BindNak, Auth3, Request, Response, Fault}
 use Rattle.rpc_units.specs.declared.unit.Syntax.{Syntax}
 use Rattle.rpc_units.specs.declared.unit.Trailer.{Trailer}
 use Rattle.rpc_units.specs.declared.unit.Unit.{Unit as RpcUnit}
-use Rattle.rpc_units.specs.Joining.{answer_of, open_after, stub_of}
 use Rattle.rpc_units.specs.Reading.{unit_of}
 use Rattle.rpc_units.specs.Stream.{cut_stream}
-use Rattle.memo_stubs.specs.declared.refused.MemoRefused.{MemoRefused}
-use Rattle.memo_stubs.specs.Memo.{who_of, echo_reply_of}
 use Rattle.end_links.specs.Links.{LinkState}
 use Rattle.end_links.specs.Serving.{ServedPart, served_by, served_cut, then_open, then_talk}
 use Rattle.logon_client.specs.declared.answering.Drawn.{Drawn}
@@ -48,10 +43,10 @@ use Rattle.logon_client.specs.declared.state.Talk.{Talk}
 use Rattle.logon_client.specs.declared.state.Terms.{Terms}
 use Rattle.logon_client.specs.declared.state.Work.{Work}
 use Rattle.logon_client.specs.Answering.{is_enough, drawn_for, answer_of as answer_to, auth3_of}
+use Rattle.logon_client.specs.Asked.{HoldsOf, response_holds}
 use Rattle.logon_client.specs.Laws.{closes_in, closes_by, close_due, ClosesOnce, OutcomeStays}
-use Rattle.logon_client.specs.Machine.{told, closed_with, asks, answers_by, answers, answers_part, hear_flags, hear_pairs, hear_challenge, hear_trailer, hear_result, hear_ack, hear_name_by, hear_name, hear_echo_by, hear_echo, hear_reply, hear_joined, hear_fragment, hear_body_opened, hear_unit_opened, hear_opened, hear_secured, hear_response, hear_body, hear_call, hear_unit, hear, serve_heard, serve_unit, client_server, by_piece, by_close, after_stream, by_event, halted, actions_after, state_after, work_of, step_by_outcome, step_by_running}
-use Rattle.logon_client.specs.Plans.{offer_of, is_sealed}
-use Rattle.logon_client.specs.Securing.{Secured, has_level, open_unit}
+use Rattle.logon_client.specs.Machine.{told, closed_with, asks, answers_by, answers, answers_part, hear_flags, hear_pairs, hear_challenge, hear_trailer, hear_result, hear_ack, hear_body, hear_call, hear_unit, hear, serve_heard, serve_unit, client_server, by_piece, by_close, after_stream, by_event, halted, actions_after, state_after, work_of, step_by_outcome, step_by_running}
+use Rattle.logon_client.specs.Plans.{offer_of}
 use Rattle.logon_client.specs.State.{State}
 
 -- ---- actions
@@ -139,67 +134,12 @@ ack_kept : (results : List (ℕ × ℕ × Syntax)) (trailer : Option Trailer) (r
 ack_kept [] trailer receive link work open_ = shut_kept _ link work open_
 ack_kept (first ∷ results) trailer receive link work open_ = result_kept (first.0 == 0) first.1 trailer receive link work open_
 
-name_by_kept : (none : Bool) (name : List ℕ) (terms : Terms) (link : ℕ) (work : Work) → IsOpen work → HeardKept link (hear_name_by none name terms link work)
-name_by_kept true name terms link work open_ = shut_kept _ link work open_
-name_by_kept false name terms link work open_ = asks_kept _ terms (Echo name) link work open_
-
-name_kept : (name : Result (List ℕ) MemoRefused) (terms : Terms) (link : ℕ) (work : Work) → IsOpen work → HeardKept link (hear_name name terms link work)
-name_kept (Err why) terms link work open_ = shut_kept _ link work open_
-name_kept (Ok name) terms link work open_ = name_by_kept (work.task.echo == 0) name terms link work open_
-
-echo_by_kept : (same : Bool) (name : List ℕ) (terms : Terms) (link : ℕ) (work : Work) → IsOpen work → HeardKept link (hear_echo_by same name terms link work)
-echo_by_kept true name terms link work open_ = shut_kept _ link work open_
-echo_by_kept false name terms link work open_ = shut_kept _ link work open_
-
-echo_kept : (bytes : Result (List ℕ) MemoRefused) (name : List ℕ) (terms : Terms) (link : ℕ) (work : Work) → IsOpen work → HeardKept link (hear_echo bytes name terms link work)
-echo_kept (Err why) name terms link work open_ = shut_kept _ link work open_
-echo_kept (Ok bytes) name terms link work open_ = echo_by_kept _ name terms link work open_
-
-reply_kept : (question : Question) (stub : List ℕ) (terms : Terms) (link : ℕ) (work : Work) → IsOpen work → HeardKept link (hear_reply question stub terms link work)
-reply_kept Who stub terms link work open_ = name_kept (who_of stub) terms link work open_
-reply_kept (Echo name) stub terms link work open_ = echo_kept (echo_reply_of stub) name terms link work open_
-
-joined_kept : (joined : Result (Option RpcUnit) JoinRefused) (joiner : Option RpcUnit) (terms : Terms) (question : Question) (link : ℕ) (work : Work) → IsOpen work →
-    HeardKept link (hear_joined joined joiner terms question link work)
-joined_kept (Err why) joiner terms question link work open_ = shut_kept _ link work open_
-joined_kept (Ok None) joiner terms question link work open_ = (open_, refl)
-joined_kept (Ok (Some whole)) joiner terms question link work open_ = reply_kept question (stub_of whole.body) terms link work open_
-
-fragment_kept : (unit : RpcUnit) (joiner : Option RpcUnit) (terms : Terms) (question : Question) (link : ℕ) (work : Work) → IsOpen work →
-    HeardKept link (hear_fragment unit joiner terms question link work)
-fragment_kept unit joiner terms question link work open_ = joined_kept (answer_of joiner unit) (open_after joiner unit) terms question link work open_
-
-body_opened_kept : (body : Body) (unit : RpcUnit) (joiner : Option RpcUnit) (terms : Terms) (question : Question) (link : ℕ) (work : Work) → IsOpen work →
-    HeardKept link (hear_body_opened body unit joiner terms question link work)
-body_opened_kept (Bind send receive group contexts) unit joiner terms question link work open_ = shut_kept _ link work open_
-body_opened_kept (BindAck send receive group results) unit joiner terms question link work open_ = shut_kept _ link work open_
-body_opened_kept (BindNak reason) unit joiner terms question link work open_ = shut_kept _ link work open_
-body_opened_kept Auth3 unit joiner terms question link work open_ = shut_kept _ link work open_
-body_opened_kept (Request hint context opnum stub) unit joiner terms question link work open_ = shut_kept _ link work open_
-body_opened_kept (Response hint context stub) unit joiner terms question link work open_ = fragment_kept unit joiner terms question link work open_
-body_opened_kept (Fault hint context status) unit joiner terms question link work open_ = shut_kept _ link work open_
-
-unit_opened_kept : (unit : Result RpcUnit UnitRefused) (joiner : Option RpcUnit) (terms : Terms) (question : Question) (link : ℕ) (work : Work) → IsOpen work →
-    HeardKept link (hear_unit_opened unit joiner terms question link work)
-unit_opened_kept (Err why) joiner terms question link work open_ = shut_kept _ link work open_
-unit_opened_kept (Ok unit) joiner terms question link work open_ = body_opened_kept unit.body unit joiner terms question link work open_
-
-opened_kept : (opened : Option Secured) (joiner : Option RpcUnit) (terms : Terms) (question : Question) (link : ℕ) (work : Work) → IsOpen work →
-    HeardKept link (hear_opened opened joiner terms question link work)
-opened_kept None joiner terms question link work open_ = shut_kept _ link work open_
-opened_kept (Some opened) joiner terms question link work open_ = unit_opened_kept (unit_of opened.bytes) joiner _ question link work open_
-
-secured_kept : (level : Bool) (bytes : List ℕ) (session : SessionState) (joiner : Option RpcUnit) (terms : Terms) (question : Question) (link : ℕ) (work : Work) → IsOpen work →
-    HeardKept link (hear_secured level bytes session joiner terms question link work)
-secured_kept false bytes session joiner terms question link work open_ = shut_kept _ link work open_
-secured_kept true bytes session joiner terms question link work open_ =
-    opened_kept (open_unit (is_sealed work.task.level) session bytes) joiner terms question link work open_
-
-response_kept : (session : Option SessionState) (unit : RpcUnit) (bytes : List ℕ) (joiner : Option RpcUnit) (terms : Terms) (question : Question) (link : ℕ) (work : Work) → IsOpen work →
-    HeardKept link (hear_response session unit bytes joiner terms question link work)
-response_kept None unit bytes joiner terms question link work open_ = fragment_kept unit joiner terms question link work open_
-response_kept (Some session) unit bytes joiner terms question link work open_ =
-    secured_kept (has_level work.task.level unit.trailer) bytes session joiner terms question link work open_
+asked_kept : (link : ℕ) (work : Work) → IsOpen work → HoldsOf (HeardKept link) link work
+asked_kept link work open_ = record {
+  ends = λ outcome. shut_kept outcome link work open_;
+  echoes = λ name terms. asks_kept _ terms (Echo name) link work open_;
+  goes_on = λ joiner terms question. (open_, refl);
+}
 
 body_kept : (body : Body) (phase : Phase) (unit : RpcUnit) (bytes : List ℕ) (joiner : Option RpcUnit) (link : ℕ) (work : Work) → IsOpen work →
     HeardKept link (hear_body body phase unit bytes joiner link work)
@@ -210,7 +150,8 @@ body_kept (BindNak reason) phase unit bytes joiner link work open_ = shut_kept _
 body_kept Auth3 phase unit bytes joiner link work open_ = shut_kept _ link work open_
 body_kept (Request hint context opnum stub) phase unit bytes joiner link work open_ = shut_kept _ link work open_
 body_kept (Response hint context stub) Bound unit bytes joiner link work open_ = shut_kept _ link work open_
-body_kept (Response hint context stub) (Asked terms question) unit bytes joiner link work open_ = response_kept terms.session unit bytes joiner terms question link work open_
+body_kept (Response hint context stub) (Asked terms question) unit bytes joiner link work open_ =
+    response_holds (HeardKept link) terms.session unit bytes joiner terms question link work (asked_kept link work open_)
 body_kept (Fault hint context status) phase unit bytes joiner link work open_ = shut_kept _ link work open_
 
 call_kept : (same : Bool) (unit : RpcUnit) (bytes : List ℕ) (talk : Talk) (work : Work) → IsOpen work → HeardKept talk.link (hear_call same unit bytes talk work)

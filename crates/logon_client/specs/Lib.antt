@@ -1,5 +1,8 @@
 pub mod Answering
 pub mod Answers
+pub mod Asked
+pub mod Bounds
+pub mod Drawing
 pub mod Laws
 pub mod Leaving
 pub mod Losses

@@ -91,7 +91,8 @@ fn negotiate_bytes(alloc: Global, auth: AuthKind) -> Result<Blob, NoMemory>
 
 /// The bind with the NEGOTIATE.
 pub(crate) fn bind_bytes(alloc: Global, level: u8, auth: AuthKind) -> Result<Blob, NoMemory>
-    ensures { IfOk result (λ bytes. bytes ≡ written (bind_for level auth)) }
+    ensures value { IfOk result (λ bytes. bytes ≡ written (bind_for level auth)) }
+    ensures most { IfOk result (λ bytes. length bytes ≤ 5840) }
 {
     let unit = Unit {
         trailer: Some(trailer(level, negotiate_bytes(alloc, auth)?)),
@@ -285,7 +286,8 @@ pub(crate) fn make_answer(
 /// The bytes of a unit, where they are no more than a unit may have.
 fn bytes_within(alloc: Global, unit: &Unit) -> Result<Option<Blob>, NoMemory>
     requires { IsWritable unit.now }
-    ensures { IfOk result (λ bytes. bytes ≡ bytes_within unit.now) }
+    ensures value { IfOk result (λ bytes. bytes ≡ bytes_within unit.now) }
+    ensures most { IfOk result (λ made. IfSome made (λ bytes. length bytes ≤ 5840)) }
 {
     match write_unit(alloc, unit) {
         Ok(bytes) => Ok(Some(bytes)),
@@ -301,7 +303,8 @@ pub(crate) fn auth3_bytes(
     message: &Authenticate,
 ) -> Result<Option<Blob>, NoMemory>
     requires { CanWriteAuthenticate message.now }
-    ensures { IfOk result (λ bytes. bytes ≡ auth3_of level message.now) }
+    ensures value { IfOk result (λ bytes. bytes ≡ auth3_of level message.now) }
+    ensures most { IfOk result (λ made. IfSome made (λ bytes. length bytes ≤ 5840)) }
 {
     let message = match write_authenticate(alloc, message) {
         Ok(bytes) => bytes,

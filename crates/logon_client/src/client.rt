@@ -1,8 +1,9 @@
 //! The client.
 
-ghost use Rattle.std.specs.Prelude.{◌≡◌, ◌==◌, ℕ, List, Err, Ok, None, IfOk, OnOk, OnErr, IsSome, option_copied};
+ghost use Rattle.std.specs.Prelude.{◌≡◌, ◌==◌, ◌≤◌, ◌+◌, ℕ, List, Err, Ok, None, IfOk, OnOk, OnErr, IsSome, length, option_copied};
 ghost use Rattle.outside.specs.Drawing.{DrawsSome};
 ghost use Rattle.outside.specs.Machine.{AnswersBy, StepsBy};
+ghost use Rattle.end_links.specs.Bounds.{AreShortSends, units_in_piece, units_at};
 ghost use Rattle.logon_client.specs.Machine.{fresh_client, halted, begin_of, step_of, want_by, stays, binds, fresh_link, by_piece, by_close, by_event, standing_by, after_stream};
 ghost use Rattle.logon_client.specs.Plans.{CanLogOn};
 
@@ -11,7 +12,7 @@ use crate::hearing::{conclude, tell};
 use crate::outcome::{ClientOutcome, NoAnswerCause};
 use crate::plan::{ClientPlan, Task};
 use crate::state::{After, Phase, Running, Standing, Talk, Work};
-use end_links::{Link, serve_piece};
+use end_links::{Link, ShortActions, serve_piece};
 use outside::{Action, Actions, Chances, Event, StepRefused};
 use rpc_units::Joiner;
 use std::alloc::Global;
@@ -19,11 +20,20 @@ use std::marker::Model;
 use wire_base::{Blob, NoMemory};
 
 /// A client of one logon. Clauses see it as the record of what it keeps.
-#[derive(Drop)]
 pub struct Client {
     // none once it is stopped
     running: Option<Running>,
     outcome: Option<ClientOutcome>,
+}
+
+impl Drop for Client {
+    // As it would be derived. Written out, it is one call wherever a value that holds one is let go, which keeps the proofs of those places short.
+    fn drop(self) {
+        let Client {
+            running: _running,
+            outcome: _outcome,
+        } = self;
+    }
 }
 
 impl Model for Client {
@@ -56,10 +66,11 @@ impl Client {
         ensures answer { IfOk result (λ actions. actions ≡ (begin_of self.old).actions) }
         ensures state { OnOk result (self.new ≡ (begin_of self.old).state) }
         ensures halted { OnErr result (self.new ≡ halted self.old) }
+        ensures short { IfOk result (λ actions. AreShortSends actions) }
     {
-        let mut actions = Actions::new(alloc);
+        let mut actions = ShortActions::new(alloc);
         let Some(running) = self.running.take() else {
-            return Ok(actions);
+            return Ok(actions.into_actions());
         };
         let Running { task, .. } = running;
         let server = Blob::copy(alloc, task.plan().server.bytes())?;
@@ -68,13 +79,14 @@ impl Client {
             task,
             standing: Standing::Dialling,
         });
-        Ok(actions)
+        Ok(actions.into_actions())
     }
 
     /// The step for the event at this moment, in units of 100 ns since 1601-01-01: its actions in order.
     ///
     /// `Spent` where it draws more challenges than were left, `Memory` where no memory was found. After either the client is stopped, and answers
-    /// `Stopped` for ever.
+    /// `Stopped` for ever. Whatever the result, it draws at most one challenge for each unit that the event can end, and three more. Each send has at
+    /// most 589,824 bytes.
     pub fn step<Q: Chances>(
         &mut self,
         alloc: Global,
@@ -90,6 +102,9 @@ impl Client {
         // `Stopped` comes only of a client that is stopped, and a step that is taken leaves none stopped.
         ensures stopped { result ≡ Err StepRefused.Stopped → self.old.running ≡ None }
         ensures goes_on { OnOk result (IsSome self.new.running) }
+        ensures few { length (Q.drawing chances.old).left
+            ≤ length (Q.drawing chances.new).left + units_at event.now + 3 }
+        ensures short { IfOk result (λ actions. AreShortSends actions) }
     {
         let Some(running) = self.running.take() else {
             return Err(StepRefused::Stopped);
@@ -103,7 +118,7 @@ impl Client {
             task,
             now,
             outcome: None,
-            actions: Actions::new(alloc),
+            actions: ShortActions::new(alloc),
         };
         let after = match on_event(alloc, event, standing, work, chances) {
             Ok(after) => after,
@@ -118,7 +133,7 @@ impl Client {
         } = work;
         self.running = Some(Running { task, standing });
         self.outcome = outcome;
-        Ok(actions)
+        Ok(actions.into_actions())
     }
 
     /// The outcome. None exactly before there is one. It takes no memory.
@@ -154,6 +169,8 @@ fn on_event<Q: Chances>(
     ensures answer { AnswersBy result
         (by_event event.now standing work (Q.drawing chances.old).left)
         (Q.drawing chances.new).left }
+    ensures few { length (Q.drawing chances.old).left
+        ≤ length (Q.drawing chances.new).left + units_at event.now + 3 }
 {
     match (event, standing) {
         (Event::Dialled(link), Standing::Dialling) => Ok(bind_on(alloc, *link, work)?),
@@ -224,6 +241,8 @@ fn on_piece<Q: Chances>(
     ensures answer { AnswersBy result
         (by_piece (number == link.talk.link) piece.now link work (Q.drawing chances.old).left)
         (Q.drawing chances.new).left }
+    ensures few { length (Q.drawing chances.old).left
+        ≤ length (Q.drawing chances.new).left + units_in_piece (length piece.now) + 3 }
 {
     if number != link.talk().link {
         return Ok(After {

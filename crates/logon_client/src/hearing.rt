@@ -10,6 +10,7 @@ ghost use Rattle.wire_base.specs.Memory.{UpToMemory};
 ghost use Rattle.rpc_units.specs.Joining.{HasStub, IsWholeCall, stub_of};
 ghost use Rattle.rpc_units.specs.Numbers.{rpc_s_server_unavailable};
 ghost use Rattle.end_links.specs.Binding.{limit_of};
+ghost use Rattle.end_links.specs.Bounds.{IsShortSend};
 ghost use Rattle.logon_client.specs.declared.outcome.ClientOutcome.{ClientOutcome};
 ghost use Rattle.logon_client.specs.declared.state.Phase.{Phase};
 ghost use Rattle.logon_client.specs.declared.state.Terms.{Terms};
@@ -51,8 +52,9 @@ pub enum Heard {
     Challenged(Work, u32, ServerOffer),
 }
 
-/// The work with one action more.
+/// The work with one action more; a send has at most 589,824 bytes.
 pub(crate) fn tell(work: Work, what: Action) -> Result<Work, NoMemory>
+    requires { IsShortSend what }
     ensures { IfOk result (λ w. w ≡ told work what) }
 {
     let Work {
@@ -115,7 +117,7 @@ fn echo_bytes(alloc: Global, count: u32) -> Result<Blob, NoMemory>
     Ok(Blob::from_vec(bytes))
 }
 
-/// Sends a call, whose response is waited for.
+/// Sends a call whose stub has at most 4,103 bytes, and whose response is waited for.
 fn ask(
     alloc: Global,
     call: Unit,
@@ -126,6 +128,7 @@ fn ask(
 ) -> Result<(Work, Option<Talk>), NoMemory>
     requires whole { IsWholeCall call }
     requires plain { call.trailer ≡ None }
+    requires short { length (stub_of call.body) ≤ 4103 }
     ensures { IfOk result (λ end. end ≡ asks_call call terms question link work) }
 {
     let level = work.task.level();
@@ -173,7 +176,7 @@ pub(crate) fn ask_who(
 fn echo_stub(alloc: Global, count: u32) -> Result<Blob, NoMemory>
     requires { count ≤ 4096 }
     ensures value { IfOk result (λ stub. stub ≡ written_echo_request (echo_bytes count)) }
-    ensures short { IfOk result (λ stub. length stub < 2 ^ 32) }
+    ensures short { IfOk result (λ stub. length stub ≤ 4103) }
 {
     let bytes = echo_bytes(alloc, count)?;
     read_echo(bytes.bytes());

@@ -71,9 +71,16 @@ impl ClientPlan {
 }
 
 /// A plan that a client can follow, seen as the plan.
-#[derive(Debug, Drop)]
+#[derive(Debug)]
 pub struct Task {
     plan: ClientPlan,
+}
+
+impl Drop for Task {
+    // As it would be derived. Written out, it is one call wherever a value that holds one is let go, which keeps the proofs of those places short.
+    fn drop(self) {
+        let Task { plan: _plan } = self;
+    }
 }
 
 impl Model for Task {

@@ -1,7 +1,7 @@
 //! Units that a session signs or seals in their place.
 
-ghost use Rattle.std.specs.Prelude.{◌≡◌, ◌+◌, ◌≤◌, ◌<◌, ◌++◌, length, take, drop, IfOk, IfSome, IsTrue, None, Some, Ok, replicate};
-ghost use Rattle.rpc_units.specs.Joining.{IsWholeCall, cut_of};
+ghost use Rattle.std.specs.Prelude.{◌≡◌, ◌+◌, ◌*◌, ◌≤◌, ◌<◌, ◌++◌, length, take, drop, IfOk, IfSome, IsTrue, None, Some, Ok, replicate};
+ghost use Rattle.rpc_units.specs.Joining.{IsWholeCall, cut_of, stub_of};
 ghost use Rattle.rpc_units.specs.Writing.{IsWritable, value_len, written};
 ghost use Rattle.ntlm_seal.specs.Directions.{combine};
 ghost use Rattle.ntlm_seal.specs.Sessions.{seal_of, judge_of, open_of, unit_left};
@@ -53,7 +53,9 @@ fn range_of(bytes: &[u8]) -> Option<(usize, usize)>
 
 /// Signs a unit in its place, and seals it where units are. Whether it is done.
 pub(crate) fn secure_unit(session: &mut Session, seals: bool, bytes: &mut [u8]) -> bool
-    ensures { secure_unit seals session.old bytes.old ≡ secured_if result bytes.new session.new }
+    ensures answer { secure_unit seals session.old bytes.old
+        ≡ secured_if result bytes.new session.new }
+    ensures len { length bytes.new ≡ length bytes.old }
 {
     let Some((from, to)) = range_of(bytes) else {
         return false;
@@ -115,7 +117,8 @@ fn with_room(alloc: Global, level: u8, call: Unit) -> Result<Unit, NoMemory>
     })
 }
 
-/// The bytes of all fragments of a call, signed, and sealed where units are; None where the session refuses.
+/// The bytes of all fragments of a call, signed, and sealed where units are; None where the session refuses. They are at most twice the bytes of the stub,
+/// and 51 more.
 fn secure_call(
     alloc: Global,
     session: &mut Session,
@@ -127,8 +130,10 @@ fn secure_call(
     requires value { value_len call.now.trailer ≡ 16 }
     requires least { 1432 ≤ limit }
     requires most { limit ≤ 5840 }
-    ensures { IfOk result (λ bytes. secure_all seals session.old (cut_of call.now limit)
+    ensures answer { IfOk result (λ bytes. secure_all seals session.old (cut_of call.now limit)
         ≡ secured_with bytes session.new) }
+    ensures short { IfOk result (λ sent. IfSome sent (λ bytes.
+        length bytes ≤ 2 * length (stub_of call.now.body) + 51)) }
 {
     let units = cut_call(alloc, call, limit)?;
     let mut bytes = Vec::new(alloc);
@@ -159,7 +164,8 @@ pub struct Sending {
     pub session: Option<Session>,
 }
 
-/// A call at a level, as it is sent to a peer that receives so many bytes; None where the session refuses.
+/// A call at a level, as it is sent to a peer that receives so many bytes; None where the session refuses. What is sent has at most twice the bytes of the
+/// stub, and 51 more.
 pub(crate) fn send_call(
     alloc: Global,
     session: Option<Session>,
@@ -171,7 +177,9 @@ pub(crate) fn send_call(
     requires plain { call.trailer ≡ None }
     requires least { 1432 ≤ limit }
     requires most { limit ≤ 5840 }
-    ensures { IfOk result (λ sending. sending ≡ send_call session level call limit) }
+    ensures value { IfOk result (λ sending. sending ≡ send_call session level call limit) }
+    ensures short { IfOk result (λ sent. IfSome sent (λ sending.
+        length sending.bytes ≤ 2 * length (stub_of call.body) + 51)) }
 {
     let Some(session) = session else {
         return Ok(Some(Sending {

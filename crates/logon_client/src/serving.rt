@@ -87,9 +87,13 @@ fn serve_heard<Q: Chances>(
 
 impl ServesUnits<Talk> for Work {
     ghost use Rattle.logon_client.specs.Machine.{client_server};
+    ghost use Rattle.logon_client.specs.Bounds.{more_on};
     ghost use Rattle.logon_client.specs.Leaving.{client_leaves};
+    ghost use Rattle.logon_client.specs.Drawing.{client_few};
 
     ghost server = { client_server };
+
+    ghost extra = { more_on };
 
     fn serve<Q: Chances>(
         self,
@@ -117,4 +121,6 @@ impl ServesUnits<Talk> for Work {
     }
 
     ghost leaves = { client_leaves };
+
+    ghost few = { client_few };
 }

@@ -2,9 +2,8 @@
 
 use crate::outcome::ClientOutcome;
 use crate::plan::Task;
-use end_links::Link;
+use end_links::{Link, ShortActions};
 use ntlm_seal::Session;
-use outside::Actions;
 use rpc_units::Joiner;
 use wire_base::Units;
 
@@ -69,7 +68,7 @@ pub struct Work {
     pub task: Task,
     pub now: u64,
     pub outcome: Option<ClientOutcome>,
-    pub actions: Actions,
+    pub actions: ShortActions,
 }
 
 /// What an event comes to.

@@ -1,7 +1,7 @@
 use Rattle.std.proofs.Common.{◌≡◌, Some, None, Err, sym, ap, subst, ◌∙◌}
-use Rattle.outside.specs.Machine.{StepsBy}
+use Rattle.outside.specs.Machine.{StepsBy, Takes}
 use Rattle.logon_client.specs.State.{State}
-use Rattle.logon_client.specs.Machine.{halted, step_of}
+use Rattle.logon_client.specs.Machine.{halted, state_after, step_of}
 use Rattle.logon_client.proofs.StepLaws.{none_of, step_taken, step_refused}
 use Rattle.logon_client.proofs.client.Client.step.Goals as goal
 
@@ -21,4 +21,6 @@ returns-clause-answer g c =
     let s = c.args.self.now in
     let runs : s.running ≡ Some c.in-Some.running = sym (ap State.running c.self.view_is) ∙ sym c.take.ensures.value ∙ c.in-Some.is in
     let none : s.outcome ≡ None = sym (ap State.outcome c.self.view_is) ∙ none_of c.self.inside.outcome (sym c.is_some.ensures ∙ c.if-is_some.false) in
-    step_taken s c.in-Some.running c.args.event.now c.args.now (drawing c.args.chances.now) (drawing c.on_event.new.chances) c.new-2.result c.in-Ok.after runs none c.on_event.ensures.draws c.new-2.ensures c.in-Ok.ensures.answer
+    subst (λ actions. Takes (step_of s c.args.event.now c.args.now (drawing c.args.chances.now).left) (state_after c.in-Ok.after) (drawing c.args.chances.now) (drawing c.on_event.new.chances) actions)
+    (sym c.into_actions.ensures.actions)
+    (step_taken s c.in-Some.running c.args.event.now c.args.now (drawing c.args.chances.now) (drawing c.on_event.new.chances) c.new-2.result c.in-Ok.after runs none c.on_event.ensures.draws c.new-2.ensures c.in-Ok.ensures.answer)
