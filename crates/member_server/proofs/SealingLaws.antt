@@ -1,18 +1,20 @@
 -- Units that are signed or sealed.
 use Rattle.std.proofs.Common.{◌≡◌, ℕ, suc, ◌<◌, drop, get_or, ◌+◌, ◌-◌, ◌≤◌, ◌==◌, ◌&&◌, Bool, true, false, List, [], ◌∷◌, ◌++◌, length, Option, Some, None, Ok, refl, append_assoc, arith, ap, subst, sym, ◌∙◌}
-use Rattle.std.proofs.lemmas.List.{length-take}
+use Rattle.std.proofs.lemmas.List.{length-append, length-take}
 use Rattle.std.proofs.Math.Seq.{drop-cons}
 use Rattle.rpc_units.specs.declared.unit.Unit.{Unit as RpcUnit}
 use Rattle.rpc_units.specs.declared.unit.Trailer.{Trailer}
 use Rattle.rpc_units.specs.Reading.{unit_of}
+use Rattle.end_links.specs.Bounds.{send_limit}
 use Rattle.rpc_units.specs.Sealed.{IsSealedRange}
 use Rattle.rpc_units.specs.Writing.{written, IsWritable}
 use Rattle.rpc_units.specs.Joining.{cut_of}
-use Rattle.rpc_units.proofs.CuttingLaws.{cut_each, cut_short, cut_writable}
-use Rattle.std.specs.List.{AllByRecursion}
+use Rattle.rpc_units.proofs.CuttingLaws.{call_short, cut_each, cut_short, cut_writable}
+use Rattle.std.specs.List.{AllByRecursion, flat_map}
 use Rattle.std.proofs.lemmas.Bool.{eqb-true}
 use Rattle.rpc_units.proofs.WritingLaws.{length_written}
 use Rattle.ntlm_seal.specs.Sessions.{SessionState}
+use Rattle.ntlm_seal.proofs.TurnLaws.{length-combine}
 use Rattle.member_server.specs.Sealing.{HasSignature, IsReady, frame_by, frames_by, in_front, is_due, then_frame, blank_trailer, front_part}
 use Rattle.member_server.specs.Requests.{reply_with}
 
@@ -20,6 +22,8 @@ use Rattle.member_server.specs.Requests.{reply_with}
 pub range_before_value : (bytes : List ℕ) (from to : ℕ) → HasSignature bytes → IsSealedRange bytes from to → to ≤ length (front_part bytes)
 range_before_value bytes from to has range =
     omega (arith, range.ends, has range.unit range.trailer range.read range.has, length-take (length bytes - 16) bytes)
+
+pub ruleset sealing = (range_before_value, length-combine)
 
 -- ---- a unit that is ready
 
@@ -75,6 +79,13 @@ reply_ready level context call of stub limit units least most are =
     (all_ready limit (cut_of unit limit) most (cut_writable unit limit tt (omega arith) (omega (arith, least))) (cut_short unit limit tt (omega (arith, least)))
     (cut_each (λ u. (trailer : Trailer) → u.trailer ≡ Some trailer → length trailer.value ≡ 16) unit limit (omega (arith, least)) (λ first last part short. blank_sixteen level context)))
 
+-- all of them are short enough for one send
+pub reply_short : (level context call of : ℕ) (stub : List ℕ) (limit : ℕ) (units : List RpcUnit) → 1432 ≤ limit → length stub ≤ 65558 →
+    units ≡ cut_of (reply_with (blank_trailer level context) call of stub) limit → length (flat_map written units) ≤ send_limit
+reply_short level context call of stub limit units least few are =
+    let unit : RpcUnit = reply_with (blank_trailer level context) call of stub in
+    subst (λ us. length (flat_map written us) ≤ send_limit) (sym are) (omega (arith, few, call_short unit limit tt least (omega arith)))
+
 -- ---- one frame more
 
 front_more : (bytes more : List ℕ) (sent : Option (List ℕ × SessionState)) → in_front (bytes ++ more) sent ≡ in_front bytes (in_front more sent)
@@ -104,6 +115,21 @@ frames_step sealing session later bytes more new unit units i total there at sen
     frames_more sealing session later bytes more new unit (drop (i + 1) units) sent is
     ∙ sym (ap (λ us. in_front bytes (frames_by sealing session us)) (item_at units i unit there at))
     ∙ so_far
+
+-- the bytes so far, with those of the units that are left
+pub size_step : (units : List RpcUnit) (i : ℕ) (unit : RpcUnit) (bytes more new : List ℕ) → i < length units → unit ≡ get_or units i unit →
+    length more ≡ length (written unit) → new ≡ bytes ++ more →
+    length bytes + length (flat_map written (drop i units)) ≤ send_limit → length new + length (flat_map written (drop (i + 1) units)) ≤ send_limit
+size_step units i unit bytes more new there at same is few =
+    omega (
+      arith,
+      few,
+      same,
+      ap length is,
+      length-append bytes more,
+      ap (λ us. length (flat_map written us)) (item_at units i unit there at),
+      length-append (written unit) (flat_map written (drop (i + 1) units)),
+    )
 
 pub ready_step : (units : List RpcUnit) (i : ℕ) (unit : RpcUnit) → i < length units → unit ≡ get_or units i unit → AllByRecursion IsReady (drop i units) → AllByRecursion IsReady (drop (i + 1) units)
 ready_step units i unit there at each = let both : AllByRecursion IsReady (unit ∷ drop (i + 1) units) = subst (AllByRecursion IsReady) (item_at units i unit there at) each in both.1

@@ -104,15 +104,16 @@ pub ruleset running = (event_refused, event_done, DrawsSome-none, DrawsSome-tran
 
 -- ---- a step
 
-pub step_taken : (running : Running) (s new : State) (what : Event) (now : ℕ) (before after : Drawing) (desk : Desk) → s.running ≡ Some running → new ≡ state_in desk →
-    DrawsSome before after → event_part running what now before.left ≡ Ok (record { value = desk; left = after.left }) →
-    Takes (step_of s what now before.left) new before after (actions_in desk)
-step_taken running s new what now before after desk runs stays some is =
-    subst (λ n. Takes (step_of s what now before.left) n before after (actions_in desk)) (sym stays) (record {
+pub step_taken : (running : Running) (s new : State) (what : Event) (now : ℕ) (before after : Drawing) (desk : Desk) (actions : List Action) → actions ≡ actions_in desk →
+    s.running ≡ Some running → new ≡ state_in desk → DrawsSome before after → event_part running what now before.left ≡ Ok (record { value = desk; left = after.left }) →
+    Takes (step_of s what now before.left) new before after actions
+step_taken running s new what now before after desk actions told runs stays some is =
+    subst (λ a. Takes (step_of s what now before.left) new before after a) (sym told)
+    (subst (λ n. Takes (step_of s what now before.left) n before after (actions_in desk)) (sym stays) (record {
       drawn = draws_between before.left after.left;
       is = ap (λ (r : Option Running). step_on r s what now before.left) runs ∙ ap (step_by actions_in state_in halted_state before.left) is;
       draws = DrawsSome-between before after some;
-    })
+    }))
 
 pub step_refused : (why : StepRefused) (running : Running) (s new : State) (what : Event) (now : ℕ) (before after : Drawing) → s.running ≡ Some running → new ≡ halted_state →
     DrawsSome before after → AnswersBy (Err why) (event_part running what now before.left) after.left →
@@ -123,12 +124,13 @@ step_refused why running s new what now before after runs stops some answer =
     (StepsBy-refused why actions_in state_in halted_state (event_part running what now before.left) before after some answer))
 
 -- the events that a step makes come to an end
-pub step_settles : (running : Running) (s new : State) (what : Event) (now : ℕ) (before after : List (List ℕ)) (desk : Desk) → s.running ≡ Some running → new ≡ state_in desk →
-    event_part running what now before ≡ Ok (record { value = desk; left = after }) → IsTrue (is_made what) →
-    most_made_by (actions_in desk) + pending_in new ≤ pending_in s
-step_settles running s new what now before after desk runs stays is made =
-    subst (λ (n : State). most_made_by (actions_in desk) + pending_in n ≤ pending_in s) (sym stays)
+pub step_settles : (running : Running) (s new : State) (what : Event) (now : ℕ) (before after : List (List ℕ)) (desk : Desk) (actions : List Action) → actions ≡ actions_in desk →
+    s.running ≡ Some running → new ≡ state_in desk → event_part running what now before ≡ Ok (record { value = desk; left = after }) → IsTrue (is_made what) →
+    most_made_by actions + pending_in new ≤ pending_in s
+step_settles running s new what now before after desk actions told runs stays is made =
+    subst (λ (a : List Action). most_made_by a + pending_in new ≤ pending_in s) (sym told)
+    (subst (λ (n : State). most_made_by (actions_in desk) + pending_in n ≤ pending_in s) (sym stays)
     (subst (λ (r : Option Running). most_made_by (actions_in desk) + pending_in (state_in desk) ≤ pending_by r) (sym runs)
-    (subst (λ p. Within p (pending_of running)) is (settles running what now before made)))
+    (subst (λ p. Within p (pending_of running)) is (settles running what now before made))))
 
 pub ruleset stepping = (step_taken, step_refused, step_settles)

@@ -9,6 +9,7 @@ use Rattle.rpc_units.specs.declared.unit.Unit.{Unit as RpcUnit}
 use Rattle.rpc_units.specs.Reading.{unit_of}
 use Rattle.rpc_units.specs.Sealing.{sealed_of}
 use Rattle.rpc_units.specs.Writing.{written, IsWritable}
+use Rattle.end_links.specs.Bounds.{send_limit}
 
 -- ---- the parts of a unit
 
@@ -102,6 +103,16 @@ then_frame (Some sent) later = in_front sent.0 (later sent.1)
 abbrev pub frames_by : Bool → SessionState → List RpcUnit → Option (List ℕ × SessionState)
 frames_by sealing s [] = Some ([], s)
 frames_by sealing s (unit ∷ units) = then_frame (frame_by sealing s (written unit)) (λ later. frames_by sealing later units)
+
+-- what is sent of a unit has as many bytes as the unit
+abbrev pub IsFrameOf : ℕ → Option (List ℕ × SessionState) → Type 0
+IsFrameOf count None = Unit {0}
+IsFrameOf count (Some sent) = length sent.0 ≡ count
+
+-- and that of all fragments is short enough for one send
+abbrev pub IsShortFrames : Option (List ℕ × SessionState) → Type 0
+IsShortFrames None = Unit {0}
+IsShortFrames (Some sent) = length sent.0 ≤ send_limit
 
 -- the trailer of a unit that isn't signed yet
 abbrev pub blank_trailer : ℕ → ℕ → Trailer

@@ -15,6 +15,7 @@ ghost use Rattle.member_server.specs.Units.{first_unit};
 ghost use Rattle.member_server.specs.Work.{send_unit, stay};
 ghost use Rattle.member_server.specs.declared.state.Phase.TheVariants as phase;
 ghost use Rattle.end_links.specs.Binding.{nak_of};
+ghost use Rattle.end_links.specs.Bounds.{send_limit};
 
 use crate::levels::{is_plain, is_served};
 use crate::plan::MemberPlan;
@@ -257,8 +258,9 @@ fn ack_bytes(
 ) -> Result<Blob, NoMemory>
     requires few { length contexts.now ≤ 242 }
     requires fits { IsTrue (ack_fits offer plan.now call receive contexts.now) }
-    ensures { IfOk result (λ bytes. bytes
+    ensures value { IfOk result (λ bytes. bytes
         ≡ written (challenge_ack offer plan.now call receive contexts.now challenge)) }
+    ensures short { IfOk result (λ bytes. length bytes ≤ send_limit) }
 {
     let ack = challenge_ack(alloc, offer, plan, call, receive, contexts, challenge)?;
     unit_bytes(alloc, &ack)

@@ -3,6 +3,7 @@
 ghost use Rattle.std.specs.Prelude.{◌≡◌, ◌≤◌, ◌<◌, ◌+◌, ◌++◌, ◌↔◌, None, Some, Err, false, length, nat_le, option_copied, IfOk, OnOk, OnErr, IsTrue};
 ghost use Rattle.end_loop.specs.Acts.{is_made, most_made_by};
 ghost use Rattle.wire_base.specs.Maps.{lookup, same_number};
+ghost use Rattle.end_links.specs.Bounds.{AreShortSends, units_at, units_in_piece};
 ghost use Rattle.outside.specs.Drawing.{DrawsSome};
 ghost use Rattle.outside.specs.Machine.{AnswersBy, StepsBy};
 ghost use Rattle.channel_client.specs.Machine.{fresh_requester};
@@ -16,13 +17,13 @@ use crate::outcomes::tell_at;
 use crate::plan::MemberPlan;
 use crate::state::{AtLink, AtTurn, Dialling, Logons, Phase, Running, Talk, TurnTalk, Work};
 use crate::turns::{lose_turn, next_turn};
-use channel_client::{Channel, Turn};
-use end_links::{Link, Links, join_frames, serve_piece};
+use channel_client::{Channel, ShortFrames, Turn};
+use end_links::{Link, Links, ShortActions, serve_piece};
 use outside::{Action, Actions, Chances, CloseCause, DropCause, Event, StepRefused};
 use rpc_units::Joiner;
 use std::alloc::Global;
 use std::marker::Model;
-use wire_base::{Frames, List, Name, NoMemory, Units};
+use wire_base::{List, Name, NoMemory, Units};
 
 /// A member server, seen as what it keeps.
 #[derive(Drop)]
@@ -83,6 +84,11 @@ impl Member {
         // Events that a failed send or a dial makes come to an end.
         ensures settles { IfOk result (λ actions. IsTrue (is_made event.now) →
             most_made_by actions + pending_in self.new ≤ pending_in self.old) }
+        // At most one challenge is drawn for each unit that the event can end, and one more for the turn that starts, whatever the result.
+        ensures few { length (Q.drawing chances.old).left
+            ≤ length (Q.drawing chances.new).left + units_at event.now + 1 }
+        // No send has more than 589,824 bytes.
+        ensures short { IfOk result (λ actions. AreShortSends actions) }
     {
         let Some(running) = self.running.take() else {
             return Err(StepRefused::Stopped);
@@ -101,7 +107,7 @@ impl Member {
             links,
             dialling,
         });
-        Ok(actions)
+        Ok(actions.into_actions())
     }
 
     /// The link that the member waits for: that of the turn. It takes no memory.
@@ -239,13 +245,13 @@ fn answer_dial(
 fn send_bind(
     alloc: Global,
     turn: Turn,
-    frames: &Frames,
+    frames: &ShortFrames,
     link: u32,
     work: Work,
 ) -> Result<(Work, Dialling), NoMemory>
     ensures { IfOk result (λ desk. desk ≡ answer_dial (dialling.Waits turn frames.now) link work) }
 {
-    let bytes = join_frames(alloc, frames)?;
+    let bytes = frames.join(alloc)?;
     let work = tell_at(drop_link(link, work), Action::Send(link, bytes))?;
     let talk = TurnTalk {
         joiner: Joiner::new(),
@@ -305,6 +311,8 @@ fn serve_link<Q: Chances>(
     ensures answer { AnswersBy result
         (serve_alone (cut_stream (link.rest ++ piece.now)) number link.talk how work (Q.drawing chances.old).left)
         (Q.drawing chances.new).left }
+    ensures few { length (Q.drawing chances.old).left
+        ≤ length (Q.drawing chances.new).left + units_in_piece (length piece.now) }
 {
     let Work {
         logons,
@@ -350,6 +358,8 @@ fn bytes_on_link<Q: Chances>(
     ensures answer { AnswersBy result
         (bytes_on_link (lookup same_number number work.links) number piece.now how work (Q.drawing chances.old).left)
         (Q.drawing chances.new).left }
+    ensures few { length (Q.drawing chances.old).left
+        ≤ length (Q.drawing chances.new).left + units_in_piece (length piece.now) }
 {
     if work.links.get(number).is_none() {
         return Ok((work, how));
@@ -385,6 +395,8 @@ fn serve_dialled<Q: Chances>(
     ensures answer { AnswersBy result
         (serve_dialled (cut_stream (said.rest ++ piece.now)) number said.talk work (Q.drawing chances.old).left)
         (Q.drawing chances.new).left }
+    ensures few { length (Q.drawing chances.old).left
+        ≤ length (Q.drawing chances.new).left + units_in_piece (length piece.now) }
 {
     let at = AtTurn { link: number, work };
     let (at, open) = match serve_piece(alloc, at, said, piece, chances) {
@@ -410,6 +422,8 @@ fn bytes_on<Q: Chances>(
     ensures answer { AnswersBy result
         (bytes_on how number piece.now work (Q.drawing chances.old).left)
         (Q.drawing chances.new).left }
+    ensures few { length (Q.drawing chances.old).left
+        ≤ length (Q.drawing chances.new).left + units_in_piece (length piece.now) }
 {
     match how {
         Dialling::On(other, said) if other == number => {
@@ -434,6 +448,8 @@ fn on_event<Q: Chances>(
     ensures answer { AnswersBy result
         (by_event event.now how work (Q.drawing chances.old).left)
         (Q.drawing chances.new).left }
+    ensures few { length (Q.drawing chances.old).left
+        ≤ length (Q.drawing chances.new).left + units_at event.now }
 {
     match event {
         Event::Opened(link) => Ok(open_event(alloc, how, *link, work)?),
@@ -471,6 +487,8 @@ fn run_event<Q: Chances>(
     ensures answer { AnswersBy result
         (event_part running event.now now (Q.drawing chances.old).left)
         (Q.drawing chances.new).left }
+    ensures few { length (Q.drawing chances.old).left
+        ≤ length (Q.drawing chances.new).left + units_at event.now + 1 }
 {
     let Running {
         logons,
@@ -480,7 +498,7 @@ fn run_event<Q: Chances>(
     let work = Work {
         logons,
         links,
-        actions: Actions::new(alloc),
+        actions: ShortActions::new(alloc),
     };
     let (work, how) = match on_event(alloc, event, dialling, work, chances) {
         Ok(desk) => desk,

@@ -1,6 +1,6 @@
 //! The operations of the memo interface, which a member serves those who are logged on.
 
-ghost use Rattle.std.specs.Prelude.{◌≡◌, ◌==◌, ◌≤◌, ◌<◌, ◌^◌, length, nat_le, IfOk};
+ghost use Rattle.std.specs.Prelude.{◌≡◌, ◌==◌, ◌≤◌, length, nat_le, IfOk};
 ghost use Rattle.memo_stubs.specs.Memo.{FitsEcho, echo_request_of, written_who_reply, written_echo_reply};
 ghost use Rattle.member_server.specs.declared.memo.Answer.TheVariants as answer;
 ghost use Rattle.member_server.specs.Memo.{IsShortAnswer, who_answer, echo_answer, memo_answer, call_answer};
@@ -52,12 +52,12 @@ fn who_answer(alloc: Global, name: &Units) -> Result<Answer, NoMemory>
     Ok(Answer::Stub(stub))
 }
 
-/// The stub of a reply of WhoAmI has fewer than 2^20 bytes. It reads the name's units, so that this is known.
+/// The stub of a reply of WhoAmI has at most 65,558 bytes. It reads the name's units, so that this is known.
 #[tactic(auto, using(crate::proofs::MemoLaws::who_stub_short))]
 fn read_who(name: &[u16], stub: &[u8])
     requires fits { FitsText name.now }
     requires exact { stub.now ≡ written_who_reply name.now }
-    ensures { length stub.now < 2 ^ 20 }
+    ensures { length stub.now ≤ 65558 }
 {}
 
 /// The answer to Echo: the bytes of the request.
@@ -83,10 +83,10 @@ fn echo(alloc: Global, bytes: &Blob) -> Result<Answer, NoMemory>
     Ok(Answer::Stub(stub))
 }
 
-/// The stub of a reply of Echo has fewer than 2^20 bytes. It reads the bytes, so that this is known.
+/// The stub of a reply of Echo has at most 65,558 bytes. It reads the bytes, so that this is known.
 #[tactic(auto, using(crate::proofs::MemoLaws::echo_stub_short))]
 fn read_echo(bytes: &[u8], stub: &[u8])
     requires fits { FitsEcho bytes.now }
     requires exact { stub.now ≡ written_echo_reply bytes.now }
-    ensures { length stub.now < 2 ^ 20 }
+    ensures { length stub.now ≤ 65558 }
 {}

@@ -1,6 +1,7 @@
 //! How the outcome of a logon reaches its link.
 
 ghost use Rattle.std.specs.Prelude.{◌≡◌, ◌≤◌, ◌<◌, Option, Some, None, false, length, is_some, IfOk, IsTrue};
+ghost use Rattle.end_links.specs.Bounds.{IsShortSend};
 ghost use Rattle.wire_base.specs.Maps.{lookup, same_number};
 ghost use Rattle.member_server.specs.Units.{serve_held};
 ghost use Rattle.member_server.specs.Outcomes.{at_link, tell_at, without_link, keep_link, after_served, name_in, key_in, session_in, outcome_of, phase_after, waiting_at, waiting_on, turn_alone, turn_link, reach_link, without_logon, end_logon};
@@ -30,6 +31,7 @@ pub enum Ending {
 
 /// One action more.
 pub(crate) fn tell_at(work: Work, what: Action) -> Result<Work, NoMemory>
+    requires { IsShortSend what }
     ensures { IfOk result (λ told. told ≡ tell_at work what) }
 {
     let mut work = work;

@@ -1,11 +1,13 @@
 //! Requests on links that are bound.
 
 ghost use Rattle.std.specs.Prelude.{◌≡◌, ◌≤◌, ◌<◌, ◌+◌, ◌^◌, ◌==◌, length, nat_le, None, Some, IfOk, Ok};
-ghost use Rattle.std.specs.List.{AllByRecursion};
+ghost use Rattle.std.specs.List.{AllByRecursion, flat_map};
+ghost use Rattle.end_links.specs.Bounds.{send_limit};
 ghost use Rattle.outside.specs.declared.action.CloseCause.TheVariants as close;
 ghost use Rattle.rpc_units.specs.Joining.{HasStub, answer_of, cut_of, open_after};
 ghost use Rattle.rpc_units.specs.Reading.{unit_of};
 ghost use Rattle.rpc_units.specs.Views.{body_shown, unit_shown};
+ghost use Rattle.rpc_units.specs.Writing.{written};
 ghost use Rattle.end_links.specs.Agreed.{accepts};
 ghost use Rattle.end_links.specs.Sending.{fault_of, response_of};
 ghost use Rattle.rpc_units.specs.Calls.{bytes_of_call};
@@ -14,7 +16,7 @@ ghost use Rattle.member_server.specs.Held.{held_size, held_limit};
 ghost use Rattle.member_server.specs.Levels.{is_plain, is_sealing};
 ghost use Rattle.member_server.specs.Memo.{IsShortAnswer, call_answer};
 ghost use Rattle.member_server.specs.Requests.{talk_in, reply_with, send_sealed, seal_reply, send_reply, reply, answer_call, join_by, join_request, join_unit, cause_by, signed_cause, join_if, after_opening, open_unit, signed_unit, unit_in, body_out, unit_out, hold_by, body_asked, unit_asked};
-ghost use Rattle.member_server.specs.Sealing.{HasSignature, IsReady, blank_trailer, frames_by, opening_by};
+ghost use Rattle.member_server.specs.Sealing.{HasSignature, IsReady, IsShortFrames, blank_trailer, frames_by, opening_by};
 ghost use Rattle.member_server.specs.Work.{send, send_unit, stay};
 
 use crate::held::Held;
@@ -185,7 +187,7 @@ fn send_reply(
     joiner: Joiner,
     at: AtLink,
 ) -> Result<(AtLink, Option<Talk>), NoMemory>
-    requires { length stub < 2 ^ 32 }
+    requires { length stub ≤ 65558 }
     ensures { IfOk result (λ served. served ≡ send_reply (is_plain on.bound.level) call context stub on joiner at) }
 {
     if !is_plain(on.bound.level) {
@@ -205,9 +207,10 @@ fn plain_reply(
     context: u16,
     bound: &Bound,
 ) -> Result<Blob, NoMemory>
-    requires { length stub < 2 ^ 32 }
-    ensures { IfOk result (λ bytes. bytes
+    requires { length stub ≤ 65558 }
+    ensures value { IfOk result (λ bytes. bytes
         ≡ bytes_of_call (response_of call context stub) bound.now.binding.limit) }
+    ensures short { IfOk result (λ bytes. length bytes ≤ send_limit) }
 {
     let unit = response(call, context, stub);
     call_bytes(alloc, &unit, bound.binding.limit())
@@ -220,6 +223,7 @@ fn send_in(
     joiner: Joiner,
     at: AtLink,
 ) -> Result<(AtLink, Option<Talk>), NoMemory>
+    requires { length bytes ≤ send_limit }
     ensures { IfOk result (λ served. served ≡ stay (send at bytes) (talk_in joiner on)) }
 {
     match send(at, bytes) {
@@ -238,7 +242,7 @@ fn seal_reply(
     joiner: Joiner,
     at: AtLink,
 ) -> Result<(AtLink, Option<Talk>), NoMemory>
-    requires { length stub < 2 ^ 32 }
+    requires { length stub ≤ 65558 }
     ensures { IfOk result (λ served. served ≡ seal_reply on.session call context stub on joiner at) }
 {
     let LoggedOn {
@@ -274,10 +278,11 @@ fn sealed_reply(
     bound: &Bound,
     session: Session,
 ) -> Result<Option<(Blob, Session)>, NoMemory>
-    requires { length stub < 2 ^ 32 }
-    ensures { IfOk result (λ sent. sent ≡ frames_by (is_sealing bound.now.level) session
+    requires { length stub ≤ 65558 }
+    ensures value { IfOk result (λ sent. sent ≡ frames_by (is_sealing bound.now.level) session
         (cut_of (reply_with (blank_trailer bound.now.level bound.now.context) call context stub)
         bound.now.binding.limit)) }
+    ensures short { IfOk result IsShortFrames }
 {
     match reply_units(alloc, stub, call, context, bound) {
         Ok(units) => send_all(alloc, is_sealing(bound.level), session, units.items()),
@@ -294,11 +299,12 @@ fn reply_units(
     context: u16,
     bound: &Bound,
 ) -> Result<UnitList, NoMemory>
-    requires { length stub < 2 ^ 32 }
+    requires { length stub ≤ 65558 }
     ensures value { IfOk result (λ units. units ≡ cut_of
         (reply_with (blank_trailer bound.now.level bound.now.context) call context stub)
         bound.now.binding.limit) }
     ensures ready { IfOk result (λ units. AllByRecursion IsReady units) }
+    ensures short { IfOk result (λ units. length (flat_map written units) ≤ send_limit) }
 {
     let trailer = Trailer {
         kind: 10,

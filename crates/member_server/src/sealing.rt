@@ -1,12 +1,13 @@
 //! Units that a session signs or seals.
 
 ghost use Rattle.std.specs.Prelude.{◌≡◌, ◌≤◌, ◌-◌, ◌++◌, ◌==◌, [], ◌∷◌, length, take, drop, option_map, Some, None, IfOk, is_ok};
-ghost use Rattle.std.specs.List.{AllByRecursion};
+ghost use Rattle.std.specs.List.{AllByRecursion, flat_map};
+ghost use Rattle.end_links.specs.Bounds.{send_limit};
 ghost use Rattle.ntlm_seal.specs.Sessions.{seal_of};
 ghost use Rattle.rpc_units.specs.Sealing.{sealed_of};
 ghost use Rattle.rpc_units.specs.Views.{trailer_shown};
 ghost use Rattle.rpc_units.specs.Writing.{written, IsWritable};
-ghost use Rattle.member_server.specs.Sealing.{HasSignature, IsReady, is_due, front_part, value_part, Opening, check_of, opening_of, opening_by, signing_of, sealing_of, frame_by, frames_by};
+ghost use Rattle.member_server.specs.Sealing.{HasSignature, IsFrameOf, IsReady, IsShortFrames, is_due, front_part, value_part, Opening, check_of, opening_of, opening_by, signing_of, sealing_of, frame_by, frames_by};
 
 use ntlm_seal::Session;
 use rpc_units::{TrailerView, Unit, UnitWriteRefused, sealed_range, write_unit};
@@ -91,7 +92,8 @@ pub(crate) fn send_unit(
     requires least { 16 ≤ length bytes.now }
     requires most { length bytes.now ≤ 65536 }
     requires value { HasSignature bytes.now }
-    ensures { IfOk result (λ sent. sent ≡ frame_by sealing session bytes.now) }
+    ensures value { IfOk result (λ sent. sent ≡ frame_by sealing session bytes.now) }
+    ensures len { IfOk result (IsFrameOf (length bytes.now)) }
 {
     if sealing {
         seal(alloc, session, bytes)
@@ -103,7 +105,8 @@ pub(crate) fn send_unit(
 /// The same of a unit that is signed alone.
 fn sign(alloc: Global, session: Session, bytes: &[u8]) -> Result<Option<(Blob, Session)>, NoMemory>
     requires { 16 ≤ length bytes.now }
-    ensures { IfOk result (λ sent. sent ≡ signing_of session bytes.now) }
+    ensures value { IfOk result (λ sent. sent ≡ signing_of session bytes.now) }
+    ensures len { IfOk result (IsFrameOf (length bytes.now)) }
 {
     let mut session = session;
     let mut unit = Vec::from_slice(alloc, &bytes[..bytes.len() - 16])?;
@@ -117,12 +120,13 @@ fn sign(alloc: Global, session: Session, bytes: &[u8]) -> Result<Option<(Blob, S
 }
 
 /// The same of a unit that is sealed.
-#[tactic(auto, using(crate::proofs::SealingLaws::range_before_value))]
+#[tactic(auto, using(crate::proofs::SealingLaws::sealing))]
 fn seal(alloc: Global, session: Session, bytes: &[u8]) -> Result<Option<(Blob, Session)>, NoMemory>
     requires least { 16 ≤ length bytes.now }
     requires most { length bytes.now ≤ 65536 }
     requires value { HasSignature bytes.now }
-    ensures { IfOk result (λ sent. sent ≡ sealing_of session bytes.now) }
+    ensures value { IfOk result (λ sent. sent ≡ sealing_of session bytes.now) }
+    ensures len { IfOk result (IsFrameOf (length bytes.now)) }
 {
     let mut session = session;
     let Some((from, to)) = sealed_range(bytes) else {
@@ -145,8 +149,10 @@ pub(crate) fn send_all(
     session: Session,
     units: &[Unit],
 ) -> Result<Option<(Blob, Session)>, NoMemory>
-    requires { AllByRecursion IsReady units.now }
-    ensures { IfOk result (λ sent. sent ≡ frames_by sealing session units.now) }
+    requires ready { AllByRecursion IsReady units.now }
+    requires short { length (flat_map written units.now) ≤ send_limit }
+    ensures value { IfOk result (λ sent. sent ≡ frames_by sealing session units.now) }
+    ensures short { IfOk result IsShortFrames }
 {
     let mut bytes = Vec::new(alloc);
     let mut session = session;
@@ -170,7 +176,8 @@ fn frame(
     unit: &Unit,
 ) -> Result<Option<(Blob, Session)>, NoMemory>
     requires { IsReady unit.now }
-    ensures { IfOk result (λ sent. sent ≡ frame_by sealing session (written unit.now)) }
+    ensures value { IfOk result (λ sent. sent ≡ frame_by sealing session (written unit.now)) }
+    ensures len { IfOk result (IsFrameOf (length (written unit.now))) }
 {
     let bytes = blank_bytes(alloc, unit)?;
     send_unit(alloc, sealing, session, bytes.bytes())

@@ -2,13 +2,12 @@
 
 use crate::held::Held;
 use crate::plan::MemberPlan;
-use channel_client::{Channel, Turn};
-use end_links::{Binding, Link, Links};
+use channel_client::{Channel, ShortFrames, Turn};
+use end_links::{Binding, Link, Links, ShortActions};
 use ntlm_messages::Authenticate;
 use ntlm_seal::Session;
-use outside::Actions;
 use rpc_units::Joiner;
-use wire_base::{Frames, List, Units};
+use wire_base::{List, Units};
 
 /// What a link is bound to: the accepted contexts with the limit of a fragment, and the level and the security context of the bind's trailer
 /// (C706 12.6.3.1, MS-RPCE 2.2.2.11).
@@ -103,7 +102,7 @@ pub enum Dialling {
     /// No turn is out.
     Nothing,
     /// The dial waits; the frames of the bind go out where it is answered.
-    Waits(Turn, Frames),
+    Waits(Turn, ShortFrames),
     /// The number of the link, and the link.
     On(u32, Link<TurnTalk>),
 }
@@ -121,7 +120,7 @@ pub struct Running {
 pub struct AtLink {
     pub link: u32,
     pub logons: Logons,
-    pub actions: Actions,
+    pub actions: ShortActions,
 }
 
 /// A member at work: what logons need, the accepted links, and the actions so far.
@@ -129,7 +128,7 @@ pub struct AtLink {
 pub struct Work {
     pub logons: Logons,
     pub links: Links<Talk>,
-    pub actions: Actions,
+    pub actions: ShortActions,
 }
 
 /// A member at work on the link of the turn, by the number of that link.

@@ -1,6 +1,6 @@
 //! The turn that is out, and its link.
 
-ghost use Rattle.std.specs.Prelude.{◌≡◌, ◌%◌, ◌/◌, ◌+◌, length, replicate, IfOk, Ok};
+ghost use Rattle.std.specs.Prelude.{◌≡◌, ◌≤◌, ◌%◌, ◌/◌, ◌+◌, length, replicate, IfOk, Ok};
 ghost use Rattle.outside.specs.Drawing.{DrawsSome};
 ghost use Rattle.outside.specs.Machine.{AnswersBy};
 ghost use Rattle.rpc_units.specs.Joining.{answer_of, open_after};
@@ -16,13 +16,13 @@ ghost use Rattle.member_server.specs.Turns.{lose_turn, tell_turn_closed, finish_
 use crate::outcomes::{Ending, end_logon, tell_at};
 use crate::state::{AtTurn, Dialling, TurnTalk, Work};
 use crate::work::let_go;
-use channel_client::{TakeRefused, Taken, Turn};
-use end_links::{ServesUnits, join_frames};
+use channel_client::{ShortFrames, TakeRefused, Taken, Turn};
+use end_links::ServesUnits;
 use logon_stubs::Verdict;
 use outside::{Action, Chances, CloseCause, DropCause, Spent, StepRefused};
 use rpc_units::{JoinRefused, Joiner, Unit, UnitRefused, read_unit};
 use std::alloc::Global;
-use wire_base::{Blob, Frames, NoMemory};
+use wire_base::{Blob, NoMemory};
 
 // ---- a turn that is lost
 
@@ -108,7 +108,7 @@ fn finish_logon(
 fn send_request(
     alloc: Global,
     turn: Turn,
-    frames: &Frames,
+    frames: &ShortFrames,
     joiner: Joiner,
     at: AtTurn,
 ) -> Result<(AtTurn, Option<TurnTalk>), NoMemory>
@@ -122,10 +122,10 @@ fn send_request(
 }
 
 /// These frames are sent on that link.
-fn send_frames(alloc: Global, frames: &Frames, link: u32, work: Work) -> Result<Work, NoMemory>
+fn send_frames(alloc: Global, frames: &ShortFrames, link: u32, work: Work) -> Result<Work, NoMemory>
     ensures { IfOk result (λ sent. sent ≡ tell_at work (action.Send link (joined_frames frames.now))) }
 {
-    match join_frames(alloc, frames) {
+    match frames.join(alloc) {
         Ok(bytes) => tell_at(work, Action::Send(link, bytes)),
         Err(NoMemory) => Err(NoMemory),
     }
@@ -267,9 +267,11 @@ fn join(
 
 impl ServesUnits<TurnTalk> for AtTurn {
     ghost use Rattle.member_server.specs.Turns.{turn_server};
-    ghost use Rattle.member_server.specs.Rests.{turn_leaves};
+    ghost use Rattle.member_server.specs.Rests.{turn_few, turn_leaves};
 
     ghost server = { turn_server };
+
+    ghost extra = { λ talk. 0 };
 
     #[tactic(auto, using(crate::proofs::TurnLaws::drawing))]
     fn serve<Q: Chances>(
@@ -301,6 +303,8 @@ impl ServesUnits<TurnTalk> for AtTurn {
     }
 
     ghost leaves = { turn_leaves };
+
+    ghost few = { turn_few };
 }
 
 // ---- the next turn
@@ -357,7 +361,7 @@ fn dial(
 fn send_dial(
     alloc: Global,
     turn: Turn,
-    frames: Frames,
+    frames: ShortFrames,
     work: Work,
 ) -> Result<(Work, Dialling), NoMemory>
     ensures { IfOk result (λ desk. desk
@@ -373,7 +377,7 @@ fn send_dial(
     }
 }
 
-/// The next turn starts, where one can. A challenge is drawn where the channel needs one.
+/// The next turn starts, where one can. A challenge is drawn where the channel needs one: one at most, whatever the result.
 #[tactic(auto, using(crate::proofs::TurnLaws::drawing))]
 pub(crate) fn next_turn<Q: Chances>(
     alloc: Global,
@@ -385,6 +389,7 @@ pub(crate) fn next_turn<Q: Chances>(
     ensures draws { DrawsSome (Q.drawing chances.old) (Q.drawing chances.new) }
     ensures answer { AnswersBy result (next_turn now (work, how) (Q.drawing chances.old).left)
         (Q.drawing chances.new).left }
+    ensures few { length (Q.drawing chances.old).left ≤ length (Q.drawing chances.new).left + 1 }
 {
     if !work.logons.channel.can_start() {
         return Ok((work, how));

@@ -118,10 +118,12 @@ fn is_fresh(phase: &Phase) -> bool
 }
 
 impl ServesUnits<Talk> for AtLink {
-    ghost use Rattle.member_server.specs.Rests.{link_leaves};
+    ghost use Rattle.member_server.specs.Rests.{link_few, link_leaves};
     ghost use Rattle.member_server.specs.Units.{link_server};
 
     ghost server = { link_server };
+
+    ghost extra = { λ talk. 0 };
 
     #[tactic(auto, using(crate::proofs::TurnLaws::drawing))]
     fn serve<Q: Chances>(
@@ -159,4 +161,6 @@ impl ServesUnits<Talk> for AtLink {
     }
 
     ghost leaves = { link_leaves };
+
+    ghost few = { link_few };
 }

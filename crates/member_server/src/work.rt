@@ -1,6 +1,7 @@
 //! What a member at work on an accepted link does.
 
 ghost use Rattle.std.specs.Prelude.{◌≡◌, ◌≤◌, None, length, IfOk};
+ghost use Rattle.end_links.specs.Bounds.{IsShortSend, send_limit};
 ghost use Rattle.outside.specs.declared.action.Action.TheVariants as action;
 ghost use Rattle.rpc_units.specs.Writing.{written, IsShortBody, IsWritable};
 ghost use Rattle.member_server.specs.Work.{tell, send, send_unit, shut};
@@ -14,6 +15,7 @@ use wire_base::{Blob, NoMemory};
 
 /// One action more.
 pub(crate) fn tell(at: AtLink, what: Action) -> Result<AtLink, NoMemory>
+    requires { IsShortSend what }
     ensures { IfOk result (λ told. told ≡ tell at what) }
 {
     let mut at = at;
@@ -23,6 +25,7 @@ pub(crate) fn tell(at: AtLink, what: Action) -> Result<AtLink, NoMemory>
 
 /// These bytes are sent on the link.
 pub(crate) fn send(at: AtLink, bytes: Blob) -> Result<AtLink, NoMemory>
+    requires { length bytes ≤ send_limit }
     ensures { IfOk result (λ told. told ≡ send at bytes) }
 {
     let link = at.link;
