@@ -1,9 +1,11 @@
 -- The bag, and how bytes come.
-use Rattle.std.proofs.Common.{◌≡◌, ℕ, suc, zero, ◌<◌, ◌≤◌, false, List, [], ◌∷◌, ◌++◌, length, take, drop, min, get_or, slice_set, refl, ap, sym, ◌∙◌, arith, length-drop, length-append}
-use Rattle.std.proofs.lemmas.List.{get_or_append_left, append_assoc, append-nil, length-set, take_min, take_at, drop_min, drop_at}
+use Rattle.std.proofs.Common.{◌≡◌, ℕ, suc, zero, ◌<◌, ◌≤◌, false, List, [], ◌∷◌, ◌++◌, length, take, drop, min, get_or, slice_set, ◌*◌, ◌+◌, refl, ap, sym, ◌∙◌, arith, length-drop, length-append}
+use Rattle.std.proofs.lemmas.List.Elements.{All-nil, All-push, All-set}
+use Rattle.std.proofs.lemmas.List.{length-take, get_or_append_left, append_assoc, append-nil, length-set, take_min, take_at, drop_min, drop_at}
+use Rattle.end_links.specs.Bounds.{send_limit}
 use Rattle.wire_base.proofs.PlaceLaws.{NoneBefore, none_yet, here_first, none_here, none_at_all}
 use Rattle.domain_world.specs.declared.bag.BagUnit.{BagUnit}
-use Rattle.domain_world.specs.Bag.{AreSettled, is_waiting, piece_limit, pieces_in, pieces_of, settled}
+use Rattle.domain_world.specs.Bag.{AreSettled, AreShortPieces, AreShortUnits, is_waiting, piece_limit, pieces_in, pieces_of, settled}
 
 pub none_settled : AreSettled 0 []
 none_settled = record { inside = omega arith; none = λ earlier d lt. absurd (omega arith) }
@@ -77,3 +79,39 @@ pieces_end pieces [] all so_far end = sym (append-nil pieces) ∙ ap (λ (more :
 pieces_end pieces (byte ∷ rest) all so_far end = absurd (omega arith)
 
 pub ruleset cutting = (chunk_off, pieces_end)
+
+-- a piece is no longer than it may be
+pieces_in_short : (most : ℕ) (bytes : List ℕ) → AreShortPieces (pieces_in most bytes)
+pieces_in_short most [] = tt
+pieces_in_short zero (byte ∷ bytes) = tt
+pieces_in_short (suc most) (byte ∷ bytes) =
+    (omega (arith, length-take piece_limit (byte ∷ bytes)), pieces_in_short most (drop piece_limit (byte ∷ bytes)))
+
+pub pieces_short : (bytes : List ℕ) → AreShortPieces (pieces_of bytes)
+unfolding pieces_of
+pieces_short bytes = pieces_in_short (length bytes) bytes
+
+pieces_in_few : (most : ℕ) (bytes : List ℕ) → 65536 * length (pieces_in most bytes) ≤ length bytes + 65535
+pieces_in_few most [] = omega arith
+pieces_in_few zero (byte ∷ bytes) = omega arith
+pieces_in_few (suc most) (byte ∷ bytes) =
+    omega (arith, pieces_in_few most (drop piece_limit (byte ∷ bytes)), length-drop piece_limit (byte ∷ bytes))
+
+-- what an end sends at once comes in nine pieces at most
+pub pieces_few : (bytes : List ℕ) → length bytes ≤ send_limit → length (pieces_of bytes) ≤ 9
+unfolding pieces_of
+pieces_few bytes short = omega (arith, pieces_in_few (length bytes) bytes, short)
+
+-- ---- no unit is longer than it may be
+
+abbrev IsShort : BagUnit → Type 0
+IsShort unit = length unit.bytes ≤ send_limit
+
+pub none_long : AreShortUnits []
+none_long = All-nil IsShort
+
+pub units_add : (bag : List BagUnit) (unit : BagUnit) → AreShortUnits bag → length unit.bytes ≤ send_limit → AreShortUnits (bag ++ unit ∷ [])
+units_add bag unit are short = All-push IsShort bag unit are short
+
+pub units_settle : (bag : List BagUnit) (number : ℕ) (unit : BagUnit) → AreShortUnits bag → length unit.bytes ≤ send_limit → AreShortUnits (slice_set bag number unit)
+units_settle bag number unit are short = All-set IsShort bag number unit short are

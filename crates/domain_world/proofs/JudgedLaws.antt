@@ -1,15 +1,18 @@
 -- Each Logon call that a controller heard in a run was judged by its channel's sequence.
-use Rattle.std.proofs.Common.{◌≡◌, ℕ, Bool, true, false, List, [], ◌∷◌, ◌++◌, drop, length, map, Option, Some, None, Ok, Err, refl, sym, ap, ◌∙◌, subst, slice_get}
+use Rattle.std.proofs.Common.{◌≡◌, ℕ, Bool, true, false, List, [], ◌∷◌, ◌++◌, drop, length, map, Option, Some, None, Result, Ok, Err, refl, sym, ap, ◌∙◌, subst, slice_get}
 use Rattle.std.specs.List.{AllByRecursion}
 use Rattle.std.proofs.lemmas.Slice.Eq.{bytes_eq-Decides}
 use Rattle.wire_base.specs.Maps.{lookup, same_number}
 use Rattle.wire_base.specs.Names.{same_name}
 use Rattle.wire_base.specs.declared.authenticator.Authenticator.{Authenticator}
 use Rattle.authenticators.specs.Channels.{Channel}
+use Rattle.authenticators.specs.Sequences.{Passes}
 use Rattle.outside.specs.declared.action.Action.{Action}
 use Rattle.outside.specs.declared.action.Action.TheVariants as action
 use Rattle.outside.specs.declared.action.Judged.{Judged}
 use Rattle.outside.specs.declared.action.Judged.TheVariants as judged
+use Rattle.outside.specs.declared.action.StepRefused.{StepRefused}
+use Rattle.outside.specs.declared.event.Event.TheVariants as event
 use Rattle.logon_stubs.specs.declared.calls.Call.TheVariants as call
 use Rattle.logon_stubs.specs.declared.calls.LogonCall.{LogonCall}
 use Rattle.end_links.specs.Links.{LinkState}
@@ -20,7 +23,7 @@ use Rattle.domain_controller.specs.Hearing.{hear}
 use Rattle.domain_controller.specs.Laws.{IsNext}
 use Rattle.domain_controller.specs.Machine.{Desk, answer_logon, by_heard, controller_server, desk, judge_channel, judge_return, put_channel, take_channel}
 use Rattle.domain_controller.specs.State.{State as ControllerState}
-use Rattle.domain_controller.specs.Step.{first_desk}
+use Rattle.domain_controller.specs.Step.{first_desk, step_of}
 use Rattle.domain_controller.specs.declared.hearing.Heard.{Heard}
 use Rattle.domain_controller.specs.declared.hearing.Heard.TheVariants as heard
 use Rattle.domain_controller.specs.declared.line.Line.{Line}
@@ -41,27 +44,34 @@ use Rattle.domain_world.specs.declared.state.State.{State}
 use Rattle.domain_world.specs.Acting.{piece_comes}
 use Rattle.domain_world.specs.Bag.{first_waiting, pieces_of}
 use Rattle.domain_world.specs.Choosing.{chosen_in, chosen_place}
-use Rattle.domain_world.specs.Claims.{IsBarredBy, IsJudgedRight, IsRightOf, PassesTheNextCredential}
+use Rattle.domain_world.specs.Claims.{IsBarredBy, IsJudgedRight, IsRightOf}
 use Rattle.domain_world.specs.ControllerNotes.{Answered, Where, answer_on, channel_in, has_passed, heard_answer, judged_in, judging_by, judging_of, logon_answer, opened_by, opening, passing, units_at, units_by, units_of_controller}
 use Rattle.domain_world.specs.History.{Book, Judging, blank}
 use Rattle.domain_world.specs.Links.{handed_links, hearer_of, links_of}
 use Rattle.domain_world.specs.Moving.{settle}
-use Rattle.domain_world.specs.Past.{Coming, answers_of, at_controller, book, controller_of, first_of, judged_of, judged_onto, later_of, note, note_at, note_chosen, note_client, note_coming, note_controller, note_deliver, note_hand, note_member, note_messages, note_on, note_onward, note_own, note_piece, note_pieces, note_turn, note_turns, note_unit, past, with_reply}
+use Rattle.domain_world.specs.Past.{Coming, answers_of, at_controller, book, controller_of, first_of, judged_of, later_of, note, note_at, note_chosen, note_client, note_coming, note_controller, note_deliver, note_hand, note_member, note_messages, note_on, note_onward, note_own, note_piece, note_pieces, note_turn, note_turns, note_unit, onto, past, with_reply}
 use Rattle.domain_world.specs.MemberNotes.{turn_note, turn_units}
-use Rattle.domain_world.specs.Served.{ServedUnit, served_units, units_on, units_then, work_after}
+use Rattle.domain_world.specs.Served.{ServedUnit, served_units, units_if_taken, units_on, units_then, work_after}
 use Rattle.domain_world.specs.World.{World, first_world, happens}
 
 -- ---- a Logon call
 
 -- the first thing told after others
-told_first : (old : List Action) (how : Judged) (other : Action) → judged_in (drop (length old) ((old ++ action.Judged how ∷ []) ++ other ∷ [])) ≡ Some how
+pub told_first : (old : List Action) (how : Judged) (other : Action) → judged_in (drop (length old) ((old ++ action.Judged how ∷ []) ++ other ∷ [])) ≡ Some how
 told_first [] how other = refl
 told_first (one ∷ old) how other = told_first old how other
 
--- what a call comes to: how it was judged is the first thing told, and it is right
-abbrev pub Told : List Action → Desk → Computers → LogonCall → Type 0
-Told old after computers c =
-    (how : Judged) × (judged_in (drop (length old) after.work.actions) ≡ Some how) × IsRightOf (Some how) computers c
+-- What a call comes to: one judgement and one answer more, and the judgement is right.
+pub record Told (old after : List Action) (computers : Computers) (c : LogonCall) : Type 0 where
+  pub how : Judged
+  pub link : ℕ
+  pub answer : List ℕ
+  pub is : after ≡ (old ++ action.Judged how ∷ []) ++ action.Send link answer ∷ []
+  pub right : IsRightOf (Some how) computers c
+
+told_by : (old : List Action) (how : Judged) (link : ℕ) (answer : List ℕ) (computers : Computers) (c : LogonCall) → IsRightOf (Some how) computers c →
+    Told old ((old ++ action.Judged how ∷ []) ++ action.Send link answer ∷ []) computers c
+told_by old how link answer computers c right = record { how = how; link = link; answer = answer; is = refl; right = right }
 
 right_none : (computers : Computers) (c : LogonCall) → (IsNext computers c → ⊥) → (IsBarredBy computers c → ⊥) → IsRightOf (Some judged.NoChannel) computers c
 right_none computers c none free = record {
@@ -77,7 +87,7 @@ right_barred computers c none barred = record {
   other = (λ is. absurd cc, λ both. absurd (both.1 barred));
 }
 
-right_passed : (status : ℕ) (computers : Computers) (c : LogonCall) → IsNext computers c → (IsBarredBy computers c → ⊥) → IsRightOf (Some (judged.Passed status)) computers c
+pub right_passed : (status : ℕ) (computers : Computers) (c : LogonCall) → IsNext computers c → (IsBarredBy computers c → ⊥) → IsRightOf (Some (judged.Passed status)) computers c
 right_passed status computers c next free = record {
   passed = (λ is. next, λ so. refl);
   barred = (λ is. absurd cc, λ barred. absurd (free barred));
@@ -103,6 +113,14 @@ same_pass channel other given more same alike passes = ap (λ (x : ChannelState)
 none_some : {T : Type 0} {found : Option T} {value : T} → found ≡ None → found ≡ Some value → ⊥
 none_some is so = absurd cc
 
+-- what has the next authenticator isn't barred
+pub next_unbarred : (computers : Computers) (c : LogonCall) → IsNext computers c → IsBarredBy computers c → ⊥
+next_unbarred computers c next barred =
+    let channel : next.channel ≡ barred.channel = one_channel next.computer barred.computer next.channel barred.channel computers (sym next.named ∙ barred.named) next.stands barred.stands in
+    let given : next.given ≡ barred.given = one_given next.given barred.given (sym next.there ∙ barred.there) in
+    barred.fails (subst (λ (g : Authenticator). Passes (key_of_channel barred.channel) barred.channel.seed g) given
+    (subst (λ (one : ChannelState). Passes (key_of_channel one) one.seed next.given) channel next.passes))
+
 no_channel_there : (c : LogonCall) (computer : List ℕ) (computers : Computers) (other : List ℕ) (channel : ChannelState) → c.computer ≡ Some computer → lookup same_name computer computers.channels ≡ None →
     c.computer ≡ Some other → lookup same_name other computers.channels ≡ Some channel → ⊥
 no_channel_there c computer computers other channel named none also stands =
@@ -112,55 +130,42 @@ no_channel_there c computer computers other channel named none also stands =
 
 by_pass : (passes : Bool) (c : LogonCall) (computer : List ℕ) (given : Authenticator) (channel : ChannelState) (computers : Computers) (name : List ℕ) (now : ℕ) (line : Line) (d : Desk) →
     c.computer ≡ Some computer → c.authenticator ≡ Some given → lookup same_name computer computers.channels ≡ Some channel → passes_on channel given ≡ passes →
-    Told d.work.actions (judge_return (return_by passes channel given) (key_of_channel channel) name now line c.info c.validation d) computers c
-by_pass true c computer given channel computers name now line d named there stands passes = (
-  judged.Passed _,
-  told_first d.work.actions (judged.Passed _) _,
-  right_passed _ computers c
-      (record { computer = computer; given = given; channel = channel; named = named; there = there; stands = stands; passes = (bytes_eq-Decides _ _).0 passes })
-      (λ barred. barred.fails ((bytes_eq-Decides _ _).0 (same_pass channel barred.channel given barred.given
-      (one_channel computer barred.computer channel barred.channel computers (sym named ∙ barred.named) stands barred.stands) (one_given given barred.given (sym there ∙ barred.there)) passes))),
-)
-by_pass false c computer given channel computers name now line d named there stands passes = (
-  judged.Barred,
-  told_first d.work.actions judged.Barred _,
-  right_barred computers c
-      (λ next. not_both channel next.channel given next.given (one_channel computer next.computer channel next.channel computers (sym named ∙ next.named) stands next.stands) (one_given given next.given (sym there ∙ next.there)) passes ((bytes_eq-Decides _ _).1 next.passes))
-      (record { computer = computer; given = given; channel = channel; named = named; there = there; stands = stands; fails = λ is. not_both channel channel given given refl refl passes ((bytes_eq-Decides _ _).1 is) }),
-)
+    Told d.work.actions (judge_return (return_by passes channel given) (key_of_channel channel) name now line c.info c.validation d).work.actions computers c
+by_pass true c computer given channel computers name now line d named there stands passes = told_by d.work.actions (judged.Passed _) _ _ _ c
+    (right_passed _ computers c
+    (record { computer = computer; given = given; channel = channel; named = named; there = there; stands = stands; passes = (bytes_eq-Decides _ _).0 passes })
+    (λ barred. barred.fails ((bytes_eq-Decides _ _).0 (same_pass channel barred.channel given barred.given
+    (one_channel computer barred.computer channel barred.channel computers (sym named ∙ barred.named) stands barred.stands) (one_given given barred.given (sym there ∙ barred.there)) passes))))
+by_pass false c computer given channel computers name now line d named there stands passes = told_by d.work.actions judged.Barred _ _ _ c
+    (right_barred computers c
+    (λ next. not_both channel next.channel given next.given (one_channel computer next.computer channel next.channel computers (sym named ∙ next.named) stands next.stands) (one_given given next.given (sym there ∙ next.there)) passes ((bytes_eq-Decides _ _).1 next.passes))
+    (record { computer = computer; given = given; channel = channel; named = named; there = there; stands = stands; fails = λ is. not_both channel channel given given refl refl passes ((bytes_eq-Decides _ _).1 is) }))
 
 by_channel : (found : Option ChannelState) (c : LogonCall) (computer : List ℕ) (given : Authenticator) (computers : Computers) (name : List ℕ) (now : ℕ) (line : Line) (d : Desk) →
     c.computer ≡ Some computer → c.authenticator ≡ Some given → lookup same_name computer computers.channels ≡ found →
-    Told d.work.actions (judge_channel found computer given name now line c.info c.validation d) computers c
-by_channel None c computer given computers name now line d named there stands = (
-  judged.NoChannel,
-  told_first d.work.actions judged.NoChannel _,
-  right_none computers c (λ next. no_channel_there c computer computers next.computer next.channel named stands next.named next.stands)
-      (λ barred. no_channel_there c computer computers barred.computer barred.channel named stands barred.named barred.stands),
-)
+    Told d.work.actions (judge_channel found computer given name now line c.info c.validation d).work.actions computers c
+by_channel None c computer given computers name now line d named there stands = told_by d.work.actions judged.NoChannel _ _ _ c
+    (right_none computers c (λ next. no_channel_there c computer computers next.computer next.channel named stands next.named next.stands)
+    (λ barred. no_channel_there c computer computers barred.computer barred.channel named stands barred.named barred.stands))
 by_channel (Some channel) c computer given computers name now line d named there stands =
     by_pass (passes_on channel given) c computer given channel computers name now line
     (desk d.table (put_channel computer (channel_by (passes_on channel given) channel given) d.work)) named there stands refl
 
-by_names : (computer : Option (List ℕ)) (given : Option Authenticator) (c : LogonCall) (name : List ℕ) (now : ℕ) (line : Line) (d : Desk) →
+pub by_names : (computer : Option (List ℕ)) (given : Option Authenticator) (c : LogonCall) (name : List ℕ) (now : ℕ) (line : Line) (d : Desk) →
     c.computer ≡ computer → c.authenticator ≡ given →
-    Told d.work.actions (answer_logon computer given name now line c.info c.validation d) d.work.computers c
-by_names None given c name now line d named there = (
-  judged.NoChannel,
-  told_first d.work.actions judged.NoChannel _,
-  right_none d.work.computers c (λ next. none_some named next.named) (λ barred. none_some named barred.named),
-)
-by_names (Some computer) None c name now line d named there = (
-  judged.NoChannel,
-  told_first d.work.actions judged.NoChannel _,
-  right_none d.work.computers c (λ next. none_some there next.there) (λ barred. none_some there barred.there),
-)
+    Told d.work.actions (answer_logon computer given name now line c.info c.validation d).work.actions d.work.computers c
+by_names None given c name now line d named there = told_by d.work.actions judged.NoChannel _ _ _ c
+    (right_none d.work.computers c (λ next. none_some named next.named) (λ barred. none_some named barred.named))
+by_names (Some computer) None c name now line d named there = told_by d.work.actions judged.NoChannel _ _ _ c
+    (right_none d.work.computers c (λ next. none_some there next.there) (λ barred. none_some there barred.there))
 by_names (Some computer) (Some given) c name now line d named there =
     by_channel (lookup same_name computer d.work.computers.channels) c computer given d.work.computers name now line (desk d.table (take_channel computer d.work)) named there refl
 
-told_right : (old : List Action) (after : Desk) (computers : Computers) (c : LogonCall) → Told old after computers c →
-    IsRightOf (judged_in (drop (length old) after.work.actions)) computers c
-told_right old after computers c told = subst (λ (how : Option Judged). IsRightOf how computers c) (sym told.1) told.2
+pub how_is : (old after : List Action) (computers : Computers) (c : LogonCall) (told : Told old after computers c) → judged_in (drop (length old) after) ≡ Some told.how
+how_is old after computers c told = ap (λ (all : List Action). judged_in (drop (length old) all)) told.is ∙ told_first old told.how (action.Send told.link told.answer)
+
+told_right : (old after : List Action) (computers : Computers) (c : LogonCall) → Told old after computers c → IsRightOf (judged_in (drop (length old) after)) computers c
+told_right old after computers c told = subst (λ (how : Option Judged). IsRightOf how computers c) (sym (how_is old after computers c told)) told.right
 
 -- ---- a unit
 
@@ -177,9 +182,9 @@ judging_right : (passed : Bool) (j : Judging) → IsJudgedRight j → RightIf (j
 judging_right false j right = right
 judging_right true j right = passing_right (channel_in j.controller j.logon.computer j.computers) j right
 
-opening_right : (channel : Option Channel) → RightIf (opening channel).judging
-opening_right None = tt
-opening_right (Some channel) = tt
+opening_right : (channel : Option Channel) (w : Where) (number : ℕ) → RightIf (opening channel w number).judging
+opening_right None w number = tt
+opening_right (Some channel) w number = tt
 
 -- what the unit comes to is what the controller makes of it
 abbrev pub IsServedBy : {W T : Type 0} → Server W T → ServedUnit W T → Type 0
@@ -191,12 +196,12 @@ heard_right (heard.Close cause) w link d left part is = tt
 heard_right (heard.Answer bytes talk) w link d left part is = tt
 heard_right (heard.Waits talk) w link d left part is = tt
 heard_right (heard.Asked line (call.Challenge c) talk) w link d left part is = tt
-heard_right (heard.Asked line (call.Authenticate c) talk) w link d left part is = opening_right (opened_by w.controller c d)
+heard_right (heard.Asked line (call.Authenticate c) talk) w link d left part is = opening_right (opened_by w.controller c d) w line.call
 heard_right (heard.Asked line (call.Logoff c) talk) w link d left part is = tt
 heard_right (heard.Asked line (call.Logon c) talk) w link d left part is =
     let after : Desk = answer_logon c.computer c.authenticator w.name w.moment line c.info c.validation d in
     let right : IsJudgedRight (judging_of w line c d (Some after)) =
-    told_right d.work.actions after d.work.computers c (by_names c.computer c.authenticator c w.name w.moment line d refl refl) in
+    told_right d.work.actions after.work.actions d.work.computers c (by_names c.computer c.authenticator c w.name w.moment line d refl refl) in
     subst (λ (p : ServedPart Desk Talk). RightIf (logon_answer (judging_of w line c d (work_after p))).judging) (sym is)
     (judging_right (has_passed (judging_of w line c d (Some after)).how) (judging_of w line c d (Some after)) right)
 
@@ -222,6 +227,10 @@ module _ {W T : Type 0} where
     refl,
     are_then (IsServedBy server) (λ later said rest. served_units server units later said rest) (λ later said rest. are_served server units later said rest) (server.unit bytes work talk left),
   )
+
+are_if_taken : {U : Type 0} (P : U → Type 0) (answer : Result (List Action) StepRefused) (units : List U) → AllByRecursion P units → AllByRecursion P (units_if_taken answer units)
+are_if_taken P (Ok actions) units each = each
+are_if_taken P (Err why) units each = tt
 
 served_at : (link : Option (LinkState Talk)) (number : ℕ) (piece : List ℕ) (c : ControllerState) (running : Running) (now : ℕ) (left : List (List ℕ)) →
     AllByRecursion (IsServedBy (controller_server c.name now number)) (units_at link number piece c running now left)
@@ -253,7 +262,7 @@ judged_right [] numbers each = tt
 judged_right (one ∷ answers) numbers each =
     reply_right one.judging (first_of numbers) (judged_of answers (later_of one.sends numbers)) each.0 (judged_right answers (later_of one.sends numbers) each.1)
 
-onto_right : (js old : List Judging) → AreRight js → AreRight old → AreRight (judged_onto js old)
+onto_right : (js old : List Judging) → AreRight js → AreRight old → AreRight (onto js old)
 onto_right [] old each was = was
 onto_right (j ∷ js) old each was = onto_right js (j ∷ old) each.1 (each.0, was)
 
@@ -265,7 +274,9 @@ controller_right None controller w piece s after b was = was
 controller_right (Some c) controller w piece s after b was =
     onto_right (judged_of (answers_of controller c w piece s) _) b.judged
     (judged_right (answers_of controller c w piece s) _
-    (answers_right (at_controller controller c w s) w.link (units_of_controller c w.link piece s.moment s.chances.left) (served_by c.running w.link piece c s.moment s.chances.left)))
+    (answers_right (at_controller controller c w s) w.link (units_of_controller c w.link piece s.moment s.chances.left)
+    (are_if_taken (IsServedBy (controller_server c.name s.moment w.link)) (step_of c (event.Bytes w.link piece) s.moment s.chances.left).answer (units_by c.running w.link piece c s.moment s.chances.left)
+    (served_by c.running w.link piece c s.moment s.chances.left))))
     was
 
 turns_right : (controller : ℕ) (units : List (ServedUnit AtTurn TurnTalk)) (unit : Option ℕ) (numbers : List ℕ) (b : Book) → IsRight b → IsRight (note_turns controller units unit numbers b)
@@ -276,7 +287,7 @@ turns_right controller (served ∷ units) unit numbers b was =
 member_right : (m : Option MemberState) (member : ℕ) (w : Coming) (piece : List ℕ) (s after : State) (b : Book) → IsRight b → IsRight (note_member m member w piece s after b)
 member_right None member w piece s after b was = was
 member_right (Some m) member w piece s after b was =
-    turns_right (controller_of member s) (turn_units m w.link piece s.chances.left) w.unit _ (note_messages member m w piece s b) was
+    turns_right (controller_of member s) (turn_units m w.link piece s.moment s.chances.left) w.unit _ (note_messages member m w piece s b) was
 
 client_right : (c : Option ClientState) (client : ℕ) (w : Coming) (piece : List ℕ) (s : State) (b : Book) → IsRight b → IsRight (note_client c client w piece s b)
 client_right None client w piece s b was = was
@@ -296,11 +307,11 @@ pieces_right w (piece ∷ pieces) s b was =
 
 note_unit_right : (unit : Option BagUnit) (number link at : ℕ) (s : State) (b : Book) → IsRight b → IsRight (note_unit unit number link at s b)
 note_unit_right None number link at s b was = was
-note_unit_right (Some unit) number link at s b was = pieces_right _ (pieces_of unit.bytes) (settle number s) b was
+note_unit_right (Some unit) number link at s b was = pieces_right _ (pieces_of unit.bytes) s b was
 
 own_right : (unit : Option BagUnit) (number at : ℕ) (s : State) (b : Book) → IsRight b → IsRight (note_own unit number at s b)
 own_right None number at s b was = was
-own_right (Some unit) number at s b was = note_unit_right (Some unit) number unit.link at s b was
+own_right (Some unit) number at s b was = note_unit_right (slice_get (settle number s).bag number) number unit.link at (settle number s) b was
 
 onward_right : (number : Option ℕ) (at : ℕ) (s : State) (b : Book) → IsRight b → IsRight (note_onward number at s b)
 onward_right None at s b was = was
@@ -308,7 +319,7 @@ onward_right (Some number) at s b was = own_right (slice_get s.bag number) numbe
 
 on_right : (link : Option ℕ) (number at : ℕ) (s : State) (b : Book) → IsRight b → IsRight (note_on link number at s b)
 on_right None number at s b was = was
-on_right (Some link) number at s b was = note_unit_right (slice_get s.bag number) number link at s b was
+on_right (Some link) number at s b was = note_unit_right (slice_get (settle number s).bag number) number link at (settle number s) b was
 
 chosen_right : (unit : Option BagUnit) (number link at : ℕ) (s : State) (b : Book) → IsRight b → IsRight (note_chosen unit number link at s b)
 chosen_right None number link at s b was = was
@@ -339,6 +350,5 @@ book_right : (moves : List Move) (w : World) (b : Book) → IsRight b → IsRigh
 book_right [] w b was = was
 book_right (what ∷ moves) w b was = book_right moves (happens w what) (note w what b) (coming_right what w.moves w.state b was)
 
--- a controller passes an authenticator exactly where it is the next one, in every run
-pub passes_the_next : (plan : Plan) (moves : List Move) → PassesTheNextCredential (past plan moves)
-passes_the_next plan moves = book_right moves (first_world plan) blank tt
+pub judged_rightly : (plan : Plan) (moves : List Move) → AreRight (past plan moves).book.judged
+judged_rightly plan moves = book_right moves (first_world plan) blank tt

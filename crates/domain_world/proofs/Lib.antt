@@ -6,6 +6,8 @@ mod EndLaws
 mod GeneratorLaws
 mod JudgedLaws
 mod MakingLaws
+mod OpenLaws
 mod PlaceLaws
 mod RunLaws
 mod RunningLaws
+mod ToldLaws

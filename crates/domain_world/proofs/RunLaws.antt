@@ -1,7 +1,9 @@
 -- Runs in a row, and what is counted in them.
-use Rattle.std.proofs.Common.{◌≡◌, List, [], ◌∷◌, ◌++◌, refl, ap, sym, ◌∙◌}
+use Rattle.std.proofs.Common.{◌≡◌, List, [], ◌∷◌, ◌++◌, refl, ap, sym, ◌∙◌, subst}
 use Rattle.domain_world.specs.declared.moves.Move.{Move}
 use Rattle.domain_world.specs.declared.plan.Plan.{Plan}
+use Rattle.domain_world.specs.Claims.{DrawsDiffer}
+use Rattle.domain_world.specs.Past.{past}
 use Rattle.domain_world.specs.World.{World, first_world, happens, last_of, report_of, report_of_run, run, run_of}
 use Rattle.domain_world.specs.declared.counting.Report.{Report}
 use Rattle.domain_world.proofs.CountLaws.{counts_are_of_actions}
@@ -28,3 +30,8 @@ counted_so plan moves w report is was = is ∙ ap report_of was ∙ counts_are_o
 pub run_ends : (moves : List Move) (w : World) → last_of (run_of moves w) w ≡ run moves w
 run_ends [] w = refl
 run_ends (what ∷ moves) w = run_ends moves (happens w what)
+
+-- what holds of the draws of the world after a run holds of the run
+pub draws_on : (plan : Plan) (earlier moves : List Move) (old new : World) → new ≡ run moves old → old ≡ run earlier (first_world plan) → DrawsDiffer new →
+    DrawsDiffer (past plan (earlier ++ moves)).world
+draws_on plan earlier moves old new is was differ = subst (λ (w : World). DrawsDiffer w) (run_on plan earlier moves old new is was) differ

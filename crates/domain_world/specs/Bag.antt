@@ -1,6 +1,8 @@
 -- The bag of a world: all units that ends sent each other, in order (this project's own choice).
-use Rattle.std.specs.Prelude.{ℕ, zero, suc, ◌≡◌, ◌≤◌, ◌<◌, Bool, true, false, not, List, [], ◌∷◌, take, drop, length, get_or, Option, Some, None, slice_get, slice_set}
+use Rattle.std.specs.Prelude.{ℕ, zero, suc, ◌≡◌, ◌≤◌, ◌<◌, Bool, true, false, not, List, [], ◌∷◌, take, drop, length, get_or, All, Option, Some, None, slice_get, slice_set}
+use Rattle.std.specs.List.{AllByRecursion}
 use Rattle.wire_base.specs.Maps.{place_of}
+use Rattle.end_links.specs.Bounds.{send_limit}
 use Rattle.domain_world.specs.declared.bag.BagUnit.{BagUnit}
 
 -- neither delivered nor lost
@@ -27,11 +29,19 @@ pub record AreSettled (count : ℕ) (bag : List BagUnit) : Type 0 where
   pub inside : count ≤ length bag
   pub none : (earlier : ℕ) (d : BagUnit) → earlier < count → is_waiting (get_or bag earlier d) ≡ false
 
+-- each unit has no more bytes than an end sends at once
+abbrev pub AreShortUnits : List BagUnit → Type 0
+AreShortUnits bag = All (λ unit. length unit.bytes ≤ send_limit) bag
+
 -- ---- how bytes come
 
 -- the most bytes of one event
 abbrev pub piece_limit : ℕ
 piece_limit = 65536
+
+-- each piece has no more bytes than one event
+abbrev pub AreShortPieces : List (List ℕ) → Type 0
+AreShortPieces pieces = AllByRecursion (λ (piece : List ℕ). length piece ≤ piece_limit) pieces
 
 -- the pieces of that length, of which the last has what is left; at most so many
 abbrev pub pieces_in : ℕ → List ℕ → List (List ℕ)

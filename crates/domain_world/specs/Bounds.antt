@@ -1,7 +1,25 @@
--- What bounds a world.
-use Rattle.std.specs.Prelude.{ℕ, ◌≡◌, ◌≤◌, Bool, false, length}
+-- What bounds a world: its links, the challenges that its moves draw, and the bytes of what ends send (this project's own choice).
+use Rattle.std.specs.Prelude.{ℕ, ◌≡◌, ◌≤◌, ◌+◌, ◌*◌, Bool, false, List, length}
+use Rattle.outside.specs.Counter.{most_draws}
+use Rattle.outside.specs.declared.event.Event.{Event}
+use Rattle.end_links.specs.Bounds.{units_at}
 use Rattle.domain_world.specs.declared.state.State.{State}
 
--- a move makes one link at most
+-- the most challenges that a step draws at that event: one for each unit, and three more
+abbrev pub draws_at : Event → ℕ
+draws_at what = units_at what + 3
+
+-- The most challenges that a move draws: a unit comes in nine pieces at most.
+abbrev pub draw_limit : ℕ
+draw_limit = 42949
+
+-- At most so many challenges were drawn from the one state to the other, and three more for each link that isn't open any more: where an end closes it, the end at its
+-- other side hears of it, and may draw so many.
+abbrev pub DrawsWithin : ℕ → State → State → Type 0
+DrawsWithin most old new =
+    length old.chances.left + 3 * length new.open_links ≤ length new.chances.left + 3 * length old.open_links + most
+
+-- A move makes one link at most, and draws so many of the challenges at most.
 pub record IsBounded (s : State) (moves : ℕ) (stopped : Bool) : Type 0 where
   pub links : stopped ≡ false → length s.links ≤ moves
+  pub draws : stopped ≡ false → most_draws + 3 * length s.open_links ≤ length s.chances.left + draw_limit * moves

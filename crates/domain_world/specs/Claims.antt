@@ -28,10 +28,12 @@ use Rattle.domain_controller.specs.Laws.{IsNext}
 use Rattle.domain_controller.specs.declared.state.Computers.{Computers}
 use Rattle.member_server.specs.Messages.{info_of}
 use Rattle.member_server.specs.declared.plan.MemberPlan.{MemberPlan}
-use Rattle.domain_world.specs.declared.links.EndId.TheVariants.{Controller}
+use Rattle.domain_world.specs.declared.links.EndId.TheVariants.{Controller, Member}
+use Rattle.domain_world.specs.declared.links.Route.{Route}
 use Rattle.domain_world.specs.ControllerNotes.{channel_in, has_passed}
 use Rattle.domain_world.specs.Ends.{EndStates}
-use Rattle.domain_world.specs.History.{Book, ChallengeSent, Judging, MessageMade, MessageTaken, OneOf, OutcomeTold}
+use Rattle.domain_world.specs.History.{Book, ChallengeSent, Judging, JudgementTold, MessageMade, MessageTaken, OneOf, OutcomeTold, timestamp_in}
+use Rattle.domain_world.specs.Links.{acceptor_of}
 use Rattle.domain_world.specs.Moving.{end_of_peer}
 use Rattle.domain_world.specs.Past.{Past}
 use Rattle.domain_world.specs.World.{World}
@@ -52,10 +54,6 @@ is_same_channel (Some other) channel = same_channel other channel
 
 abbrev pub passed_on : Channel → Judging → Bool
 passed_on channel j = is_same_channel (passed_channel j) channel
-
-abbrev pub timestamp_in : Option Authenticator → ℕ
-timestamp_in None = 0
-timestamp_in (Some given) = given.timestamp
 
 abbrev pub timestamp_of : Judging → ℕ
 timestamp_of j = timestamp_in j.logon.authenticator
@@ -166,25 +164,38 @@ pub record ChallengesServeOnce (past : Past) : Type 0 where
   pub draws : DrawsDiffer past.world
   pub messages : AllPairs (λ (one other : ℕ). one ≢ other) past.book.taken
 
+-- the link was accepted by that member
+pub record IsLinkOf (past : Past) (link member : ℕ) : Type 0 where
+  pub route : Route
+  pub at : slice_get past.world.state.links link ≡ Some route
+  pub acceptor : acceptor_of route ≡ Member member
+
 -- what a logon that was accepted rests on
 pub record IsAccepted (past : Past) (message : MessageTaken) : Type 0 where
+  pub own : IsLinkOf past message.link message.member
   pub judging : Judging
   pub answer : IsItsControllersAnswer past message judging
   pub granted : IsGrantedBy message judging
   pub unused : OneOf (IsUnusedChallenge past message) past.book.challenges
 
 -- Only so: a member lets somebody in on a link only where it took its controller's answer to the link's message, the account may log on, and the
--- response is the written function of its stored hash and of the link's unused challenge. It may do so for a link that has closed.
+-- response is the written function of its stored hash and of the link's unused challenge. The link is one that this member accepted. It may do so for a
+-- link that has closed.
 abbrev pub AcceptsOnlyGranted : Past → Type 0
 AcceptsOnlyGranted past =
     AllByRecursion (λ (told : OutcomeTold). is_in told.outcome ≡ true →
-    OneOf (λ (message : MessageTaken). (message.link ≡ told.link) × IsAccepted past message) past.book.messages) past.book.told
+    OneOf (λ (message : MessageTaken). (message.link ≡ told.link) × (message.member ≡ told.member) × IsAccepted past message)
+    past.book.messages) past.book.told
+
+-- that member tells that somebody is let in on that link
+abbrev pub IsToldIn : MessageTaken → OutcomeTold → Type 0
+IsToldIn message told = (told.link ≡ message.link) × (told.member ≡ message.member) × (is_in told.outcome ≡ true)
 
 -- Then always: where it took its controller's answer, the account may log on, and the response is that function, it lets him in.
 abbrev pub AcceptsAllGranted : Past → Type 0
 AcceptsAllGranted past =
     AllByRecursion (λ (message : MessageTaken). (j : Judging) → IsItsControllersAnswer past message j → IsGrantedBy message j →
-    OneOf (λ (told : OutcomeTold). (told.link ≡ message.link) × (is_in told.outcome ≡ true)) past.book.told) past.book.messages
+    OneOf (IsToldIn message) past.book.told) past.book.messages
 
 -- the hash that is stored for the user of what is asked
 abbrev pub hash_in : Option Account → List ℕ
@@ -246,8 +257,23 @@ pub record IsRightOf (how : Option Judged) (computers : Computers) (c : LogonCal
 abbrev pub IsJudgedRight : Judging → Type 0
 IsJudgedRight j = IsRightOf j.how j.computers j.logon
 
+-- what the controller told is the judgement of this call, and it is right
+pub record IsRightlyTold (told : JudgementTold) (j : Judging) : Type 0 where
+  pub at : told.at ≡ j.at
+  pub controller : told.controller ≡ j.controller
+  pub how : Some told.how ≡ j.how
+  pub right : IsJudgedRight j
+
+-- each of them is, of the call in its place
+abbrev pub AreRightlyTold : List JudgementTold → List Judging → Type 0
+AreRightlyTold [] [] = Unit {0}
+AreRightlyTold (told ∷ more) (j ∷ judgings) = IsRightlyTold told j × AreRightlyTold more judgings
+AreRightlyTold _ _ = ⊥
+
+-- So every judgement that a controller told in the run is that of one Logon call which it heard at that move, each such call has one, in their order,
+-- and it is right.
 abbrev pub PassesTheNextCredential : Past → Type 0
-PassesTheNextCredential past = AllByRecursion IsJudgedRight past.book.judged
+PassesTheNextCredential past = AreRightlyTold past.book.judgements past.book.judged
 
 -- ---- further claims
 
@@ -265,7 +291,7 @@ ReplaysBySum past =
 -- Plain NTLMv1: no NT response of 24 bytes is accepted on two links over one stored hash where it answers the link's own challenge on both.
 pub record IsPlainlyAccepted (past : Past) (message : MessageTaken) (hash : List ℕ) : Type 0 where
   pub accepted : IsAccepted past message
-  pub told : OneOf (λ (told : OutcomeTold). (told.link ≡ message.link) × (is_in told.outcome ≡ true)) past.book.told
+  pub told : OneOf (IsToldIn message) past.book.told
   pub short : length message.logon.message.nt ≡ 24
   pub own : challenge_for_of message.logon.agreed message.logon.challenge message.logon.message.lm message.logon.message.nt
       ≡ message.logon.challenge

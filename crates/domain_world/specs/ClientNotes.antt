@@ -5,11 +5,12 @@ use Rattle.ntlm_messages.specs.Authenticate.{authenticate_fields, written_authen
 use Rattle.ntlm_messages.specs.Fields.{form_of}
 use Rattle.ntlm_messages.specs.declared.refused.WriteRefused.{WriteRefused}
 use Rattle.outside.specs.declared.action.StepRefused.{StepRefused}
+use Rattle.outside.specs.declared.event.Event.TheVariants as event
 use Rattle.outside.specs.Machine.{Part}
 use Rattle.rpc_units.specs.Stream.{cut_stream}
 use Rattle.end_links.specs.Links.{LinkState}
 use Rattle.logon_client.specs.Answering.{drawn_for, answer_of}
-use Rattle.logon_client.specs.Machine.{client_server, hear, work_of}
+use Rattle.logon_client.specs.Machine.{client_server, hear, step_of, work_of}
 use Rattle.logon_client.specs.State.{State as ClientState}
 use Rattle.logon_client.specs.declared.answering.Answer.{Answer}
 use Rattle.logon_client.specs.declared.answering.Drawn.{Drawn}
@@ -25,7 +26,7 @@ use Rattle.logon_client.specs.declared.state.Talk.{Talk}
 use Rattle.logon_client.specs.declared.state.Work.{Work}
 use Rattle.domain_world.specs.History.{MessageMade}
 use Rattle.domain_world.specs.MemberNotes.{message_in}
-use Rattle.domain_world.specs.Served.{ServedUnit, served_units}
+use Rattle.domain_world.specs.Served.{ServedUnit, served_units, units_if_taken}
 
 -- ---- the units
 
@@ -48,7 +49,8 @@ units_by None (Some running) number piece now left = units_on running.standing n
 
 -- the units that the client serves when these bytes come on the link
 abbrev pub units_of_client : ClientState → ℕ → List ℕ → ℕ → List (List ℕ) → List (ServedUnit Work Talk)
-units_of_client c number piece now left = units_by c.outcome c.running number piece now left
+units_of_client c number piece now left =
+    units_if_taken (step_of c (event.Bytes number piece) now left).answer (units_by c.outcome c.running number piece now left)
 
 -- ---- the AUTHENTICATE
 

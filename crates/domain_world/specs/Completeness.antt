@@ -14,6 +14,7 @@ use Rattle.outside.specs.declared.action.Outcome.TheVariants as outcome
 use Rattle.sam_logon.specs.MayLogOn.{MayLogOn}
 use Rattle.domain_world.specs.declared.links.EndId.{EndId}
 use Rattle.domain_world.specs.declared.links.EndId.TheVariants.{Controller, Member}
+use Rattle.domain_world.specs.declared.links.Route.TheVariants.{ToMember}
 use Rattle.domain_world.specs.declared.moves.Move.{Move}
 use Rattle.domain_world.specs.declared.moves.Move.TheVariants as move
 use Rattle.domain_world.specs.declared.plan.Plan.{Plan}
@@ -21,10 +22,11 @@ use Rattle.domain_world.specs.Bag.{first_waiting}
 use Rattle.domain_world.specs.Claims.{TravelsAsZeros}
 use Rattle.domain_world.specs.ControllerNotes.{has_passed}
 use Rattle.domain_world.specs.Ends.{EndStates}
+use Rattle.domain_world.specs.Forms.{IsSchedule}
 use Rattle.domain_world.specs.History.{Judging, OneOf, OutcomeTold}
 use Rattle.domain_world.specs.Moving.{end_of_peer}
 use Rattle.domain_world.specs.Past.{Past}
-use Rattle.domain_world.specs.World.{IsPlan, World, first_ends, first_world, happens, outcome_of}
+use Rattle.domain_world.specs.World.{World, first_ends, first_world, happens, outcome_of}
 
 -- ---- the moves: starts, each client's once at most, and what goes on between them
 
@@ -125,16 +127,17 @@ pub record CanSucceed (plan : Plan) (moves : List Move) (client : ℕ) : Type 0 
 abbrev pub name_of : AccountTable → Account → List ℕ
 name_of table account = table.domain ++ 0x5C ∷ account.name
 
--- the client is in, with the member's key, the domain and the account's name, and its whole echo
+-- the client is in, with the member's key, the domain and the account's name, and its whole echo; the member told so of the client's own link
 pub record Succeeds (run : Past) (moves : List Move) (client : ℕ) (can : CanSucceed run.plan moves client) : Type 0 where
   pub key : List ℕ
   pub is_in : outcome_of run.world client ≡ Some (client_outcome.In (name_of can.table can.account) key can.task.echo)
-  pub told : OneOf (λ (told : OutcomeTold). (told.member ≡ can.member)
+  pub told : OneOf (λ (told : OutcomeTold). (slice_get run.world.state.links told.link ≡ Some (ToMember client can.member))
+      × (told.member ≡ can.member)
       × (told.outcome ≡ outcome.In can.table.domain can.account.name key)) run.book.told
 
--- a world can be made from the plan; the moves start clients one at a time, each once at most; and no session base key travels as zeros
+-- it is a schedule; the moves start clients one at a time, each once at most; and no session base key travels as zeros
 pub record ComesOneAtATime (run : Past) (moves : List Move) : Type 0 where
-  pub plan : IsPlan run.plan
+  pub schedule : IsSchedule run.plan moves
   pub plain : AllByRecursion IsPlainMove moves
   pub once : AllPairs (λ (one other : ℕ). one ≢ other) (started_in moves (length run.plan.clients))
   pub quiet : OneAtATime moves (first_world run.plan)

@@ -10,6 +10,7 @@ use Rattle.authenticators.specs.Channels.{Channel}
 use Rattle.outside.specs.declared.action.Action.{Action}
 use Rattle.outside.specs.declared.action.Action.TheVariants as action
 use Rattle.outside.specs.declared.action.Judged.{Judged}
+use Rattle.outside.specs.declared.event.Event.TheVariants as event
 use Rattle.logon_stubs.specs.declared.calls.Call.{Call}
 use Rattle.logon_stubs.specs.declared.calls.Call.TheVariants as call
 use Rattle.logon_stubs.specs.declared.calls.AuthCall.{AuthCall}
@@ -22,7 +23,7 @@ use Rattle.domain_controller.specs.Hearing.{hear}
 use Rattle.domain_controller.specs.Laws.{is_passed}
 use Rattle.domain_controller.specs.Machine.{Desk, account_for, channel_for, controller_server}
 use Rattle.domain_controller.specs.State.{State as ControllerState}
-use Rattle.domain_controller.specs.Step.{first_desk}
+use Rattle.domain_controller.specs.Step.{first_desk, step_of}
 use Rattle.domain_controller.specs.declared.hearing.Heard.{Heard}
 use Rattle.domain_controller.specs.declared.hearing.Heard.TheVariants as heard
 use Rattle.domain_controller.specs.declared.line.Line.{Line}
@@ -30,8 +31,8 @@ use Rattle.domain_controller.specs.declared.state.Computers.{Computers}
 use Rattle.domain_controller.specs.declared.state.Pending.{Pending}
 use Rattle.domain_controller.specs.declared.state.Running.{Running}
 use Rattle.domain_controller.specs.declared.state.Talk.{Talk}
-use Rattle.domain_world.specs.History.{Judging, Mark, Plain, For, ReplyTo}
-use Rattle.domain_world.specs.Served.{ServedUnit, served_units, work_after}
+use Rattle.domain_world.specs.History.{Judging, Mark, Plain, Opened, ReplyTo}
+use Rattle.domain_world.specs.Served.{ServedUnit, served_units, units_if_taken, work_after}
 
 -- ---- the units
 
@@ -46,7 +47,8 @@ units_by (Some running) number piece c now left = units_at (lookup same_number n
 
 -- the units that the controller serves when these bytes come on the link
 abbrev pub units_of_controller : ControllerState → ℕ → List ℕ → ℕ → List (List ℕ) → List (ServedUnit Desk Talk)
-units_of_controller c number piece now left = units_by c.running number piece c now left
+units_of_controller c number piece now left =
+    units_if_taken (step_of c (event.Bytes number piece) now left).answer (units_by c.running number piece c now left)
 
 -- ---- channels
 
@@ -110,11 +112,6 @@ silent = record { sends = false; mark = Plain; checked = None; judging = None }
 abbrev pub plain : Answered
 plain = record { sends = true; mark = Plain; checked = None; judging = None }
 
--- a NetrServerAuthenticate2, by the channel that it opens
-abbrev pub opening : Option Channel → Answered
-opening None = plain
-opening (Some channel) = record { sends = true; mark = For channel; checked = Some channel; judging = None }
-
 -- the first judgement among actions
 abbrev pub judged_in : List Action → Option Judged
 judged_in [] = None
@@ -154,6 +151,17 @@ pub record Where : Type 0 where
   pub name : List ℕ
   pub moment : ℕ
 
+-- the reply that accepts a NetrServerAuthenticate2 goes into the bag where the call came in a unit of the bag
+abbrev pub opened_mark : Option ℕ → Channel → ℕ → Mark
+opened_mark None channel number = Plain
+opened_mark (Some unit) channel number = Opened channel number unit
+
+-- such a call, by the channel that it opens, and its number
+abbrev pub opening : Option Channel → Where → ℕ → Answered
+opening None w number = plain
+opening (Some channel) w number =
+    record { sends = true; mark = opened_mark w.unit channel number; checked = Some channel; judging = None }
+
 abbrev pub judging_of : Where → Line → LogonCall → Desk → Option Desk → Judging
 judging_of w line c before after = record {
   at = w.at;
@@ -174,7 +182,7 @@ logon_answer j = judging_by (has_passed j.how) j
 
 abbrev pub call_answer : Call → Line → Where → Desk → Option Desk → Answered
 call_answer (call.Challenge c) line w before after = plain
-call_answer (call.Authenticate c) line w before after = opening (opened_by w.controller c before)
+call_answer (call.Authenticate c) line w before after = opening (opened_by w.controller c before) w line.call
 call_answer (call.Logon c) line w before after = logon_answer (judging_of w line c before after)
 call_answer (call.Logoff c) line w before after = plain
 

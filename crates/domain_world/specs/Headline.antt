@@ -4,6 +4,7 @@ use Rattle.domain_world.specs.declared.moves.Move.{Move}
 use Rattle.domain_world.specs.declared.plan.Plan.{Plan}
 use Rattle.domain_world.specs.Claims.{AcceptsAllGranted, AcceptsOnlyGranted, ChallengesServeOnce, IsClear, KeysAgree, PassesTheNextCredential, ReplaysBySum, ShortResponsesServeOnce}
 use Rattle.domain_world.specs.Completeness.{EachSucceeds}
+use Rattle.domain_world.specs.Forms.{IsSchedule}
 use Rattle.domain_world.specs.Past.{Past, past}
 use Rattle.domain_world.specs.SharedSequences.{SequencesAreShared}
 
@@ -20,8 +21,13 @@ pub record Headline (run : Past) : Type 0 where
   pub sequences : IsClear run.book → SequencesAreShared run
   pub responses : IsClear run.book → ShortResponsesServeOnce run
 
--- What is claimed of each plan and each list of moves. Of it `PassesTheNextCredential` is promised, by `controllers_pass_the_next`; the rest is stated and not
--- proved yet, and no call rests on it.
-pub record IsClaimed (plan : Plan) (moves : List Move) : Type 0 where
+-- all that is claimed of a run
+pub record AreClaimed (plan : Plan) (moves : List Move) : Type 0 where
   pub headline : Headline (past plan moves)
   pub complete : EachSucceeds (past plan moves) moves
+
+-- What is claimed of each schedule: a plan of which a world can be made, with the forms of its types, and at most 100,000 moves that it can make. Of it
+-- `PassesTheNextCredential` is promised of every list of moves from any plan, by `controllers_pass_the_next` and on `drive`, and `DrawsDiffer` of every run
+-- that `drive` made; the rest is stated and not proved yet, and no call rests on it.
+abbrev pub IsClaimed : Plan → List Move → Type 0
+IsClaimed plan moves = IsSchedule plan moves → AreClaimed plan moves

@@ -1,6 +1,7 @@
 -- What a run leaves behind, as plain records: what each unit was made for, which calls were judged, which messages were taken, what was told. Nothing
 -- here says how an end works; `Past` says what of a move is written down. Moves, draws, links and units of the bag are numbered from 0.
-use Rattle.std.specs.Prelude.{ℕ, Bool, false, List, [], ◌∷◌, Option, ◌⊎◌}
+use Rattle.std.specs.Prelude.{ℕ, Bool, false, List, [], ◌∷◌, Option, Some, None, ◌⊎◌}
+use Rattle.wire_base.specs.declared.authenticator.Authenticator.{Authenticator}
 use Rattle.authenticators.specs.Channels.{Channel}
 use Rattle.outside.specs.declared.action.Judged.{Judged}
 use Rattle.outside.specs.declared.action.Outcome.{Outcome}
@@ -21,10 +22,12 @@ OneOf Fact (item ∷ items) = Fact item ⊎ OneOf Fact items
 pub data Mark : Type 0 where
   -- a bind, its answer, a NetrServerReqChallenge, a refusal, or anything between a client and a member
   Plain : Mark
-  -- the NetrServerAuthenticate2 that opens the channel, and the reply that accepts it
-  For : (channel : Channel) → Mark
-  -- a NetrLogonSamLogon on the channel, with its call number (C706 12.6.3.1)
-  Calling : (channel : Channel) (number : ℕ) → Mark
+  -- the NetrServerAuthenticate2 that opens the channel, with its call number (C706 12.6.3.1)
+  Opening : (channel : Channel) (number : ℕ) → Mark
+  -- the reply that accepts the call of that number, which came in the unit `request`
+  Opened : (channel : Channel) (number request : ℕ) → Mark
+  -- a NetrLogonSamLogon on the channel, with its call number, and the timestamp of its authenticator
+  Calling : (channel : Channel) (number timestamp : ℕ) → Mark
   -- the reply to the call of that number on the channel, which came in the unit `request` and passed
   ReplyTo : (channel : Channel) (number request : ℕ) → Mark
 
@@ -34,6 +37,11 @@ pub record Sent : Type 0 where
   pub at : ℕ
 
 -- ---- at a controller
+
+-- the timestamp of an authenticator; 0 of none
+abbrev pub timestamp_in : Option Authenticator → ℕ
+timestamp_in None = 0
+timestamp_in (Some given) = given.timestamp
 
 -- A NetrLogonSamLogon that a controller heard, with all that its answer rests on.
 pub record Judging : Type 0 where
@@ -55,6 +63,12 @@ pub record Judging : Type 0 where
   pub how : Option Judged
   -- the unit of the bag that carries the reply, where it went to an end of this world
   pub reply : Option ℕ
+
+-- A judgement that a controller told, whatever it is of.
+pub record JudgementTold : Type 0 where
+  pub at : ℕ
+  pub controller : ℕ
+  pub how : Judged
 
 -- ---- at a member
 
@@ -115,8 +129,9 @@ pub record MessageMade : Type 0 where
 pub record Book : Type 0 where
   -- one for each unit of the bag
   pub sent : List Sent
-  -- the newest first
+  -- the calls that were judged, and what controllers told of any, the newest first
   pub judged : List Judging
+  pub judgements : List JudgementTold
   -- the others in their order
   pub challenges : List ChallengeSent
   -- the link of each AUTHENTICATE that a member took, also of one for which no place was free
@@ -133,6 +148,7 @@ abbrev pub blank : Book
 blank = record {
   sent = [];
   judged = [];
+  judgements = [];
   challenges = [];
   taken = [];
   messages = [];

@@ -9,6 +9,7 @@ pub mod Completeness
 pub mod ControllerNotes
 pub mod Counting
 pub mod Ends
+pub mod Forms
 pub mod Generator
 pub mod Headline
 pub mod History

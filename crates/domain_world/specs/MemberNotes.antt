@@ -10,6 +10,7 @@ use Rattle.rpc_units.specs.Joining.{answer_of}
 use Rattle.rpc_units.specs.Reading.{unit_of}
 use Rattle.rpc_units.specs.Stream.{cut_stream}
 use Rattle.ntlm_messages.specs.Challenge.{written_challenge}
+use Rattle.outside.specs.declared.event.Event.TheVariants as event
 use Rattle.logon_stubs.specs.declared.calls.Call.TheVariants as call
 use Rattle.wire_base.specs.declared.authenticator.Authenticator.{Authenticator}
 use Rattle.end_links.specs.Links.{LinkState}
@@ -25,7 +26,7 @@ use Rattle.channel_client.specs.declared.state.Step.{Step}
 use Rattle.channel_client.specs.declared.state.Step.TheVariants as step
 use Rattle.member_server.specs.Binds.{challenge_message}
 use Rattle.member_server.specs.Laws.{is_past}
-use Rattle.member_server.specs.Machine.{at_turn, work_of}
+use Rattle.member_server.specs.Machine.{at_turn, step_of, work_of}
 use Rattle.member_server.specs.Outcomes.{at_link}
 use Rattle.member_server.specs.State.{State as MemberState}
 use Rattle.member_server.specs.Turns.{turn_server}
@@ -41,8 +42,8 @@ use Rattle.member_server.specs.declared.state.Phase.TheVariants as phase
 use Rattle.member_server.specs.declared.state.Running.{Running}
 use Rattle.member_server.specs.declared.state.Talk.{Talk}
 use Rattle.member_server.specs.declared.state.TurnTalk.{TurnTalk}
-use Rattle.domain_world.specs.History.{ChallengeSent, LogonTurn, Mark, Plain, For, Calling, MessageTaken}
-use Rattle.domain_world.specs.Served.{ServedUnit, served_units, talk_after, work_after}
+use Rattle.domain_world.specs.History.{ChallengeSent, LogonTurn, Mark, Plain, Opening, Calling, MessageTaken, timestamp_in}
+use Rattle.domain_world.specs.Served.{ServedUnit, served_units, talk_after, units_if_taken, work_after}
 
 -- ---- the units of the link of the turn
 
@@ -62,8 +63,9 @@ turn_units_in None number piece left = []
 turn_units_in (Some running) number piece left = turn_units_on running.dialling number piece running left
 
 -- the units that the member serves on the link of its turn when these bytes come on that link
-abbrev pub turn_units : MemberState → ℕ → List ℕ → List (List ℕ) → List (ServedUnit AtTurn TurnTalk)
-turn_units m number piece left = turn_units_in m.running number piece left
+abbrev pub turn_units : MemberState → ℕ → List ℕ → ℕ → List (List ℕ) → List (ServedUnit AtTurn TurnTalk)
+turn_units m number piece now left =
+    units_if_taken (step_of m (event.Bytes number piece) now left).answer (turn_units_in m.running number piece left)
 
 -- ---- the units of an accepted link
 
@@ -88,8 +90,9 @@ link_units_in (Some running) number piece left =
     link_units_by (is_turn_link running.dialling number) number piece running left
 
 -- the units that the member serves on an accepted link when these bytes come on that link
-abbrev pub link_units : MemberState → ℕ → List ℕ → List (List ℕ) → List (ServedUnit AtLink Talk)
-link_units m number piece left = link_units_in m.running number piece left
+abbrev pub link_units : MemberState → ℕ → List ℕ → ℕ → List (List ℕ) → List (ServedUnit AtLink Talk)
+link_units m number piece now left =
+    units_if_taken (step_of m (event.Bytes number piece) now left).answer (link_units_in m.running number piece left)
 
 -- ---- what the turn takes: a whole unit, and what its channel makes of it
 
@@ -132,12 +135,20 @@ half_channel controller s client server = record {
   flags = offered_flags;
 }
 
-abbrev pub asked_note : Option Step → Standing → ℕ → ℕ → Requester → TurnNote
-asked_note (Some (step.Reply question.Authenticate)) (standing.Half client server) controller number s =
-    request_note (For (half_channel controller s client server)) None
-asked_note (Some (step.Reply question.Logon)) (standing.Open o) controller number s =
-    request_note (Calling (channel_of controller s.caller.computer o) number) (Some (place_of s.turn))
-asked_note _ _ controller number s = request_note Plain None
+-- the timestamp of the Logon call that waits for its bind; 0 where none does
+abbrev pub timestamp_bound : Option Step → ℕ
+timestamp_bound (Some (step.Bind (call.Logon c))) = timestamp_in c.authenticator
+timestamp_bound _ = 0
+
+-- by what is asked, by the channel, and by the requester before and after it
+abbrev pub asked_note : Option Step → Standing → ℕ → Requester → Requester → TurnNote
+asked_note (Some (step.Reply question.Authenticate)) (standing.Half client server) controller before after =
+    request_note (Opening (half_channel controller after client server) before.next_call) None
+asked_note (Some (step.Reply question.Logon)) (standing.Open o) controller before after =
+    request_note
+    (Calling (channel_of controller after.caller.computer o) before.next_call (timestamp_bound (step_in before.turn)))
+    (Some (place_of after.turn))
+asked_note _ _ controller before after = request_note Plain None
 
 -- a credential passed on the channel that stands then, and the answer of that place was taken, if one was
 abbrev pub checked_note : ℕ → Option ℕ → Requester → TurnNote
@@ -149,23 +160,23 @@ checked_note controller answered s = record {
   answered = answered;
 }
 
--- by what was taken, where the request that is sent has that number, and by the channel afterwards. A reply whose credential passes, and which is refused
--- for another cause, is no credential that passed
-abbrev pub taken_note : Taken → ℕ → ℕ → Requester → TurnNote
-taken_note (taken.Skip right) controller number after = no_note
-taken_note (taken.Next right frames) controller number after = asked_note (step_in after.turn) after.standing controller number after
-taken_note taken.Half controller number after = no_note
-taken_note taken.Opened controller number after = checked_note controller None after
-taken_note (taken.Answer place verdict) controller number after = checked_note controller (Some place) after
-taken_note (taken.Dropped place cause) controller number after = no_note
+-- by what was taken, and by the requester before and after it: a request that is sent has the next number that it had before. A reply whose credential
+-- passes, and which is refused for another cause, is no credential that passed
+abbrev pub taken_note : Taken → ℕ → Requester → Requester → TurnNote
+taken_note (taken.Skip right) controller before after = no_note
+taken_note (taken.Next right frames) controller before after = asked_note (step_in after.turn) after.standing controller before after
+taken_note taken.Half controller before after = no_note
+taken_note taken.Opened controller before after = checked_note controller None after
+taken_note (taken.Answer place verdict) controller before after = checked_note controller (Some place) after
+taken_note (taken.Dropped place cause) controller before after = no_note
 
-abbrev pub taking_note : Option Taking → ℕ → ℕ → TurnNote
-taking_note None controller number = no_note
-taking_note (Some taking) controller number = taken_note taking.taken controller number taking.state
+abbrev pub taking_note : Option Taking → ℕ → Requester → TurnNote
+taking_note None controller before = no_note
+taking_note (Some taking) controller before = taken_note taking.taken controller before taking.state
 
 -- of a unit on the link of the turn, where the channel is with that controller
 abbrev pub turn_note : ℕ → ServedUnit AtTurn TurnTalk → TurnNote
-turn_note controller unit = taking_note (taking_at unit) controller unit.work.work.logons.channel.next_call
+turn_note controller unit = taking_note (taking_at unit) controller unit.work.work.logons.channel
 
 -- ---- a turn that starts
 

@@ -25,7 +25,7 @@ use Rattle.domain_world.specs.Choosing.{chosen_in, chosen_place, places_from}
 use Rattle.domain_world.specs.ClientNotes.{made_note, units_of_client}
 use Rattle.domain_world.specs.ControllerNotes.{Answered, Where, answer_on, units_of_controller}
 use Rattle.domain_world.specs.Ends.{EndStates}
-use Rattle.domain_world.specs.History.{Book, Judging, LogonTurn, Mark, Plain, For, Calling, ReplyTo, MessageTaken, OutcomeTold, Sent, blank}
+use Rattle.domain_world.specs.History.{Book, Judging, JudgementTold, LogonTurn, Mark, Plain, Opening, Opened, Calling, ReplyTo, MessageTaken, OutcomeTold, Sent, blank}
 use Rattle.domain_world.specs.Links.{handed_links, hearer_of, links_of}
 use Rattle.domain_world.specs.MemberNotes.{LinkAt, TurnNote, challenge_note, link_of_place, link_units, message_note, taken_link, turn_in, turn_note, turn_units}
 use Rattle.domain_world.specs.Moving.{end_of_peer, settle}
@@ -65,8 +65,9 @@ with_marks at link back units marks b = record b { sent = b.sent ++ map (sent_at
 -- the channel that a unit was made for
 abbrev pub mark_channel : Mark → Option Channel
 mark_channel Plain = None
-mark_channel (For channel) = Some channel
-mark_channel (Calling channel number) = Some channel
+mark_channel (Opening channel number) = Some channel
+mark_channel (Opened channel number request) = Some channel
+mark_channel (Calling channel number timestamp) = Some channel
 mark_channel (ReplyTo channel number request) = Some channel
 
 abbrev pub is_channel : Option Channel → Channel → Bool
@@ -121,14 +122,14 @@ abbrev pub any_clash : List Answered → Option ℕ → List Sent → Bool
 any_clash [] unit sent = false
 any_clash (one ∷ answers) unit sent = clashes one.checked unit sent || any_clash answers unit sent
 
--- the newest first
-abbrev pub judged_onto : List Judging → List Judging → List Judging
-judged_onto [] judged = judged
-judged_onto (j ∷ js) judged = judged_onto js (j ∷ judged)
+-- each in its order before the others, so that the newest is first
+abbrev pub onto : {T : Type 0} → List T → List T → List T
+onto [] older = older
+onto (item ∷ items) older = onto items (item ∷ older)
 
 abbrev pub with_answers : List Answered → Option ℕ → List ℕ → Book → Book
 with_answers answers unit numbers b =
-    with_clash (any_clash answers unit b.sent) (record b { judged = judged_onto (judged_of answers numbers) b.judged })
+    with_clash (any_clash answers unit b.sent) (record b { judged = onto (judged_of answers numbers) b.judged })
 
 -- ---- at a member
 
@@ -205,16 +206,16 @@ at_member member w s =
 
 abbrev pub note_messages : ℕ → MemberState → Coming → List ℕ → State → Book → Book
 note_messages member m w piece s b = record b {
-  challenges = b.challenges ++ flat_map (challenge_note (at_member member w s)) (link_units m w.link piece s.chances.left);
-  taken = b.taken ++ flat_map (taken_link (at_member member w s)) (link_units m w.link piece s.chances.left);
-  messages = b.messages ++ flat_map (message_note (at_member member w s)) (link_units m w.link piece s.chances.left);
+  challenges = b.challenges ++ flat_map (challenge_note (at_member member w s)) (link_units m w.link piece s.moment s.chances.left);
+  taken = b.taken ++ flat_map (taken_link (at_member member w s)) (link_units m w.link piece s.moment s.chances.left);
+  messages = b.messages ++ flat_map (message_note (at_member member w s)) (link_units m w.link piece s.moment s.chances.left);
 }
 
 abbrev pub note_requests : ℕ → MemberState → Coming → List ℕ → State → State → Book → Book
 note_requests member m w piece s after b =
     with_marks w.at w.link false (drop (length s.bag) after.bag)
-    (turn_marks (map (turn_note (controller_of member s)) (turn_units m w.link piece s.chances.left)))
-    (note_turns (controller_of member s) (turn_units m w.link piece s.chances.left) w.unit (numbers_on w.link false s.bag after.bag) b)
+    (turn_marks (map (turn_note (controller_of member s)) (turn_units m w.link piece s.moment s.chances.left)))
+    (note_turns (controller_of member s) (turn_units m w.link piece s.moment s.chances.left) w.unit (numbers_on w.link false s.bag after.bag) b)
 
 abbrev pub note_member : Option MemberState → ℕ → Coming → List ℕ → State → State → Book → Book
 note_member None member w piece s after b = b
@@ -250,11 +251,15 @@ note_pieces w (piece ∷ pieces) s b =
 abbrev pub note_unit : Option BagUnit → ℕ → ℕ → ℕ → State → Book → Book
 note_unit None number link at s b = b
 note_unit (Some unit) number link at s b =
-    note_pieces (record { at = at; unit = Some number; link = link; back = unit.back }) (pieces_of unit.bytes) (settle number s) b
+    note_pieces (record { at = at; unit = Some number; link = link; back = unit.back }) (pieces_of unit.bytes) s b
+
+-- it counts as delivered then
+abbrev pub note_settled : ℕ → ℕ → ℕ → State → Book → Book
+note_settled number link at s b = note_unit (slice_get s.bag number) number link at s b
 
 abbrev pub note_own : Option BagUnit → ℕ → ℕ → State → Book → Book
 note_own None number at s b = b
-note_own (Some unit) number at s b = note_unit (Some unit) number unit.link at s b
+note_own (Some unit) number at s b = note_settled number unit.link at (settle number s) b
 
 abbrev pub note_onward : Option ℕ → ℕ → State → Book → Book
 note_onward None at s b = b
@@ -262,7 +267,7 @@ note_onward (Some number) at s b = note_own (slice_get s.bag number) number at s
 
 abbrev pub note_on : Option ℕ → ℕ → ℕ → State → Book → Book
 note_on None number at s b = b
-note_on (Some link) number at s b = note_unit (slice_get s.bag number) number link at s b
+note_on (Some link) number at s b = note_settled number link at (settle number s) b
 
 abbrev pub note_chosen : Option BagUnit → ℕ → ℕ → ℕ → State → Book → Book
 note_chosen None number link at s b = b
@@ -293,6 +298,14 @@ told_by _ what at = []
 abbrev pub told_in : Given → ℕ → List OutcomeTold
 told_in given at = flat_map (λ (one : EndId × Action). told_by one.0 one.1 at) given
 
+-- the judgements that controllers told
+abbrev pub judgement_by : EndId → Action → ℕ → List JudgementTold
+judgement_by (Controller controller) (action.Judged how) at = record { at = at; controller = controller; how = how } ∷ []
+judgement_by _ what at = []
+
+abbrev pub judgements_in : Given → ℕ → List JudgementTold
+judgements_in given at = flat_map (λ (one : EndId × Action). judgement_by one.0 one.1 at) given
+
 abbrev pub running_in : Option MemberState → Option MemberRunning
 running_in None = None
 running_in (Some m) = m.running
@@ -312,7 +325,11 @@ with_others at after b = record b { sent = b.sent ++ replicate (length after.bag
 
 abbrev pub note_given : ℕ → Given → State → Book → Book
 note_given at given after b =
-    with_others at after (record b { told = b.told ++ told_in given at; turns = b.turns ++ turns_in given after })
+    with_others at after (record b {
+      judgements = onto (judgements_in given at) b.judgements;
+      told = b.told ++ told_in given at;
+      turns = b.turns ++ turns_in given after;
+    })
 
 -- ---- a run
 

@@ -1,15 +1,22 @@
 -- What is to hold of the secure channels of a run in which no credential passed on a unit that was made for another channel, one channel at a time: of its
--- requester, of the units that were made for it, and of what passed at its controller. It names no machine, no layout of a unit and no other end, so that
+-- requester, of the units that were made for it, and of what its controller accepted and passed. It names no machine, no layout of a unit and no other end, so that
 -- it serves any end that asks on a channel. It is the invariant that the claims on answers rest on; that a run keeps it isn't proved yet.
-use Rattle.std.specs.Prelude.{ℕ, ◌≡◌, ◌≢◌, ◌+◌, ◌<◌, ◌≤◌, ◌⊎◌, Bool, true, false, List, [], ◌∷◌, ◌++◌, Option, Some, None, slice_get, AllPairs}
+use Rattle.std.specs.Prelude.{ℕ, ◌≡◌, ◌≢◌, ◌+◌, ◌<◌, ◌≤◌, ◌⊎◌, Bool, true, false, List, [], ◌∷◌, ◌++◌, map, Option, Some, None, slice_get, AllPairs}
 use Rattle.std.specs.List.{AllByRecursion}
-use Rattle.authenticators.specs.Channels.{Channel, same_channel}
+use Rattle.channel_keys.specs.Credentials.{cred_of}
+use Rattle.authenticators.specs.Channels.{Channel, SameChannel, channel_key, same_channel}
+use Rattle.authenticators.specs.Sequences.{add_to, moved_by}
 use Rattle.channel_client.specs.Effects.{View}
-use Rattle.domain_world.specs.History.{Mark, Calling, ReplyTo, OneOf}
+use Rattle.domain_world.specs.History.{Mark, Opening, Opened, Calling, ReplyTo, OneOf}
 
 -- ---- the history of the channels of a run, whoever their requesters are
 
--- a call that passed: the unit that carried it, where it was a unit of the bag, and the channel
+-- an opening that a controller accepted: the unit that carried it, where it was a unit of the bag, and the channel
+pub record Accepted : Type 0 where
+  pub unit : Option ℕ
+  pub channel : Channel
+
+-- a call that passed: likewise, and the timestamp of its authenticator
 pub record Passing : Type 0 where
   pub unit : Option ℕ
   pub channel : Channel
@@ -26,7 +33,10 @@ pub record History (Who : Type 0) : Type 0 where
   pub ended : Who → List ℕ
   -- the units of the calls that it made on the channel that stands, the newest first
   pub made : Who → List ℕ
-  -- the calls that passed, the newest first
+  -- the timestamps of its Logon turns on the channel that stands, the newest first
+  pub turned : Who → List ℕ
+  -- the openings that were accepted and the calls that passed, the newest first
+  pub accepted : List Accepted
   pub passed : List Passing
   -- the challenges that were drawn, in order, and the moves that were made
   pub drawn : List (List ℕ)
@@ -38,6 +48,10 @@ pub record History (Who : Type 0) : Type 0 where
 pub record Holds (v : View) (challenge : List ℕ) : Type 0 where
   pub how : (v.opening ≡ Some challenge) ⊎ ((c : Channel) × (v.stands ≡ Some c) × (c.client ≡ challenge))
 
+-- the opening in that unit was accepted
+abbrev pub IsAccepted : List Accepted → ℕ → Type 0
+IsAccepted accepted unit = OneOf (λ (one : Accepted). one.unit ≡ Some unit) accepted
+
 -- the call in that unit passed
 abbrev pub IsPassed : List Passing → ℕ → Type 0
 IsPassed passed unit = OneOf (λ (pass : Passing). pass.unit ≡ Some unit) passed
@@ -45,8 +59,10 @@ IsPassed passed unit = OneOf (λ (pass : Passing). pass.unit ≡ Some unit) pass
 pub record Sound {Who : Type 0} (h : History Who) : Type 0 where
   -- no two draws gave one challenge
   pub draws : AllPairs (λ (one other : List ℕ). one ≢ other) h.drawn
-  -- a call was made for a channel whose client's challenge was drawn: no later draw gives it
-  pub made_before : (unit number : ℕ) (c : Channel) → slice_get h.marks unit ≡ Some (Calling c number) →
+  -- an opening or a call was made for a channel whose client's challenge was drawn: no later draw gives it
+  pub opened_before : (unit number : ℕ) (c : Channel) → slice_get h.marks unit ≡ Some (Opening c number) →
+      OneOf (λ (challenge : List ℕ). challenge ≡ c.client) h.drawn
+  pub made_before : (unit number timestamp : ℕ) (c : Channel) → slice_get h.marks unit ≡ Some (Calling c number timestamp) →
       OneOf (λ (challenge : List ℕ). challenge ≡ c.client) h.drawn
   -- so was each challenge that a requester holds
   pub held_before : (i : Who) (v : View) (challenge : List ℕ) → h.views i ≡ Some v → Holds v challenge →
@@ -55,24 +71,43 @@ pub record Sound {Who : Type 0} (h : History Who) : Type 0 where
   pub apart : (i j : Who) (u v : View) (challenge : List ℕ) → h.views i ≡ Some u → h.views j ≡ Some v → Holds u challenge →
       Holds v challenge → i ≡ j
   -- for a channel that is only being opened no call was made yet
-  pub opening : (i : Who) (v : View) (unit number : ℕ) (c : Channel) → h.views i ≡ Some v → v.opening ≡ Some c.client →
-      slice_get h.marks unit ≡ Some (Calling c number) → ⊥
-  -- the calls made for the channel that stands have numbers below the requester's next one
-  pub numbers : (i : Who) (v : View) (unit number : ℕ) (c : Channel) → h.views i ≡ Some v → v.stands ≡ Some c →
-      slice_get h.marks unit ≡ Some (Calling c number) → number < v.call
+  pub opening : (i : Who) (v : View) (unit number timestamp : ℕ) (c : Channel) → h.views i ≡ Some v → v.opening ≡ Some c.client →
+      slice_get h.marks unit ≡ Some (Calling c number timestamp) → ⊥
+  -- an opening made with a challenge that a requester holds has a number below its next one, and so has a call made for the channel that stands
+  pub opening_numbers : (i : Who) (v : View) (unit number : ℕ) (c : Channel) → h.views i ≡ Some v → Holds v c.client →
+      slice_get h.marks unit ≡ Some (Opening c number) → number < v.call
+  pub numbers : (i : Who) (v : View) (unit number timestamp : ℕ) (c : Channel) → h.views i ≡ Some v → v.stands ≡ Some c →
+      slice_get h.marks unit ≡ Some (Calling c number timestamp) → number < v.call
+  -- one opening is made with a client's challenge
+  pub opening_distinct : (unit other number more : ℕ) (c d : Channel) → slice_get h.marks unit ≡ Some (Opening c number) →
+      slice_get h.marks other ≡ Some (Opening d more) → c.client ≡ d.client → unit ≡ other
   -- the calls made for one channel have different numbers
-  pub distinct : (unit other number : ℕ) (c : Channel) → slice_get h.marks unit ≡ Some (Calling c number) →
-      slice_get h.marks other ≡ Some (Calling c number) → unit ≡ other
+  pub distinct : (unit other number timestamp later : ℕ) (c : Channel) → slice_get h.marks unit ≡ Some (Calling c number timestamp) →
+      slice_get h.marks other ≡ Some (Calling c number later) → unit ≡ other
+  -- each reply that accepts an opening answers one made for that channel, of that number, which was accepted
+  pub openings : (unit number request : ℕ) (c : Channel) → slice_get h.marks unit ≡ Some (Opened c number request) →
+      (slice_get h.marks request ≡ Some (Opening c number)) × IsAccepted h.accepted request
   -- each reply made for a channel answers a call made for that channel, of that number, which passed
   pub replies : (unit number request : ℕ) (c : Channel) → slice_get h.marks unit ≡ Some (ReplyTo c number request) →
-      (slice_get h.marks request ≡ Some (Calling c number)) × IsPassed h.passed request
+      ((timestamp : ℕ) × (slice_get h.marks request ≡ Some (Calling c number timestamp))) × IsPassed h.passed request
+  -- the channel that stands was accepted; no channel was accepted twice, and each call passed on one that was
+  pub stands : (i : Who) (v : View) (c : Channel) → h.views i ≡ Some v → v.stands ≡ Some c →
+      OneOf (λ (one : Accepted). SameChannel one.channel c) h.accepted
+  pub once : AllPairs (λ (one other : Accepted). SameChannel one.channel other.channel → ⊥) h.accepted
+  pub on_accepted : AllByRecursion (λ (pass : Passing). OneOf (λ (one : Accepted). SameChannel one.channel pass.channel) h.accepted) h.passed
+  -- a call that passed in a unit of the bag was made for that channel, with that timestamp
+  pub timestamps : AllByRecursion (λ (pass : Passing). (unit : ℕ) → pass.unit ≡ Some unit →
+      (number : ℕ) × (slice_get h.marks unit ≡ Some (Calling pass.channel number pass.timestamp))) h.passed
   -- the call that is out on the channel that stands is the last one that the requester made
   pub turns : (i : Who) (v : View) (number : ℕ) (c : Channel) → h.views i ≡ Some v → v.stands ≡ Some c → v.asking ≡ Some number →
-      slice_get h.marks (h.asked i) ≡ Some (Calling c number)
+      (timestamp : ℕ) × (slice_get h.marks (h.asked i) ≡ Some (Calling c number timestamp))
   -- the call of each turn that ended with an answer, on the channel that stands, was made for it and passed
   pub ends : (i : Who) (v : View) (c : Channel) → h.views i ≡ Some v → v.stands ≡ Some c → (unit : ℕ) →
       OneOf (λ (other : ℕ). other ≡ unit) (h.ended i) →
-      ((number : ℕ) × (slice_get h.marks unit ≡ Some (Calling c number))) × IsPassed h.passed unit
+      ((number : ℕ) × (timestamp : ℕ) × (slice_get h.marks unit ≡ Some (Calling c number timestamp))) × IsPassed h.passed unit
+  -- the requester's seed is the client's credential moved by the timestamps of its turns on the channel that stands
+  pub seeds : (i : Who) (v : View) (c : Channel) → h.views i ≡ Some v → v.stands ≡ Some c →
+      v.seed ≡ Some (add_to (cred_of (channel_key c) c.client) (moved_by (h.turned i)))
   -- a requester's next number is at most one above the moves: so no number comes round within a run
   pub calls : (i : Who) (v : View) → h.views i ≡ Some v → v.call ≤ h.moves + 1
 
@@ -93,11 +128,27 @@ passed_units c (pass ∷ passed) = unit_if (same_channel pass.channel c) pass.un
 abbrev pub IsOwn : Channel → List Passing → Type 0
 IsOwn c passed = AllByRecursion (λ (pass : Passing). same_channel pass.channel c ≡ true → pass.unit ≢ None) passed
 
+-- the timestamp of a call that was made
+abbrev pub timestamp_on : Option Mark → ℕ
+timestamp_on (Some (Calling c number timestamp)) = timestamp
+timestamp_on _ = 0
+
+abbrev pub timestamps_of : List Mark → List ℕ → List ℕ
+timestamps_of marks units = map (λ (unit : ℕ). timestamp_on (slice_get marks unit)) units
+
+-- the newest turn on the channel that stands waits for its bind: its call wasn't made yet
+pub record HasBindOut (made turned : List ℕ) : Type 0 where
+  pub newest : ℕ
+  pub all : turned ≡ newest ∷ made
+
 -- What is to hold besides where no seed comes round (`Wraps`): of a channel that stands, on which nothing from outside passed, what passed at its
 -- controller are the calls that its requester made, in their order; or all of them but the last, which is out.
 pub record AreInStep {Who : Type 0} (h : History Who) : Type 0 where
   pub passed : (i : Who) (v : View) (c : Channel) → h.views i ≡ Some v → v.stands ≡ Some c → IsOwn c h.passed →
       (passed_units c h.passed ≡ h.made i) ⊎ (h.made i ≡ h.asked i ∷ passed_units c h.passed)
   -- each call made for the channel that stands is among those that the requester made on it
-  pub each : (i : Who) (v : View) (unit number : ℕ) (c : Channel) → h.views i ≡ Some v → v.stands ≡ Some c →
-      slice_get h.marks unit ≡ Some (Calling c number) → OneOf (λ (other : ℕ). other ≡ unit) (h.made i)
+  pub each : (i : Who) (v : View) (unit number timestamp : ℕ) (c : Channel) → h.views i ≡ Some v → v.stands ≡ Some c →
+      slice_get h.marks unit ≡ Some (Calling c number timestamp) → OneOf (λ (other : ℕ). other ≡ unit) (h.made i)
+  -- the timestamps of its turns are those of these calls, but for a turn that waits for its bind
+  pub turns : (i : Who) (v : View) (c : Channel) → h.views i ≡ Some v → v.stands ≡ Some c →
+      (h.turned i ≡ timestamps_of h.marks (h.made i)) ⊎ HasBindOut (timestamps_of h.marks (h.made i)) (h.turned i)

@@ -1,7 +1,10 @@
 //! What an end's actions do in a world.
 
-ghost use Rattle.std.specs.Prelude.{◌≡◌, ◌≢◌, [], Err, filter, IfOk, OnOk, slice_get};
+ghost use Rattle.std.specs.Prelude.{◌≡◌, ◌≢◌, ◌≤◌, ◌+◌, ◌*◌, [], Err, length, filter, IfOk, OnOk, IsSome, slice_get};
 ghost use Rattle.wire_base.specs.Maps.{lookup, same_number};
+ghost use Rattle.end_links.specs.Bounds.{AreShortSends, IsShortSend, send_limit};
+ghost use Rattle.domain_world.specs.Bag.{AreShortPieces, piece_limit};
+ghost use Rattle.domain_world.specs.Bounds.{DrawsWithin, draws_at};
 ghost use Rattle.domain_world.specs.Links.{hearer_of};
 ghost use Rattle.domain_world.specs.Acting.{hear, bag_unit, send_on, perform_quietly, perform_all_quietly, hear_closed, closed_at, close, perform, perform_all, hears, piece_comes, pieces_come, forget, shut_link, is_of_other};
 
@@ -24,7 +27,9 @@ impl State {
     ) -> Result<Actions, StepRefused>
         ensures answer { IfOk result (λ actions. hear end event.now self.old
             ≡ record { state = self.new; actions = actions }) }
+        ensures short { IfOk result (λ actions. AreShortSends actions) }
         ensures spent { result ≡ Err StepRefused.Spent → self.new.chances.left ≡ [] }
+        ensures few { DrawsWithin (draws_at event.now) self.old self.new }
         ensures runs { result ≢ Err StepRefused.Stopped }
     {
         let ends = mem::replace(&mut self.ends, Ends::none(alloc));
@@ -47,7 +52,9 @@ impl State {
         link: u32,
         bytes: Blob,
     ) -> Result<(), NoMemory>
-        ensures { OnOk result (self.new ≡ bag_unit kind back link bytes self.old) }
+        requires { length bytes ≤ send_limit }
+        ensures state { OnOk result (self.new ≡ bag_unit kind back link bytes self.old) }
+        ensures few { DrawsWithin 0 self.old self.new }
     {
         if matches!(kind, LinkKind::Stranger) {
             return Ok(());
@@ -66,8 +73,10 @@ impl State {
 
     /// An end sends on a link.
     fn send_on(&mut self, alloc: Global, end: EndId, link: u32, bytes: Blob) -> Result<(), NoMemory>
-        ensures { OnOk result (self.new
+        requires { length bytes ≤ send_limit }
+        ensures state { OnOk result (self.new
             ≡ send_on (slice_get self.old.links link) end link bytes self.old) }
+        ensures few { DrawsWithin 0 self.old self.new }
     {
         match self.links.get(link) {
             Some(route) => self.bag_unit(
@@ -83,7 +92,9 @@ impl State {
 
     /// An action is done, but for a close.
     fn perform_quietly(&mut self, alloc: Global, end: EndId, action: Action) -> Result<(), NoMemory>
-        ensures { OnOk result (self.new ≡ perform_quietly end action self.old) }
+        requires { IsShortSend action }
+        ensures state { OnOk result (self.new ≡ perform_quietly end action self.old) }
+        ensures few { DrawsWithin 0 self.old self.new }
     {
         match action {
             Action::Send(link, bytes) => self.send_on(alloc, end, link, bytes),
@@ -99,7 +110,9 @@ impl State {
         end: EndId,
         actions: Actions,
     ) -> Result<(), NoMemory>
-        ensures { OnOk result (self.new ≡ perform_all_quietly end actions self.old) }
+        requires { AreShortSends actions }
+        ensures state { OnOk result (self.new ≡ perform_all_quietly end actions self.old) }
+        ensures few { DrawsWithin 0 self.old self.new }
     {
         for action in actions.into_vec() {
             match self.perform_quietly(alloc, end, action) {
@@ -114,6 +127,7 @@ impl State {
     fn hear_closed(&mut self, alloc: Global, link: u32, end: EndId) -> Result<(), StepRefused>
         ensures state { OnOk result (self.new ≡ (hear_closed link end self.old).state) }
         ensures spent { result ≡ Err StepRefused.Spent → self.new.chances.left ≡ [] }
+        ensures few { DrawsWithin 3 self.old self.new }
         ensures runs { result ≢ Err StepRefused.Stopped }
     {
         let actions = self.hear(alloc, end, &Event::Closed(link))?;
@@ -129,6 +143,7 @@ impl State {
     ) -> Result<(), StepRefused>
         ensures state { OnOk result (self.new ≡ (closed_at end link self.old).state) }
         ensures spent { result ≡ Err StepRefused.Spent → self.new.chances.left ≡ [] }
+        ensures few { DrawsWithin 3 self.old self.new }
         ensures runs { result ≢ Err StepRefused.Stopped }
     {
         match end {
@@ -146,7 +161,10 @@ impl State {
 
     /// The link is open no more.
     pub(crate) fn shut_link(&mut self, alloc: Global, link: u32)
-        ensures { self.new ≡ shut_link link self.old }
+        ensures state { self.new ≡ shut_link link self.old }
+        ensures fewer { length self.new.open_links ≤ length self.old.open_links }
+        ensures one { IsSome (lookup same_number link self.old.open_links) →
+            length self.new.open_links + 1 ≤ length self.old.open_links }
     {
         let open = mem::replace(&mut self.open_links, OpenLinks::new(alloc));
         let (rest, _closed) = take_number(open, link);
@@ -157,6 +175,7 @@ impl State {
     fn close(&mut self, alloc: Global, end: EndId, link: u32) -> Result<(), StepRefused>
         ensures state { OnOk result (self.new ≡ (close end link self.old).state) }
         ensures spent { result ≡ Err StepRefused.Spent → self.new.chances.left ≡ [] }
+        ensures few { DrawsWithin 0 self.old self.new }
         ensures runs { result ≢ Err StepRefused.Stopped }
     {
         match self.open_link(link) {
@@ -170,8 +189,10 @@ impl State {
 
     /// An action is done.
     fn perform(&mut self, alloc: Global, end: EndId, action: Action) -> Result<(), StepRefused>
+        requires { IsShortSend action }
         ensures state { OnOk result (self.new ≡ (perform end action self.old).state) }
         ensures spent { result ≡ Err StepRefused.Spent → self.new.chances.left ≡ [] }
+        ensures few { DrawsWithin 0 self.old self.new }
         ensures runs { result ≢ Err StepRefused.Stopped }
     {
         match action {
@@ -187,8 +208,10 @@ impl State {
         end: EndId,
         actions: Actions,
     ) -> Result<(), StepRefused>
+        requires { AreShortSends actions }
         ensures state { OnOk result (self.new ≡ (perform_all end actions self.old).state) }
         ensures spent { result ≡ Err StepRefused.Spent → self.new.chances.left ≡ [] }
+        ensures few { DrawsWithin 0 self.old self.new }
         ensures runs { result ≢ Err StepRefused.Stopped }
     {
         for action in actions.into_vec() {
@@ -209,6 +232,7 @@ impl State {
     ) -> Result<(), StepRefused>
         ensures state { OnOk result (self.new ≡ (hears end event.now self.old).state) }
         ensures spent { result ≡ Err StepRefused.Spent → self.new.chances.left ≡ [] }
+        ensures few { DrawsWithin (draws_at event.now) self.old self.new }
         ensures runs { result ≢ Err StepRefused.Stopped }
     {
         let actions = self.hear(alloc, end, event)?;
@@ -223,8 +247,10 @@ impl State {
         link: u32,
         piece: Blob,
     ) -> Result<(), StepRefused>
+        requires { length piece ≤ piece_limit }
         ensures state { OnOk result (self.new ≡ (piece_comes back link piece self.old).state) }
         ensures spent { result ≡ Err StepRefused.Spent → self.new.chances.left ≡ [] }
+        ensures few { DrawsWithin 4463 self.old self.new }
         ensures runs { result ≢ Err StepRefused.Stopped }
     {
         match self.hearer(back, link) {
@@ -251,8 +277,10 @@ impl State {
         link: u32,
         pieces: Frames,
     ) -> Result<(), StepRefused>
+        requires { AreShortPieces pieces }
         ensures state { OnOk result (self.new ≡ (pieces_come back link pieces self.old).state) }
         ensures spent { result ≡ Err StepRefused.Spent → self.new.chances.left ≡ [] }
+        ensures few { DrawsWithin (4463 * length pieces) self.old self.new }
         ensures runs { result ≢ Err StepRefused.Stopped }
     {
         for piece in pieces.into_vec() {
@@ -266,7 +294,8 @@ impl State {
 
     /// The end is forgotten: its links are open at its side no more, and its dials wait no more.
     pub(crate) fn forget(&mut self, alloc: Global, end: EndId) -> Result<(), NoMemory>
-        ensures { OnOk result (self.new ≡ forget end self.old) }
+        ensures state { OnOk result (self.new ≡ forget end self.old) }
+        ensures few { DrawsWithin 0 self.old self.new }
     {
         self.open_links = forget_end(alloc, end, &self.open_links)?;
         let dials = mem::replace(&mut self.dials, List::new(alloc));

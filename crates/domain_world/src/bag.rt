@@ -1,7 +1,9 @@
 //! The bag: what ends sent each other.
 
-ghost use Rattle.std.specs.Prelude.{◌≡◌, ◌<◌, ◌++◌, ◌∷◌, [], length, IfOk, IfSome, option_copied, slice_get};
-ghost use Rattle.domain_world.specs.Bag.{first_waiting, settle_at, pieces_of};
+ghost use Rattle.std.specs.Prelude.{◌≡◌, ◌<◌, ◌≤◌, ◌++◌, ◌∷◌, [], Some, length, IfOk, IfSome, option_copied, slice_get};
+ghost use Rattle.end_links.specs.Bounds.{send_limit};
+ghost use Rattle.domain_world.specs.Bag.{first_waiting, settle_at, AreShortPieces, pieces_of};
+ghost use Rattle.domain_world.specs.declared.bag.BagUnit.{BagUnit as AnyUnit};
 
 use crate::links::LinkKind;
 use std::alloc::Global;
@@ -23,7 +25,7 @@ pub struct BagUnit {
 }
 
 /// All units that were sent, in order. The first one that was neither delivered nor lost isn't sought from the front: those before a place are known to be
-/// settled.
+/// settled. None has more bytes than an end sends at once.
 #[derive(Drop)]
 pub struct Bag {
     units: Vec<BagUnit>,
@@ -33,18 +35,18 @@ pub struct Bag {
 impl Model for Bag {
     ghost use Rattle.std.specs.Prelude.{List as list};
     ghost use Rattle.domain_world.specs.declared.bag.BagUnit.{BagUnit as AnyUnit};
-    ghost use Rattle.domain_world.specs.Bag.{AreSettled};
+    ghost use Rattle.domain_world.specs.Bag.{AreSettled, AreShortUnits};
 
     ghost Value = { list AnyUnit };
 
     ghost view = { λ b. b.units.items };
 
-    ghost invariant = { λ b. AreSettled b.settled b.units.items };
+    ghost invariant = { λ b. AreSettled b.settled b.units.items × AreShortUnits b.units.items };
 }
 
 impl Bag {
     /// No units.
-    #[tactic(auto, using(crate::proofs::BagLaws::none_settled))]
+    #[tactic(auto, using(crate::proofs::BagLaws::none_settled, crate::proofs::BagLaws::none_long))]
     pub(crate) fn new(alloc: Global) -> Bag
         ensures { result ≡ [] }
     {
@@ -63,14 +65,17 @@ impl Bag {
 
     /// The unit of that number. None exactly where there is none.
     pub(crate) fn get(&self, number: usize) -> Option<&BagUnit>
-        ensures { option_copied result ≡ slice_get self.now number }
+        ensures unit { option_copied result ≡ slice_get self.now number }
+        ensures short { (unit : AnyUnit) → slice_get self.now number ≡ Some unit →
+            length unit.bytes ≤ send_limit }
     {
         self.units.get(number)
     }
 
     /// The units and one more. Want of memory drops them.
-    #[tactic(auto, using(crate::proofs::BagLaws::settled_add))]
+    #[tactic(auto, using(crate::proofs::BagLaws::settled_add, crate::proofs::BagLaws::units_add))]
     pub(crate) fn add(self, unit: BagUnit) -> Result<Bag, NoMemory>
+        requires { length unit.bytes ≤ send_limit }
         ensures { IfOk result (λ bag. bag ≡ self ++ unit ∷ []) }
     {
         let Bag { mut units, settled } = self;
@@ -98,7 +103,7 @@ impl Bag {
     }
 
     /// That unit counts as delivered or lost.
-    #[tactic(auto, using(crate::proofs::BagLaws::settle_keeps))]
+    #[tactic(auto, using(crate::proofs::BagLaws::settle_keeps, crate::proofs::BagLaws::units_settle))]
     pub(crate) fn settle(&mut self, number: usize)
         requires { number < length self.old }
         ensures { self.new ≡ settle_at number self.old }
@@ -110,7 +115,10 @@ impl Bag {
 /// The pieces in which bytes come: each as long as one may be, but for the last.
 #[tactic(auto, using(crate::proofs::BagLaws::cutting))]
 pub(crate) fn pieces(alloc: Global, bytes: &[u8]) -> Result<Frames, NoMemory>
-    ensures { IfOk result (λ pieces. pieces ≡ pieces_of bytes.now) }
+    requires { length bytes.now ≤ send_limit }
+    ensures value { IfOk result (λ pieces. pieces ≡ pieces_of bytes.now) }
+    ensures short { IfOk result (λ pieces. AreShortPieces pieces) }
+    ensures few { IfOk result (λ pieces. length pieces ≤ 9) }
 {
     let mut pieces = Frames::new(alloc);
     for piece in bytes.chunks(PIECE_LIMIT) {

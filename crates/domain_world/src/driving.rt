@@ -3,6 +3,8 @@
 ghost use Rattle.std.specs.Prelude.{◌≡◌, ◌+◌, ◌++◌, ◌≤◌, ◌↔◌, [], true, false, List, Err, length, All, IfOk, OnOk, OnErr, IsTrue};
 ghost use Rattle.domain_world.specs.declared.moves.Move.{Move};
 ghost use Rattle.domain_world.specs.declared.plan.Plan.{Plan};
+ghost use Rattle.domain_world.specs.Claims.{DrawsDiffer, PassesTheNextCredential};
+ghost use Rattle.domain_world.specs.Past.{past};
 ghost use Rattle.domain_world.specs.World.{IsMove, move_limit, first_world, run, report_of, report_of_run};
 
 use crate::counting::Report;
@@ -12,7 +14,7 @@ use std::alloc::Global;
 
 /// Makes the moves in their order, and gives what was counted since the plan.
 ///
-/// `Memory` where a move found no memory, and `Spent` where an end draws more challenges than are left; `Stopped` exactly where the world had stopped before.
+/// `Memory` where a move found no memory, and `Stopped` exactly where the world had stopped before.
 pub fn drive(alloc: Global, world: &mut World, moves: &Moves) -> Result<Report, WorldRefused>
     requires few { world.old.moves + length moves.now ≤ move_limit }
     requires given { All IsMove moves.now }
@@ -22,8 +24,6 @@ pub fn drive(alloc: Global, world: &mut World, moves: &Moves) -> Result<Report, 
     ensures stopped { (result ≡ Err WorldRefused.Stopped) ↔ IsTrue world.old.stopped }
     ensures stops { OnErr result (world.new.stopped ≡ true) }
     ensures goes_on { OnOk result (world.new.stopped ≡ false) }
-    // `Spent` comes only where no challenge is left.
-    ensures spent { result ≡ Err WorldRefused.Spent → world.new.state.chances.left ≡ [] }
     // So from a plan on the world is that of all moves, the earlier ones and these, and what was counted are the actions that its ends gave.
     ensures from_plan { OnOk result ((plan : Plan) (earlier : List Move) →
         world.old ≡ run earlier (first_world plan) →
@@ -31,6 +31,14 @@ pub fn drive(alloc: Global, world: &mut World, moves: &Moves) -> Result<Report, 
     ensures counted { IfOk result (λ report. (plan : Plan) (earlier : List Move) →
         world.old ≡ run earlier (first_world plan) →
         report ≡ report_of_run plan (earlier ++ moves.now)) }
+    // No two challenges that were drawn in the run are alike.
+    ensures draws { OnOk result ((plan : Plan) (earlier : List Move) →
+        world.old ≡ run earlier (first_world plan) →
+        DrawsDiffer (past plan (earlier ++ moves.now)).world) }
+    // Each controller of the run passed an authenticator exactly where it was the next one of its channel.
+    ensures next { OnOk result ((plan : Plan) (earlier : List Move) →
+        world.old ≡ run earlier (first_world plan) →
+        PassesTheNextCredential (past plan (earlier ++ moves.now))) }
 {
     if world.is_stopped() {
         return Err(WorldRefused::Stopped);
@@ -41,5 +49,6 @@ pub fn drive(alloc: Global, world: &mut World, moves: &Moves) -> Result<Report, 
             Err(why) => return Err(why),
         }
     }
+    world.draws_differ();
     Ok(world.report())
 }

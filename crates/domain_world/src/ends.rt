@@ -1,17 +1,20 @@
 //! The ends of a world.
 
-ghost use Rattle.std.specs.Prelude.{◌≡◌, ◌≢◌, ◌<◌, [], false, Err, Some, IsSome, length, IfOk, slice_get, slice_set, option_copied};
+ghost use Rattle.std.specs.Prelude.{◌≡◌, ◌≢◌, ◌<◌, ◌≤◌, ◌+◌, [], false, Err, Some, IsSome, length, IfOk, slice_get, slice_set, option_copied};
 ghost use Rattle.domain_controller.specs.State.{State as ControllerState};
 ghost use Rattle.domain_controller.specs.Step.{first_state};
 ghost use Rattle.member_server.specs.Machine.{is_stopped as member_is_stopped};
+ghost use Rattle.end_links.specs.Bounds.{AreShortSends};
+ghost use Rattle.domain_world.specs.Bounds.{draws_at};
 ghost use Rattle.domain_world.specs.Running.{AreRunning};
 ghost use Rattle.domain_world.specs.Ends.{end_at, acceptors_in, count_of, end_step, controller_step, member_step, client_step, renew_controller, with_member, with_client};
 
 use crate::links::EndId;
+use crate::maker::Maker;
 use domain_controller::Controller;
 use logon_client::Client;
 use member_server::Member;
-use outside::{Actions, CounterChances, Event, StepRefused};
+use outside::{Actions, Event, StepRefused};
 use std::alloc::Global;
 use std::marker::Model;
 use std::mem;
@@ -122,11 +125,13 @@ impl Ends {
         end: EndId,
         event: &Event,
         now: u64,
-        chances: &mut CounterChances,
+        chances: &mut Maker,
     ) -> Result<(Ends, Actions), StepRefused>
         ensures answer { IfOk result (λ done. end_step end event.now now self chances.old
             ≡ record { ends = done.0; chances = chances.new; actions = done.1 }) }
         ensures spent { result ≡ Err StepRefused.Spent → chances.new.left ≡ [] }
+        ensures few { length chances.old.left ≤ length chances.new.left + draws_at event.now }
+        ensures short { IfOk result (λ done. AreShortSends done.1) }
         ensures runs { result ≢ Err StepRefused.Stopped }
     {
         match end {
@@ -144,12 +149,14 @@ impl Ends {
         at: usize,
         event: &Event,
         now: u64,
-        chances: &mut CounterChances,
+        chances: &mut Maker,
     ) -> Result<(Ends, Actions), StepRefused>
         ensures answer { IfOk result (λ done.
             controller_step (slice_get self.controllers at) at event.now now self chances.old
             ≡ record { ends = done.0; chances = chances.new; actions = done.1 }) }
         ensures spent { result ≡ Err StepRefused.Spent → chances.new.left ≡ [] }
+        ensures few { length chances.old.left ≤ length chances.new.left + draws_at event.now }
+        ensures short { IfOk result (λ done. AreShortSends done.1) }
         ensures runs { result ≢ Err StepRefused.Stopped }
     {
         let Ends {
@@ -187,12 +194,14 @@ impl Ends {
         at: usize,
         event: &Event,
         now: u64,
-        chances: &mut CounterChances,
+        chances: &mut Maker,
     ) -> Result<(Ends, Actions), StepRefused>
         ensures answer { IfOk result (λ done.
             member_step (slice_get self.members at) at event.now now self chances.old
             ≡ record { ends = done.0; chances = chances.new; actions = done.1 }) }
         ensures spent { result ≡ Err StepRefused.Spent → chances.new.left ≡ [] }
+        ensures few { length chances.old.left ≤ length chances.new.left + draws_at event.now }
+        ensures short { IfOk result (λ done. AreShortSends done.1) }
         ensures runs { result ≢ Err StepRefused.Stopped }
     {
         let Ends {
@@ -230,12 +239,14 @@ impl Ends {
         at: usize,
         event: &Event,
         now: u64,
-        chances: &mut CounterChances,
+        chances: &mut Maker,
     ) -> Result<(Ends, Actions), StepRefused>
         ensures answer { IfOk result (λ done.
             client_step (slice_get self.clients at) at event.now now self chances.old
             ≡ record { ends = done.0; chances = chances.new; actions = done.1 }) }
         ensures spent { result ≡ Err StepRefused.Spent → chances.new.left ≡ [] }
+        ensures few { length chances.old.left ≤ length chances.new.left + draws_at event.now }
+        ensures short { IfOk result (λ done. AreShortSends done.1) }
         ensures runs { result ≢ Err StepRefused.Stopped }
     {
         let Ends {

@@ -10,6 +10,7 @@ mod counting;
 mod driving;
 mod ends;
 mod links;
+mod maker;
 mod making;
 mod moves;
 mod moving;

@@ -1,6 +1,6 @@
 //! The links of a world.
 
-ghost use Rattle.std.specs.Prelude.{◌≡◌, ◌<◌, ◌^◌, ◌++◌, ◌∷◌, [], length, IfOk, slice_get};
+ghost use Rattle.std.specs.Prelude.{◌≡◌, ◌<◌, ◌≤◌, ◌^◌, ◌++◌, ◌∷◌, [], length, IfOk, slice_get};
 ghost use Rattle.domain_world.specs.Choosing.{chosen_in, pushed_if};
 ghost use Rattle.domain_world.specs.Links.{same_end, dialler_of, acceptor_of, kind_of, same_kind, is_of, is_dialled_by, is_accepted_by, links_of, handed_links, hearer_on, other_hearer, forgotten_by, forget_end};
 
@@ -174,7 +174,8 @@ pub(crate) fn forget_end(
     end: EndId,
     links: &OpenLinks,
 ) -> Result<OpenLinks, NoMemory>
-    ensures { IfOk result (λ rest. rest ≡ forget_end end links.now) }
+    ensures value { IfOk result (λ rest. rest ≡ forget_end end links.now) }
+    ensures fewer { IfOk result (λ rest. length rest ≤ length links.now) }
 {
     let mut rest = OpenLinks::new(alloc);
     for (number, link) in links.items() {

@@ -10,12 +10,12 @@ use crate::bag::Bag;
 use crate::counting::Counts;
 use crate::ends::Ends;
 use crate::links::{OpenLinks, WorldLinks};
+use crate::maker::Maker;
 use crate::plan::{ClientPlans, ClientTask, ClientTasks, MemberPlans, Plan, Tables};
 use crate::state::State;
 use domain_controller::Controller;
 use logon_client::Client;
 use member_server::Member;
-use outside::{Chances, CounterChances};
 use std::alloc::Global;
 use wire_base::{List, Names, NoMemory};
 
@@ -34,8 +34,6 @@ pub(crate) fn first_state(alloc: Global, plan: Plan) -> Result<State, NoMemory>
     } = plan;
     let client_plans = tasks_of(alloc, clients)?;
     let ends = first_ends(alloc, tables, controllers, &members, &client_plans)?;
-    let mut chances = CounterChances::new();
-    chances.start(seed, 0);
     Ok(State {
         ends,
         member_plans: members,
@@ -45,7 +43,7 @@ pub(crate) fn first_state(alloc: Global, plan: Plan) -> Result<State, NoMemory>
         bag: Bag::new(alloc),
         dials: List::new(alloc),
         moment: now,
-        chances,
+        chances: Maker::new(seed),
         counts: Counts::new(),
     })
 }

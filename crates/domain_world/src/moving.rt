@@ -1,6 +1,8 @@
 //! The moves of a world.
 
-ghost use Rattle.std.specs.Prelude.{◌≡◌, ◌≢◌, [], Err, ◌<◌, ◌^◌, length, OnOk, slice_get};
+ghost use Rattle.std.specs.Prelude.{◌≡◌, ◌≢◌, [], Err, ◌<◌, ◌≤◌, ◌+◌, ◌*◌, ◌^◌, length, OnOk, slice_get};
+ghost use Rattle.domain_world.specs.Bounds.{DrawsWithin, draw_limit};
+ghost use Rattle.domain_world.specs.World.{IsMove};
 ghost use Rattle.domain_world.specs.Moving.{act, start, open_link, stranger, end_of_peer, route_to, answered_link, answer, connect_by, without_first, connect, fail_dial, come, onward, lose, deliver, hand, shut, renewed, restart, moment_after, tick};
 
 use crate::bag::pieces;
@@ -23,6 +25,7 @@ impl State {
     fn start(&mut self, alloc: Global, number: u32) -> Result<(), StepRefused>
         ensures state { OnOk result (self.new ≡ (start number self.old).state) }
         ensures spent { result ≡ Err StepRefused.Spent → self.new.chances.left ≡ [] }
+        ensures few { DrawsWithin 0 self.old self.new }
         ensures runs { result ≢ Err StepRefused.Stopped }
     {
         let Some(at) = chosen_place(number, self.ends.client_count()) else {
@@ -44,6 +47,7 @@ impl State {
         requires { length self.old.links < 2 ^ 32 }
         ensures state { OnOk result (self.new ≡ (open_link route self.old).state) }
         ensures spent { result ≡ Err StepRefused.Spent → self.new.chances.left ≡ [] }
+        ensures few { DrawsWithin 6 self.old self.new }
         ensures runs { result ≢ Err StepRefused.Stopped }
     {
         let number = self.links.len() as u32;
@@ -63,6 +67,7 @@ impl State {
         requires { length self.old.links < 2 ^ 32 }
         ensures state { OnOk result (self.new ≡ (stranger number self.old).state) }
         ensures spent { result ≡ Err StepRefused.Spent → self.new.chances.left ≡ [] }
+        ensures few { DrawsWithin 6 self.old self.new }
         ensures runs { result ≢ Err StepRefused.Stopped }
     {
         let Some(number) = chosen_place(number, self.ends.acceptors()) else {
@@ -86,7 +91,8 @@ impl State {
 
     /// The link is open at the side of the end that dialled too.
     fn put_answered(&mut self, alloc: Global, link: u32, there: OpenLink) -> Result<(), NoMemory>
-        ensures { OnOk result (self.new ≡ answered_link link there self.old) }
+        ensures state { OnOk result (self.new ≡ answered_link link there self.old) }
+        ensures few { DrawsWithin 3 self.old self.new }
     {
         let answered = OpenLink {
             route: there.route,
@@ -102,6 +108,7 @@ impl State {
     fn answer(&mut self, alloc: Global, end: EndId, link: u32) -> Result<(), StepRefused>
         ensures state { OnOk result (self.new ≡ (answer end link self.old).state) }
         ensures spent { result ≡ Err StepRefused.Spent → self.new.chances.left ≡ [] }
+        ensures few { DrawsWithin 6 self.old self.new }
         ensures runs { result ≢ Err StepRefused.Stopped }
     {
         match self.open_link(link) {
@@ -126,6 +133,7 @@ impl State {
         requires { length self.old.links < 2 ^ 32 }
         ensures state { OnOk result (self.new ≡ (connect_by route end self.old).state) }
         ensures spent { result ≡ Err StepRefused.Spent → self.new.chances.left ≡ [] }
+        ensures few { DrawsWithin 12 self.old self.new }
         ensures runs { result ≢ Err StepRefused.Stopped }
     {
         let Some(route) = route else {
@@ -155,6 +163,7 @@ impl State {
         requires { length self.old.links < 2 ^ 32 }
         ensures state { OnOk result (self.new ≡ (connect self.old).state) }
         ensures spent { result ≡ Err StepRefused.Spent → self.new.chances.left ≡ [] }
+        ensures few { DrawsWithin 12 self.old self.new }
         ensures runs { result ≢ Err StepRefused.Stopped }
     {
         match self.next_dial(alloc) {
@@ -170,6 +179,7 @@ impl State {
     fn fail_dial(&mut self, alloc: Global) -> Result<(), StepRefused>
         ensures state { OnOk result (self.new ≡ (fail_dial self.old).state) }
         ensures spent { result ≡ Err StepRefused.Spent → self.new.chances.left ≡ [] }
+        ensures few { DrawsWithin 3 self.old self.new }
         ensures runs { result ≢ Err StepRefused.Stopped }
     {
         match self.next_dial(alloc) {
@@ -182,6 +192,7 @@ impl State {
     fn come(&mut self, alloc: Global, number: usize, link: u32) -> Result<(), StepRefused>
         ensures state { OnOk result (self.new ≡ (come number link self.old).state) }
         ensures spent { result ≡ Err StepRefused.Spent → self.new.chances.left ≡ [] }
+        ensures few { DrawsWithin 40167 self.old self.new }
         ensures runs { result ≢ Err StepRefused.Stopped }
     {
         let Some(unit) = self.bag.get(number) else {
@@ -196,6 +207,7 @@ impl State {
     fn onward(&mut self, alloc: Global) -> Result<(), StepRefused>
         ensures state { OnOk result (self.new ≡ (onward self.old).state) }
         ensures spent { result ≡ Err StepRefused.Spent → self.new.chances.left ≡ [] }
+        ensures few { DrawsWithin 40167 self.old self.new }
         ensures runs { result ≢ Err StepRefused.Stopped }
     {
         let Some(number) = self.bag.first_waiting() else {
@@ -222,6 +234,7 @@ impl State {
     fn deliver(&mut self, alloc: Global, unit: u32, link: u32) -> Result<(), StepRefused>
         ensures state { OnOk result (self.new ≡ (deliver unit link self.old).state) }
         ensures spent { result ≡ Err StepRefused.Spent → self.new.chances.left ≡ [] }
+        ensures few { DrawsWithin 40167 self.old self.new }
         ensures runs { result ≢ Err StepRefused.Stopped }
     {
         let Some(number) = chosen_place(unit, self.bag.len()) else {
@@ -246,8 +259,10 @@ impl State {
         back: bool,
         bytes: &[u8],
     ) -> Result<(), StepRefused>
+        requires { length bytes.now ≤ 65536 }
         ensures state { OnOk result (self.new ≡ (hand link back bytes.now self.old).state) }
         ensures spent { result ≡ Err StepRefused.Spent → self.new.chances.left ≡ [] }
+        ensures few { DrawsWithin 4463 self.old self.new }
         ensures runs { result ≢ Err StepRefused.Stopped }
     {
         match self.links.chosen_handed(link) {
@@ -263,6 +278,7 @@ impl State {
     fn shut(&mut self, alloc: Global, number: u32) -> Result<(), StepRefused>
         ensures state { OnOk result (self.new ≡ (shut number self.old).state) }
         ensures spent { result ≡ Err StepRefused.Spent → self.new.chances.left ≡ [] }
+        ensures few { DrawsWithin 6 self.old self.new }
         ensures runs { result ≢ Err StepRefused.Stopped }
     {
         let Some(at) = chosen_place(number, self.open_links.len()) else {
@@ -279,7 +295,8 @@ impl State {
 
     /// The end is made anew.
     fn renew(&mut self, alloc: Global, end: EndId) -> Result<(), NoMemory>
-        ensures { OnOk result (self.new ≡ renewed end self.old) }
+        ensures state { OnOk result (self.new ≡ renewed end self.old) }
+        ensures few { DrawsWithin 0 self.old self.new }
     {
         match end {
             EndId::Controller(at) => {
@@ -308,7 +325,8 @@ impl State {
 
     /// An end is made anew, and forgets its links.
     fn restart(&mut self, alloc: Global, number: u32) -> Result<(), NoMemory>
-        ensures { OnOk result (self.new ≡ restart number self.old) }
+        ensures state { OnOk result (self.new ≡ restart number self.old) }
+        ensures few { DrawsWithin 0 self.old self.new }
     {
         let Some(number) = chosen_place(number, self.ends.count()) else {
             return Ok(());
@@ -331,9 +349,11 @@ impl State {
 
     /// A move.
     pub(crate) fn act(&mut self, alloc: Global, what: &Move) -> Result<(), StepRefused>
-        requires { length self.old.links < 2 ^ 32 }
+        requires links { length self.old.links < 2 ^ 32 }
+        requires given { IsMove what.now }
         ensures state { OnOk result (self.new ≡ (act self.old what.now).state) }
         ensures spent { result ≡ Err StepRefused.Spent → self.new.chances.left ≡ [] }
+        ensures few { DrawsWithin draw_limit self.old self.new }
         ensures runs { result ≢ Err StepRefused.Stopped }
     {
         match what {

@@ -4,8 +4,8 @@ use crate::bag::Bag;
 use crate::counting::Counts;
 use crate::ends::Ends;
 use crate::links::{EndId, OpenLinks, WorldLinks};
+use crate::maker::Maker;
 use crate::plan::{ClientTasks, MemberPlans};
-use outside::CounterChances;
 use wire_base::{Blob, List};
 
 /// A dial that waits: who dialled, and the address.
@@ -27,6 +27,6 @@ pub struct State {
     pub bag: Bag,
     pub dials: List<Waiting>,
     pub moment: u64,
-    pub chances: CounterChances,
+    pub chances: Maker,
     pub counts: Counts,
 }

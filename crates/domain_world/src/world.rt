@@ -4,6 +4,7 @@ ghost use Rattle.std.specs.Prelude.{◌≡◌, ◌≢◌, ◌<◌, ◌↔◌, �
 ghost use Rattle.domain_world.specs.declared.moves.Move.{Move};
 ghost use Rattle.domain_world.specs.declared.plan.Plan.{Plan};
 ghost use Rattle.domain_world.specs.World.{IsPlan, IsMove, move_limit, first_world, happens, run, report_of, report_of_run, outcome_of};
+ghost use Rattle.domain_world.specs.Claims.{DrawsDiffer};
 
 use crate::counting::Report;
 use crate::making::first_state;
@@ -23,10 +24,7 @@ pub enum WorldRefused {
     /// No memory was found.
     #[error("no memory")]
     Memory,
-    /// An end draws more challenges than are left.
-    #[error("challenges spent")]
-    Spent,
-    /// An earlier move found no memory, or no challenge.
+    /// An earlier move found no memory.
     #[error("stopped before")]
     Stopped,
 }
@@ -52,6 +50,7 @@ impl Model for World {
 
 impl World {
     /// The world of a plan, in which no move was made yet.
+    #[tactic(auto, using(crate::proofs::OpenLaws::made_bounded))]
     pub fn new(alloc: Global, plan: Plan) -> Result<World, NoMemory>
         requires { IsPlan plan }
         ensures { IfOk result (λ world. world ≡ first_world plan) }
@@ -65,7 +64,8 @@ impl World {
 
     /// Makes a move. A world makes at most 100,000.
     ///
-    /// `Memory` where no memory was found, and `Spent` where an end draws more challenges than are left; after either the world answers `Stopped` for ever.
+    /// `Memory` where no memory was found: after it the world answers `Stopped` for ever. No move draws more challenges than are left.
+    #[tactic(auto, using(crate::proofs::OpenLaws::never_spent))]
     pub fn step(&mut self, alloc: Global, what: &Move) -> Result<(), WorldRefused>
         requires few { self.old.moves < move_limit }
         requires given { IsMove what.now }
@@ -74,8 +74,7 @@ impl World {
         ensures stopped { (result ≡ Err WorldRefused.Stopped) ↔ IsTrue self.old.stopped }
         ensures stops { OnErr result (self.new.stopped ≡ true) }
         ensures goes_on { OnOk result (self.new.stopped ≡ false) }
-        // `Spent` comes only where no challenge is left, and what a move that isn't made gave isn't counted.
-        ensures spent { result ≡ Err WorldRefused.Spent → self.new.state.chances.left ≡ [] }
+        // What a move that isn't made gave isn't counted.
         ensures kept { OnErr result (report_of self.new ≡ report_of self.old) }
         // So from a plan on the world is that of all moves, the earlier ones and this one.
         ensures from_plan { OnOk result ((plan : Plan) (earlier : List Move) →
@@ -125,6 +124,13 @@ impl World {
         }
     }
 
+    /// No two challenges that were drawn are alike, which callers learn so.
+    pub(crate) fn draws_differ(&self)
+        ensures { DrawsDiffer self.now }
+    {
+        self.state.chances.draws_differ();
+    }
+
     /// The outcome of the client at that place of the plan's list. None exactly where there is no such client, or it has no outcome yet. It takes no memory.
     pub fn outcome(&self, client: u32) -> Option<&ClientOutcome>
         ensures { option_copied result ≡ outcome_of self.now client }
@@ -138,14 +144,11 @@ impl World {
 
 /// Why a move wasn't made, by why an end took no step.
 fn refusal(why: StepRefused) -> WorldRefused
-    requires { why ≢ StepRefused.Stopped }
-    ensures memory { (result ≡ WorldRefused.Memory) ↔ (why ≡ StepRefused.Memory) }
-    ensures spent { (result ≡ WorldRefused.Spent) ↔ (why ≡ StepRefused.Spent) }
-    ensures runs { result ≢ WorldRefused.Stopped }
+    requires { why ≡ StepRefused.Memory }
+    ensures { result ≡ WorldRefused.Memory }
 {
     match why {
         StepRefused::Memory => WorldRefused::Memory,
-        StepRefused::Spent => WorldRefused::Spent,
-        StepRefused::Stopped => unreachable!(),
+        StepRefused::Spent | StepRefused::Stopped => unreachable!(),
     }
 }

@@ -1,7 +1,7 @@
-use Rattle.std.proofs.Common.{◌≡◌, ◌++◌, ◌∷◌, [], ◌∙◌, ap, rules}
+use Rattle.std.proofs.Common.{◌≡◌, ◌++◌, ◌∷◌, [], ◌∙◌, length, ap, sym, subst, arith, rules}
 use Rattle.std.specs.Slice.Iter.{chunks_rest}
-use Rattle.domain_world.specs.Bag.{pieces_of}
-use Rattle.domain_world.proofs.BagLaws.{chunk_off, pieces_end}
+use Rattle.domain_world.specs.Bag.{AreShortPieces, pieces_of}
+use Rattle.domain_world.proofs.BagLaws.{chunk_off, pieces_end, pieces_few, pieces_short}
 use Rattle.domain_world.proofs.bag.pieces.Goals as goal
 
 pub loop-piece-preserved : goal.loop-piece-preserved
@@ -12,5 +12,11 @@ loop-piece-preserved c =
       c.in-Some.ensures.steps.0 ∙ c.loop-piece.invariant.1,
     )
 
-pub returns : goal.returns
-returns c = pieces_end c.loop-piece.pieces _ _ c.loop-piece.invariant.0 c.in-None.ensures.steps.1.0
+pub returns-clause-value : goal.returns-clause-value
+returns-clause-value c = pieces_end c.loop-piece.pieces _ _ c.loop-piece.invariant.0 c.in-None.ensures.steps.1.0
+
+pub returns-clause-short : goal.returns-clause-short
+returns-clause-short c = subst AreShortPieces (sym (returns-clause-value c)) (pieces_short c.args.bytes.now)
+
+pub returns-clause-few : goal.returns-clause-few
+returns-clause-few c = omega (arith, ap length (returns-clause-value c), pieces_few c.args.bytes.now c.requires)
