@@ -4,7 +4,7 @@ use Rattle.outside.specs.Causes.{Rose}
 use Rattle.outside.specs.Telling.{Appends}
 use Rattle.ntlm_messages.specs.declared.messages.Authenticate.{Authenticate}
 use Rattle.ntlm_messages.proofs.AuthenticateLaws.{authenticate_only}
-use Rattle.nt_words.specs.Jobs.{CheckJob, ShowJob}
+use Rattle.nt_words.specs.Jobs.{CheckJob, DrillJob, ShowJob}
 use Rattle.nt_words.specs.Roles.{job_of}
 use Rattle.nt_words.specs.declared.job.Job.{Job}
 use Rattle.nt_words.specs.declared.job.Job.TheVariants as jobs
@@ -18,13 +18,14 @@ use Rattle.nt_top.specs.declared.exit.Exit.TheVariants.{Done, Refused, BadWords,
 use Rattle.logon_client.specs.declared.outcome.RefusedCause.{RefusedCause}
 use Rattle.logon_client.specs.declared.outcome.RefusedCause.TheVariants.{Response}
 use Rattle.nt_top.specs.Answers.{answer_of, answer_from}
-use Rattle.nt_top.specs.Causes.{Comes, IsBadInput, IsBadWords, OutOfForm, NotBuilt, IsDone, IsOfForm, IsOfTheCommands, IsRefused, IsWorkDone}
+use Rattle.nt_top.specs.Causes.{Comes, IsBadInput, IsBadWords, IsDone, IsOfForm, IsOfTheCommands, IsRefused, IsWorkDone}
 use Rattle.nt_top.specs.Check.{check_answer, verdict_answer, accepts_of, AsksCheck, AskedAccepted, AskedRefused}
+use Rattle.nt_top.specs.Drill.{AskedDrill, drill_text}
 use Rattle.nt_top.specs.Ends.{Ends, SinkChange}
 use Rattle.nt_top.specs.Service.{ActsByWords}
 use Rattle.nt_top.specs.Show.{show_answer, shown, AskedShown}
 use Rattle.nt_top.proofs.CheckLaws.{accepts_is, check_answer-is, check_is_bad, check_ok, decided, refuses_is}
-use Rattle.nt_top.proofs.JobLaws.{Refusal, OfWords, Unbuilt, OfCheck, OfShow, OfMemory, answer_err, answer_ok, job_of_check, job_of_show, unbuilt_answer}
+use Rattle.nt_top.proofs.JobLaws.{Refusal, OfWords, Elsewhere, OfCheck, OfShow, OfMemory, answer_err, answer_ok, job_of_check, job_of_drill, job_of_show, told_by_words}
 use Rattle.nt_top.proofs.ShownLaws.{show_is_bad, show_ok, shown_answer}
 
 -- ---- what is asked is answered
@@ -56,6 +57,10 @@ show_asked role words asked =
 pub shown_ends : (role : Role) (words : List (List ℕ)) (s : SinkChange) (exit : Exit) → Ends (answer_of role words) s exit → (asked : AskedShown role words) → Ends (Ok (shown asked.lines)) s exit
 shown_ends role words s exit ends asked = subst (λ (a : Result Answer Exit). Ends a s exit) (show_asked role words asked) ends
 
+pub drilled_ends : (role : Role) (words : List (List ℕ)) (s : SinkChange) (exit : Exit) → Ends (answer_of role words) s exit → (asked : AskedDrill role words) →
+    Ends (Ok (shown (drill_text asked.number asked.count))) s exit
+drilled_ends role words s exit ends asked = subst (λ (a : Result Answer Exit). Ends a s exit) (ap answer_from asked.asks) ends
+
 -- ---- an answer says what was asked
 
 -- a hash, a challenge and a message were asked to be checked, and that is their answer
@@ -70,6 +75,11 @@ pub record CheckedBy (role : Role) (words : List (List ℕ)) (answer : Answer) :
 pub record ShownBy (role : Role) (words : List (List ℕ)) (answer : Answer) : Type 0 where
   pub asked : AskedShown role words
   pub is : answer ≡ shown asked.lines
+
+-- a drill was asked for, and these are its lines
+pub record DrilledBy (role : Role) (words : List (List ℕ)) (answer : Answer) : Type 0 where
+  pub asked : AskedDrill role words
+  pub is : answer ≡ shown (drill_text asked.number asked.count)
 
 checked_by : (role : Role) (words : List (List ℕ)) (answer : Answer) (job : CheckJob) → job_of role words ≡ Ok (jobs.Check job) → check_answer job.hash job.challenge job.message ≡ Ok answer → CheckedBy role words answer
 checked_by role words answer job came e =
@@ -106,11 +116,18 @@ shown_by role words answer job came e =
       is = found.4;
     }
 
-asked_by : (role : Role) (words : List (List ℕ)) (answer : Answer) → answer_of role words ≡ Ok answer → CheckedBy role words answer ⊎ ShownBy role words answer
+drilled_by : (role : Role) (words : List (List ℕ)) (answer : Answer) (job : DrillJob) → job_of role words ≡ Ok (jobs.Drill job) → answer ≡ shown (drill_text job.number job.moves) → DrilledBy role words answer
+drilled_by role words answer job came is = record { asked = record { number = job.number; count = job.moves; asks = came }; is = is }
+
+-- an answer of a check is a verdict, and every other one is of lines that are shown
+asked_by : (role : Role) (words : List (List ℕ)) (answer : Answer) → answer_of role words ≡ Ok answer → CheckedBy role words answer ⊎ (ShownBy role words answer ⊎ DrilledBy role words answer)
 asked_by role words answer e =
     elim (answer_ok (job_of role words) answer e) [
       | inl check ↦ inl (checked_by role words answer check.0 check.1 check.2)
-      | inr show ↦ inr (shown_by role words answer show.0 show.1 show.2)
+      | inr others ↦ elim others [
+        | inl show ↦ inr (inl (shown_by role words answer show.0 show.1 show.2))
+        | inr drill ↦ inr (inr (drilled_by role words answer drill.0 drill.1 drill.2))
+      ]
     ]
 
 -- ---- an exit that only a refusal has
@@ -124,7 +141,7 @@ IsAlone _ = ⊥
 
 alone : (came : Result Job WordsRefused) (exit : Exit) → Refusal came exit → IsAlone exit
 alone came exit (OfWords number e is) = subst IsAlone (sym is) tt
-alone came exit (Unbuilt job e built is) = subst IsAlone (sym is) tt
+alone came exit (Elsewhere job e other is) = subst IsAlone (sym is) tt
 alone came exit (OfCheck job number e bad is) = subst IsAlone (sym is) tt
 alone came exit (OfShow job e none is) = subst IsAlone (sym is) tt
 alone came exit (OfMemory is) = subst IsAlone (sym is) tt
@@ -161,13 +178,19 @@ done_checked role words answer s asked ends =
     )
 
 done_shown : (role : Role) (words : List (List ℕ)) (answer : Answer) (s : SinkChange) → ShownBy role words answer → Ends (Ok answer) s Done → IsDone role words s
-done_shown role words answer s asked ends = inr (asked.asked, subst (λ (a : Answer). Appends s.before s.now a.lines) asked.is ends.1)
+done_shown role words answer s asked ends = inr (inl (asked.asked, subst (λ (a : Answer). Appends s.before s.now a.lines) asked.is ends.1))
+
+done_drilled : (role : Role) (words : List (List ℕ)) (answer : Answer) (s : SinkChange) → DrilledBy role words answer → Ends (Ok answer) s Done → IsDone role words s
+done_drilled role words answer s asked ends = inr (inr (asked.asked, subst (λ (a : Answer). Appends s.before s.now a.lines) asked.is ends.1))
 
 done_by : (role : Role) (words : List (List ℕ)) (s : SinkChange) (came : Result Answer Exit) → answer_of role words ≡ came → Ends came s Done → IsDone role words s
 done_by role words s (Ok answer) e ends =
     elim (asked_by role words answer e) [
       | inl check ↦ done_checked role words answer s check ends
-      | inr show ↦ done_shown role words answer s show ends
+      | inr others ↦ elim others [
+        | inl show ↦ done_shown role words answer s show ends
+        | inr drill ↦ done_drilled role words answer s drill ends
+      ]
     ]
 done_by role words s (Err refusal) e ends = absurd (alone_by role words refusal Done e ends.0)
 
@@ -195,7 +218,10 @@ refused_by : (role : Role) (words : List (List ℕ)) (s : SinkChange) (cause : R
 refused_by role words s cause (Ok answer) e ends =
     elim (asked_by role words answer e) [
       | inl check ↦ refused_checked role words answer s cause check ends
-      | inr show ↦ absurd (shown_not_refused show.asked.lines cause (ap (λ (a : Answer). a.refused) (sym show.is) ∙ ends.0))
+      | inr others ↦ elim others [
+        | inl show ↦ absurd (shown_not_refused show.asked.lines cause (ap (λ (a : Answer). a.refused) (sym show.is) ∙ ends.0))
+        | inr drill ↦ absurd (shown_not_refused (drill_text drill.asked.number drill.asked.count) cause (ap (λ (a : Answer). a.refused) (sym drill.is) ∙ ends.0))
+      ]
     ]
 refused_by role words s cause (Err refusal) e ends = absurd (alone_by role words refusal (Refused cause) e ends.0)
 
@@ -221,13 +247,8 @@ comes_by (Err refusal) s exit due e ends =
       | inr is ↦ inl (is ∙ same_exit refusal due e)
     ]
 
-bad_words_answer : (role : Role) (words : List (List ℕ)) (number : ℕ) → IsBadWords role words number → answer_of role words ≡ Err (BadWords number)
-bad_words_answer role words number (OutOfForm is) = ap answer_from is
-bad_words_answer role words number (NotBuilt job none other is unbuilt) =
-    ap answer_from is ∙ unbuilt_answer job unbuilt ∙ ap (λ (n : ℕ). Err (BadWords n)) (sym none)
-
 pub bad_words_come : (role : Role) (words : List (List ℕ)) (s : SinkChange) (exit : Exit) (number : ℕ) → Ends (answer_of role words) s exit → IsBadWords role words number → Comes (BadWords number) exit
-bad_words_come role words s exit number ends bad = comes_by (answer_of role words) s exit (BadWords number) (bad_words_answer role words number bad) ends
+bad_words_come role words s exit number ends bad = comes_by (answer_of role words) s exit (BadWords number) (ap answer_from bad) ends
 
 bad_input_answer : (role : Role) (words : List (List ℕ)) (number : ℕ) → IsBadInput role words number → answer_of role words ≡ Err (BadInput number)
 bad_input_answer role words number (inl asked) =
@@ -258,15 +279,15 @@ input_of (Err refusal) s number ends =
     ]
 
 words_why : (role : Role) (words : List (List ℕ)) (number : ℕ) → ActsByWords role words → Refusal (job_of role words) (BadWords number) → IsBadWords role words number
-words_why role words number other (OfWords n e is) = OutOfForm (e ∙ ap (λ (m : ℕ). Err (refusals.BadWords m)) (sym (same_words number n is)))
-words_why role words number other (Unbuilt job e built is) = NotBuilt job (same_words number 0 is) other e built
+words_why role words number other (OfWords n e is) = e ∙ ap (λ (m : ℕ). Err (refusals.BadWords m)) (sym (same_words number n is))
+words_why role words number other (Elsewhere job e has_end is) = absurd (true_not_false (sym (told_by_words role words job other e) ∙ has_end))
 words_why role words number other (OfCheck job n e bad is) = absurd (let wrong = is in cc)
 words_why role words number other (OfShow job e none is) = absurd (let wrong = is in cc)
 words_why role words number other (OfMemory is) = absurd (let wrong = is in cc)
 
 input_why : (role : Role) (words : List (List ℕ)) (number : ℕ) → Refusal (job_of role words) (BadInput number) → IsBadInput role words number
 input_why role words number (OfWords n e is) = absurd (let wrong = is in cc)
-input_why role words number (Unbuilt job e built is) = absurd (let wrong = is in cc)
+input_why role words number (Elsewhere job e other is) = absurd (let wrong = is in cc)
 input_why role words number (OfCheck job n e bad is) =
     let words-are = job_of_check role words job e in
     let same = same_input number n is in
@@ -365,5 +386,8 @@ work_done role words s exit ends (inl (inl asked)) still =
     subst (λ (r : Role). IsWorkDone r exit) (sym asked.asks.member) (check_done true s exit still (accepted_ends role words s exit ends asked))
 work_done role words s exit ends (inl (inr asked)) still =
     subst (λ (r : Role). IsWorkDone r exit) (sym asked.asks.member) (check_done false s exit still (refused_ends role words s exit ends asked))
-work_done role words s exit ends (inr asked) still =
+work_done role words s exit ends (inr (inr asked)) still =
+    subst (λ (r : Role). IsWorkDone r exit) (sym (job_of_drill role words _ asked.asks).0)
+    (show_done (drill_text asked.number asked.count) s exit still (drilled_ends role words s exit ends asked))
+work_done role words s exit ends (inr (inl asked)) still =
     subst (λ (r : Role). IsWorkDone r exit) (sym asked.asks.logon) (show_done asked.lines s exit still (shown_ends role words s exit ends asked))

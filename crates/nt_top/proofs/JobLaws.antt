@@ -1,8 +1,8 @@
--- Which words are a job of `check` or `show`, and what the words come to.
+-- Which words are a job of `check`, `show` or `drill`, and what the words come to.
 use Rattle.std.proofs.Common.{◌≡◌, ◌⊎◌, inl, inr, ℕ, Bool, true, false, List, [], ◌∷◌, Result, Ok, Err, refl, sym, ap, subst, ◌∙◌, codes}
 use Rattle.std.proofs.lemmas.Bool.{cases_Bool}
 use Rattle.std.proofs.lemmas.Slice.Eq.{bytes_eq-Decides}
-use Rattle.nt_words.specs.Jobs.{CheckJob, ShowJob, controller_job, member_job, logon_job, drill_job, is_led_by}
+use Rattle.nt_words.specs.Jobs.{CheckJob, ShowJob, DrillJob, MemberJob, LogonJob, Form, rows_by, named_rows, member_form, logon_form, member_job_from, logon_job_from, controller_job, member_job, logon_job, drill_job, is_led_by}
 use Rattle.nt_words.specs.Roles.{check, show, job_from, job_of, member_by, logon_by, drill_by}
 use Rattle.nt_words.specs.declared.job.Job.{Job}
 use Rattle.nt_words.specs.declared.job.Job.TheVariants as jobs
@@ -13,11 +13,13 @@ use Rattle.nt_words.specs.declared.options.WordsRefused.TheVariants as refusals
 use Rattle.nt_top.specs.declared.answer.Answer.{Answer}
 use Rattle.nt_top.specs.declared.exit.Exit.{Exit}
 use Rattle.nt_top.specs.declared.exit.Exit.TheVariants.{BadWords, BadInput, NoMemory}
-use Rattle.nt_top.specs.Answers.{answer_from, job_answer}
-use Rattle.nt_top.specs.Causes.{is_built, IsBadOfCheck, ShowsNothing}
+use Rattle.nt_top.specs.Answers.{answer_from}
+use Rattle.nt_top.specs.Causes.{IsBadOfCheck, ShowsNothing}
 use Rattle.nt_top.specs.Check.{check_answer}
-use Rattle.nt_top.specs.Show.{show_answer}
-use Rattle.nt_top.proofs.NeedsLaws.{ok_injective, err_injective}
+use Rattle.nt_top.specs.Drill.{drill_text}
+use Rattle.nt_top.specs.Service.{ActsByWords}
+use Rattle.nt_top.specs.Show.{show_answer, shown}
+use Rattle.nt_top.proofs.NeedsLaws.{ok_injective, err_injective, ok_no_err}
 use Rattle.nt_top.proofs.CheckLaws.{check_err}
 use Rattle.nt_top.proofs.ShownLaws.{show_err}
 
@@ -61,23 +63,32 @@ of_show [] job led e = cc
 of_show (command ∷ []) job led e = cc
 of_show (command ∷ m ∷ more ∷ words) job led e = cc
 
-no_show : (words : List (List ℕ)) (job : ShowJob) → check words ≡ Ok (jobs.Show job) → ⊥
-no_show (command ∷ h ∷ c ∷ m ∷ []) job e = absurd (let wrong = e in cc)
-no_show [] job e = absurd (let wrong = e in cc)
-no_show (command ∷ []) job e = absurd (let wrong = e in cc)
-no_show (command ∷ h ∷ []) job e = absurd (let wrong = e in cc)
-no_show (command ∷ h ∷ c ∷ []) job e = absurd (let wrong = e in cc)
-no_show (command ∷ h ∷ c ∷ m ∷ more ∷ words) job e = absurd (let wrong = e in cc)
+-- `check` and `show` make no other job
+abbrev IsCheck : Job → Type 0
+IsCheck (jobs.Check job) = Unit {0}
+IsCheck _ = ⊥
 
-no_check : (words : List (List ℕ)) (job : CheckJob) → show words ≡ Ok (jobs.Check job) → ⊥
-no_check (command ∷ m ∷ []) job e = absurd (let wrong = e in cc)
-no_check [] job e = absurd (let wrong = e in cc)
-no_check (command ∷ []) job e = absurd (let wrong = e in cc)
-no_check (command ∷ m ∷ more ∷ words) job e = absurd (let wrong = e in cc)
+abbrev IsShow : Job → Type 0
+IsShow (jobs.Show job) = Unit {0}
+IsShow _ = ⊥
+
+checks : (words : List (List ℕ)) (job : Job) → check words ≡ Ok job → IsCheck job
+checks (command ∷ h ∷ c ∷ m ∷ []) job e = subst IsCheck (ok_injective e) tt
+checks [] job e = absurd (let wrong = e in cc)
+checks (command ∷ []) job e = absurd (let wrong = e in cc)
+checks (command ∷ h ∷ []) job e = absurd (let wrong = e in cc)
+checks (command ∷ h ∷ c ∷ []) job e = absurd (let wrong = e in cc)
+checks (command ∷ h ∷ c ∷ m ∷ more ∷ words) job e = absurd (let wrong = e in cc)
+
+shows : (words : List (List ℕ)) (job : Job) → show words ≡ Ok job → IsShow job
+shows (command ∷ m ∷ []) job e = subst IsShow (ok_injective e) tt
+shows [] job e = absurd (let wrong = e in cc)
+shows (command ∷ []) job e = absurd (let wrong = e in cc)
+shows (command ∷ m ∷ more ∷ words) job e = absurd (let wrong = e in cc)
 
 -- a job with options is another one than these
 member_other : (led : Bool) (words : List (List ℕ)) (job : ShowJob) → member_by led words ≡ Ok (jobs.Show job) → ⊥
-member_other true words job e = no_show words job e
+member_other true words job e = checks words (jobs.Show job) e
 member_other false words job e = other_job jobs.Member (member_job words) (jobs.Show job) (λ x is. absurd (let wrong = is in cc)) e
 
 drill_check : (led : Bool) (words : List (List ℕ)) (job : CheckJob) → drill_by led words ≡ Ok (jobs.Check job) → ⊥
@@ -89,7 +100,7 @@ drill_show true words job e = other_job jobs.Drill (drill_job words) (jobs.Show 
 drill_show false words job e = other_job jobs.Logon (logon_job words) (jobs.Show job) (λ x is. absurd (let wrong = is in cc)) e
 
 logon_other : (led : Bool) (words : List (List ℕ)) (job : CheckJob) → logon_by led words ≡ Ok (jobs.Check job) → ⊥
-logon_other true words job e = no_check words job e
+logon_other true words job e = shows words (jobs.Check job) e
 logon_other false words job e = drill_check (is_led_by (codes "drill") words) words job e
 
 pub job_of_check : (role : Role) (words : List (List ℕ)) (job : CheckJob) → job_of role words ≡ Ok (jobs.Check job) → (role ≡ Member) × (words ≡ check_words job)
@@ -110,24 +121,114 @@ job_of_show Logon words job e =
       | inr other ↦ absurd (drill_show (is_led_by (codes "drill") words) words job (sym (ap (λ (b : Bool). logon_by b words) other) ∙ e))
     ]
 
+member_drill : (led : Bool) (words : List (List ℕ)) (job : DrillJob) → member_by led words ≡ Ok (jobs.Drill job) → ⊥
+member_drill true words job e = checks words (jobs.Drill job) e
+member_drill false words job e = other_job jobs.Member (member_job words) (jobs.Drill job) (λ x is. absurd (let wrong = is in cc)) e
+
+drill_led : (led : Bool) (words : List (List ℕ)) (job : DrillJob) → drill_by led words ≡ Ok (jobs.Drill job) → led ≡ true
+drill_led true words job e = refl
+drill_led false words job e = absurd (other_job jobs.Logon (logon_job words) (jobs.Drill job) (λ x is. absurd (let wrong = is in cc)) e)
+
+logon_led : (led : Bool) (words : List (List ℕ)) (job : DrillJob) → logon_by led words ≡ Ok (jobs.Drill job) → is_led_by (codes "drill") words ≡ true
+logon_led true words job e = absurd (shows words (jobs.Drill job) e)
+logon_led false words job e = drill_led (is_led_by (codes "drill") words) words job e
+
+pub job_of_drill : (role : Role) (words : List (List ℕ)) (job : DrillJob) → job_of role words ≡ Ok (jobs.Drill job) → (role ≡ Logon) × (is_led_by (codes "drill") words ≡ true)
+job_of_drill Controller words job e = absurd (other_job jobs.Controller (controller_job words) (jobs.Drill job) (λ x is. absurd (let wrong = is in cc)) e)
+job_of_drill Member words job e = absurd (member_drill (is_led_by (codes "check") words) words job e)
+job_of_drill Logon words job e = (refl, logon_led (is_led_by (codes "show") words) words job e)
+
+led_once : (words : List (List ℕ)) → is_led_by (codes "drill") words ≡ true → is_led_by (codes "logon") words ≡ false
+led_once [] led = absurd (let wrong = led in cc)
+led_once (command ∷ words) led = subst (λ (c : List ℕ). is_led_by (codes "logon") (c ∷ words) ≡ false) (sym ((bytes_eq-Decides command (codes "drill")).0 led)) refl
+
+-- a drill uses no port
+pub drill_by_words : (role : Role) (words : List (List ℕ)) (job : DrillJob) → job_of role words ≡ Ok (jobs.Drill job) → ActsByWords role words
+drill_by_words role words job e =
+    let found = job_of_drill role words job e in
+    subst (λ (r : Role). ActsByWords r words) (sym found.0) (led_once words found.1)
+
+-- ---- a command that its words alone tell makes one of three jobs
+
+-- whether a job is of such a command
+abbrev pub is_told : Job → Bool
+is_told (jobs.Check job) = true
+is_told (jobs.Show job) = true
+is_told (jobs.Drill job) = true
+is_told _ = false
+
+abbrev IsTold : Result Job WordsRefused → Type 0
+IsTold (Ok job) = is_told job ≡ true
+IsTold (Err refused) = Unit {0}
+
+no_rows : (form : Form) (words : List (List ℕ)) → is_led_by form.name words ≡ false → rows_by form words ≡ Err (refusals.BadWords 0)
+no_rows form words other = ap (λ (b : Bool). named_rows b form words) other
+
+no_member : (words : List (List ℕ)) → is_led_by (codes "serve") words ≡ false → member_job words ≡ Err (refusals.BadWords 0)
+unfolding member_job
+no_member words other = ap member_job_from (no_rows member_form words other)
+
+no_logon : (words : List (List ℕ)) → is_led_by (codes "logon") words ≡ false → logon_job words ≡ Err (refusals.BadWords 0)
+unfolding logon_job
+no_logon words other = ap logon_job_from (no_rows logon_form words other)
+
+told_check : (words : List (List ℕ)) → IsTold (check words)
+told_check (command ∷ h ∷ c ∷ m ∷ []) = refl
+told_check [] = tt
+told_check (command ∷ []) = tt
+told_check (command ∷ h ∷ []) = tt
+told_check (command ∷ h ∷ c ∷ []) = tt
+told_check (command ∷ h ∷ c ∷ m ∷ more ∷ words) = tt
+
+told_show : (words : List (List ℕ)) → IsTold (show words)
+told_show (command ∷ m ∷ []) = refl
+told_show [] = tt
+told_show (command ∷ []) = tt
+told_show (command ∷ m ∷ more ∷ words) = tt
+
+told_drill : (came : Result DrillJob WordsRefused) → IsTold (job_from jobs.Drill came)
+told_drill (Ok job) = refl
+told_drill (Err refused) = tt
+
+member_told : (led : Bool) (words : List (List ℕ)) → is_led_by (codes "serve") words ≡ false → IsTold (member_by led words)
+member_told true words other = told_check words
+member_told false words other = subst (λ (r : Result MemberJob WordsRefused). IsTold (job_from jobs.Member r)) (sym (no_member words other)) tt
+
+drill_told : (led : Bool) (words : List (List ℕ)) → is_led_by (codes "logon") words ≡ false → IsTold (drill_by led words)
+drill_told true words other = told_drill (drill_job words)
+drill_told false words other = subst (λ (r : Result LogonJob WordsRefused). IsTold (job_from jobs.Logon r)) (sym (no_logon words other)) tt
+
+logon_told : (led : Bool) (words : List (List ℕ)) → is_led_by (codes "logon") words ≡ false → IsTold (logon_by led words)
+logon_told true words other = told_show words
+logon_told false words other = drill_told (is_led_by (codes "drill") words) words other
+
+told : (role : Role) (words : List (List ℕ)) → ActsByWords role words → IsTold (job_of role words)
+told Controller words other = absurd (let wrong = other in cc)
+told Member words other = member_told (is_led_by (codes "check") words) words other
+told Logon words other = logon_told (is_led_by (codes "show") words) words other
+
+pub told_by_words : (role : Role) (words : List (List ℕ)) (job : Job) → ActsByWords role words → job_of role words ≡ Ok job → is_told job ≡ true
+told_by_words role words job other e = subst IsTold e (told role words other)
+
 -- ---- what a job comes to
 
--- a check or a show whose words are of their form
+-- a check, a show or a drill whose words are of their form
 pub answer_ok : (came : Result Job WordsRefused) (answer : Answer) → answer_from came ≡ Ok answer →
     ((job : CheckJob) × (came ≡ Ok (jobs.Check job)) × (check_answer job.hash job.challenge job.message ≡ Ok answer))
-    ⊎ ((job : ShowJob) × (came ≡ Ok (jobs.Show job)) × (show_answer job.message ≡ Ok answer))
+    ⊎ (((job : ShowJob) × (came ≡ Ok (jobs.Show job)) × (show_answer job.message ≡ Ok answer))
+    ⊎ ((job : DrillJob) × (came ≡ Ok (jobs.Drill job)) × (answer ≡ shown (drill_text job.number job.moves))))
 answer_ok (Ok (jobs.Check job)) answer e = inl (job, refl, e)
-answer_ok (Ok (jobs.Show job)) answer e = inr (job, refl, e)
+answer_ok (Ok (jobs.Show job)) answer e = inr (inl (job, refl, e))
 answer_ok (Ok (jobs.Controller job)) answer e = cc
 answer_ok (Ok (jobs.Member job)) answer e = cc
 answer_ok (Ok (jobs.Logon job)) answer e = cc
-answer_ok (Ok (jobs.Drill job)) answer e = cc
+answer_ok (Ok (jobs.Drill job)) answer e = inr (inr (job, refl, ok_injective (sym e)))
 answer_ok (Err refused) answer e = cc
 
--- Why the words came to an exit alone: they aren't of the form, the command isn't built, or a word isn't of its form.
+-- Why the words came to an exit alone: they aren't of the form, the command has an end, or a word isn't of its form.
 pub data Refusal (came : Result Job WordsRefused) (exit : Exit) : Type 0 where
   OfWords : (number : ℕ) → came ≡ Err (refusals.BadWords number) → exit ≡ BadWords number → Refusal came exit
-  Unbuilt : (job : Job) → came ≡ Ok job → is_built job ≡ false → exit ≡ BadWords 0 → Refusal came exit
+  Elsewhere : (job : Job) → came ≡ Ok job → is_told job ≡ false → exit ≡ BadWords 0 → Refusal came exit
   OfCheck : (job : CheckJob) (number : ℕ) → came ≡ Ok (jobs.Check job) → IsBadOfCheck job.hash job.challenge job.message number → exit ≡ BadInput number → Refusal came exit
   OfShow : (job : ShowJob) → came ≡ Ok (jobs.Show job) → ShowsNothing job.message → exit ≡ BadInput 1 → Refusal came exit
   OfMemory : exit ≡ NoMemory → Refusal came exit
@@ -136,18 +237,9 @@ pub answer_err : (came : Result Job WordsRefused) (exit : Exit) → answer_from 
 answer_err (Ok (jobs.Check job)) exit e =
     let why = check_err job.hash job.challenge job.message exit e in OfCheck job why.0 refl why.2 why.1
 answer_err (Ok (jobs.Show job)) exit e = let why = show_err job.message exit e in OfShow job refl why.1 why.0
-answer_err (Ok (jobs.Controller job)) exit e = Unbuilt (jobs.Controller job) refl refl (err_injective (sym e))
-answer_err (Ok (jobs.Member job)) exit e = Unbuilt (jobs.Member job) refl refl (err_injective (sym e))
-answer_err (Ok (jobs.Logon job)) exit e = Unbuilt (jobs.Logon job) refl refl (err_injective (sym e))
-answer_err (Ok (jobs.Drill job)) exit e = Unbuilt (jobs.Drill job) refl refl (err_injective (sym e))
+answer_err (Ok (jobs.Controller job)) exit e = Elsewhere (jobs.Controller job) refl refl (err_injective (sym e))
+answer_err (Ok (jobs.Member job)) exit e = Elsewhere (jobs.Member job) refl refl (err_injective (sym e))
+answer_err (Ok (jobs.Logon job)) exit e = Elsewhere (jobs.Logon job) refl refl (err_injective (sym e))
+answer_err (Ok (jobs.Drill job)) exit e = absurd (ok_no_err _ _ exit refl e)
 answer_err (Err (refusals.BadWords number)) exit e = OfWords number refl (err_injective (sym e))
 answer_err (Err refusals.Memory) exit e = OfMemory (err_injective (sym e))
-
--- a command that isn't built
-pub unbuilt_answer : (job : Job) → is_built job ≡ false → job_answer job ≡ Err (BadWords 0)
-unbuilt_answer (jobs.Check job) e = cc
-unbuilt_answer (jobs.Show job) e = cc
-unbuilt_answer (jobs.Controller job) e = refl
-unbuilt_answer (jobs.Member job) e = refl
-unbuilt_answer (jobs.Logon job) e = refl
-unbuilt_answer (jobs.Drill job) e = refl

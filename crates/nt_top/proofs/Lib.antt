@@ -1,6 +1,7 @@
 pub mod NeedsLaws
 pub mod CheckLaws
 pub mod ShownLaws
+pub mod DrillLaws
 pub mod JobLaws
 pub mod EndLaws
 pub mod ServeLaws

@@ -26,14 +26,16 @@ use Rattle.logon_client.specs.declared.outcome.NoAnswerCause.TheVariants.{DialFa
 use Rattle.nt_top.specs.declared.exit.Exit.{Exit}
 use Rattle.nt_top.specs.declared.exit.Exit.TheVariants as exits
 use Rattle.nt_top.specs.Answers.{exit_at_once, from_at_once}
-use Rattle.nt_top.specs.Causes.{Comes, IsBadInput, IsBadWords, IsOfForm, OutOfForm, NotBuilt}
+use Rattle.nt_top.specs.Causes.{Comes, IsBadInput, IsBadWords, IsOfForm}
 use Rattle.nt_top.specs.Check.{AskedAccepted, AskedRefused}
+use Rattle.nt_top.specs.Drill.{AskedDrill}
 use Rattle.nt_top.specs.Show.{AskedShown}
 use Rattle.nt_top.specs.Refusals.{files_exit, words_exit}
 use Rattle.nt_top.specs.Serve.{IsServed, MayServe, ServesTo, halt_exit, service_exit}
 use Rattle.nt_top.specs.Logon.{plan_of}
 use Rattle.nt_top.specs.LogonExits.{IsAnswered, IsOfClients, LosesLink}
 use Rattle.nt_top.specs.Service.{IsBadOfFiles, IsOfContents, IsServedBy, IsServiceOfForm, ServiceAsked, ServiceBy, ServiceFollows, ServiceReads, ServiceRuns, uses_port}
+use Rattle.nt_top.proofs.JobLaws.{drill_by_words}
 use Rattle.nt_top.proofs.LogonLaws.{logon_laws}
 
 halt_serves : {S : Type 0} (machine : Machine S) (old : S) (address seed : List ℕ) (boot most : ℕ) (before after : Sight) (halt : Halt) →
@@ -93,7 +95,7 @@ pub asked_err : (asked : Result Job WordsRefused) (refused : WordsRefused) (shel
     asked ≡ Err refused → exit ≡ words_exit refused → ServiceAsked asked shelf shelf sight sight exit
 asked_err asked refused shelf sight exit is due = subst (λ z. ServiceAsked z shelf shelf sight sight exit) (sym is) (refl, (due, refl))
 
--- ---- a command that uses the port isn't asked to check or to show
+-- ---- a command that uses the port isn't asked to check, to show or to drill
 
 not_check : (role : Role) (words : List (List ℕ)) (more : List (List ℕ)) → uses_port role words ≡ true → role ≡ Member → words ≡ codes "check" ∷ more → ⊥
 not_check role words more uses member is =
@@ -112,6 +114,9 @@ not_rejected role words uses asked = not_check role words _ uses asked.asks.memb
 pub not_shown : (role : Role) (words : List (List ℕ)) → uses_port role words ≡ true → AskedShown role words → ⊥
 not_shown role words uses asked = not_show role words _ uses asked.asks.logon asked.asks.words_are
 
+pub not_drilled : (role : Role) (words : List (List ℕ)) → uses_port role words ≡ true → AskedDrill role words → ⊥
+not_drilled role words uses asked = absurd (let wrong : true ≡ false = sym uses ∙ drill_by_words role words _ asked.asks in cc)
+
 pub not_input : (role : Role) (words : List (List ℕ)) (number : ℕ) → uses_port role words ≡ true → IsBadInput role words number → ⊥
 not_input role words number uses (inl asked) = not_check role words _ uses asked.member asked.words_are
 not_input role words number uses (inr asked) = not_show role words _ uses asked.logon asked.words_are
@@ -119,7 +124,8 @@ not_input role words number uses (inr asked) = not_show role words _ uses asked.
 pub not_of_form : (role : Role) (words : List (List ℕ)) → uses_port role words ≡ true → IsOfForm role words → ⊥
 not_of_form role words uses (inl (inl asked)) = not_accepted role words uses asked
 not_of_form role words uses (inl (inr asked)) = not_rejected role words uses asked
-not_of_form role words uses (inr asked) = not_shown role words uses asked
+not_of_form role words uses (inr (inl asked)) = not_shown role words uses asked
+not_of_form role words uses (inr (inr asked)) = not_drilled role words uses asked
 
 -- ---- what is seen of the words without memory
 
@@ -176,15 +182,10 @@ come_by (Err refused) number shelf shelf_after before after exit (inl memory) ru
 come_by (Err refused) number shelf shelf_after before after exit (inr is) runs =
     let same : refused ≡ BadWords number = cc in inl (runs.1.0 ∙ ap words_exit same)
 
-bad_of_service : (role : Role) (words : List (List ℕ)) (number : ℕ) → uses_port role words ≡ true → IsBadWords role words number → job_of role words ≡ Err (BadWords number)
-bad_of_service role words number uses (OutOfForm is) = is
-bad_of_service role words number uses (NotBuilt job none other is unbuilt) = absurd (let wrong : true ≡ false = sym uses ∙ other in cc)
-
 pub words_come : (role : Role) (words : List (List ℕ)) (number : ℕ) (shelf shelf_after : Shelf) (before after : Sight) (exit : Exit) → uses_port role words ≡ true →
     ServiceRuns role words shelf shelf_after before after exit → IsBadWords role words number → Comes (exits.BadWords number) exit
 words_come role words number shelf shelf_after before after exit uses runs bad =
-    let due = bad_of_service role words number uses bad in
-    come_by runs.job number shelf shelf_after before after exit (subst (λ z. UpToMemory Memory runs.job z) due runs.is) runs.runs
+    come_by runs.job number shelf shelf_after before after exit (subst (λ z. UpToMemory Memory runs.job z) bad runs.is) runs.runs
 
 words_is : (refused : WordsRefused) (number : ℕ) → words_exit refused ≡ exits.BadWords number → refused ≡ BadWords number
 words_is (BadWords other) number e = let same : other ≡ number = cc in ap (λ n. BadWords n) same
@@ -262,7 +263,7 @@ pub words_only_by : (role : Role) (words : List (List ℕ)) (number : ℕ) (shel
     ServiceRuns role words shelf shelf_after before after exit → exit ≡ exits.BadWords number → IsBadWords role words number
 words_only_by role words number shelf shelf_after before after exit runs is =
     let asked = subst (λ z. ServiceAsked runs.job shelf shelf_after before after z) is runs.runs in
-    OutOfForm (only_by runs.job (job_of role words) number shelf shelf_after before after runs.is asked)
+    only_by runs.job (job_of role words) number shelf shelf_after before after runs.is asked
 
 -- ---- files that are refused
 

@@ -10,13 +10,15 @@ use Rattle.nt_top.specs.declared.answer.Answer.{Answer}
 use Rattle.nt_top.specs.declared.exit.Exit.{Exit}
 use Rattle.nt_top.specs.declared.exit.Exit.TheVariants.{BadWords}
 use Rattle.nt_top.specs.Check.{check_answer, texts_at_once}
+use Rattle.nt_top.specs.Drill.{drill_answer}
 use Rattle.nt_top.specs.Refusals.{words_exit}
 use Rattle.nt_top.specs.Show.{show_answer}
 
--- what a job comes to by its words alone; one that isn't built yet is no command, and those with an end go another way
+-- what a job comes to by its words alone; those with an end go another way
 abbrev pub job_answer : Job → Result Answer Exit
 job_answer (jobs.Check job) = check_answer job.hash job.challenge job.message
 job_answer (jobs.Show job) = show_answer job.message
+job_answer (jobs.Drill job) = drill_answer job.number job.moves
 job_answer _ = Err (BadWords 0)
 
 abbrev pub answer_from : Result Job WordsRefused → Result Answer Exit
@@ -31,7 +33,6 @@ answer_of role words = answer_from (job_of role words)
 -- the exit that is seen in a job without memory
 abbrev pub job_exit_at_once : Job → Option Exit
 job_exit_at_once (jobs.Check job) = texts_at_once job.hash job.challenge
-job_exit_at_once (jobs.Drill job) = Some (BadWords 0)
 job_exit_at_once _ = None
 
 abbrev pub from_at_once : Option (Result Job WordsRefused) → Option Exit

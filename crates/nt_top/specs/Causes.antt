@@ -6,8 +6,6 @@ use Rattle.ntlm_messages.specs.Authenticate.{IsAuthenticate}
 use Rattle.ntlm_messages.specs.declared.messages.Authenticate.{Authenticate}
 use Rattle.outside.specs.Telling.{Appends}
 use Rattle.nt_words.specs.Roles.{job_of}
-use Rattle.nt_words.specs.declared.job.Job.{Job}
-use Rattle.nt_words.specs.declared.job.Job.TheVariants as jobs
 use Rattle.nt_words.specs.declared.job.Role.{Role}
 use Rattle.nt_words.specs.declared.job.Role.TheVariants.{Member, Logon}
 use Rattle.nt_words.specs.declared.options.WordsRefused.TheVariants as refusals
@@ -16,8 +14,8 @@ use Rattle.nt_top.specs.declared.exit.Exit.TheVariants.{Done, Refused, FileFault
 use Rattle.logon_client.specs.declared.outcome.RefusedCause.{RefusedCause}
 use Rattle.logon_client.specs.declared.outcome.RefusedCause.TheVariants.{Response}
 use Rattle.nt_top.specs.Check.{AskedAccepted, AskedRefused}
+use Rattle.nt_top.specs.Drill.{AskedDrill, drill_text}
 use Rattle.nt_top.specs.Ends.{SinkChange}
-use Rattle.nt_top.specs.Service.{ActsByWords}
 use Rattle.nt_top.specs.Show.{AskedShown, ShowsAs}
 
 -- the exit is that one, or want of memory
@@ -26,11 +24,12 @@ Comes due exit = (exit ≡ due) ⊎ (exit ≡ NoMemory)
 
 -- ---- `Done` and `Refused`
 
--- A check put `accepted` and the response verifies, or a show put all the lines of its message.
+-- A check put `accepted` and the response verifies, a show put all the lines of its message, or a drill those of its run.
 abbrev pub IsDone : Role → List (List ℕ) → SinkChange → Type 0
 IsDone role words s =
     (AskedAccepted role words × Appends s.before s.now (codes "accepted\n"))
-    ⊎ ((asked : AskedShown role words) × Appends s.before s.now asked.lines)
+    ⊎ (((asked : AskedShown role words) × Appends s.before s.now asked.lines)
+    ⊎ ((asked : AskedDrill role words) × Appends s.before s.now (drill_text asked.number asked.count)))
 
 -- A check put `refused`, and the response doesn't verify.
 abbrev pub IsRefused : Role → List (List ℕ) → RefusedCause → SinkChange → Type 0
@@ -38,16 +37,9 @@ IsRefused role words cause s = (cause ≡ Response) × AskedRefused role words �
 
 -- ---- `BadWords`
 
--- whether the command of a job is built, of those that their words alone tell
-abbrev pub is_built : Job → Bool
-is_built (jobs.Check job) = true
-is_built (jobs.Show job) = true
-is_built _ = false
-
--- The words come to that number; and to 0 where they ask for a command that isn't built yet.
-pub data IsBadWords (role : Role) (words : List (List ℕ)) (number : ℕ) : Type 0 where
-  OutOfForm : job_of role words ≡ Err (refusals.BadWords number) → IsBadWords role words number
-  NotBuilt : (job : Job) → number ≡ 0 → ActsByWords role words → job_of role words ≡ Ok job → is_built job ≡ false → IsBadWords role words number
+-- The words come to that number: they aren't of the form of a command of this program.
+abbrev pub IsBadWords : Role → List (List ℕ) → ℕ → Type 0
+IsBadWords role words number = job_of role words ≡ Err (refusals.BadWords number)
 
 -- ---- `BadInput`
 
@@ -101,11 +93,11 @@ IsOfTheCommands _ = Unit {0}
 
 -- ---- where words and inputs are of their forms
 
--- a check of a hash, a challenge and a message, or a show of a message
+-- a check of a hash, a challenge and a message, a show of a message, or a drill
 abbrev pub IsOfForm : Role → List (List ℕ) → Type 0
-IsOfForm role words = (AskedAccepted role words ⊎ AskedRefused role words) ⊎ AskedShown role words
+IsOfForm role words = (AskedAccepted role words ⊎ AskedRefused role words) ⊎ (AskedShown role words ⊎ AskedDrill role words)
 
--- a check comes to a verdict, and a show to its end, or memory ran out
+-- a check comes to a verdict, a show and a drill to their end, or memory ran out
 abbrev pub IsWorkDone : Role → Exit → Type 0
 IsWorkDone role Done = Unit {0}
 IsWorkDone Member (Refused cause) = cause ≡ Response

@@ -1,6 +1,7 @@
 pub mod Answers
 pub mod Causes
 pub mod Check
+pub mod Drill
 pub mod Ends
 pub mod Exits
 pub mod Lines

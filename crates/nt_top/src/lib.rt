@@ -4,6 +4,7 @@
 mod answer;
 mod check;
 mod controller_serving;
+mod drill;
 mod exit;
 mod launch;
 mod laws;
@@ -17,6 +18,7 @@ mod texts;
 mod top;
 mod words;
 
+pub use drill::drill_lines;
 pub use exit::Exit;
 pub use launch::start;
 pub use laws::{what_is_told_decides_how_a_service_ends, what_is_told_decides_the_exit};

@@ -13,6 +13,7 @@ ghost use Rattle.nt_words.specs.declared.files.FilesRefused.{FilesRefused};
 ghost use Rattle.nt_top.specs.Answers.{answer_of, exit_at_once, job_answer, job_exit_at_once};
 ghost use Rattle.nt_top.specs.Causes.{Comes, IsBadInput, IsBadWords, IsDone, IsOfForm, IsOfTheCommands, IsRefused, IsWorkDone};
 ghost use Rattle.nt_top.specs.Check.{AskedAccepted, AskedRefused, verdict_answer};
+ghost use Rattle.nt_top.specs.Drill.{AskedDrill, drill_text};
 ghost use Rattle.nt_top.specs.Ends.{Ends, change_of};
 ghost use Rattle.nt_top.specs.Show.{AskedShown, shown};
 ghost use Rattle.nt_top.specs.declared.exit.Exit.{Exit};
@@ -21,6 +22,7 @@ ghost use Rattle.logon_client.specs.declared.outcome.RefusedCause.{RefusedCause}
 
 use crate::answer::Answer;
 use crate::check::check;
+use crate::drill::drill;
 use crate::exit::Exit;
 use crate::service::{run_service, uses_port};
 use crate::show::show;
@@ -34,11 +36,11 @@ use std::alloc::Global;
 /// A domain controller and a member server have `serve`: the files are read and judged, the challenges are started, the port listens, and the end is served, until
 /// the port gives `Stop` or as many events as the words say. A logon client has `logon`: its files are read and judged, the challenges are started, the server is
 /// dialled, and a client runs to its outcome, which is the exit. A member server has `check HASH CHALLENGE MESSAGE`, a logon client `show MESSAGE`, all
-/// in hex. The words of `drill` are judged, and what they ask for isn't built yet: `BadWords(0)`, as every other command line is.
+/// in hex. A logon client has `drill --number N --moves M` besides, which puts what the run of a world by M moves of N counted. Every other command line is `BadWords(0)`.
 /// `BadInput(n)` is the first word, or the first option's file, that isn't of its form, `BadTable` a table that isn't. `Refused(Response)` is a response that
 /// isn't that of the hash; a logon's `Refused`, `NoAnswer` and `BadPeer` are its outcome.
 /// `FileFault`, `PortFault` and `SinkFault` come only where a count of that kind rose in this call, `Spent` where the end draws more challenges than are
-/// left, `NoMemory` where no memory was found; `check` and `show` have put nothing then, and use neither port, files, clock nor challenges.
+/// left, `NoMemory` where no memory was found; `check`, `show` and `drill` have put nothing then, and use neither port, files, clock nor challenges.
 pub fn run<P: Port, F: Files, S: Sink, C: Clock, Q: Chances>(
     alloc: Global,
     role: Role,
@@ -67,6 +69,10 @@ pub fn run<P: Port, F: Files, S: Sink, C: Clock, Q: Chances>(
     // A logon client asked to show a message puts its lines.
     ensures shown { (asked : AskedShown role (map string_bytes words.now)) →
         Ends (Ok (shown asked.lines)) (change_of S.taken S.faults out.old out.new) result }
+    // A logon client asked for a drill puts the six lines of its run.
+    ensures drilled { (asked : AskedDrill role (map string_bytes words.now)) →
+        Ends (Ok (shown (drill_text asked.number asked.count)))
+        (change_of S.taken S.faults out.old out.new) result }
     // Only there does another command end so.
     ensures done { ActsByWords role (map string_bytes words.now) →
         result ≡ Exit.Done →
@@ -194,6 +200,7 @@ fn answer_for(alloc: Global, job: Job) -> Result<Answer, Exit>
     match job {
         Job::Check(words) => check(alloc, words.hash(), words.challenge(), words.message()),
         Job::Show(words) => show(alloc, words.message()),
+        Job::Drill(words) => drill(alloc, words.number(), words.moves()),
         _ => Err(Exit::BadWords(0)),
     }
 }

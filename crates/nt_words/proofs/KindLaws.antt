@@ -8,8 +8,8 @@ use Rattle.clap.specs.Words.{Row, Text, first_of, fault_of, matches_of}
 use Rattle.wire_base.specs.Names.{is_name, is_name_byte, IsName, IsNameByte}
 use Rattle.logon_client.specs.Plans.{is_level}
 use Rattle.logon_client.specs.declared.plan.AuthKind.TheVariants.{V1, V1Ess, V2}
-use Rattle.nt_words.specs.Forms.{IsAddress, IsControllerForm, IsMemberForm, IsLogonForm}
-use Rattle.nt_words.specs.Jobs.{ControllerJob, MemberJob, LogonJob, Form, form, rows_by, rows_of_values, named_rows, fault_rows, misfit_rows, is_led_by, or_else, number_in, level_in, auth_in, controller_form, member_form, logon_form, controller_of, member_of, logon_of}
+use Rattle.nt_words.specs.Forms.{IsAddress, IsControllerForm, IsMemberForm, IsLogonForm, IsDrillForm}
+use Rattle.nt_words.specs.Jobs.{ControllerJob, MemberJob, LogonJob, DrillJob, Form, form, rows_by, rows_of_values, named_rows, fault_rows, misfit_rows, is_led_by, or_else, number_in, level_in, auth_in, controller_form, member_form, logon_form, drill_form, controller_of, member_of, logon_of, drill_of}
 use Rattle.nt_words.specs.Options.{Choice, choice, suits, suits_in, first_misfit, number_of, is_at_most, is_text}
 use Rattle.nt_words.specs.Words.{app_with}
 use Rattle.nt_words.specs.declared.options.Kind.TheVariants.{Address, Name, Number, Auth}
@@ -52,7 +52,7 @@ each_byte [] e k d lt = absurd (omega arith)
 each_byte (x ∷ xs) e zero d lt = in_range 0x20 0x7E x (both (is_name_byte x) (list_all is_name_byte xs) e).0
 each_byte (x ∷ xs) e (suc k) d lt = each_byte xs (both (is_name_byte x) (list_all is_name_byte xs) e).1 k d (omega arith)
 
-named : (text : List ℕ) → is_name text ≡ true → IsName text
+pub named : (text : List ℕ) → is_name text ≡ true → IsName text
 named text is = let parts = both (nat_le (length text) 64) (list_all is_name_byte text) is in (leb-true (length text) 64 parts.0, each_byte text parts.1)
 
 name_suits : (rows : List Row) (name : Text) (found : Option Text) → suits rows (choice name Name true) found ≡ true → IsName (or_else found [])
@@ -67,9 +67,9 @@ at_most : (most : ℕ) (number : Option ℕ) → is_at_most most number ≡ true
 at_most most None is = absurd cc
 at_most most (Some n) is = leb-true n most is
 
-number_suits : (rows : List Row) (name : Text) (most : ℕ) (found : Option Text) → suits rows (choice name (Number most) false) found ≡ true → number_in found 0 ≤ most
-number_suits rows name most None is = omega arith
-number_suits rows name most (Some text) is = at_most most (number_of text) is
+number_suits : (rows : List Row) (name : Text) (most : ℕ) (needed : Bool) (found : Option Text) → suits rows (choice name (Number most) needed) found ≡ true → number_in found 0 ≤ most
+number_suits rows name most needed None is = omega arith
+number_suits rows name most needed (Some text) is = at_most most (number_of text) is
 
 level_one : (connect integrity : Bool) → is_level (if connect then 2 else if integrity then 5 else 6) ≡ true
 level_one true integrity = refl
@@ -130,8 +130,13 @@ logon_formed words rows is =
       workstation = name_suits rows (codes "workstation") (first_of (codes "workstation") rows) all.1.1.1.0;
       level = level_is (first_of (codes "level") rows);
       plain = auth_suits rows (first_of (codes "auth") rows) all.1.1.1.1.1.1.0;
-      echo = number_suits rows (codes "echo") 4096 (first_of (codes "echo") rows) all.1.1.1.1.1.1.1.0;
+      echo = number_suits rows (codes "echo") 4096 false (first_of (codes "echo") rows) all.1.1.1.1.1.1.1.0;
     }
+
+pub drill_formed : (words : List Text) (rows : List Row) → rows_by drill_form words ≡ Ok rows → IsDrillForm (drill_of rows)
+drill_formed words rows is =
+    let all = each rows drill_form.choices (rows_suit drill_form words rows is) in
+    record { moves = number_suits rows (codes "moves") 100000 true (first_of (codes "moves") rows) all.1.0 }
 
 -- ---- a job whose values are those of the rows
 
@@ -152,3 +157,9 @@ pub logon_built : (words : List Text) (options : List Choice) (rows : List Row) 
 logon_built words options rows job choices read is =
     let whole = subst (λ (c : List Choice). rows_by (form logon_form.name c) words ≡ Ok rows) choices read in
     subst IsLogonForm (sym is) (logon_formed words rows whole)
+
+pub drill_built : (words : List Text) (options : List Choice) (rows : List Row) (job : DrillJob) → options ≡ drill_form.choices →
+    rows_by (form drill_form.name options) words ≡ Ok rows → job ≡ drill_of rows → IsDrillForm job
+drill_built words options rows job choices read is =
+    let whole = subst (λ (c : List Choice). rows_by (form drill_form.name c) words ≡ Ok rows) choices read in
+    subst IsDrillForm (sym is) (drill_formed words rows whole)

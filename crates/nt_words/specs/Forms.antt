@@ -4,7 +4,7 @@ use Rattle.clap.specs.Words.{Text}
 use Rattle.wire_base.specs.Names.{IsName}
 use Rattle.logon_client.specs.Plans.{is_level}
 use Rattle.logon_client.specs.declared.plan.AuthKind.TheVariants.{V1}
-use Rattle.nt_words.specs.Jobs.{ControllerJob, MemberJob, LogonJob}
+use Rattle.nt_words.specs.Jobs.{ControllerJob, MemberJob, LogonJob, DrillJob}
 
 -- an address: 1 to 255 bytes
 abbrev pub IsAddress : Text → Type 0
@@ -29,3 +29,6 @@ pub record IsLogonForm (job : LogonJob) : Type 0 where
   -- without extended session security nothing is signed
   pub plain : job.auth ≡ V1 → job.level ≡ 2
   pub echo : job.echo ≤ 4096
+
+pub record IsDrillForm (job : DrillJob) : Type 0 where
+  pub moves : job.moves ≤ 100000

@@ -8,7 +8,6 @@ use Rattle.logon_client.specs.declared.plan.AuthKind.TheVariants.{V1, V1Ess, V2}
 use Rattle.nt_words.specs.Options.{Choice, choice, first_misfit, number_of}
 use Rattle.nt_words.specs.Words.{app_with}
 use Rattle.nt_words.specs.declared.options.Kind.TheVariants.{Address, Name, File, Number, Level, Auth}
-use Rattle.nt_words.specs.declared.drill.DrillWords.{DrillWords}
 use Rattle.nt_words.specs.declared.options.WordsRefused.{WordsRefused}
 use Rattle.nt_words.specs.declared.options.WordsRefused.TheVariants.{BadWords}
 
@@ -222,11 +221,20 @@ drill_form = record {
       choice (codes "moves") (Number 100000) true ∷ [];
 }
 
-abbrev pub drill_job_from : Result (List Row) WordsRefused → Result DrillWords WordsRefused
-drill_job_from (Err refused) = Err refused
-drill_job_from (Ok rows) = Ok (record { number = number_at rows (codes "number") 0; moves = number_at rows (codes "moves") 0 })
+-- so many moves, which the number makes
+pub record DrillJob : Type 0 where
+  pub number : ℕ
+  pub moves : ℕ
 
-unfoldable pub drill_job : List Text → Result DrillWords WordsRefused
+-- the job of these rows
+abbrev pub drill_of : List Row → DrillJob
+drill_of rows = record { number = number_at rows (codes "number") 0; moves = number_at rows (codes "moves") 0 }
+
+abbrev pub drill_job_from : Result (List Row) WordsRefused → Result DrillJob WordsRefused
+drill_job_from (Err refused) = Err refused
+drill_job_from (Ok rows) = Ok (drill_of rows)
+
+unfoldable pub drill_job : List Text → Result DrillJob WordsRefused
 drill_job words = drill_job_from (rows_by drill_form words)
 
 -- ---- commands without options

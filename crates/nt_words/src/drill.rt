@@ -1,6 +1,6 @@
 //! The words of `nt_logon drill`.
 
-ghost use Rattle.std.specs.Prelude.{◌≡◌, Err, codes, false, map};
+ghost use Rattle.std.specs.Prelude.{◌≡◌, ◌≤◌, Err, codes, false, map};
 ghost use Rattle.std.specs.String.{string_bytes};
 ghost use Rattle.wire_base.specs.Memory.{UpToMemory};
 ghost use Rattle.nt_words.specs.Jobs.{is_led_by, drill_form, drill_job};
@@ -8,14 +8,41 @@ ghost use Rattle.nt_words.specs.Jobs.{is_led_by, drill_form, drill_job};
 use crate::options::{Kind, OptionForm, WordsRefused, number};
 use crate::words::read_words;
 use std::alloc::Global;
+use std::marker::Model;
 
 /// What `nt_logon drill` is asked for.
-#[derive(Clone, Copy, Debug, PartialEq, Eq)]
+#[derive(Debug, Drop)]
 pub struct DrillWords {
+    number: u32,
+    moves: u32,
+}
+
+impl Model for DrillWords {
+    ghost use Rattle.nt_words.specs.Forms.{IsDrillForm};
+    ghost use Rattle.nt_words.specs.Jobs.{DrillJob};
+
+    ghost Value = { DrillJob };
+
+    ghost view = { λ j. record { number = j.number; moves = j.moves } };
+
+    ghost invariant = { λ j. IsDrillForm (record { number = j.number; moves = j.moves }) };
+}
+
+impl DrillWords {
     /// The number that the moves are made from.
-    pub number: u32,
-    /// How many moves: at most 100,000.
-    pub moves: u32,
+    pub fn number(&self) -> u32
+        ensures { result ≡ self.now.number }
+    {
+        self.number
+    }
+
+    /// How many moves.
+    pub fn moves(&self) -> u32
+        ensures value { result ≡ self.now.moves }
+        ensures form { result ≤ 100000 }
+    {
+        self.moves
+    }
 }
 
 /// The job of `nt_logon drill`, or the number of the word that isn't of its form.

@@ -1,7 +1,7 @@
 use Rattle.std.proofs.Common.{map, subst, sym}
 use Rattle.std.specs.String.{string_bytes}
 use Rattle.nt_top.specs.Causes.{IsOfTheCommands}
-use Rattle.nt_top.proofs.EndLaws.{accepted_ends, refused_ends, shown_ends, done_is, refused_is, bad_words_come, words_only, bad_input_comes, input_only, others, fault_rose, work_done}
+use Rattle.nt_top.proofs.EndLaws.{accepted_ends, refused_ends, shown_ends, drilled_ends, done_is, refused_is, bad_words_come, words_only, bad_input_comes, input_only, others, fault_rose, work_done}
 use Rattle.nt_top.proofs.ServeLaws.{dial_fault, files_come, link_lost, serve_done}
 use Rattle.nt_top.proofs.top.run.Goals as goal
 
@@ -14,6 +14,9 @@ returns-clause-refused g c asked = refused_ends _ _ _ _ c.perform.ensures.ends a
 pub returns-clause-shown : goal.returns-clause-shown
 returns-clause-shown g c asked = shown_ends _ _ _ _ c.perform.ensures.ends asked
 
+pub returns-clause-drilled : goal.returns-clause-drilled
+returns-clause-drilled g c asked = drilled_ends _ _ _ _ c.perform.ensures.ends asked
+
 pub returns-clause-done : goal.returns-clause-done
 returns-clause-done g c other is = done_is _ _ _ _ c.perform.ensures.ends is
 
@@ -21,10 +24,11 @@ pub returns-clause-refused_only : goal.returns-clause-refused_only
 returns-clause-refused_only g c other cause is = refused_is _ _ _ _ cause c.perform.ensures.ends is
 
 pub returns-clause-words : goal.returns-clause-words
-returns-clause-words g c number bad = bad_words_come _ _ _ _ number c.perform.ensures.ends bad
+returns-clause-words g c number bad = bad_words_come c.args.role (map string_bytes c.args.words.now) _ _ number c.perform.ensures.ends bad
 
 pub returns-clause-words_only : goal.returns-clause-words_only
-returns-clause-words_only g c number is = words_only _ _ (sym c.if-uses_port.ensures) _ _ number c.perform.ensures.ends is
+returns-clause-words_only g c number is =
+    words_only c.args.role (map string_bytes c.args.words.now) (sym c.if-uses_port.ensures) _ _ number c.perform.ensures.ends is
 
 pub returns-clause-input : goal.returns-clause-input
 returns-clause-input g c number bad = bad_input_comes _ _ _ _ number c.perform.ensures.ends bad
