@@ -6,11 +6,12 @@ told; `-` is an empty word), `top.narrow ROLE FAILING WORD..` (the same over a s
 errors, and what was put). FAILING are the numbers of the sink's calls that fail.
 
 The commands, exits and lines are this project's own choice (docs/FORMATS.md, "Commands, exits and what is printed"); whether a response
-stands is a published value.
+stands is a published value. What a drill counts is what the world of `domain_world` counts, which is Python's.
 """
 
 import struct
 
+import domain_world
 from forms import line, utf16, values
 
 # The NT hash of `Password`, and the challenge of MS-NLMP 4.2.1.
@@ -297,6 +298,41 @@ def of_sinks():
     return out
 
 
+def drill_lines(number, count):
+    """The six lines of a drill: what the world of `domain_world` counts."""
+    counts = domain_world.drill().drive(domain_world.moves_from(number, count))
+    return "".join(f"{name.replace('_', ' ')} {value}\n" for name, value in counts.items())
+
+
+def of_drills():
+    """Drills, whose words stand in any order, and their lines."""
+    # Number 1 makes one Onward, and nothing was sent.
+    none = "moves 1\naccepted 0\nrefused 0\nno controller 0\npassed 0\nbarred 0\n"
+    assert drill_lines(1, 1) == none
+    out = []
+    for number, count in [(1, 1), (7, 0), (7, 1000), (0, 300), (2, 500), (4294967295, 300)]:
+        words = ["drill", "--number", str(number), "--moves", str(count)]
+        out.append((run(LOGON, *words), end("Done", put=drill_lines(number, count))))
+    for words in [["--moves", "1", "--number", "1"], ["--number=1", "--moves=1"], ["--number", "001", "--moves", "01"]]:
+        out.append((run(LOGON, "drill", *words), end("Done", put=none)))
+    for role, words, number in [
+        (LOGON, ["drill", "--number", "1", "--moves", "100001"], 2),
+        (LOGON, ["drill", "--number", "4294967296", "--moves", "1"], 1),
+        (LOGON, ["drill", "--number", "4294967296", "--moves", "100001"], 1),
+        (LOGON, ["drill", "--moves", "1"], 0),
+        (LOGON, ["Drill", "--number", "1", "--moves", "1"], 0),
+        (MEMBER, ["drill", "--number", "1", "--moves", "1"], 0),
+        (CONTROLLER, ["drill", "--number", "1", "--moves", "1"], 0),
+    ]:
+        out.append((run(role, *words), end("BadWords", number)))
+    # A sink that takes three bytes at a time has a front of the lines where it fails.
+    words = ["drill", "--number", "1", "--moves", "1"]
+    out.append((run(LOGON, *words, operation="top.narrow"), end("Done", put=none)))
+    for call in [0, 1, 7, (len(none) - 1) // 3]:
+        out.append((run(LOGON, *words, failing=str(call), operation="top.narrow"), end("SinkFault", put=none[: 3 * call])))
+    return out
+
+
 def of_exits():
     """The exits, their statuses and their lines."""
     out = []
@@ -321,6 +357,7 @@ def cases():
         + of_foreign_messages()
         + of_shows()
         + of_words()
+        + of_drills()
         + of_sinks()
         + of_exits()
     )

@@ -386,12 +386,13 @@ def of_no_files():
 
 
 def of_runs():
-    """The top call judges the words of the commands, and puts nothing where they don't run: a sink that fails isn't asked. The words of a controller,
-    of a member server and of a logon run, and the first of their files isn't there."""
+    """The top call judges the words of the commands, and puts nothing where they aren't of their form: a sink that fails isn't asked. The words of a
+    controller, of a member server and of a logon run, and the first of their files isn't there. A drill runs, and the sink fails."""
     out = [(run(LOGON, "drill", "--number", "1", "--moves", "100001", failing="0"), end("BadWords", 2))]
     for role, first, usual, options in COMMANDS.values():
-        runs = end("BadWords", 0) if first == "drill" else end("FileFault")
-        out.append((run(role, *words_of(first, usual), failing="0"), runs))
+        short = {**usual, "moves": "1"} if first == "drill" else usual
+        runs = end("SinkFault") if first == "drill" else end("FileFault")
+        out.append((run(role, *words_of(first, short), failing="0"), runs))
         for number, option in enumerate(options, 1):
             words = words_of(first, {**usual, option: ""})
             out.append((run(role, *words, failing="0"), end("BadWords", number)))

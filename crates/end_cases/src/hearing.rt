@@ -17,9 +17,11 @@ struct Heard {
 }
 
 impl ServesUnits<()> for Heard {
-    ghost use Rattle.std.specs.Prelude.{Option, Some, None, Ok, ◌++◌, ◌∷◌, [], refl};
+    ghost use Rattle.std.specs.Prelude.{Option, Some, None, Ok, ◌++◌, ◌∷◌, [], length, refl};
     ghost use Rattle.outside.specs.Machine.{Part};
+    ghost use Rattle.end_links.specs.Bounds.{ServerDrawsFew};
     ghost use Rattle.end_links.specs.Serving.{Server, ServerLeavesRest};
+    ghost use Rattle.end_links.proofs.BoundLaws.{nothing_drawn, none_fewer};
 
     ghost server = { record {
       unit = λ bytes work talk left. Ok (record {
@@ -35,6 +37,13 @@ impl ServesUnits<()> for Heard {
     ghost leaves = { record {
       unit = λ bytes work talk left. record { front = []; is = refl };
       refusal = λ why work talk left. record { front = []; is = refl };
+    } };
+
+    ghost extra = { λ talk. 0 };
+
+    ghost few = { record {
+      unit = λ bytes work talk left. nothing_drawn (length left) 0;
+      refusal = λ why work talk left. none_fewer (length left);
     } };
 
     fn serve<Q: Chances>(

@@ -123,7 +123,7 @@ fn start(alloc: Global, scene: &mut Scene, parts: &[&str]) -> anyhow::Result<Str
     match scene.channel.start_turn(alloc, timestamp, challenge)? {
         Some((turn, frames)) => {
             scene.turn = Some(turn);
-            frames_text(alloc, &frames)
+            frames_text(alloc, frames.frames())
         }
         None => Ok("none".to_string(alloc)?),
     }
@@ -138,7 +138,7 @@ fn taken_text(alloc: Global, scene: &mut Scene, taken: Taken) -> anyhow::Result<
         }
         Taken::Next(turn, frames) => {
             scene.turn = Some(turn);
-            let frames = frames_text(alloc, &frames)?;
+            let frames = frames_text(alloc, frames.frames())?;
             format!(in alloc; "next {frames}")?
         }
         Taken::Half => "half".to_string(alloc)?,

@@ -3,6 +3,7 @@
 use crate::accounts::Accounts;
 use crate::calls::Calls;
 use crate::digests::{codes, digests, key_streams};
+use crate::drill::drills;
 use crate::keys::Keys;
 use crate::logon::{read_logons, write_replies};
 use crate::members::Logons;
@@ -87,6 +88,8 @@ impl Bench {
             Operation::Seal => self.sides.carry(turns),
             Operation::ReadTable => self.accounts.read_tables(alloc, turns),
             Operation::FindAccount => Ok(self.accounts.find_all(turns)),
+            Operation::DrillShort => drills(alloc, 10_000, turns),
+            Operation::DrillLong => drills(alloc, 100_000, turns),
         }
     }
 

@@ -5,6 +5,7 @@ mod accounts;
 mod bench;
 mod calls;
 mod digests;
+mod drill;
 mod keys;
 mod logon;
 mod measure;

@@ -53,10 +53,14 @@ pub enum Operation {
     ReadTable,
     /// A look-up by name in that table.
     FindAccount,
+    /// A drill of 10,000 moves.
+    DrillShort,
+    /// A drill of 100,000 moves.
+    DrillLong,
 }
 
 /// All of them, in the order in which they are printed.
-pub const OPERATIONS: [Operation; 25] = [
+pub const OPERATIONS: [Operation; 27] = [
     Operation::Md4Short,
     Operation::Md4Long,
     Operation::DesBlock,
@@ -82,6 +86,8 @@ pub const OPERATIONS: [Operation; 25] = [
     Operation::Seal,
     Operation::ReadTable,
     Operation::FindAccount,
+    Operation::DrillShort,
+    Operation::DrillLong,
 ];
 
 impl Operation {
@@ -113,6 +119,8 @@ impl Operation {
             Operation::Seal => "seal-1k",
             Operation::ReadTable => "table-10k",
             Operation::FindAccount => "find-10k",
+            Operation::DrillShort => "drill-10k",
+            Operation::DrillLong => "drill-100k",
         }
     }
 }
