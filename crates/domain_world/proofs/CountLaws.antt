@@ -9,6 +9,7 @@ use Rattle.outside.specs.declared.action.Action.TheVariants.{Send, Dial, Close, 
 use Rattle.outside.specs.declared.event.Event.{Event}
 use Rattle.outside.specs.declared.event.Event.TheVariants as event
 use Rattle.logon_client.specs.declared.plan.ClientPlan.{ClientPlan}
+use Rattle.domain_controller.specs.Laws.{is_passed}
 use Rattle.domain_world.specs.declared.bag.BagUnit.{BagUnit}
 use Rattle.domain_world.specs.declared.counting.Counts.{Counts}
 use Rattle.domain_world.specs.declared.links.EndId.{EndId}
@@ -26,7 +27,7 @@ use Rattle.domain_world.specs.declared.state.Waiting.{Waiting}
 use Rattle.domain_world.specs.Acting.{Acted, Heard, Given, bag_unit, close_open, closed_at, done, forget, given_by, hear, hears, hears_if, nothing_done, perform, perform_all, perform_all_quietly, perform_quietly, piece_comes, pieces_come, send_on, shut_link, then_act}
 use Rattle.domain_world.specs.Bag.{first_waiting, pieces_of}
 use Rattle.domain_world.specs.Choosing.{chosen_in, chosen_place}
-use Rattle.domain_world.specs.Counting.{add_counts, clipped, counts_of, is_barred, is_in, is_out, is_passed, is_unanswered, judges, no_counts, tells}
+use Rattle.domain_world.specs.Counting.{add_counts, clipped, counts_of, is_barred, is_in, is_out, is_unanswered, judges, no_counts, tells}
 use Rattle.domain_world.specs.Ends.{acceptors_in, count_of, end_at}
 use Rattle.domain_world.specs.Links.{acceptor_of, handed_links, hearer_of, hearer_on, is_accepted_by, kind_of, links_of, other_hearer}
 use Rattle.domain_world.specs.Moving.{act, answer_by, answered_link, begun, come, come_by, come_on_own, connect_by, connect_first, deliver_by, deliver_on, deliver_unit, end_of_peer, fail_first, hand_on, lose_by, onward_by, open_link, restart_at, restart_by, route_to, settle, shut_at, shut_by, start_at, start_by, stranger_at, stranger_by, with_link, without_first}

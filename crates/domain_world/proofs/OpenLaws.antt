@@ -1,5 +1,5 @@
 -- How many links are open, and how many challenges are drawn.
-use Rattle.std.proofs.Common.{◌≡◌, ℕ, suc, ◌+◌, ◌*◌, ◌<◌, ◌≤◌, Bool, true, false, ◌||◌, List, [], ◌∷◌, length, Option, Some, None, IsSome, if◌then◌else◌, refl, ap, arith}
+use Rattle.std.proofs.Common.{◌≡◌, ℕ, suc, ◌+◌, ◌*◌, ◌<◌, ◌≤◌, Bool, true, false, ◌||◌, [], ◌∷◌, length, Option, Some, IsSome, if◌then◌else◌, refl, sym, ap, subst, arith}
 use Rattle.outside.specs.Counter.{most_draws}
 use Rattle.outside.specs.declared.action.StepRefused.{StepRefused}
 use Rattle.outside.specs.declared.action.StepRefused.TheVariants as refused
@@ -11,7 +11,8 @@ use Rattle.domain_world.specs.declared.plan.Plan.{Plan}
 use Rattle.domain_world.specs.declared.state.State.{State}
 use Rattle.domain_world.specs.Bounds.{DrawsWithin, IsBounded, draw_limit}
 use Rattle.domain_world.specs.World.{first_world, move_limit}
-use Rattle.domain_world.specs.Links.{OpenMap, forget_end, forgotten_by, kept_open, open_if}
+use Rattle.domain_world.specs.Links.{OpenMap, forget_end, forgotten_by, open_if}
+use Rattle.domain_world.proofs.LevelLaws.{first_within}
 
 -- ---- taken out
 
@@ -56,11 +57,16 @@ forgotten_fewer end (entry ∷ links) =
 
 -- ---- challenges
 
-pub made_bounded : (plan : Plan) → IsBounded (first_world plan).state 0 false
-made_bounded plan = record {
+first_bounded : (plan : Plan) → IsBounded (first_world plan).state 0 false
+first_bounded plan = record {
+  few = omega arith;
   links = λ runs. omega arith;
   draws = λ runs. omega (arith, length-challenges_from plan.seed 0 0 most_draws);
+  told = λ runs. first_within plan;
 }
+
+pub made_bounded : (plan : Plan) (s : State) → s ≡ (first_world plan).state → IsBounded s 0 false
+made_bounded plan s is = subst (λ (t : State). IsBounded t 0 false) (sym is) (first_bounded plan)
 
 -- a move keeps the bound on what is drawn
 pub draws_kept : (old new : State) (moves : ℕ) → most_draws + 3 * length old.open_links ≤ length old.chances.left + draw_limit * moves → DrawsWithin draw_limit old new →

@@ -1,13 +1,11 @@
 -- What controllers told in a run are the judgements of the Logon calls that they heard, in their order.
 use Rattle.std.proofs.Common.{◌≡◌, ℕ, Bool, true, false, List, [], ◌∷◌, ◌++◌, length, map, Option, Some, None, Ok, Err, refl, sym, ap, ◌∙◌, subst, slice_get}
 use Rattle.std.specs.Prelude.{flat_map, nat_le}
-use Rattle.std.specs.List.{AllByRecursion}
 use Rattle.std.proofs.lemmas.List.{append_assoc, append-nil}
 use Rattle.std.proofs.lemmas.List.Concat.{flat_map-append}
 use Rattle.wire_base.specs.Maps.{lookup, same_number, take_out}
 use Rattle.wire_base.specs.Names.{same_name}
 use Rattle.ntlm_flags.specs.Flags.{has_flag}
-use Rattle.channel_keys.specs.Credentials.{cred_of}
 use Rattle.channel_keys.specs.Flags.{rc4_flag}
 use Rattle.authenticators.specs.Channels.{Channel}
 use Rattle.outside.specs.declared.action.Action.{Action}
@@ -28,16 +26,15 @@ use Rattle.logon_stubs.specs.declared.calls.Call.TheVariants as call
 use Rattle.logon_stubs.specs.declared.calls.ChallengeCall.{ChallengeCall}
 use Rattle.logon_stubs.specs.declared.calls.Reply.{Reply}
 use Rattle.logon_stubs.specs.declared.calls.Reply.TheVariants as reply
-use Rattle.account_table.specs.AccountTable.{AccountTable}
 use Rattle.account_table.specs.declared.account.Account.{Account}
 use Rattle.account_table.specs.LookUps.{knows_in}
 use Rattle.end_links.specs.Links.{LinkState}
 use Rattle.end_links.specs.Serving.{ServedPart, Service, served_by, served_cut, then_open, then_talk}
-use Rattle.domain_controller.specs.Channels.{ChannelState, key_of_channel}
+use Rattle.domain_controller.specs.Channels.{ChannelState}
 use Rattle.domain_controller.specs.Hearing.{hear}
-use Rattle.domain_controller.specs.Machine.{Desk, account_for, answer_logon, by_heard, channel_for, controller_server, deny_channel, draw_challenge, judge_account, judge_client, judge_offer, judge_pair, open_channel, put_pair_if, send_fault, send_reply, take_pair}
+use Rattle.domain_controller.specs.Machine.{Desk, account_for, answer_logon, by_heard, channel_for, controller_server, draw_challenge, judge_account, judge_offer, judge_pair, open_channel, put_pair_if, send_fault, send_reply, take_pair}
 use Rattle.domain_controller.specs.State.{State as ControllerState}
-use Rattle.domain_controller.specs.Step.{LinkMap, StepPart, after_units, first_desk, halted, open_by, serve_on, start_turn, state_after, step_of, step_on}
+use Rattle.domain_controller.specs.Step.{LinkMap, StepPart, after_units, first_desk, halted, open_by, serve_on, start_turn, state_after, step_on}
 use Rattle.domain_controller.specs.declared.hearing.Heard.{Heard}
 use Rattle.domain_controller.specs.declared.hearing.Heard.TheVariants as heard
 use Rattle.domain_controller.specs.declared.line.Line.{Line}
@@ -67,15 +64,15 @@ use Rattle.domain_world.specs.Acting as acting
 use Rattle.domain_world.specs.Bag.{first_waiting, pieces_of}
 use Rattle.domain_world.specs.Choosing.{chosen_in, chosen_place}
 use Rattle.domain_world.specs.Claims.{AreRightlyTold, IsJudgedRight, IsRightOf, PassesTheNextCredential}
-use Rattle.domain_world.specs.ControllerNotes.{Answered, Where, answer_on, channel_in, has_passed, heard_answer, judging_by, judging_of, logon_answer, opened_by, opening, passing, units_at, units_by}
+use Rattle.domain_world.specs.ControllerNotes.{Answered, Where, answer_on, channel_in, has_passed, heard_answer, judging_by, judging_of, opened_by, opening, passing, units_at, units_by}
 use Rattle.domain_world.specs.Ends.{EndStates, actions_by, acceptors_in, controller_step, end_at}
 use Rattle.domain_world.specs.History.{Book, Judging, JudgementTold, blank}
 use Rattle.domain_world.specs.Links.{acceptor_of, handed_links, hearer_of, hearer_on, links_of, other_hearer}
 use Rattle.domain_world.specs.MemberNotes.{turn_note, turn_units}
 use Rattle.domain_world.specs.Moving.{act, answer_by, answered_link, begun, come_by, come_on_own, connect_by, connect_first, deliver_by, deliver_on, deliver_unit, end_of_peer, fail_first, hand_on, onward_by, open_link, route_to, settle, shut_at, shut_by, start_at, start_by, stranger_at, stranger_by, with_link, without_first}
-use Rattle.domain_world.specs.Past.{Coming, answers_of, at_controller, book, controller_of, first_of, judged_of, judgement_by, judgements_in, later_of, note, note_at, note_chosen, note_client, note_coming, note_controller, note_deliver, note_hand, note_member, note_messages, note_on, note_onward, note_own, note_pieces, note_turn, note_turns, note_unit, numbers_on, onto, past, with_reply}
+use Rattle.domain_world.specs.Past.{Coming, answers_of, book, controller_of, first_of, judged_of, judgement_by, judgements_in, later_of, note, note_at, note_chosen, note_client, note_coming, note_controller, note_deliver, note_hand, note_member, note_messages, note_on, note_onward, note_own, note_pieces, note_turn, note_turns, note_unit, numbers_on, onto, past, with_reply}
 use Rattle.domain_world.specs.Served.{ServedUnit, served_units, units_if_taken, units_on, units_then, work_after}
-use Rattle.domain_world.specs.World.{World, first_world, happens, run}
+use Rattle.domain_world.specs.World.{World, first_world, happens}
 use Rattle.domain_world.proofs.JudgedLaws.{AreRight, Told, by_names, how_is, judged_rightly}
 
 -- ---- what is told of calls
@@ -415,7 +412,7 @@ given_writes : (at : ℕ) (given other : Given) (old new : Book) → judgements_
 given_writes at given other old new same writes =
     record { judged = writes.judged ∙ ap (λ told. onto told (tellings old.judged)) (sym same); judgements = writes.judgements }
 
-turns_judged : (controller : ℕ) (units : List (ServedUnit AtTurn TurnTalk)) (unit : Option ℕ) (numbers : List ℕ) (b : Book) → (note_turns controller units unit numbers b).judged ≡ b.judged
+pub turns_judged : (controller : ℕ) (units : List (ServedUnit AtTurn TurnTalk)) (unit : Option ℕ) (numbers : List ℕ) (b : Book) → (note_turns controller units unit numbers b).judged ≡ b.judged
 turns_judged controller [] unit numbers b = refl
 turns_judged controller (served ∷ units) unit numbers b =
     turns_judged controller units unit (later_of (turn_note controller served).sends numbers) (note_turn (turn_note controller served) served unit (first_of numbers) b)

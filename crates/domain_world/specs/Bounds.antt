@@ -1,9 +1,11 @@
--- What bounds a world: its links, the challenges that its moves draw, and the bytes of what ends send (this project's own choice).
-use Rattle.std.specs.Prelude.{ℕ, ◌≡◌, ◌≤◌, ◌+◌, ◌*◌, Bool, false, List, length}
+-- What bounds a world: its moves, its links, the challenges that its moves draw, and what its ends tell (this project's own choice).
+use Rattle.std.specs.Prelude.{ℕ, ◌≡◌, ◌≤◌, ◌+◌, ◌*◌, Bool, false, length}
 use Rattle.outside.specs.Counter.{most_draws}
 use Rattle.outside.specs.declared.event.Event.{Event}
 use Rattle.end_links.specs.Bounds.{units_at}
 use Rattle.domain_world.specs.declared.state.State.{State}
+use Rattle.domain_world.specs.Telling.{IsWithin}
+use Rattle.domain_world.specs.World.{move_limit}
 
 -- the most challenges that a step draws at that event: one for each unit, and three more
 abbrev pub draws_at : Event → ℕ
@@ -19,7 +21,9 @@ abbrev pub DrawsWithin : ℕ → State → State → Type 0
 DrawsWithin most old new =
     length old.chances.left + 3 * length new.open_links ≤ length new.chances.left + 3 * length old.open_links + most
 
--- A move makes one link at most, and draws so many of the challenges at most.
+-- At most 100,000 moves are made. A move makes one link at most, draws so many of the challenges at most, and tells no more than it may.
 pub record IsBounded (s : State) (moves : ℕ) (stopped : Bool) : Type 0 where
+  pub few : moves ≤ move_limit
   pub links : stopped ≡ false → length s.links ≤ moves
   pub draws : stopped ≡ false → most_draws + 3 * length s.open_links ≤ length s.chances.left + draw_limit * moves
+  pub told : stopped ≡ false → IsWithin s moves

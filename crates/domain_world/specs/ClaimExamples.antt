@@ -1,47 +1,61 @@
 -- Of each claim a run that was written down by hand on which it holds of something that it speaks of, and one on which it doesn't hold: no claim is true, or
 -- false, of everything that could be written down of a run (this project's own choice). Responses, credentials and keys in them are the values of their
--- functions, so that what is needed of them follows from the laws of the crates that define them. Of `EachSucceeds` both stand under its premises or
--- before the first start: a logon that comes to its end goes through all ciphers and digests, which aren't computed here.
-use Rattle.std.specs.Prelude.{ℕ, zero, suc, ◌≡◌, ◌≢◌, ◌-◌, ◌^◌, Bool, true, false, List, [], ◌∷◌, length, replicate, Option, Some, None, codes}
+-- functions, so that what is needed of them follows from the laws of the crates that define them. What isn't shown, since it goes through all ciphers and
+-- digests, which aren't computed here: that a response to the same challenge under another hash is another one; a base key that travels as zeros; a
+-- challenge hashed for extended session security that is another one; and a logon that comes to its end (of `EachSucceeds`). Logons one at a time that
+-- succeed, and near misses of them, are cases of `end_cases` (`cases/domain_world.py`).
+use Rattle.std.specs.Prelude.{ℕ, zero, suc, ◌≡◌, ◌≢◌, ◌+◌, ◌-◌, ◌^◌, true, false, List, [], ◌∷◌, ◌++◌, length, replicate, Option, Some, None, codes}
 use Rattle.wire_base.specs.declared.authenticator.Authenticator.{Authenticator}
-use Rattle.ntlm_flags.specs.Flags.{negotiate_unicode}
+use Rattle.ntlm_flags.specs.Flags.{negotiate_extended_sessionsecurity, negotiate_unicode}
 use Rattle.authenticators.specs.Channels.{Channel}
 use Rattle.authenticators.specs.Sequences.{authenticator_of}
 use Rattle.outside.specs.declared.action.Judged.{Judged}
 use Rattle.outside.specs.declared.action.Judged.TheVariants as judged
 use Rattle.outside.specs.declared.action.Outcome.TheVariants as outcome
 use Rattle.ntlm_messages.specs.declared.messages.Authenticate.{Authenticate}
-use Rattle.ntlm_responses.specs.Responses.{response_v1_of}
+use Rattle.ntlm_responses.specs.Responses.{hashed_challenge_of, response_ess_of, response_v1_of}
 use Rattle.account_table.specs.AccountTable.{AccountTable}
 use Rattle.account_table.specs.declared.account.Account.{Account}
-use Rattle.account_table.specs.declared.account.Kind.TheVariants.{User}
+use Rattle.account_table.specs.declared.account.Kind.TheVariants.{User, Workstation}
+use Rattle.logon_client.specs.declared.outcome.ClientOutcome.{ClientOutcome}
+use Rattle.logon_client.specs.declared.outcome.ClientOutcome.TheVariants as client_outcome
+use Rattle.logon_client.specs.declared.outcome.NoAnswerCause.TheVariants as no_answer
 use Rattle.logon_client.specs.declared.plan.AuthKind.TheVariants as auth
 use Rattle.logon_client.specs.declared.plan.ClientPlan.{ClientPlan}
 use Rattle.logon_stubs.specs.declared.calls.LogonCall.{LogonCall}
-use Rattle.channel_client.specs.Effects.{View, channel_of}
+use Rattle.channel_client.specs.Effects.{View}
 use Rattle.channel_client.specs.Machine.{fresh_requester}
 use Rattle.channel_client.specs.Opened.{OpenState}
+use Rattle.channel_client.specs.declared.state.Pending.{Pending}
+use Rattle.channel_client.specs.declared.state.Question.TheVariants as question
 use Rattle.channel_client.specs.declared.state.Standing.TheVariants as standing
+use Rattle.channel_client.specs.declared.state.Step.TheVariants as step
 use Rattle.domain_controller.specs.Channels.{ChannelState, key_of_channel}
 use Rattle.domain_controller.specs.State.{State as ControllerState}
 use Rattle.domain_controller.specs.declared.state.Computers.{Computers}
 use Rattle.domain_controller.specs.declared.state.Running.{Running as ControllerRunning}
-use Rattle.member_server.specs.Machine.{caller_of, fresh_member}
+use Rattle.member_server.specs.Machine.{caller_of}
 use Rattle.member_server.specs.State.{State as MemberState}
 use Rattle.member_server.specs.declared.plan.MemberPlan.{MemberPlan}
+use Rattle.member_server.specs.declared.state.AtTurn.{AtTurn}
 use Rattle.member_server.specs.declared.state.Dialling.TheVariants as dialling
 use Rattle.member_server.specs.declared.state.Running.{Running as MemberRunning}
 use Rattle.member_server.specs.declared.state.Logon.{Logon}
+use Rattle.member_server.specs.declared.state.TurnTalk.{TurnTalk}
+use Rattle.domain_world.specs.declared.links.Route.{Route}
 use Rattle.domain_world.specs.declared.links.Route.TheVariants.{ToController, ToMember}
 use Rattle.domain_world.specs.declared.moves.Move.{Move}
+use Rattle.domain_world.specs.declared.moves.Move.TheVariants as move
 use Rattle.domain_world.specs.declared.plan.Plan.{Plan}
-use Rattle.domain_world.specs.Claims.{AcceptsAllGranted, AcceptsOnlyGranted, ChallengesServeOnce, IsClear, IsPlainlyAccepted, KeysAgree, PassesTheNextCredential, ReplaysBySum, ShortResponsesServeOnce, Wraps, info_asked, taken_answer_on}
-use Rattle.domain_world.specs.Completeness.{CanSucceed, ComesOneAtATime, EachSucceeds, started_in}
-use Rattle.domain_world.specs.ControllerNotes.{Answered, channel_with, passing}
-use Rattle.domain_world.specs.Headline.{IsClaimed}
-use Rattle.domain_world.specs.History.{Book, Calling, ChallengeSent, Judging, JudgementTold, Mark, MessageMade, MessageTaken, Opened, Opening, OutcomeTold, Plain, ReplyTo, blank}
-use Rattle.domain_world.specs.Past.{Past, past, sent_at, with_answers}
-use Rattle.domain_world.specs.SharedSequences.{SequencesAreShared, seed_after}
+use Rattle.domain_world.specs.Claims.{AcceptsAllGranted, AcceptsOnlyGranted, ChallengesServeOnce, IsClear, IsPlainlyAccepted, IsAccepted, KeysAgree, PassesTheNextCredential, ReplaysBySum, ShortResponsesServeOnce, TravelsAsZeros, Wraps, info_asked, taken_answer_on}
+use Rattle.domain_world.specs.Completeness.{CanSucceed, ComesOneAtATime, EachSucceeds, Succeeds, name_of, started_in}
+use Rattle.domain_world.specs.ControllerNotes.{channel_with, passing}
+use Rattle.domain_world.specs.Headline.{Headline, IsClaimed}
+use Rattle.domain_world.specs.History.{Book, Calling, ChallengeSent, Judging, JudgementTold, LogonTurn, Mark, MessageMade, MessageTaken, Opened, Opening, OutcomeTold, Plain, ReplyTo, blank}
+use Rattle.domain_world.specs.MemberNotes.{no_note}
+use Rattle.domain_world.specs.Past.{Past, clashes, note_turn, past, sent_at, with_answers}
+use Rattle.domain_world.specs.Served.{ServedUnit}
+use Rattle.domain_world.specs.SharedSequences.{SequencesAreShared, channel_seed}
 use Rattle.domain_world.specs.Sound.{AreInStep, History, Sound}
 use Rattle.domain_world.specs.World.{World, first_world, outcome_of}
 
@@ -88,19 +102,24 @@ small_plan = record {
 abbrev pub small_challenge : List ℕ
 small_challenge = replicate 8 9
 
--- links 3 and 4 are those of a client to the member
-abbrev pub small_world : World
-small_world =
+-- with these links, and these challenges drawn
+abbrev pub world_of : List Route → List (List ℕ) → World
+world_of links drawn =
     let w : World = first_world small_plan in
-    record w {
-      state = record w.state {
-        links = ToController 0 0 ∷ ToController 0 0 ∷ ToController 0 0 ∷ ToMember 0 0 ∷ ToMember 0 0 ∷ [];
-        chances = record w.state.chances { drawn = small_challenge ∷ [] };
-      };
-    }
+    record w { state = record w.state { links = links; chances = record w.state.chances { drawn = drawn } } }
+
+-- links 3 and 4 are those of a client to the member
+abbrev pub small_links : List Route
+small_links = ToController 0 0 ∷ ToController 0 0 ∷ ToController 0 0 ∷ ToMember 0 0 ∷ ToMember 0 0 ∷ []
+
+abbrev pub small_world : World
+small_world = world_of small_links (small_challenge ∷ [])
+
+abbrev pub run_in : World → Book → Past
+run_in w book = record { plan = small_plan; world = w; book = book }
 
 abbrev pub small_run : Book → Past
-small_run book = record { plan = small_plan; world = small_world; book = book }
+small_run book = run_in small_world book
 
 -- ---- one logon: its call went out in unit 7 and was answered in unit 8
 
@@ -122,8 +141,8 @@ abbrev pub small_logon : ℕ → Logon
 small_logon link =
     record { link = link; challenge = small_challenge; message = small_message; agreed = negotiate_unicode }
 
-abbrev pub message_on : ℕ → MessageTaken
-message_on link = record {
+abbrev pub message_of_link : ℕ → MessageTaken
+message_of_link link = record {
   at = 5;
   member = 0;
   link = link;
@@ -135,7 +154,7 @@ message_on link = record {
 }
 
 abbrev pub message : MessageTaken
-message = message_on 3
+message = message_of_link 3
 
 abbrev pub no_computers : Computers
 no_computers = record { pending = []; channels = [] }
@@ -169,8 +188,8 @@ judging = record {
 abbrev pub challenge_on : ℕ → ChallengeSent
 challenge_on link = record { at = 4; member = 0; link = link; draw = 0; challenge = small_challenge; bytes = [] }
 
-abbrev pub told_in : ℕ → OutcomeTold
-told_in link =
+abbrev pub told_of_link : ℕ → OutcomeTold
+told_of_link link =
     record { at = 9; member = 0; link = link; outcome = outcome.In (codes "CORP") (codes "ann") (1 ∷ []) }
 
 abbrev pub one_logon : Book
@@ -179,7 +198,7 @@ one_logon = record blank {
   challenges = challenge_on 3 ∷ [];
   taken = 3 ∷ [];
   messages = message ∷ [];
-  told = told_in 3 ∷ [];
+  told = told_of_link 3 ∷ [];
 }
 
 -- the message was made by a client that kept this key
@@ -195,8 +214,8 @@ client_plan = record {
   echo = 0;
 }
 
-abbrev pub made_with : List ℕ → MessageMade
-made_with key = record { at = 5; client = 0; link = 3; plan = client_plan; challenge = []; bytes = []; key = key }
+abbrev pub made_keeping : List ℕ → MessageMade
+made_keeping key = record { at = 5; client = 0; link = 3; plan = client_plan; challenge = []; bytes = []; key = key }
 
 -- ---- a channel of FILE1
 
@@ -220,27 +239,54 @@ on_channel timestamp = record judging {
 abbrev pub judged_as : Judged → Judging → Judging
 judged_as how j = record j { how = Some how }
 
--- a timestamp that moves a seed by 2^32
+-- the call was judged at another controller
+abbrev pub elsewhere : Judging → Judging
+elsewhere j = record j { controller = 1 }
+
+-- a timestamp that moves a seed by 2^32; one that does with a timestamp of 0 before it; and one that does with another of 0 behind it too
 abbrev pub last_timestamp : ℕ
 last_timestamp = 2 ^ 32 - 1
 
+abbrev pub second_timestamp : ℕ
+second_timestamp = 2 ^ 32 - 2
+
+abbrev pub third_timestamp : ℕ
+third_timestamp = 2 ^ 32 - 3
+
 -- ---- of each claim
 
--- a seed that comes round: two calls passed in a row with the last timestamp; with a timestamp of 0 it doesn't
+-- a seed that comes round: two calls passed in a row with the last timestamp, or with two calls between, whose timestamps do it together; with a timestamp
+-- of 0 it doesn't, nor where the second call passed on another channel
 pub record OfWraps : Type 0 where
   pub meets : Wraps (on_channel last_timestamp ∷ on_channel last_timestamp ∷ [])
+  pub meets_later : Wraps (on_channel 0 ∷ on_channel 0 ∷ on_channel third_timestamp ∷ on_channel 0 ∷ [])
   pub fails : Wraps (on_channel 0 ∷ on_channel 0 ∷ []) → ⊥
+  pub fails_apart : Wraps (elsewhere (on_channel last_timestamp) ∷ on_channel last_timestamp ∷ []) → ⊥
 
 -- a call passed on the channel in unit 0 of the bag, which was made for this
 abbrev pub passed_in : Mark → Book
 passed_in mark =
     with_answers (passing (Some small_name) (on_channel 0) ∷ []) (Some 0) (8 ∷ []) (record blank { sent = sent_at 0 mark ∷ [] })
 
--- a clash: not where the unit was a call on the channel, but where it was made for no channel, or for another controller's
+-- the same in a unit from outside
+abbrev pub passed_outside : Book
+passed_outside = with_answers (passing (Some small_name) (record (on_channel 0) { unit = None }) ∷ []) None (8 ∷ []) blank
+
+-- a member took an answer on the channel in unit 0 of the bag, which was made for this, whatever turn it was in
+abbrev pub taken_in : Mark → ServedUnit AtTurn TurnTalk → Book
+taken_in mark served =
+    note_turn (record no_note { checked = Some small_name }) served (Some 0) None (record blank { sent = sent_at 0 mark ∷ [] })
+
+-- a clash: not where the unit was a call on the channel, or bytes from outside, but where it was made for no channel, or for another controller's; at a
+-- member likewise, by the reply
 pub record OfClashes : Type 0 where
   pub alike : (passed_in (Calling small_name 3 0)).clash ≡ false
+  pub outside : passed_outside.clash ≡ false
   pub none : (passed_in Plain).clash ≡ true
   pub other : (passed_in (Calling (record small_name { controller = 1 }) 3 0)).clash ≡ true
+  pub taken_alike : (served : ServedUnit AtTurn TurnTalk) → (taken_in (ReplyTo small_name 3 7) served).clash ≡ false
+  pub taken_none : (served : ServedUnit AtTurn TurnTalk) → (taken_in Plain served).clash ≡ true
+  pub taken_other : (served : ServedUnit AtTurn TurnTalk) → (taken_in (ReplyTo (record small_name { controller = 1 }) 3 7) served).clash ≡ true
   -- a run with no clash, in which one call passed, is clear, and one with a clash isn't
   pub clear : IsClear (passed_in (Calling small_name 3 0))
   pub not_clear : IsClear (passed_in Plain) → ⊥
@@ -257,44 +303,91 @@ pub record OfTakenAnswers : Type 0 where
 abbrev pub replay_of : Judging → Judging → Past
 replay_of second first = small_run (record blank { judged = second ∷ first ∷ [] })
 
--- replays: the same authenticator is barred where the seed moved by 1, and passes where it moved by 2^32; not the other way
+-- with a call between
+abbrev pub replay_over : Judging → Judging → Judging → Past
+replay_over second between first = small_run (record blank { judged = second ∷ between ∷ first ∷ [] })
+
+-- replays: the same authenticator is barred where the seed moved by 1, and passes where it moved by 2^32, by one call or by two; not the other way
 pub record OfReplays : Type 0 where
   pub barred : ReplaysBySum (replay_of (judged_as judged.Barred (on_channel 0)) (on_channel 0))
   pub passed : ReplaysBySum (replay_of (on_channel last_timestamp) (on_channel last_timestamp))
+  pub passed_over : ReplaysBySum (replay_over (on_channel 0) (on_channel second_timestamp) (on_channel 0))
   pub fails : ReplaysBySum (replay_of (on_channel 0) (on_channel 0)) → ⊥
+  pub fails_over : ReplaysBySum (replay_over (judged_as judged.Barred (on_channel 0)) (on_channel second_timestamp) (on_channel 0)) → ⊥
 
 -- the same message on two links, whose CHALLENGE came of one draw, accepted on both
 abbrev pub two_logons : Book
 two_logons = record one_logon {
   challenges = challenge_on 3 ∷ challenge_on 4 ∷ [];
   taken = 3 ∷ 4 ∷ [];
-  messages = message ∷ message_on 4 ∷ [];
-  told = told_in 3 ∷ told_in 4 ∷ [];
+  messages = message ∷ message_of_link 4 ∷ [];
+  told = told_of_link 3 ∷ told_of_link 4 ∷ [];
 }
 
--- short responses: one was accepted, on one link; not where one was accepted on two
+-- the hash that is stored for ann is another one
+abbrev pub other_table : AccountTable
+other_table = record small_table { accounts = record small_account { hash = replicate 16 8 } ∷ [] }
+
+-- the second one's call was judged by that
+abbrev pub other_judging : Judging
+other_judging = record judging { unit = Some 17; table = other_table; reply = Some 18 }
+
+abbrev pub two_hashes : Book
+two_hashes = record two_logons {
+  judged = other_judging ∷ judging ∷ [];
+  messages = message ∷ record (message_of_link 4) { call = Some 17; reply = Some 18 } ∷ [];
+}
+
+-- the message was this one, with these flags agreed
+abbrev pub taken_as : Authenticate → ℕ → MessageTaken → MessageTaken
+taken_as what agreed one = record one { logon = record one.logon { message = what; agreed = agreed } }
+
+abbrev pub two_as : Authenticate → ℕ → Book
+two_as what agreed =
+    record two_logons { messages = taken_as what agreed message ∷ taken_as what agreed (message_of_link 4) ∷ [] }
+
+-- a response of 25 bytes, and one of extended session security
+abbrev pub long_message : Authenticate
+long_message = record small_message { nt = replicate 25 0 }
+
+abbrev pub extended_message : Authenticate
+extended_message = record small_message {
+  lm = replicate 24 1;
+  nt = response_ess_of small_hash small_challenge (replicate 8 1);
+}
+
+abbrev pub extended_flags : ℕ
+extended_flags = negotiate_unicode + negotiate_extended_sessionsecurity
+
+-- short responses: one was accepted, on one link; not where one was accepted on two. The claim says nothing of one that was accepted by two hashes, of one that
+-- has not 24 bytes, and of one that answers a hashed challenge
 pub record OfShortResponses : Type 0 where
   pub accepted : IsPlainlyAccepted (small_run one_logon) message small_hash
   pub meets : ShortResponsesServeOnce (small_run one_logon)
   pub fails : ShortResponsesServeOnce (small_run two_logons) → ⊥
+  pub other_hash : ShortResponsesServeOnce (small_run two_hashes)
+  pub long : ShortResponsesServeOnce (small_run (two_as long_message negotiate_unicode))
+  pub extended : hashed_challenge_of small_challenge (replicate 8 1) ≢ small_challenge →
+      ShortResponsesServeOnce (small_run (two_as extended_message extended_flags))
 
 -- the member's channel is open, with that seed
 abbrev pub open_channel : List ℕ → OpenState
 open_channel seed = record { secret = []; client = []; server = []; flags = 0; seed = seed; awaited = None }
 
-abbrev pub open_running : List ℕ → MemberRunning
-open_running seed = record {
+-- and this turn is out
+abbrev pub open_running : Option Pending → List ℕ → MemberRunning
+open_running turn seed = record {
   logons = record {
     plan = small_member;
-    channel = record (fresh_requester (caller_of small_member)) { standing = standing.Open (open_channel seed) };
+    channel = record (fresh_requester (caller_of small_member)) { standing = standing.Open (open_channel seed); turn = turn };
     asked = [];
   };
   links = [];
   dialling = dialling.Nothing;
 }
 
-abbrev pub open_member : List ℕ → MemberState
-open_member seed = record { running = Some (open_running seed) }
+abbrev pub open_member : Option Pending → List ℕ → MemberState
+open_member turn seed = record { running = Some (open_running turn seed) }
 
 -- the controller keeps that channel, with that seed
 abbrev pub keeping_running : List ℕ → ControllerRunning
@@ -305,28 +398,59 @@ keeping_controller seed =
     record { table = small_table; name = codes "PDC"; running = Some (keeping_running seed) }
 
 -- both ends with these seeds
-abbrev pub run_open : List ℕ → List ℕ → Past
-run_open seed other =
+abbrev pub world_open : Option Pending → List ℕ → List ℕ → World
+world_open turn seed other =
     let w : World = small_world in
-    record {
-      plan = small_plan;
-      world = record w {
-        state = record w.state {
-          ends = record w.state.ends { members = open_member seed ∷ []; controllers = keeping_controller other ∷ [] };
-        };
+    record w {
+      state = record w.state {
+        ends = record w.state.ends { members = open_member turn seed ∷ []; controllers = keeping_controller other ∷ [] };
       };
-      book = blank;
     }
 
--- the client's credential, where no turn moved it
-abbrev pub small_seed : List ℕ
-small_seed = seed_after small_name []
+abbrev pub run_open : Book → Option Pending → List ℕ → List ℕ → Past
+run_open book turn seed other = run_in (world_open turn seed other) book
 
--- shared sequences: both ends have the client's credential; not where the member's seed has one byte, nor where the controller's has
+-- the client's credential, where no turn moved it; and after one turn, and after two, with a timestamp of 0 each
+abbrev pub small_seed : List ℕ
+small_seed = channel_seed small_name []
+
+abbrev pub seed_after_one : List ℕ
+seed_after_one = channel_seed small_name (0 ∷ [])
+
+abbrev pub seed_after_two : List ℕ
+seed_after_two = channel_seed small_name (0 ∷ 0 ∷ [])
+
+-- a turn of the member
+abbrev pub small_turn : LogonTurn
+small_turn = record { member = 0; channel = small_name; timestamp = 0 }
+
+abbrev pub one_turn : Book
+one_turn = record blank { turns = small_turn ∷ [] }
+
+abbrev pub two_turns : Book
+two_turns = record blank { turns = small_turn ∷ small_turn ∷ [] }
+
+-- its call went out
+abbrev pub turn_out : Pending
+turn_out = record { number = 3; place = 0; step = step.Reply question.Logon }
+
+-- a call passed in a unit, or from outside
+abbrev pub passed_from : Option ℕ → Book
+passed_from unit = record blank { judged = record (on_channel 0) { unit = unit } ∷ [] }
+
+-- Shared sequences: both ends have the client's credential; not where the member's seed has one byte, nor where the controller's has. With a turn out the
+-- controller has the seed after it, or the one before; not where the turn isn't out any more, nor where it is two turns behind. Where a credential from
+-- outside passed, the claim says nothing of the controller's seed.
 pub record OfSequences : Type 0 where
-  pub meets : SequencesAreShared (run_open small_seed small_seed)
-  pub fails : SequencesAreShared (run_open (1 ∷ []) small_seed) → ⊥
-  pub fails_other : SequencesAreShared (run_open small_seed (1 ∷ [])) → ⊥
+  pub meets : SequencesAreShared (run_open blank None small_seed small_seed)
+  pub fails : SequencesAreShared (run_open blank None (1 ∷ []) small_seed) → ⊥
+  pub fails_other : SequencesAreShared (run_open blank None small_seed (1 ∷ [])) → ⊥
+  pub turn_passed : SequencesAreShared (run_open one_turn (Some turn_out) seed_after_one seed_after_one)
+  pub turn_behind : SequencesAreShared (run_open one_turn (Some turn_out) seed_after_one small_seed)
+  pub fails_behind : SequencesAreShared (run_open one_turn None seed_after_one small_seed) → ⊥
+  pub fails_two_behind : SequencesAreShared (run_open two_turns (Some turn_out) seed_after_two small_seed) → ⊥
+  pub foreign : SequencesAreShared (run_open (passed_from None) None small_seed (1 ∷ []))
+  pub fails_own : SequencesAreShared (run_open (passed_from (Some 7)) None small_seed (1 ∷ [])) → ⊥
 
 -- ---- channels, as they are seen from outside
 
@@ -353,7 +477,7 @@ small_views zero = Some small_view
 small_views (suc i) = None
 
 abbrev pub whole_view : View
-whole_view = record small_view { seed = Some (seed_after small_name (0 ∷ [])) }
+whole_view = record small_view { seed = Some seed_after_one }
 
 abbrev pub whole_views : ℕ → Option View
 whole_views zero = Some whole_view
@@ -398,28 +522,87 @@ pub record OfSoundness : Type 0 where
 
 -- ---- logons
 
+-- the same challenge was drawn twice
+abbrev pub drawn_twice : World
+drawn_twice = world_of small_links (small_challenge ∷ small_challenge ∷ [])
+
+-- the link took two messages
+abbrev pub taken_twice : Book
+taken_twice = record one_logon { taken = 3 ∷ 3 ∷ [] }
+
 -- challenges that serve once: not where a link took two messages, nor where two draws are alike
 pub record OfChallenges : Type 0 where
   pub meets : ChallengesServeOnce (small_run one_logon)
-  pub fails : ChallengesServeOnce (small_run (record one_logon { taken = 3 ∷ 3 ∷ [] })) → ⊥
+  pub fails : ChallengesServeOnce (small_run taken_twice) → ⊥
+  pub fails_draws : ChallengesServeOnce (run_in drawn_twice one_logon) → ⊥
+
+-- the logon, but for the step that gave the answer, the accounts of that step, or the response
+abbrev pub answered_by : Judging → Past
+answered_by j = small_run (record one_logon { judged = j ∷ [] })
+
+abbrev pub by_accounts : List Account → Judging
+by_accounts accounts = record judging { table = record small_table { accounts = accounts } }
+
+abbrev pub with_response : List ℕ → MessageTaken
+with_response nt = taken_as (record small_message { nt = nt }) negotiate_unicode message
+
+abbrev pub response_was : List ℕ → Past
+response_was nt = small_run (record one_logon { messages = with_response nt ∷ [] })
+
+-- the call passed at a later step too, which answered in unit 9
+abbrev pub passed_twice : Past
+passed_twice = small_run (record one_logon { judged = record judging { at = 7; reply = Some 9 } ∷ judging ∷ [] })
+
+-- another member accepted link 3
+abbrev pub other_member_accepts : World
+other_member_accepts =
+    world_of (ToController 0 0 ∷ ToController 0 0 ∷ ToController 0 0 ∷ ToMember 0 1 ∷ []) (small_challenge ∷ [])
 
 -- accepting only what is granted: not where no message was taken, where the call was barred, or where another member tells that somebody is let in
 pub record OfAcceptingOnly : Type 0 where
   pub meets : AcceptsOnlyGranted (small_run one_logon)
   pub fails : AcceptsOnlyGranted (small_run (record one_logon { messages = [] })) → ⊥
-  pub fails_barred : AcceptsOnlyGranted (small_run (record one_logon { judged = judged_as judged.Barred judging ∷ [] })) → ⊥
-  pub fails_elsewhere : AcceptsOnlyGranted (small_run (record one_logon { told = record (told_in 3) { member = 1 } ∷ [] })) → ⊥
+  pub fails_barred : AcceptsOnlyGranted (answered_by (judged_as judged.Barred judging)) → ⊥
+  pub fails_elsewhere : AcceptsOnlyGranted (small_run (record one_logon { told = record (told_of_link 3) { member = 1 } ∷ [] })) → ⊥
+  -- nor where another controller answered than that of the plan, or the call passed at two steps
+  pub fails_controller : AcceptsOnlyGranted (answered_by (elsewhere judging)) → ⊥
+  pub fails_twice : AcceptsOnlyGranted passed_twice → ⊥
+  -- nor where the account is disabled, or isn't there
+  pub fails_disabled : AcceptsOnlyGranted (answered_by (by_accounts (record small_account { disabled = true } ∷ []))) → ⊥
+  pub fails_unknown : AcceptsOnlyGranted (answered_by (by_accounts [])) → ⊥
+  -- nor where the response is that to another challenge, or has 25 bytes
+  pub fails_response : AcceptsOnlyGranted (response_was (response_v1_of small_hash (replicate 8 8))) → ⊥
+  pub fails_long : AcceptsOnlyGranted (response_was (replicate 25 0)) → ⊥
+  -- nor where the challenge was drawn twice or not at all, or was sent on another link, the link took two messages, or another member accepted it
+  pub fails_draws : AcceptsOnlyGranted (run_in drawn_twice one_logon) → ⊥
+  pub fails_undrawn : AcceptsOnlyGranted (run_in (world_of small_links []) one_logon) → ⊥
+  pub fails_unsent : AcceptsOnlyGranted (small_run (record one_logon { challenges = challenge_on 4 ∷ [] })) → ⊥
+  pub fails_taken : AcceptsOnlyGranted (small_run taken_twice) → ⊥
+  pub fails_link : AcceptsOnlyGranted (run_in other_member_accepts one_logon) → ⊥
 
--- accepting all that is granted: not where nothing was told, nor where it was of another link
+-- accepting all that is granted: not where nothing was told, it was of another link, or it was a refusal; but nothing has to be told of a call that was
+-- barred, nor of a disabled account
 pub record OfAcceptingAll : Type 0 where
   pub meets : AcceptsAllGranted (small_run one_logon)
   pub fails : AcceptsAllGranted (small_run (record one_logon { told = [] })) → ⊥
-  pub fails_elsewhere : AcceptsAllGranted (small_run (record one_logon { told = told_in 4 ∷ [] })) → ⊥
+  pub fails_elsewhere : AcceptsAllGranted (small_run (record one_logon { told = told_of_link 4 ∷ [] })) → ⊥
+  pub fails_out : AcceptsAllGranted (small_run (record one_logon { told = record (told_of_link 3) { outcome = outcome.Out 5 } ∷ [] })) → ⊥
+  pub barred : AcceptsAllGranted (small_run (record one_logon { judged = judged_as judged.Barred judging ∷ []; told = [] }))
+  pub disabled : AcceptsAllGranted (small_run (record one_logon { judged = by_accounts (record small_account { disabled = true } ∷ []) ∷ []; told = [] }))
 
--- keys that agree: not where the client kept another one
+abbrev pub made_as : MessageMade → Past
+made_as made = small_run (record one_logon { made = made ∷ [] })
+
+-- keys that agree: not where the client kept another one. The claim says nothing of a client whose message has other bytes or answers another CHALLENGE, nor of
+-- one whose hash isn't the one stored, nor of a base key that travels as zeros
 pub record OfKeys : Type 0 where
-  pub meets : KeysAgree (small_run (record one_logon { made = made_with (1 ∷ []) ∷ [] }))
-  pub fails : KeysAgree (small_run (record one_logon { made = made_with (2 ∷ []) ∷ [] })) → ⊥
+  pub meets : KeysAgree (made_as (made_keeping (1 ∷ [])))
+  pub fails : KeysAgree (made_as (made_keeping (2 ∷ []))) → ⊥
+  pub other_message : KeysAgree (made_as (record (made_keeping (2 ∷ [])) { bytes = 1 ∷ [] }))
+  pub other_challenge : KeysAgree (made_as (record (made_keeping (2 ∷ [])) { challenge = 1 ∷ [] }))
+  pub other_hash : KeysAgree (made_as (record (made_keeping (2 ∷ [])) { plan = record client_plan { hash = [] } }))
+  pub zeros : TravelsAsZeros (on_channel 0) (info_asked message) →
+      KeysAgree (small_run (record one_logon { judged = on_channel 0 ∷ []; made = made_keeping (2 ∷ []) ∷ [] }))
 
 -- ---- credentials
 
@@ -442,11 +625,146 @@ pub record OfCredentials : Type 0 where
   pub fails : PassesTheNextCredential (judged_once judging (told_as (judged.Passed 0) ∷ [])) → ⊥
   pub fails_silent : PassesTheNextCredential (judged_once next_call []) → ⊥
 
+-- ---- all at once
+
+-- the call, with the next credential of the channel, in unit 7, and the answer, in unit 8
+abbrev pub whole_call : Judging
+whole_call = record judging {
+  logon = call_with (authenticator_of (key_of_channel (small_channel small_seed)) small_seed 0);
+  computers = small_computers small_seed;
+}
+
+abbrev pub whole_book : Book
+whole_book = record one_logon {
+  sent = replicate 7 (sent_at 0 Plain) ++ sent_at 5 (Calling small_name 3 0) ∷ sent_at 6 (ReplyTo small_name 3 7) ∷ [];
+  judged = whole_call ∷ [];
+  judgements = told_as (judged.Passed 0) ∷ [];
+  turns = small_turn ∷ [];
+  made = made_keeping (1 ∷ []) ∷ [];
+}
+
+-- the channel stands at both ends after it
+abbrev pub whole_run : Past
+whole_run = run_open whole_book None seed_after_one seed_after_one
+
+-- One run meets all claims of `Headline` at once, and is clear: neither the call nor the answer makes a clash. One logon was granted in it, let in and
+-- told, by a call with the next credential of a channel that stands.
+pub record OfAll : Type 0 where
+  pub call : clashes (Some small_name) (Some 7) whole_book.sent ≡ false
+  pub reply : clashes (Some small_name) (Some 8) whole_book.sent ≡ false
+  pub clear : IsClear whole_book
+  pub accepted : IsAccepted whole_run message
+  pub meets : Headline whole_run
+
 -- ---- completeness
 
--- not where a client that was started has no outcome
+-- the account of FILE1
+abbrev pub machine_secret : List ℕ
+machine_secret = replicate 16 3
+
+abbrev pub machine_account : Account
+machine_account = record small_account { name = codes "FILE1$"; hash = machine_secret; kind = Workstation }
+
+abbrev pub able_member : List ℕ → MemberPlan
+able_member secret = record small_member { secret = secret }
+
+abbrev pub able_client : List ℕ → ClientPlan
+able_client hash = record client_plan { user = codes "ann"; hash = hash; echo = 16 }
+
+abbrev pub able_table : List Account → AccountTable
+able_table accounts = record small_table { accounts = accounts }
+
+-- ann logs on at FILE1, by these accounts, the secret of FILE1 and her hash
+abbrev pub able_plan : List Account → List ℕ → List ℕ → Plan
+able_plan accounts secret hash = record {
+  tables = able_table accounts ∷ [];
+  controllers = codes "PDC" ∷ [];
+  members = able_member secret ∷ [];
+  clients = able_client hash ∷ [];
+  now = 0;
+  seed = replicate 32 0;
+}
+
+abbrev pub ann_accounts : List Account
+ann_accounts = small_account ∷ machine_account ∷ []
+
+abbrev pub plan_by : Account → Account → Plan
+plan_by user computer = able_plan (user ∷ computer ∷ []) machine_secret small_hash
+
+abbrev pub ann_plan : Plan
+ann_plan = able_plan ann_accounts machine_secret small_hash
+
+-- another member of the controller has the same name
+abbrev pub alike_plan : Plan
+alike_plan = record ann_plan {
+  members = able_member machine_secret ∷ record (able_member machine_secret) { computer = codes "file1" } ∷ [];
+}
+
+abbrev pub ann_starts : List Move
+ann_starts = move.Start 0 ∷ []
+
+-- she is in, with so many bytes of her echo, and this was told
+abbrev pub ann_run : ℕ → List OutcomeTold → Past
+ann_run echoed told =
+    let w : World = first_world ann_plan in
+    let ended : ClientOutcome = client_outcome.In (name_of small_table small_account) (1 ∷ []) echoed in
+    record {
+      plan = ann_plan;
+      world = record w {
+        state = record w.state {
+          links = ToMember 0 0 ∷ [];
+          ends = record w.state.ends { clients = record { running = None; outcome = Some ended } ∷ [] };
+        };
+      };
+      book = record blank { told = told };
+    }
+
+-- Ann can succeed; not with another hash than hers, another secret of FILE1, her account or FILE1's disabled, FILE1's of another kind, a second member of
+-- the controller of that name, or her account past its end at a later moment. She does where she is in, with her whole echo, and the member told so of her
+-- link.
+pub record OfSuccess : Type 0 where
+  pub can : CanSucceed ann_plan ann_starts 0
+  pub fails_hash : CanSucceed (able_plan ann_accounts machine_secret (replicate 16 8)) ann_starts 0 → ⊥
+  pub fails_secret : CanSucceed (able_plan ann_accounts (replicate 16 4) small_hash) ann_starts 0 → ⊥
+  pub fails_disabled : CanSucceed (plan_by (record small_account { disabled = true }) machine_account) ann_starts 0 → ⊥
+  pub fails_computer : CanSucceed (plan_by small_account (record machine_account { disabled = true })) ann_starts 0 → ⊥
+  pub fails_kind : CanSucceed (plan_by small_account (record machine_account { kind = User })) ann_starts 0 → ⊥
+  pub fails_alike : CanSucceed alike_plan ann_starts 0 → ⊥
+  pub fails_later : CanSucceed (plan_by (record small_account { expires = 10 }) machine_account) (move.Start 0 ∷ move.Tick 10 ∷ []) 0 → ⊥
+  pub meets : Succeeds (ann_run 16 (told_of_link 0 ∷ [])) ann_starts 0 can
+  pub fails_echo : Succeeds (ann_run 15 (told_of_link 0 ∷ [])) ann_starts 0 can → ⊥
+  pub fails_untold : Succeeds (ann_run 16 []) ann_starts 0 can → ⊥
+  pub fails_elsewhere : Succeeds (ann_run 16 (told_of_link 1 ∷ [])) ann_starts 0 can → ⊥
+
+-- a client whose server's address names no end
+abbrev pub lost_client : ClientPlan
+lost_client = record client_plan { server = 9 ∷ [] }
+
+abbrev pub lost_plan : Plan
+lost_plan = record {
+  tables = small_table ∷ [];
+  controllers = codes "PDC" ∷ [];
+  members = [];
+  clients = lost_client ∷ [];
+  now = 0;
+  seed = replicate 32 0;
+}
+
+-- so its dial fails
+abbrev pub lost_moves : List Move
+lost_moves = move.Start 0 ∷ move.Connect ∷ []
+
+-- Logons that come one at a time: not where a dial still waits, a client starts twice, or a move is of another kind. A client that can't succeed has another
+-- outcome. The claim doesn't hold where the one client that was started can succeed and has none.
 pub record OfCompleteness : Type 0 where
   pub meets : (plan : Plan) → EachSucceeds (past plan []) []
+  pub comes : ComesOneAtATime (past lost_plan lost_moves) lost_moves
+  pub started : started_in lost_moves (length lost_plan.clients) ≡ 0 ∷ []
+  pub ended : outcome_of (past lost_plan lost_moves).world 0 ≡ Some (client_outcome.NoAnswer no_answer.DialFailed)
+  pub meets_started : EachSucceeds (past lost_plan lost_moves) lost_moves
+  pub fails_waiting : ComesOneAtATime (past lost_plan (move.Start 0 ∷ [])) (move.Start 0 ∷ []) → ⊥
+  pub fails_twice : ComesOneAtATime (past lost_plan (lost_moves ++ lost_moves)) (lost_moves ++ lost_moves) → ⊥
+  pub fails_other_move : ComesOneAtATime (past lost_plan (move.Lose ∷ lost_moves)) (move.Lose ∷ lost_moves) → ⊥
   pub fails : (run : Past) (moves : List Move) (client : ℕ) → ComesOneAtATime run moves → CanSucceed run.plan moves client →
       started_in moves (length run.plan.clients) ≡ client ∷ [] → outcome_of run.world client ≡ None → EachSucceeds run moves → ⊥
 
@@ -465,6 +783,8 @@ pub record ClaimsTellApart : Type 0 where
   pub accepting_all : OfAcceptingAll
   pub keys : OfKeys
   pub credentials : OfCredentials
+  pub together : OfAll
+  pub success : OfSuccess
   pub completeness : OfCompleteness
   -- and all is so of a world in which no move was made
   pub at_first : (plan : Plan) → IsClaimed plan []

@@ -10,7 +10,7 @@ use Rattle.wire_base.specs.Maps.{lookup}
 use Rattle.wire_base.specs.Names.{same_name}
 use Rattle.wire_base.specs.declared.authenticator.Authenticator.{Authenticator}
 use Rattle.rc4_stream.specs.Rc4.{applied}
-use Rattle.authenticators.specs.Channels.{Channel, channel_key, same_channel}
+use Rattle.authenticators.specs.Channels.{Channel, channel_key}
 use Rattle.authenticators.specs.Sequences.{Passes}
 use Rattle.outside.specs.declared.action.Judged.{Judged}
 use Rattle.outside.specs.declared.action.Judged.TheVariants as judged
@@ -31,11 +31,12 @@ use Rattle.member_server.specs.declared.plan.MemberPlan.{MemberPlan}
 use Rattle.domain_world.specs.declared.links.EndId.TheVariants.{Controller, Member}
 use Rattle.domain_world.specs.declared.links.Route.{Route}
 use Rattle.domain_world.specs.ControllerNotes.{channel_in, has_passed}
+use Rattle.domain_world.specs.Counting.{is_in}
 use Rattle.domain_world.specs.Ends.{EndStates}
 use Rattle.domain_world.specs.History.{Book, ChallengeSent, Judging, JudgementTold, MessageMade, MessageTaken, OneOf, OutcomeTold, timestamp_in}
 use Rattle.domain_world.specs.Links.{acceptor_of}
 use Rattle.domain_world.specs.Moving.{end_of_peer}
-use Rattle.domain_world.specs.Past.{Past}
+use Rattle.domain_world.specs.Past.{Past, is_channel}
 use Rattle.domain_world.specs.World.{World}
 
 -- ---- authenticators that pass
@@ -48,12 +49,8 @@ channel_if true j = channel_in j.controller j.logon.computer j.computers
 abbrev pub passed_channel : Judging → Option Channel
 passed_channel j = channel_if (has_passed j.how) j
 
-abbrev pub is_same_channel : Option Channel → Channel → Bool
-is_same_channel None channel = false
-is_same_channel (Some other) channel = same_channel other channel
-
 abbrev pub passed_on : Channel → Judging → Bool
-passed_on channel j = is_same_channel (passed_channel j) channel
+passed_on channel j = is_channel (passed_channel j) channel
 
 abbrev pub timestamp_of : Judging → ℕ
 timestamp_of j = timestamp_in j.logon.authenticator
@@ -150,10 +147,6 @@ pub record IsUnusedChallenge (past : Past) (message : MessageTaken) (sent : Chal
   pub first : count_by (λ (link : ℕ). link == message.link) past.book.taken ≡ 1
 
 -- ---- the claims
-
-abbrev pub is_in : Outcome → Bool
-is_in (outcome.In domain user key) = true
-is_in _ = false
 
 -- no two challenges that were drawn are alike
 abbrev pub DrawsDiffer : World → Type 0
@@ -284,7 +277,7 @@ ReplaysBySum past =
     (channel : Channel) (later between earlier : List Judging) (second first : Judging) →
     past.book.judged ≡ later ++ second ∷ (between ++ first ∷ earlier) →
     passed_on channel first ≡ true →
-    is_same_channel (channel_in second.controller second.logon.computer second.computers) channel ≡ true →
+    is_channel (channel_in second.controller second.logon.computer second.computers) channel ≡ true →
     second.logon.authenticator ≡ first.logon.authenticator →
     (has_passed second.how ≡ true) ↔ (moved_on channel (between ++ first ∷ []) % 2 ^ 32 ≡ 0)
 

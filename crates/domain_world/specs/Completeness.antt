@@ -1,5 +1,5 @@
 -- Logons that come one at a time, and what they come to (this project's own choice).
-use Rattle.std.specs.Prelude.{ℕ, ◌≡◌, ◌≢◌, ◌%◌, ◌++◌, ◌==◌, Bool, true, false, List, [], ◌∷◌, length, filter, AllPairs, Option, Some, None, slice_get}
+use Rattle.std.specs.Prelude.{ℕ, ◌≡◌, ◌≢◌, ◌%◌, ◌++◌, false, List, [], ◌∷◌, length, filter, AllPairs, Some, None, slice_get}
 use Rattle.std.specs.List.{AllByRecursion}
 use Rattle.wire_base.specs.Names.{SameName}
 use Rattle.account_table.specs.AccountTable.{AccountTable}
@@ -10,9 +10,9 @@ use Rattle.logon_client.specs.declared.outcome.ClientOutcome.TheVariants as clie
 use Rattle.logon_client.specs.declared.plan.ClientPlan.{ClientPlan}
 use Rattle.logon_stubs.specs.declared.info.NetworkInfo.{NetworkInfo}
 use Rattle.member_server.specs.declared.plan.MemberPlan.{MemberPlan}
+use Rattle.outside.specs.declared.action.Judged.TheVariants as judged
 use Rattle.outside.specs.declared.action.Outcome.TheVariants as outcome
 use Rattle.sam_logon.specs.MayLogOn.{MayLogOn}
-use Rattle.domain_world.specs.declared.links.EndId.{EndId}
 use Rattle.domain_world.specs.declared.links.EndId.TheVariants.{Controller, Member}
 use Rattle.domain_world.specs.declared.links.Route.TheVariants.{ToMember}
 use Rattle.domain_world.specs.declared.moves.Move.{Move}
@@ -20,10 +20,10 @@ use Rattle.domain_world.specs.declared.moves.Move.TheVariants as move
 use Rattle.domain_world.specs.declared.plan.Plan.{Plan}
 use Rattle.domain_world.specs.Bag.{first_waiting}
 use Rattle.domain_world.specs.Claims.{TravelsAsZeros}
-use Rattle.domain_world.specs.ControllerNotes.{has_passed}
 use Rattle.domain_world.specs.Ends.{EndStates}
 use Rattle.domain_world.specs.Forms.{IsSchedule}
 use Rattle.domain_world.specs.History.{Judging, OneOf, OutcomeTold}
+use Rattle.domain_world.specs.Links.{is_end}
 use Rattle.domain_world.specs.Moving.{end_of_peer}
 use Rattle.domain_world.specs.Past.{Past}
 use Rattle.domain_world.specs.World.{World, first_ends, first_world, happens, outcome_of}
@@ -72,14 +72,9 @@ pub record HasComputer (table : AccountTable) (plan : MemberPlan) : Type 0 where
   pub enabled : account.disabled ≡ false
   pub secret : account.hash ≡ plan.secret
 
--- the plan names that controller
-abbrev pub is_end : Option EndId → ℕ → Bool
-is_end (Some (Controller at)) controller = at == controller
-is_end _ controller = false
-
--- the members of a controller
+-- the members of a controller: their plans name it
 abbrev pub members_of : EndStates → ℕ → List MemberPlan → List MemberPlan
-members_of ends controller plans = filter (λ (plan : MemberPlan). is_end (end_of_peer plan.controller ends) controller) plans
+members_of ends controller plans = filter (λ (plan : MemberPlan). is_end (end_of_peer plan.controller ends) (Controller controller)) plans
 
 -- what a client's logon is judged by, as far as its account goes
 abbrev pub info_planned : ClientPlan → NetworkInfo
@@ -135,13 +130,15 @@ pub record Succeeds (run : Past) (moves : List Move) (client : ℕ) (can : CanSu
       × (told.member ≡ can.member)
       × (told.outcome ≡ outcome.In can.table.domain can.account.name key)) run.book.told
 
--- it is a schedule; the moves start clients one at a time, each once at most; and no session base key travels as zeros
+-- it is a schedule; the moves start clients one at a time, each once at most; and no session base key travels as zeros, of the calls that passed with
+-- status 0: a refused one has no key
 pub record ComesOneAtATime (run : Past) (moves : List Move) : Type 0 where
   pub schedule : IsSchedule run.plan moves
   pub plain : AllByRecursion IsPlainMove moves
   pub once : AllPairs (λ (one other : ℕ). one ≢ other) (started_in moves (length run.plan.clients))
   pub quiet : OneAtATime moves (first_world run.plan)
-  pub keys : AllByRecursion (λ (j : Judging). has_passed j.how ≡ true → TravelsAsZeros j j.logon.info → ⊥) run.book.judged
+  pub keys : AllByRecursion (λ (j : Judging). j.how ≡ Some (judged.Passed 0) → TravelsAsZeros j j.logon.info → ⊥)
+      run.book.judged
 
 -- Completeness, of the run over these moves: each client that is started and can succeed does.
 abbrev pub EachSucceeds : Past → List Move → Type 0

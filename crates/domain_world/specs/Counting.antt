@@ -1,12 +1,14 @@
 -- What a world counts of the actions that ends give (this project's own choice).
-use Rattle.std.specs.Prelude.{ℕ, ◌+◌, ◌-◌, ◌^◌, min, Bool, true, false, List, count_by}
+use Rattle.std.specs.Prelude.{ℕ, ◌≡◌, ◌+◌, ◌-◌, ◌^◌, min, Bool, true, false, List, count_by}
 use Rattle.outside.specs.declared.action.Action.{Action}
 use Rattle.outside.specs.declared.action.Action.TheVariants as action
 use Rattle.outside.specs.declared.action.Judged.{Judged}
 use Rattle.outside.specs.declared.action.Judged.TheVariants as judged
 use Rattle.outside.specs.declared.action.Outcome.{Outcome}
 use Rattle.outside.specs.declared.action.Outcome.TheVariants as outcome
+use Rattle.domain_controller.specs.Laws.{is_passed}
 use Rattle.domain_world.specs.declared.counting.Counts.{Counts}
+use Rattle.domain_world.specs.declared.counting.Report.{Report}
 
 -- ---- what is counted
 
@@ -27,11 +29,7 @@ abbrev pub tells : (Outcome → Bool) → Action → Bool
 tells test (action.Told link what) = test what
 tells test _ = false
 
--- a controller passes an authenticator, or bars it
-abbrev pub is_passed : Judged → Bool
-is_passed (judged.Passed status) = true
-is_passed _ = false
-
+-- a controller bars an authenticator
 abbrev pub is_barred : Judged → Bool
 is_barred judged.Barred = true
 is_barred _ = false
@@ -62,6 +60,15 @@ add_counts one other = record {
   passed = clipped (one.passed + other.passed);
   barred = clipped (one.barred + other.barred);
 }
+
+-- A report of so many moves that were made tells of each kind of action exactly how many of these there are: no count has come to its type's end.
+pub record AreCounted (report : Report) (actions : List Action) (made : ℕ) : Type 0 where
+  pub moves : report.moves ≡ made
+  pub accepted : report.accepted ≡ count_by (tells is_in) actions
+  pub refused : report.refused ≡ count_by (tells is_out) actions
+  pub no_controller : report.no_controller ≡ count_by (tells is_unanswered) actions
+  pub passed : report.passed ≡ count_by (judges is_passed) actions
+  pub barred : report.barred ≡ count_by (judges is_barred) actions
 
 abbrev pub no_counts : Counts
 no_counts = record { accepted = 0; refused = 0; no_controller = 0; passed = 0; barred = 0 }

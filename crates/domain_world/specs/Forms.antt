@@ -1,8 +1,8 @@
 -- The forms that the types of a plan give its parts: what a plan of the program has of itself, and a list of numbers may lack (this project's own choice).
-use Rattle.std.specs.Prelude.{ℕ, ◌≡◌, ◌<◌, ◌≤◌, ◌^◌, List, length, All}
+use Rattle.std.specs.Prelude.{ℕ, ◌≡◌, ◌<◌, ◌≤◌, ◌^◌, true, List, length, All}
 use Rattle.wire_base.specs.Names.{IsName}
-use Rattle.wire_base.specs.Sid.{IsSid, SidParts}
-use Rattle.account_table.specs.AccountTable.{AccountTable}
+use Rattle.wire_base.specs.Sid.{IsSid}
+use Rattle.account_table.specs.AccountTable.{AccountTable, has_distinct_names}
 use Rattle.account_table.specs.declared.account.Account.{Account}
 use Rattle.logon_client.specs.declared.plan.ClientPlan.{ClientPlan}
 use Rattle.member_server.specs.declared.plan.MemberPlan.{MemberPlan}
@@ -37,13 +37,14 @@ pub record IsAccount (account : Account) : Type 0 where
   pub few_workstations : length account.workstations ≤ 8
   pub workstations : All IsName account.workstations
 
--- at most 10,000 accounts are listed
+-- at most 10,000 accounts are listed, and no two have the same name
 pub record IsTable (table : AccountTable) : Type 0 where
   pub domain : IsName table.domain
   pub sid : IsSid table.sid
   pub numbers : All (λ (number : ℕ). number < 2 ^ 32) table.sid.numbers
   pub few : length table.accounts ≤ 10000
   pub accounts : All IsAccount table.accounts
+  pub distinct : has_distinct_names table.accounts ≡ true
 
 -- the secret is an NT hash, and the controller's address has bytes
 pub record IsMemberPlan (plan : MemberPlan) : Type 0 where

@@ -27,7 +27,7 @@ pub record AreClaimed (plan : Plan) (moves : List Move) : Type 0 where
   pub complete : EachSucceeds (past plan moves) moves
 
 -- What is claimed of each schedule: a plan of which a world can be made, with the forms of its types, and at most 100,000 moves that it can make. Of it
--- `PassesTheNextCredential` is promised of every list of moves from any plan, by `controllers_pass_the_next` and on `drive`, and `DrawsDiffer` of every run
--- that `drive` made; the rest is stated and not proved yet, and no call rests on it.
+-- `PassesTheNextCredential` and `ReplaysBySum` are promised of every list of moves from any plan, by `controllers_pass_the_next`, `replays_pass_by_sum` and
+-- on `drive`, and `ChallengesServeOnce` of every run that `drive` made; the rest is stated and not proved yet, and no call rests on it.
 abbrev pub IsClaimed : Plan → List Move → Type 0
 IsClaimed plan moves = IsSchedule plan moves → AreClaimed plan moves

@@ -1,6 +1,7 @@
 pub mod Acting
 pub mod Bag
 pub mod Bounds
+pub mod ChannelNames
 pub mod Choosing
 pub mod ClaimExamples
 pub mod Claims
@@ -22,4 +23,5 @@ pub mod Running
 pub mod Served
 pub mod SharedSequences
 pub mod Sound
+pub mod Telling
 pub mod World

@@ -32,8 +32,8 @@ abbrev pub timestamps_on : ℕ → Channel → List LogonTurn → List ℕ
 timestamps_on member channel turns = map (λ (turn : LogonTurn). turn.timestamp) (filter (is_turn_on member channel) turns)
 
 -- the seed of a channel after authenticators with these timestamps: the client's credential moved by the sum of each plus one
-abbrev pub seed_after : Channel → List ℕ → List ℕ
-seed_after channel timestamps = add_to (cred_of (channel_key channel) channel.client) (moved_by timestamps)
+abbrev pub channel_seed : Channel → List ℕ → List ℕ
+channel_seed channel timestamps = add_to (cred_of (channel_key channel) channel.client) (moved_by timestamps)
 
 -- a turn is out, and this is the seed before its timestamp, the last one
 pub record IsBeforeTurn (turn : Option Pending) (seed : List ℕ) (channel : Channel) (timestamps : List ℕ) : Type 0 where
@@ -42,7 +42,7 @@ pub record IsBeforeTurn (turn : Option Pending) (seed : List ℕ) (channel : Cha
   pub earlier : List ℕ
   pub last : ℕ
   pub all : timestamps ≡ earlier ++ last ∷ []
-  pub seed_before : seed ≡ seed_after channel earlier
+  pub seed_before : seed ≡ channel_seed channel earlier
 
 -- the channel that stands at a member, and its state there
 pub record Stands (s : State) (member : ℕ) (channel : Channel) (o : OpenState) : Type 0 where
@@ -80,7 +80,7 @@ any_foreign channel judgings = list_any (λ (j : Judging). is_foreign channel j.
 -- the one before that turn.
 pub record SequenceIsShared (past : Past) (member : ℕ) : Type 0 where
   pub own : (channel : Channel) (o : OpenState) → Stands past.world.state member channel o →
-      o.seed ≡ seed_after channel (timestamps_on member channel past.book.turns)
+      o.seed ≡ channel_seed channel (timestamps_on member channel past.book.turns)
   pub other : (channel : Channel) (o : OpenState) (c : ChannelState) → (stands : Stands past.world.state member channel o) →
       Keeps past.world.state channel.controller channel.computer c →
       SameChannel (channel_with channel.controller channel.computer c) channel →

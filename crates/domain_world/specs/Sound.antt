@@ -49,12 +49,12 @@ pub record Holds (v : View) (challenge : List ℕ) : Type 0 where
   pub how : (v.opening ≡ Some challenge) ⊎ ((c : Channel) × (v.stands ≡ Some c) × (c.client ≡ challenge))
 
 -- the opening in that unit was accepted
-abbrev pub IsAccepted : List Accepted → ℕ → Type 0
-IsAccepted accepted unit = OneOf (λ (one : Accepted). one.unit ≡ Some unit) accepted
+abbrev pub IsAcceptedOpening : List Accepted → ℕ → Type 0
+IsAcceptedOpening accepted unit = OneOf (λ (one : Accepted). one.unit ≡ Some unit) accepted
 
 -- the call in that unit passed
-abbrev pub IsPassed : List Passing → ℕ → Type 0
-IsPassed passed unit = OneOf (λ (pass : Passing). pass.unit ≡ Some unit) passed
+abbrev pub IsPassedCall : List Passing → ℕ → Type 0
+IsPassedCall passed unit = OneOf (λ (pass : Passing). pass.unit ≡ Some unit) passed
 
 pub record Sound {Who : Type 0} (h : History Who) : Type 0 where
   -- no two draws gave one challenge
@@ -86,10 +86,10 @@ pub record Sound {Who : Type 0} (h : History Who) : Type 0 where
       slice_get h.marks other ≡ Some (Calling c number later) → unit ≡ other
   -- each reply that accepts an opening answers one made for that channel, of that number, which was accepted
   pub openings : (unit number request : ℕ) (c : Channel) → slice_get h.marks unit ≡ Some (Opened c number request) →
-      (slice_get h.marks request ≡ Some (Opening c number)) × IsAccepted h.accepted request
+      (slice_get h.marks request ≡ Some (Opening c number)) × IsAcceptedOpening h.accepted request
   -- each reply made for a channel answers a call made for that channel, of that number, which passed
   pub replies : (unit number request : ℕ) (c : Channel) → slice_get h.marks unit ≡ Some (ReplyTo c number request) →
-      ((timestamp : ℕ) × (slice_get h.marks request ≡ Some (Calling c number timestamp))) × IsPassed h.passed request
+      ((timestamp : ℕ) × (slice_get h.marks request ≡ Some (Calling c number timestamp))) × IsPassedCall h.passed request
   -- the channel that stands was accepted; no channel was accepted twice, and each call passed on one that was
   pub stands : (i : Who) (v : View) (c : Channel) → h.views i ≡ Some v → v.stands ≡ Some c →
       OneOf (λ (one : Accepted). SameChannel one.channel c) h.accepted
@@ -104,7 +104,7 @@ pub record Sound {Who : Type 0} (h : History Who) : Type 0 where
   -- the call of each turn that ended with an answer, on the channel that stands, was made for it and passed
   pub ends : (i : Who) (v : View) (c : Channel) → h.views i ≡ Some v → v.stands ≡ Some c → (unit : ℕ) →
       OneOf (λ (other : ℕ). other ≡ unit) (h.ended i) →
-      ((number : ℕ) × (timestamp : ℕ) × (slice_get h.marks unit ≡ Some (Calling c number timestamp))) × IsPassed h.passed unit
+      ((number : ℕ) × (timestamp : ℕ) × (slice_get h.marks unit ≡ Some (Calling c number timestamp))) × IsPassedCall h.passed unit
   -- the requester's seed is the client's credential moved by the timestamps of its turns on the channel that stands
   pub seeds : (i : Who) (v : View) (c : Channel) → h.views i ≡ Some v → v.stands ≡ Some c →
       v.seed ≡ Some (add_to (cred_of (channel_key c) c.client) (moved_by (h.turned i)))

@@ -2,7 +2,7 @@
 
 ghost use Rattle.std.specs.Prelude.{◌≡◌, ◌<◌, ◌≤◌, ◌++◌, ◌∷◌, [], Some, length, IfOk, IfSome, option_copied, slice_get};
 ghost use Rattle.end_links.specs.Bounds.{send_limit};
-ghost use Rattle.domain_world.specs.Bag.{first_waiting, settle_at, AreShortPieces, pieces_of};
+ghost use Rattle.domain_world.specs.Bag.{first_waiting, settle_at, AreShortPieces, AreShortUnits, pieces_of};
 ghost use Rattle.domain_world.specs.declared.bag.BagUnit.{BagUnit as AnyUnit};
 
 use crate::links::LinkKind;
@@ -61,6 +61,13 @@ impl Bag {
         ensures { result ≡ length self.now }
     {
         self.units.len()
+    }
+
+    /// None has more bytes than an end sends at once, which callers learn so.
+    pub(crate) fn units_are_short(&self)
+        ensures { AreShortUnits self.now }
+    {
+        let _count = self.units.len();
     }
 
     /// The unit of that number. None exactly where there is none.

@@ -1,7 +1,8 @@
 //! What a world counts.
 
 ghost use Rattle.std.specs.Prelude.{◌≡◌, ◌+◌, count_by};
-ghost use Rattle.domain_world.specs.Counting.{no_counts, counts_of, add_counts, clipped, tells, judges, is_in, is_out, is_unanswered, is_passed, is_barred};
+ghost use Rattle.domain_controller.specs.Laws.{is_passed};
+ghost use Rattle.domain_world.specs.Counting.{no_counts, counts_of, add_counts, clipped, tells, judges, is_in, is_out, is_unanswered, is_barred};
 
 use outside::{Action, Judged, Outcome};
 

@@ -3,9 +3,10 @@
 ghost use Rattle.std.specs.Prelude.{◌≡◌, ◌+◌, ◌++◌, ◌≤◌, ◌↔◌, [], true, false, List, Err, length, All, IfOk, OnOk, OnErr, IsTrue};
 ghost use Rattle.domain_world.specs.declared.moves.Move.{Move};
 ghost use Rattle.domain_world.specs.declared.plan.Plan.{Plan};
-ghost use Rattle.domain_world.specs.Claims.{DrawsDiffer, PassesTheNextCredential};
+ghost use Rattle.domain_world.specs.Claims.{ChallengesServeOnce, PassesTheNextCredential, ReplaysBySum};
+ghost use Rattle.domain_world.specs.Counting.{AreCounted};
 ghost use Rattle.domain_world.specs.Past.{past};
-ghost use Rattle.domain_world.specs.World.{IsMove, move_limit, first_world, run, report_of, report_of_run};
+ghost use Rattle.domain_world.specs.World.{IsMove, move_limit, actions_of_run, first_world, run, run_of, report_of, report_of_run};
 
 use crate::counting::Report;
 use crate::moves::Moves;
@@ -31,14 +32,23 @@ pub fn drive(alloc: Global, world: &mut World, moves: &Moves) -> Result<Report, 
     ensures counted { IfOk result (λ report. (plan : Plan) (earlier : List Move) →
         world.old ≡ run earlier (first_world plan) →
         report ≡ report_of_run plan (earlier ++ moves.now)) }
-    // No two challenges that were drawn in the run are alike.
-    ensures draws { OnOk result ((plan : Plan) (earlier : List Move) →
+    // No count has come to the end of its type: each is the number of such actions of the run, and the moves are all that were made.
+    ensures fits { IfOk result (λ report. (plan : Plan) (earlier : List Move) →
         world.old ≡ run earlier (first_world plan) →
-        DrawsDiffer (past plan (earlier ++ moves.now)).world) }
+        AreCounted report (actions_of_run (run_of (earlier ++ moves.now) (first_world plan)))
+        (length (earlier ++ moves.now))) }
+    // No two challenges that were drawn in the run are alike, and a link took at most one AUTHENTICATE.
+    ensures challenges { OnOk result ((plan : Plan) (earlier : List Move) →
+        world.old ≡ run earlier (first_world plan) →
+        ChallengesServeOnce (past plan (earlier ++ moves.now))) }
     // Each controller of the run passed an authenticator exactly where it was the next one of its channel.
     ensures next { OnOk result ((plan : Plan) (earlier : List Move) →
         world.old ≡ run earlier (first_world plan) →
         PassesTheNextCredential (past plan (earlier ++ moves.now))) }
+    // An authenticator that passed and came again on its channel passed again exactly where the timestamps since sum to a multiple of 2^32.
+    ensures replays { OnOk result ((plan : Plan) (earlier : List Move) →
+        world.old ≡ run earlier (first_world plan) →
+        ReplaysBySum (past plan (earlier ++ moves.now))) }
 {
     if world.is_stopped() {
         return Err(WorldRefused::Stopped);

@@ -18,7 +18,11 @@ mod plan;
 mod state;
 mod world;
 
-pub use claims::{a_run_ends_in_its_last_state, claims_tell_apart, controllers_pass_the_next};
+pub use claims::{
+    a_run_ends_in_its_last_state, channels_are_named_alike, claims_tell_apart,
+    clients_write_down_what_they_send, controllers_pass_the_next, links_take_one_message,
+    replays_pass_by_sum, units_have_their_marks,
+};
 pub use counting::Report;
 pub use driving::drive;
 pub use moves::{Move, Moves, moves_from};

@@ -1,9 +1,10 @@
 //! The world.
 
-ghost use Rattle.std.specs.Prelude.{◌≡◌, ◌≢◌, ◌<◌, ◌↔◌, ◌++◌, ◌∷◌, [], List, Err, true, false, IfOk, OnOk, OnErr, IsTrue, option_copied};
+ghost use Rattle.std.specs.Prelude.{◌≡◌, ◌≢◌, ◌<◌, ◌↔◌, ◌++◌, ◌∷◌, [], List, Err, true, false, length, IfOk, OnOk, OnErr, IsTrue, option_copied};
 ghost use Rattle.domain_world.specs.declared.moves.Move.{Move};
 ghost use Rattle.domain_world.specs.declared.plan.Plan.{Plan};
-ghost use Rattle.domain_world.specs.World.{IsPlan, IsMove, move_limit, first_world, happens, run, report_of, report_of_run, outcome_of};
+ghost use Rattle.domain_world.specs.World.{IsPlan, IsMove, move_limit, actions_of_run, first_world, happens, run, run_of, report_of, report_of_run, outcome_of};
+ghost use Rattle.domain_world.specs.Counting.{AreCounted};
 ghost use Rattle.domain_world.specs.Claims.{DrawsDiffer};
 
 use crate::counting::Report;
@@ -85,6 +86,7 @@ impl World {
             return Err(WorldRefused::Stopped);
         }
         let counts = self.state.counts;
+        self.state.bag.units_are_short();
         match self.state.act(alloc, what) {
             Ok(()) => {
                 self.moves += 1;
@@ -112,6 +114,10 @@ impl World {
         // Of a run from a plan what is counted are the actions that its ends gave.
         ensures counted { (plan : Plan) (moves : List Move) →
             self.now ≡ run moves (first_world plan) → result ≡ report_of_run plan moves }
+        // No count has come to the end of its type: each is the number of such actions of the run.
+        ensures fits { (plan : Plan) (moves : List Move) →
+            self.now ≡ run moves (first_world plan) →
+            AreCounted result (actions_of_run (run_of moves (first_world plan))) (length moves) }
     {
         let counts = self.state.counts;
         Report {
