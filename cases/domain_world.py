@@ -18,7 +18,7 @@ import logon_client
 import member_server
 from channel_client import credential
 from documents import ANN, BOB, EVE, FILE1, FILE2
-from forms import line, struct, word_of
+from forms import line, struct, units, word_of
 from wire import le, steps
 
 PIECE = 65536
@@ -616,10 +616,103 @@ def logon_scripts():
     return [granted, refused]
 
 
+# ---- logons that come one at a time: each client that can succeed does (`EachSucceeds` of docs/ARCHITECTURE.md), and near misses of its premises
+
+# Of each client its user, the number of its member's end, the level, the kind of response, its hash and how many bytes come back.
+ONE_AT_A_TIME = (
+    (("ann", 1, 6, "v2", "11", 4096), ("bob", 2, 5, "v1ess", "22", 16), ("eve", 1, 2, "v1", "33", 0)),
+    (("ann", 2, 5, "v2", "11", 0), ("bob", 1, 6, "v1ess", "22", 4096), ("eve", 2, 2, "v2", "33", 16)),
+    (("eve", 2, 2, "v1ess", "33", 4096), ("bob", 2, 2, "v1", "22", 16), ("ann", 1, 6, "v2", "11", 0)),
+)
+
+
+def two_members(clients=ONE_AT_A_TIME[0], users=(ANN, BOB, EVE), machines=(FILE1, FILE2), members=(("FILE1", "41"), ("FILE2", "42"))):
+    """One controller, two members and three clients."""
+    controllers = [ControllerEnd(users, machines, "PDC")]
+    ends = [MemberEnd(computer=name, domain="CORP", secret=secret * 16, controller=b"\0") for name, secret in members]
+    plans = [
+        ClientEnd(user=user, server=bytes([server]), level=level, kind=kind, secret=secret * 16, echo=echo)
+        for user, server, level, kind, secret, echo in clients
+    ]
+    return World(controllers, ends, plans)
+
+
+def in_turn(world, more=0):
+    """Each client starts once, where no dial waits and all was delivered; so many units of time pass before each."""
+    script = Script(world)
+    for number in range(len(world.clients)):
+        if more:
+            script.make("tick", more)
+        script.make("start", number)
+        script.run(onward)
+    assert all(move[0] in ("start", "connect", "onward", "tick") for move in script.moves)
+    return script
+
+
+def succeeds(script, number):
+    """Whether the client is in, under its user's name in the domain and with its whole echo."""
+    plan = script.world.clients[number].plan
+    outcome = script.world.outcome(number)
+    return outcome.startswith(f"Some(In {{ name: {units('CORP' + chr(92) + plan['user'])}, key: [") and outcome.endswith(f"], echoed: {plan['echo']} }})")
+
+
+def with_outcomes(script, *wanted):
+    """A scenario of which it is known which clients succeed."""
+    assert [succeeds(script, number) for number in range(len(script.world.clients))] == list(wanted), answer_of(script.world)
+    return script
+
+
+def near_misses():
+    """Where one premise fails: the hash, the user's account, the computer's account, the member's secret, or the computers' names."""
+    ann, bob, eve = ONE_AT_A_TIME[0]
+    return [
+        with_outcomes(in_turn(two_members(clients=(ann[:4] + ("12",) + ann[5:], bob, eve))), False, True, True),
+        with_outcomes(in_turn(two_members(users=(ANN | {"disabled": True}, BOB, EVE))), False, True, True),
+        with_outcomes(in_turn(two_members(machines=(FILE1 | {"disabled": True}, FILE2))), False, True, False),
+        with_outcomes(in_turn(two_members(members=(("FILE1", "44"), ("FILE2", "42")))), False, True, False),
+        with_outcomes(in_turn(two_members(members=(("FILE1", "41"), ("file1", "41")))), True, True, False),
+    ]
+
+
+def lost_units():
+    """Each unit of a logon is lost in its turn."""
+    scripts = []
+    for lost in range(len(ann_logs_on().world.bag)):
+        script = Script(one_logon())
+        script.make("start", 0)
+
+        def step(script, lost=lost):
+            bag = script.world.bag
+            is_lost = len(bag) > lost and script.world.oldest() is bag[lost]
+            script.make("lose" if is_lost else "onward")
+
+        scripts.append(with_outcomes(script.run(step), False))
+    return scripts
+
+
+def restarted_ends():
+    """An end is made anew while the Logon call is under way: the controller, the member or the client."""
+    scripts = []
+    for end in range(3):
+        script = Script(one_logon())
+        script.make("start", 0)
+        while not script.world.oldest() or not is_logon(script.world.oldest()):
+            script.make("connect" if script.world.dials else "onward")
+        script.make("restart", end)
+        scripts.append(with_outcomes(script.run(onward), False))
+    return scripts
+
+
+def one_at_a_time():
+    """Runs in which each client succeeds, without and with time that passes, and near misses."""
+    scripts = [with_outcomes(in_turn(two_members(clients=clients), more), True, True, True) for clients in ONE_AT_A_TIME for more in (0, 10_000_000)]
+    return scripts + near_misses() + lost_units() + restarted_ends()
+
+
 def cases():
     """Each line and its answer."""
     scripts = [counted(scenario, wanted) for scenario, wanted in WANTED] + logon_scripts()
     scripts += [twice_delivered(), misdelivered(), controller_restarts()]
-    scripts += broken_scripts() + address_scripts() + strangers() + ticks() + idle_scripts()
+    scripts += one_at_a_time() + broken_scripts() + address_scripts() + strangers() + ticks() + idle_scripts()
     drills = [drilled(number, count) for number, count in ((7, 2000), (1, 1), (1, 500), (2, 500), (3, 500), (2**64 - 1, 300))]
     return [case_of(script) for script in scripts] + drills + [made(number, count) for number, count in ((1, 1), (7, 200), (0, 50), (2**64 - 1, 50), (5, 0))]
