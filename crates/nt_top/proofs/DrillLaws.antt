@@ -1,5 +1,5 @@
 -- The plan of a drill and its moves.
-use Rattle.std.proofs.Common.{◌≡◌, ◌⊎◌, inl, inr, ◌≤◌, ℕ, zero, suc, ◌+◌, ◌%◌, Bool, true, false, List, [], ◌∷◌, ◌++◌, length, codes, nat_le, IfOk, Result, Ok, Err, if◌then◌else◌, refl, sym, ap, ◌∙◌, arith}
+use Rattle.std.proofs.Common.{◌≡◌, ◌⊎◌, inl, inr, ◌≤◌, ℕ, zero, suc, ◌+◌, ◌%◌, Bool, true, false, List, [], ◌++◌, length, codes, nat_le, IfOk, Result, Ok, Err, if◌then◌else◌, refl, sym, ap, ◌∙◌, arith}
 use Rattle.std.specs.List.{All}
 use Rattle.std.proofs.lemmas.Bool.{leb-true}
 use Rattle.std.specs.Str.{chars, is_utf8}
@@ -15,7 +15,7 @@ use Rattle.account_table.specs.declared.refused.TableRefused.TheVariants.{Memory
 use Rattle.logon_client.specs.Plans.{CanLogOn, is_level}
 use Rattle.logon_client.specs.declared.plan.AuthKind.{AuthKind}
 use Rattle.logon_client.specs.declared.plan.AuthKind.TheVariants.{V1}
-use Rattle.domain_world.specs.Generator.{Making, made, move_by, moves_of, next_seed, rare_by, rare_from, value_of}
+use Rattle.domain_world.specs.Generator.{Making, made, move_by, moves_of, next_seed, rare_by, value_of}
 use Rattle.domain_world.specs.World.{IsMove, IsPlan, World, first_world, report_of_run, run}
 use Rattle.domain_world.specs.declared.counting.Report.{Report}
 use Rattle.domain_world.specs.declared.moves.Move.{Move}

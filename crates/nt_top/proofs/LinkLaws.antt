@@ -5,7 +5,9 @@ use Rattle.std.proofs.lemmas.Bool.{cases_Bool, or_left, or_right}
 use Rattle.std.proofs.lemmas.Bool.Decides.{Decides-eqb}
 use Rattle.std.proofs.lemmas.List.Folds.{list_any-append}
 use Rattle.outside.specs.Machine.{Stepped}
-use Rattle.outside.specs.Stories.{events_in, fails_at_links, is_link_failure}
+use Rattle.outside.specs.Causes.{RisesWhere}
+use Rattle.outside.specs.Stories.{events_in, fails_at_links}
+use Rattle.outside.specs.Telling.{Appends}
 use Rattle.outside.specs.declared.event.Event.{Event}
 use Rattle.outside.specs.declared.event.Event.TheVariants as event
 use Rattle.outside.specs.declared.event.Happening.{Happening}
@@ -25,7 +27,7 @@ use Rattle.logon_client.specs.Machine.{client_machine, has_outcome, step_of, wan
 use Rattle.logon_client.specs.State.{State}
 use Rattle.logon_client.proofs.LossLaws.{losses_come_of_events}
 use Rattle.nt_top.specs.Logon.{client_that_dials, first_actions, most_answers}
-use Rattle.nt_top.specs.LogonExits.{LosesLink, Gone, SendFailed, Stopped, TookAll, gives_stop, is_gone, tells_gone}
+use Rattle.nt_top.specs.LogonExits.{LosesLink, Gone, SendFailed, Stopped, TookAll, fails_to_send, gives_stop, is_gone, tells_gone}
 use Rattle.nt_top.proofs.DialLaws.{dials_once}
 
 -- ---- lists of which something is so
@@ -50,15 +52,26 @@ is_closing (event.Closed link) = true
 is_closing (event.Opened link) = true
 is_closing _ = false
 
-made_closing : (happened : List Happening) → list_any is_closing (made_events happened) ≡ true → fails_at_links happened ≡ true
+made_closing : (happened : List Happening) → list_any is_closing (made_events happened) ≡ true → list_any fails_to_send happened ≡ true
 made_closing [] is = absurd cc
 made_closing (happening.Listened address ∷ more) is = made_closing more is
 made_closing (happening.Given what want ∷ more) is = made_closing more is
 made_closing (happening.Sent link bytes true ∷ more) is = refl
 made_closing (happening.Sent link bytes false ∷ more) is = made_closing more is
 made_closing (happening.Dialled peer (Some link) ∷ more) is = made_closing more is
-made_closing (happening.Dialled peer None ∷ more) is = refl
+made_closing (happening.Dialled peer None ∷ more) is = made_closing more is
 made_closing (happening.Shut link ∷ more) is = made_closing more is
+
+-- where a send failed, a dial or a send did
+sends_fail : (happened : List Happening) → list_any fails_to_send happened ≡ true → fails_at_links happened ≡ true
+sends_fail [] is = absurd cc
+sends_fail (happening.Listened address ∷ more) is = sends_fail more is
+sends_fail (happening.Given what want ∷ more) is = sends_fail more is
+sends_fail (happening.Sent link bytes true ∷ more) is = refl
+sends_fail (happening.Sent link bytes false ∷ more) is = sends_fail more is
+sends_fail (happening.Dialled peer (Some link) ∷ more) is = sends_fail more is
+sends_fail (happening.Dialled peer None ∷ more) is = refl
+sends_fail (happening.Shut link ∷ more) is = sends_fail more is
 
 same_number : (link : ℕ) → (link == link) ≡ true
 same_number link = (Decides-eqb link link).1 refl
@@ -81,9 +94,9 @@ goes_closing event.Stop want goes = absurd goes
 
 -- ---- where it was shown
 
--- an event that waits shows it, or one that the port gave, or something failed
+-- an event that waits shows it, or one that the port gave, or a send failed
 abbrev Lost : List Event → List Happening → Type 0
-Lost queue story = (list_any is_closing queue ≡ true) ⊎ ((list_any tells_gone story ≡ true) ⊎ (fails_at_links story ≡ true))
+Lost queue story = (list_any is_closing queue ≡ true) ⊎ ((list_any tells_gone story ≡ true) ⊎ (list_any fails_to_send story ≡ true))
 
 chosen_lost : (s : State) (queue : List Event) (step : Step) (waiting : List Event) → Chooses client_machine s queue step waiting → LinkGoes step.event (want_by s.running) →
     (list_any is_closing queue ≡ true) ⊎ (list_any tells_gone step.asked ≡ true)
@@ -99,11 +112,11 @@ waits_lost s (first ∷ later) step waiting chooses is =
 
 later_lost : (start middle : Places State) (step : Step) (story : List Happening) → IsStep client_machine start step middle → Lost middle.queue story → Lost start.queue (step_story step ++ story)
 later_lost start middle step story is (inr (inl told)) = inr (inl (any_right tells_gone (step_story step) story told))
-later_lost start middle step story is (inr (inr failed)) = inr (inr (any_right is_link_failure (step_story step) story failed))
+later_lost start middle step story is (inr (inr failed)) = inr (inr (any_right fails_to_send (step_story step) story failed))
 later_lost start middle step story is (inl queued) =
     elim (any_either is_closing is.waiting (made_events step.happened) (subst (λ (q : List Event). list_any is_closing q ≡ true) is.queue queued)) [
       | inl waits ↦ inl (waits_lost start.state start.queue step is.waiting is.chooses waits)
-      | inr made ↦ inr (inr (any_left is_link_failure (step_story step) story (any_right is_link_failure step.asked step.happened (made_closing step.happened made))))
+      | inr made ↦ inr (inr (any_left fails_to_send (step_story step) story (any_right fails_to_send step.asked step.happened (made_closing step.happened made))))
     ]
 
 run_lost : (start last : Places State) (steps : List Step) → AreSteps client_machine start steps last → is_link_closed start.state.outcome ≡ false → is_link_closed last.state.outcome ≡ true →
@@ -134,12 +147,20 @@ whole opened middle ran ended happened later stop moments drawn put put2 first s
 dial_asks : (plan : ClientPlan) (happened : List Happening) → Performs [] (first_actions plan) happened → events_in happened ≡ []
 dial_asks plan happened performs = ap events_in (dials_once plan happened performs).1
 
+-- the events that are given then are those given later
+pub later_events : (plan : ClientPlan) (happened later : List Happening) → Performs [] (first_actions plan) happened → events_in (happened ++ later) ≡ events_in later
+later_events plan happened later performs =
+    stories_add_up.events happened later ∙ ap (λ (e : List (Event × Option ℕ)). e ++ events_in later) (dial_asks plan happened performs)
+
 asked_events : (plan : ClientPlan) (happened later stop : List Happening) → Performs [] (first_actions plan) happened → stop ≡ [] → events_in (happened ++ (later ++ stop)) ≡ events_in later
 asked_events plan happened later stop performs none =
     ap (λ (h : List Happening). events_in (happened ++ (later ++ h))) none
     ∙ ap (λ (h : List Happening). events_in (happened ++ h)) (append-nil later)
-    ∙ stories_add_up.events happened later
-    ∙ ap (λ (e : List (Event × Option ℕ)). e ++ events_in later) (dial_asks plan happened performs)
+    ∙ later_events plan happened later performs
+
+send_failed : (opened ended : Sight) (happened : List Happening) → Appends opened.story ended.story happened → RisesWhere (fails_at_links happened) opened.link_faults ended.link_faults →
+    list_any fails_to_send happened ≡ true → LosesLink opened ended
+send_failed opened ended happened told links failed = SendFailed happened told failed (links.1 (sends_fail happened failed))
 
 pub loses_link : (plan : ClientPlan) (last : State) (opened ended : Sight) → Begun client_machine (first_actions plan) (client_that_dials plan) last most_answers opened ended →
     (last.outcome ≡ None) ⊎ (is_link_closed last.outcome ≡ true) → LosesLink opened ended
@@ -147,10 +168,12 @@ loses_link plan last opened ended begun (inr closed) =
     let steps = begun.run.ran.steps in
     let all = whole opened begun.middle begun.run.middle ended begun.happened (story_of steps) begun.run.stop (moments_of steps) (drawn_of steps) _ (lines_of (puts client_machine) steps) begun.shows begun.run.ran.shows begun.run.shows in
     elim (run_lost _ _ steps begun.run.ran.are refl closed) [
-      | inl queued ↦ SendFailed (all.links.1 (any_left is_link_failure begun.happened (story_of steps ++ begun.run.stop) (made_closing begun.happened queued)))
+      | inl queued ↦ send_failed opened ended (begun.happened ++ (story_of steps ++ begun.run.stop)) all.story all.links
+          (any_left fails_to_send begun.happened (story_of steps ++ begun.run.stop) (made_closing begun.happened queued))
       | inr other ↦ elim other [
         | inl told ↦ Gone (begun.happened ++ (story_of steps ++ begun.run.stop)) all.story (any_right tells_gone begun.happened (story_of steps ++ begun.run.stop) (any_left tells_gone (story_of steps) begun.run.stop told))
-        | inr failed ↦ SendFailed (all.links.1 (any_right is_link_failure begun.happened (story_of steps ++ begun.run.stop) (any_left is_link_failure (story_of steps) begun.run.stop failed)))
+        | inr failed ↦ send_failed opened ended (begun.happened ++ (story_of steps ++ begun.run.stop)) all.story all.links
+            (any_right fails_to_send begun.happened (story_of steps ++ begun.run.stop) (any_left fails_to_send (story_of steps) begun.run.stop failed))
       ]
     ]
 loses_link plan last opened ended begun (inl none) =

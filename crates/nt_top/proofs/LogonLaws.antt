@@ -1,6 +1,6 @@
 -- How a logon begins and ends.
 use Rattle.std.proofs.Common.{ℕ, ◌≡◌, ◌⊎◌, inl, inr, ◌<◌, List, [], ◌∷◌, ◌++◌, length, Option, Some, None, true, false, Err, refl, sym, ap, subst, ◌∙◌, arith, append-nil}
-use Rattle.std.specs.List.{flat_map}
+use Rattle.std.specs.List.{flat_map, list_any}
 use Rattle.std.proofs.lemmas.List.{append_cancel_left, append_cancel_right}
 use Rattle.outside.specs.Causes.{Rose}
 use Rattle.outside.specs.Drawing.{Drawing, DrawsAll}
@@ -15,6 +15,7 @@ use Rattle.outside.specs.declared.event.Happening.{Happening}
 use Rattle.outside.specs.declared.event.Happening.TheVariants as happening
 use Rattle.outside.proofs.TellingLaws.{Appends-trans, Appends-nothing, AppendsFront-append, AppendsFront-part}
 use Rattle.end_loop.specs.Acts.{Performs, made_events, next_line, puts}
+use Rattle.end_loop.specs.Asking.{gives_stop as is_stop_given}
 use Rattle.end_loop.specs.Begun.{Begun, BegunUntil}
 use Rattle.end_loop.specs.Runs.{Standing, Step, AreSteps, Chooses, Closes, Halts, RanInto, asked_by, drawn_of, lines_of, moments_of, step_story, story_of, standing_at}
 use Rattle.end_loop.specs.Seen.{Sight, Shows}
@@ -35,10 +36,10 @@ use Rattle.logon_client.specs.State.{State}
 use Rattle.nt_top.specs.declared.exit.Exit.{Exit}
 use Rattle.nt_top.specs.declared.exit.Exit.TheVariants.{Done, Refused, BadWords, FileFault, BadTable, BadInput, PortFault, SinkFault, NoMemory, NoAnswer, BadPeer, Spent}
 use Rattle.nt_top.specs.Logon.{Concludes, LogonEnds, Says, client_that_dials, first_actions, in_lines, most_answers, outcome_exit, outcome_lines}
-use Rattle.nt_top.specs.Serve.{halt_exit}
-use Rattle.nt_top.specs.LogonExits.{ComesBy, FailsToDial, IsIn, RanTo, ComesTo, ComesToSpent, IsExcuse, IsOfClients, LogonLaws, LosesLink, Gone, SendFailed, Stopped, TookAll, Puts, TellsRun, end_at, start_of}
+use Rattle.nt_top.specs.Serve.{GivesFewer, halt_exit}
+use Rattle.nt_top.specs.LogonExits.{ComesBy, FailsToDial, IsIn, RanTo, RanUntil, ComesTo, ComesToSpent, IsExcuse, IsOfClients, LogonLaws, LosesLink, Gone, SendFailed, Stopped, TookAll, Puts, TellsRun, end_at, start_of}
 use Rattle.nt_top.proofs.DialLaws.{dial_cause}
-use Rattle.nt_top.proofs.LinkLaws.{loses_link}
+use Rattle.nt_top.proofs.LinkLaws.{later_events, loses_link}
 use Rattle.nt_top.proofs.PairLaws.{both_whole, performs_same, spent_not_whole}
 
 -- the challenges were started, and nothing else was done
@@ -554,8 +555,9 @@ loses_around : (seed : List ℕ) (boot : ℕ) (before opened ended after : Sight
 loses_around seed boot before opened ended after opens only (Gone happened told gone) = Gone happened (around seed boot before opened ended after happened opens only told) gone
 loses_around seed boot before opened ended after opens only (Stopped happened told stops) = Stopped happened (around seed boot before opened ended after happened opens only told) stops
 loses_around seed boot before opened ended after opens only (TookAll happened told all) = TookAll happened (around seed boot before opened ended after happened opens only told) all
-loses_around seed boot before opened ended after opens only (SendFailed rose) =
-    SendFailed (subst (λ (n : ℕ). Rose before.link_faults n) (sym (ap (λ (s : Sight). s.link_faults) only)) (subst (λ (n : ℕ). Rose n ended.link_faults) opens.link_faults rose))
+loses_around seed boot before opened ended after opens only (SendFailed happened told sends rose) =
+    SendFailed happened (around seed boot before opened ended after happened opens only told) sends
+    (subst (λ (n : ℕ). Rose before.link_faults n) (sym (ap (λ (s : Sight). s.link_faults) only)) (subst (λ (n : ℕ). Rose n ended.link_faults) opens.link_faults rose))
 
 closed_law : (plan : ClientPlan) (seed : List ℕ) (boot : ℕ) (before after : Sight) (exit : Exit) → LogonEnds plan seed boot before after exit → exit ≡ NoAnswer LinkClosed → LosesLink before after
 closed_law plan seed boot before after exit logon is =
@@ -568,6 +570,28 @@ closed_law plan seed boot before after exit logon is =
             loses_around seed boot before logon.opened ends.ended after logon.opens ends.only (loses_link plan ends.last logon.opened ends.ended ends.run (closed_by ends.last.outcome says.0))
       ]
     ]
+
+-- ---- a port that failed
+
+gives_fewer : (plan : ClientPlan) (seed : List ℕ) (boot : ℕ) (before opened after : Sight) → Opens seed boot before opened [] →
+    BegunUntil client_machine (first_actions plan) (client_that_dials plan) most_answers opened after halts.PortFault → GivesFewer most_answers before after
+gives_fewer plan seed boot before opened after opens (inl cut) = absurd cut.0
+gives_fewer plan seed boot before opened after opens (inr half) =
+    let story = story_of half.run.ran.steps in
+    let asks = asks_for client_machine _ half.run.last half.run.ran.steps half.run.ran.are in
+    let events : events_in (half.happened ++ story) ≡ events_in story = later_events plan half.happened story half.performs in
+    record {
+      happened = half.happened ++ story;
+      told = Appends-trans before.story opened.story after.story [] (half.happened ++ story) opens.story
+          (Appends-trans opened.story half.middle.story after.story half.happened story half.shows.story half.run.ran.shows.story);
+      no_stop = ap (λ (e : List (Event × Option ℕ)). list_any is_stop_given e) events ∙ asks.no_stop;
+      fewer = inr (subst (λ (n : ℕ). n < most_answers) (half.run.ran.count ∙ sym asks.count ∙ sym (ap length events)) half.run.more);
+    }
+
+port_law : (plan : ClientPlan) (seed : List ℕ) (boot : ℕ) (before after : Sight) (exit : Exit) → LogonEnds plan seed boot before after exit → exit ≡ PortFault → GivesFewer most_answers before after
+port_law plan seed boot before after exit logon is =
+    let ran : RanUntil plan seed boot before after halts.PortFault = subst (λ (e : Exit). ComesBy e plan seed boot before after) is (comes_law plan seed boot before after exit logon) in
+    gives_fewer plan seed boot before ran.opened after ran.opens ran.run
 
 -- ---- the exits of a client
 
@@ -613,4 +637,4 @@ exits_law plan seed boot before after exit logon =
     ]
 
 pub logon_laws : LogonLaws
-logon_laws = record { outcome = outcome_law; spent = spent_law; comes = comes_law; puts = puts_law; dial = dial_law; closed = closed_law; exits = exits_law }
+logon_laws = record { outcome = outcome_law; spent = spent_law; comes = comes_law; puts = puts_law; dial = dial_law; closed = closed_law; port = port_law; exits = exits_law }

@@ -19,8 +19,8 @@ use Rattle.end_loop.proofs.RunLaws.{Shows-none, Shows-trans}
 use Rattle.nt_top.specs.declared.exit.Exit.{Exit}
 use Rattle.nt_top.specs.declared.exit.Exit.TheVariants.{Done, Refused, BadWords, FileFault, BadTable, BadInput, PortFault, SinkFault, NoMemory, NoAnswer, BadPeer, Spent}
 use Rattle.nt_top.specs.LogonExits.{IsExcuse}
-use Rattle.nt_top.specs.Serve.{MayServe, ServesTo}
-use Rattle.nt_top.specs.ServeExits.{GivesFewer, ServiceLaws, TellsEnd, TellsService, TellsSpent, rest_at}
+use Rattle.nt_top.specs.Serve.{GivesFewer, MayServe, ServesTo}
+use Rattle.nt_top.specs.ServeExits.{ServiceLaws, TellsEnd, TellsService, TellsSpent, rest_at}
 use Rattle.nt_top.proofs.LogonLaws.{told_items}
 use Rattle.nt_top.proofs.PairLaws.{both_whole, spent_not_whole}
 

@@ -27,6 +27,7 @@ use Rattle.logon_client.specs.State.{State}
 use Rattle.nt_top.specs.declared.exit.Exit.{Exit}
 use Rattle.nt_top.specs.declared.exit.Exit.TheVariants.{Done, Refused, BadWords, FileFault, BadTable, BadInput, SinkFault, NoMemory, NoAnswer, BadPeer, Spent, PortFault}
 use Rattle.nt_top.specs.Logon.{LogonEnds, client_that_dials, first_actions, in_lines, most_answers, outcome_exit}
+use Rattle.nt_top.specs.Serve.{GivesFewer}
 
 -- ---- the runs that the outside tells
 
@@ -163,11 +164,17 @@ abbrev pub gives_stop : Happening → Bool
 gives_stop (happening.Given event.Stop want) = true
 gives_stop _ = false
 
+-- a send failed
+abbrev pub fails_to_send : Happening → Bool
+fails_to_send (happening.Sent link bytes failed) = failed
+fails_to_send _ = false
+
 -- Why a client finds its link closed: by what happened at the port, which gave an event that shows it, or `Stop`, or as many events as a logon
--- takes; or a send failed, and the count of link faults rose.
+-- takes; or a send failed there, and the count of link faults rose.
 pub data LosesLink (before after : Sight) : Type 0 where
   Gone : (happened : List Happening) → Appends before.story after.story happened → list_any tells_gone happened ≡ true → LosesLink before after
-  SendFailed : Rose before.link_faults after.link_faults → LosesLink before after
+  SendFailed : (happened : List Happening) → Appends before.story after.story happened → list_any fails_to_send happened ≡ true →
+      Rose before.link_faults after.link_faults → LosesLink before after
   Stopped : (happened : List Happening) → Appends before.story after.story happened → list_any gives_stop happened ≡ true → LosesLink before after
   TookAll : (happened : List Happening) → Appends before.story after.story happened → length (events_in happened) ≡ most_answers → LosesLink before after
 
@@ -185,7 +192,8 @@ IsAnswered _ = ⊥
 
 -- ---- laws of `LogonEnds`
 
--- What the outside tells decides the exit; each exit comes only of its run; what was put; that a dial failed, or why the link was lost, where that is the exit; and which exits come.
+-- What the outside tells decides the exit; each exit comes only of its run; what was put; that a dial failed, why the link was lost, or what the port gave
+-- where it failed, where that is the exit; and which exits come.
 pub record LogonLaws : Type 0 where
   pub outcome : (plan : ClientPlan) (seed : List ℕ) (boot : ℕ) (before after : Sight) (exit : Exit) (outcome : Option ClientOutcome) →
       LogonEnds plan seed boot before after exit → ComesTo plan before after outcome → (exit ≡ outcome_exit outcome) ⊎ IsExcuse exit
@@ -199,5 +207,7 @@ pub record LogonLaws : Type 0 where
       LogonEnds plan seed boot before after exit → exit ≡ NoAnswer DialFailed → FailsToDial plan.server before after
   pub closed : (plan : ClientPlan) (seed : List ℕ) (boot : ℕ) (before after : Sight) (exit : Exit) →
       LogonEnds plan seed boot before after exit → exit ≡ NoAnswer LinkClosed → LosesLink before after
+  pub port : (plan : ClientPlan) (seed : List ℕ) (boot : ℕ) (before after : Sight) (exit : Exit) →
+      LogonEnds plan seed boot before after exit → exit ≡ PortFault → GivesFewer most_answers before after
   pub exits : (plan : ClientPlan) (seed : List ℕ) (boot : ℕ) (before after : Sight) (exit : Exit) →
       LogonEnds plan seed boot before after exit → IsOfClients exit

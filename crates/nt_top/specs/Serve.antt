@@ -1,6 +1,11 @@
 -- An end that is served (this project's own choice): the challenges are started, the port listens, and the end's machine runs.
-use Rattle.std.specs.Prelude.{◌≡◌, ◌⊎◌, ℕ, List, Result, Ok, Err}
+use Rattle.std.specs.Prelude.{◌≡◌, ◌⊎◌, ◌<◌, ℕ, false, List, [], length, Result, Ok, Err}
+use Rattle.std.specs.List.{list_any}
 use Rattle.outside.specs.Machine.{Machine}
+use Rattle.outside.specs.Stories.{events_in}
+use Rattle.outside.specs.Telling.{Appends}
+use Rattle.outside.specs.declared.event.Happening.{Happening}
+use Rattle.end_loop.specs.Asking.{gives_stop}
 use Rattle.end_loop.specs.Seen.{Sight}
 use Rattle.end_loop.specs.Served.{Served, ServedUntil}
 use Rattle.end_loop.specs.declared.halt.Halt.{Halt}
@@ -43,3 +48,10 @@ IsServed Done = Unit {0}
 IsServed Spent = Unit {0}
 IsServed NoMemory = Unit {0}
 IsServed _ = ⊥
+
+-- The port gave no `Stop`, and no event or fewer than are taken.
+pub record GivesFewer (most : ℕ) (before after : Sight) : Type 0 where
+  pub happened : List Happening
+  pub told : Appends before.story after.story happened
+  pub no_stop : list_any gives_stop (events_in happened) ≡ false
+  pub fewer : (events_in happened ≡ []) ⊎ (length (events_in happened) < most)

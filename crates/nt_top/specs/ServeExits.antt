@@ -1,20 +1,16 @@
 -- When each exit of a service comes, by what the outside tells (this project's own choice).
-use Rattle.std.specs.Prelude.{ℕ, ◌≡◌, ◌⊎◌, ◌<◌, ◌++◌, false, List, [], ◌∷◌, length, Some, Err}
-use Rattle.std.specs.List.{list_any}
+use Rattle.std.specs.Prelude.{ℕ, ◌≡◌, ◌⊎◌, ◌++◌, List, [], ◌∷◌, Some, Err}
 use Rattle.outside.specs.Machine.{Machine}
-use Rattle.outside.specs.Stories.{events_in}
-use Rattle.outside.specs.Telling.{Appends}
 use Rattle.outside.specs.declared.action.StepRefused.TheVariants as refusals
 use Rattle.outside.specs.declared.event.Event.{Event}
 use Rattle.outside.specs.declared.event.Happening.{Happening}
 use Rattle.outside.specs.declared.event.Happening.TheVariants as happening
-use Rattle.end_loop.specs.Asking.{gives_stop}
 use Rattle.end_loop.specs.Runs.{Standing, Step, AreSteps, Chooses, Closes, asked_by, moments_of, story_of}
 use Rattle.end_loop.specs.Seen.{Sight}
 use Rattle.nt_top.specs.declared.exit.Exit.{Exit}
 use Rattle.nt_top.specs.declared.exit.Exit.TheVariants.{Done, PortFault, Spent}
 use Rattle.nt_top.specs.LogonExits.{IsExcuse}
-use Rattle.nt_top.specs.Serve.{MayServe}
+use Rattle.nt_top.specs.Serve.{GivesFewer, MayServe}
 
 -- an end of that state, where no event waits and these challenges are left
 abbrev pub rest_at : {S : Type 0} → S → List (List ℕ) → Standing S
@@ -50,13 +46,6 @@ pub record TellsSpent {S : Type 0} (machine : Machine S) (old : S) (address : Li
   pub tells : TellsService machine old address before after steps last step.asked (step.moment ∷ [])
   pub chooses : Chooses machine last.state last.queue step waiting
   pub spent : (machine.step last.state step.event step.moment last.left).answer ≡ Err refusals.Spent
-
--- The port gave no `Stop`, and no event or fewer than are taken.
-pub record GivesFewer (most : ℕ) (before after : Sight) : Type 0 where
-  pub happened : List Happening
-  pub told : Appends before.story after.story happened
-  pub no_stop : list_any gives_stop (events_in happened) ≡ false
-  pub fewer : (events_in happened ≡ []) ⊎ (length (events_in happened) < most)
 
 -- What the outside tells decides the exit of a service; and a failure of the port is the exit only where it gave no `Stop` and too few events.
 pub record ServiceLaws {S : Type 0} (machine : Machine S) : Type 0 where

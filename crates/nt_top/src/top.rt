@@ -107,7 +107,9 @@ pub fn run<P: Port, F: Files, S: Sink, C: Clock, Q: Chances>(
     ensures idle { IsRefusal (job_of role (map string_bytes words.now)) →
         (port.new ≡ port.old) × (files.new ≡ files.old) × (out.new ≡ out.old) ×
         (clock.new ≡ clock.old) × (chances.new ≡ chances.old) }
-    // No other command reads a file, listens or draws.
+    // No other command comes to an exit that tells of a file, a table, the port, a peer or spent
+    // challenges. That they leave files, port, clock and challenges as they were, the clauses
+    // `files`, `port`, `clock` and `chances` say.
     ensures others { ActsByWords role (map string_bytes words.now) →
         IsOfTheCommands result }
     // A failure of the outside is told only where a count of it rose.
