@@ -7,19 +7,29 @@ use std::alloc::Global;
 use wire_base::Units;
 
 /// A table of accounts with its text, and the name that is sought in it.
-#[derive(Drop)]
 pub struct Accounts {
     text: String,
     table: Table,
     sought: Units,
 }
 
+impl Drop for Accounts {
+    // As it would be derived: written out, it is one call wherever these are let go, which keeps the proofs of those places short.
+    fn drop(self) {
+        let Accounts {
+            text: _text,
+            table: _table,
+            sought: _sought,
+        } = self;
+    }
+}
+
 impl Accounts {
     /// 10,000 users, of whom the last is sought in upper case.
     pub fn new(alloc: Global) -> anyhow::Result<Accounts> {
+        let sought = units(alloc, b"USER19999")?;
         let text = table_text(alloc)?;
         let table = Table::read(alloc, text.as_bytes())?;
-        let sought = units(alloc, b"USER19999")?;
         Ok(Accounts {
             text,
             table,

@@ -22,7 +22,6 @@ pub const KEY: [u8; 16] = [0, 1, 2, 3, 4, 5, 6, 7, 8, 9, 10, 11, 12, 13, 14, 15]
 pub type Outcome = ArrayVec<u8, 16>;
 
 /// The input of all operations, which is fixed.
-#[derive(Drop)]
 pub struct Bench {
     long: Box<[u8; PIECE]>,
     stream: RunningStream,
@@ -32,6 +31,22 @@ pub struct Bench {
     logons: Logons,
     accounts: Accounts,
     sides: Sides,
+}
+
+impl Drop for Bench {
+    // As it would be derived: written out, it is one call wherever one is let go, which keeps the proofs of those places short.
+    fn drop(self) {
+        let Bench {
+            long: _long,
+            stream: _stream,
+            keys: _keys,
+            packets: _packets,
+            calls: _calls,
+            logons: _logons,
+            accounts: _accounts,
+            sides: _sides,
+        } = self;
+    }
 }
 
 impl Bench {

@@ -27,11 +27,21 @@ const LOGON: &str =
     "0500000310000000fa00000002000000e2000000000002000000000000000200060000000000000006000000460049004c0045003100000004000200d04799782f7e3621ffffffff08000200000000000000000000000000020002000c0002000800080010000200000000000700000000000000060006001400020004000400180002000123456789abcdef180018001c000200000000000000000004000000000000000400000043004f005200500003000000000000000300000061006e006e00000002000000000000000200000057005300180000000000000018000000176724fef3cefd31176724fef3cefd31f905acd82f73dc920200";
 
 /// A controller with an open channel, and the request to log on.
-#[derive(Drop)]
 pub struct Calls {
     end: Controller,
     chances: ListChances,
     logon: Event,
+}
+
+impl Drop for Calls {
+    // As it would be derived: written out, it is one call wherever these are let go, which keeps the proofs of those places short.
+    fn drop(self) {
+        let Calls {
+            end: _end,
+            chances: _chances,
+            logon: _logon,
+        } = self;
+    }
 }
 
 impl Calls {
@@ -75,8 +85,8 @@ impl Calls {
 
 /// The controller of the table.
 pub fn controller(alloc: Global) -> anyhow::Result<Controller> {
-    let table = Table::read(alloc, TABLE.as_bytes())?;
     let name = Name::read(alloc, b"PDC")?;
+    let table = Table::read(alloc, TABLE.as_bytes())?;
     Ok(Controller::new(alloc, table, name)?)
 }
 

@@ -29,7 +29,6 @@ const RESPONSE_V1: &str = "67c43011f30298a2ad35ece64f16331c44bdbed927841f94";
 const PROOF_V2: &str = "d384a02bf52a89bfa7a553c5b75fc197";
 
 /// A schedule and the block that is enciphered next under it, a channel's sequence, and responses to judge with the names that they are made of.
-#[derive(Drop)]
 pub struct Keys {
     schedule: Schedule,
     block: [u8; 8],
@@ -38,6 +37,21 @@ pub struct Keys {
     domain: Units,
     response_v1: [u8; 24],
     response_v2: [u8; 292],
+}
+
+impl Drop for Keys {
+    // As it would be derived: written out, it is one call wherever these are let go, which keeps the proofs of those places short.
+    fn drop(self) {
+        let Keys {
+            schedule: _schedule,
+            block: _block,
+            sequence: _sequence,
+            user: _user,
+            domain: _domain,
+            response_v1: _response_v1,
+            response_v2: _response_v2,
+        } = self;
+    }
 }
 
 impl Keys {

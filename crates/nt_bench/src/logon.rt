@@ -1,6 +1,6 @@
 //! A logon over a secure channel and its answer, as stubs.
 
-ghost use Rattle.std.specs.Prelude.{IfOk};
+ghost use Rattle.std.specs.Prelude.{◌≡◌, [], IfOk};
 ghost use Rattle.logon_stubs.specs.Writing.{CanWriteSamInfo, CanWriteReply};
 
 use crate::bench::{Outcome, end_of};
@@ -61,24 +61,36 @@ fn write_granted(alloc: Global) -> Result<Blob, NoMemory> {
 fn granted_reply(alloc: Global) -> Result<Reply, NoMemory>
     ensures { IfOk result (λ reply. CanWriteReply reply) }
 {
+    let info = granted_info(alloc)?;
     Ok(Reply::Logon(LogonReply {
         returned: Some(Authenticator {
             credential: [0; 8],
             timestamp: 0,
         }),
         level: 2,
-        info: Some(granted_info(alloc)?),
+        info: Some(info),
         authoritative: 1,
         status: 0,
     }))
+}
+
+/// No text.
+fn no_text(alloc: Global) -> Units
+    ensures { result ≡ [] }
+{
+    Units::from_vec(Vec::new(alloc))
 }
 
 /// What is granted to a user in one group, of the domain 21-1-2-3.
 fn granted_info(alloc: Global) -> Result<SamInfo, NoMemory>
     ensures { IfOk result (λ info. CanWriteSamInfo info) }
 {
+    let sid = Sid::new(alloc, 5, &[21, 1, 2, 3])?;
     let mut groups = Groups::new(alloc);
     groups.push((513, 7))?;
+    let effective_name = Units::copy(alloc, &ANN)?;
+    let server = Units::copy(alloc, &PDC)?;
+    let domain = Units::copy(alloc, &CORP)?;
     Ok(SamInfo {
         logon_time: 0,
         logoff_time: 0,
@@ -86,12 +98,12 @@ fn granted_info(alloc: Global) -> Result<SamInfo, NoMemory>
         password_set: 0,
         password_can_change: 0,
         password_must_change: 0,
-        effective_name: Units::copy(alloc, &ANN)?,
-        full_name: Units::copy(alloc, &[])?,
-        script: Units::copy(alloc, &[])?,
-        profile: Units::copy(alloc, &[])?,
-        home: Units::copy(alloc, &[])?,
-        home_drive: Units::copy(alloc, &[])?,
+        effective_name,
+        full_name: no_text(alloc),
+        script: no_text(alloc),
+        profile: no_text(alloc),
+        home: no_text(alloc),
+        home_drive: no_text(alloc),
         logon_count: 0,
         bad_count: 0,
         user_id: 1001,
@@ -99,8 +111,8 @@ fn granted_info(alloc: Global) -> Result<SamInfo, NoMemory>
         groups,
         user_flags: 0,
         key: [0; 16],
-        server: Units::copy(alloc, &PDC)?,
-        domain: Units::copy(alloc, &CORP)?,
-        sid: Sid::new(alloc, 5, &[21, 1, 2, 3])?,
+        server,
+        domain,
+        sid,
     })
 }

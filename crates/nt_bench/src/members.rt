@@ -36,7 +36,6 @@ const AUTH3: &str =
     "0500100310000000e400c80001000000000000000a060000010000004e544c4d535350000300000018001800520000004e004e006a00000008000800400000000600060048000000040004004e00000010001000b8000000358208e043004f005200500061006e006e00570053000000000000000000000000000000000000000000000000005dbc200ec8e3efac13f3e0b7a9a5e08501010000000000000080209bcb82d8011011121314151617000000000200080043004f005200500001000a00460049004c004500310000000000000000008768e6a97ec16702622b7653c6e53007";
 
 /// A member whose channel is open, its controller, and what the client sends.
-#[derive(Drop)]
 pub struct Logons {
     member: Member,
     controller: Controller,
@@ -44,21 +43,38 @@ pub struct Logons {
     auth3: Event,
 }
 
+impl Drop for Logons {
+    // As it would be derived: written out, it is one call wherever these are let go, which keeps the proofs of those places short.
+    fn drop(self) {
+        let Logons {
+            member: _member,
+            controller: _controller,
+            bind: _bind,
+            auth3: _auth3,
+        } = self;
+    }
+}
+
 impl Logons {
     /// A member that let the user in once: a turn for each of the channel's calls.
     pub fn new(alloc: Global) -> anyhow::Result<Logons> {
+        let mut logons = Logons::before_the_first(alloc)?;
+        logons.log_on(alloc, 3)?;
+        Ok(logons)
+    }
+
+    /// A member and its controller before their first link.
+    fn before_the_first(alloc: Global) -> anyhow::Result<Logons> {
         let bind = bytes_of_client(alloc, BIND)?;
         let auth3 = bytes_of_client(alloc, AUTH3)?;
         let controller = controller(alloc)?;
         let member = member(alloc)?;
-        let mut logons = Logons {
+        Ok(Logons {
             member,
             controller,
             bind,
             auth3,
-        };
-        logons.log_on(alloc, 3)?;
-        Ok(logons)
+        })
     }
 
     /// The key that the member tells for the last of so many logons, each over the open channel.
@@ -113,11 +129,16 @@ impl Logons {
 
     /// What the member sends comes to the controller, and its answer to the member. What the member does then.
     fn carry(&mut self, alloc: Global, sent: Actions) -> anyhow::Result<Actions> {
-        let asked = bytes_sent(sent)?;
-        let answer = step_controller(alloc, &mut self.controller, &asked)?;
-        let answered = bytes_sent(answer)?;
+        let answered = answer_of(alloc, &mut self.controller, sent)?;
         step_member(alloc, &mut self.member, &answered)
     }
+}
+
+/// What the controller answers to what is sent.
+fn answer_of(alloc: Global, controller: &mut Controller, sent: Actions) -> anyhow::Result<Event> {
+    let asked = bytes_sent(sent)?;
+    let answer = step_controller(alloc, controller, &asked)?;
+    bytes_sent(answer)
 }
 
 /// A step of the member, which draws one challenge for a bind, and one where it opens the channel.
@@ -150,11 +171,14 @@ fn member(alloc: Global) -> anyhow::Result<Member> {
 
 /// The member's plan.
 fn plan(alloc: Global) -> anyhow::Result<MemberPlan> {
+    let computer = Name::read(alloc, b"FILE1")?;
+    let domain = Name::read(alloc, b"CORP")?;
+    let controller = Blob::copy(alloc, b"there")?;
     Ok(MemberPlan {
-        computer: Name::read(alloc, b"FILE1")?,
-        domain: Name::read(alloc, b"CORP")?,
+        computer,
+        domain,
         secret: SECRET,
-        controller: Blob::copy(alloc, b"there")?,
+        controller,
     })
 }
 

@@ -17,11 +17,21 @@ const MESSAGE: &str =
 const REQUEST_HEAD: &str = "050000031000000018040000010000000004000000000200";
 
 /// What is read: an AUTHENTICATE, a request of 1,048 bytes, and a request to log on.
-#[derive(Drop)]
 pub struct Packets {
     message: Vec<u8>,
     request: Vec<u8>,
     logon: Vec<u8>,
+}
+
+impl Drop for Packets {
+    // As it would be derived: written out, it is one call wherever these are let go, which keeps the proofs of those places short.
+    fn drop(self) {
+        let Packets {
+            message: _message,
+            request: _request,
+            logon: _logon,
+        } = self;
+    }
 }
 
 impl Packets {
