@@ -64,7 +64,7 @@ all_links : (end : EndId) (actions : List Action) (s : State) → (perform_all e
 all_links end [] s = refl
 all_links end (what ∷ actions) s = all_links end actions (perform end what s).state ∙ perform_links end what s
 
-hears_links : (end : EndId) (what : Event) (s : State) → (hears end what s).state.links ≡ s.links
+pub hears_links : (end : EndId) (what : Event) (s : State) → (hears end what s).state.links ≡ s.links
 hears_links end what s = all_links end (hear end what s).actions (hear end what s).state
 
 hears_if_links : (end : Option EndId) (what : Event) (s : State) → (hears_if end what s).state.links ≡ s.links

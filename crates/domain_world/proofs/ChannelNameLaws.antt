@@ -310,7 +310,7 @@ logon_fits false standing.Nothing returned status level info secret = tt
 logon_fits false (standing.Half client server) returned status level info secret = tt
 logon_fits false (standing.Open o) returned status level info secret = return_fits returned status level info o secret
 
-fits : (q : Question) (r : Reply) (how : Standing) (secret : List ℕ) → Fits (judge q r how secret) how secret
+pub fits : (q : Question) (r : Reply) (how : Standing) (secret : List ℕ) → Fits (judge q r how secret) how secret
 fits (question.Challenge client) (reply.Challenge r) how secret = challenge_fits (r.status == 0) client r.challenge how secret
 fits (question.Challenge client) (reply.Authenticate r) how secret = tt
 fits (question.Challenge client) (reply.Logon r) how secret = tt

@@ -242,7 +242,7 @@ of_replays = record {
 
 -- ---- credentials
 
-no_channel : (computer : List ℕ) (channel : ChannelState) → lookup same_name computer no_computers.channels ≡ Some channel → ⊥
+pub no_channel : (computer : List ℕ) (channel : ChannelState) → lookup same_name computer no_computers.channels ≡ Some channel → ⊥
 no_channel computer channel is = absurd cc
 
 pub next_at : (seed : List ℕ) → IsNext (small_computers seed) (call_with (authenticator_of (key_of_channel (small_channel seed)) seed 0))

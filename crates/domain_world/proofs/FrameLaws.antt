@@ -1,5 +1,5 @@
 -- What holds through the moves of a world, of its ends, its maker of challenges, its links and of what is written down: whatever holds through each step of an end.
-use Rattle.std.proofs.Common.{◌≡◌, ℕ, List, [], ◌∷◌, ◌++◌, length, Option, Some, None, slice_get, slice_set, sym, subst}
+use Rattle.std.proofs.Common.{◌≡◌, ℕ, List, [], ◌∷◌, ◌++◌, length, Option, Some, None, slice_get, slice_set, refl, sym, subst}
 use Rattle.std.specs.Prelude.{Bool, true, false}
 use Rattle.wire_base.specs.Maps.{lookup, same_number}
 use Rattle.outside.specs.Drawing.{Drawing}
@@ -63,7 +63,7 @@ pub record Stays (Fits : Fact) : Type 0 where
       HoldsAfter Fits (end_step end what now ends chances) links
   pub opens : (route : Route) (now : ℕ) (ends : EndStates) (chances : Drawing) (links : List Route) → Fits ends chances links →
       HoldsAfter Fits (end_step (acceptor_of route) (event.Opened (length links)) now ends chances) (links ++ route ∷ [])
-  pub controllers : (c : ControllerState) (at : ℕ) (ends : EndStates) (chances : Drawing) (links : List Route) → Fits ends chances links →
+  pub controllers : (c : ControllerState) (at : ℕ) (ends : EndStates) (chances : Drawing) (links : List Route) → slice_get ends.controllers at ≡ Some c → Fits ends chances links →
       Fits (record ends { controllers = slice_set ends.controllers at (first_state c.table c.name) }) chances links
   pub members : (plan : MemberPlan) (at : ℕ) (ends : EndStates) (chances : Drawing) (links : List Route) → Fits ends chances links →
       Fits (with_member at (fresh_member plan) ends) chances links
@@ -177,9 +177,9 @@ module _ (Fits : Fact) (stays : Stays Fits) where
   shut_at_stays None s holds = holds
   shut_at_stays (Some number) s holds = shut_stays (slice_get s.open_links number) s holds
 
-  controller_stays : (found : Option ControllerState) (at : ℕ) (s : State) → HoldsIn Fits s → Fits (renew_controller found at s.ends) s.chances s.links
-  controller_stays None at s holds = holds
-  controller_stays (Some c) at s holds = stays.controllers c at s.ends s.chances s.links holds
+  controller_stays : (found : Option ControllerState) (at : ℕ) (s : State) → slice_get s.ends.controllers at ≡ found → HoldsIn Fits s → Fits (renew_controller found at s.ends) s.chances s.links
+  controller_stays None at s is holds = holds
+  controller_stays (Some c) at s is holds = stays.controllers c at s.ends s.chances s.links is holds
 
   member_stays : (plan : Option MemberPlan) (at : ℕ) (s : State) → HoldsIn Fits s → Fits (renew_member plan at s.ends) s.chances s.links
   member_stays None at s holds = holds
@@ -190,7 +190,7 @@ module _ (Fits : Fact) (stays : Stays Fits) where
   client_stays (Some plan) at s holds = stays.clients (fresh_client plan) at s.ends s.chances s.links holds
 
   renewed_stays : (end : EndId) (s : State) → HoldsIn Fits s → HoldsIn Fits (renewed end s)
-  renewed_stays (Controller at) s holds = controller_stays (slice_get s.ends.controllers at) at s holds
+  renewed_stays (Controller at) s holds = controller_stays (slice_get s.ends.controllers at) at s refl holds
   renewed_stays (Member at) s holds = member_stays (slice_get s.member_plans at) at s holds
   renewed_stays (Client at) s holds = client_stays (slice_get s.client_plans at) at s holds
 
@@ -212,7 +212,7 @@ pub record StaysWritten {X : Type 0} (part : Book → X) (Fits : X → Fact) : T
   pub given : (at : ℕ) (given : Given) (after : State) (b : Book) → part (note_given at given after b) ≡ part b
 
 module _ {X : Type 0} (part : Book → X) (Fits : X → Fact) (written : StaysWritten part Fits) where
-  end_stays : (end : Option EndId) (w : Coming) (piece : List ℕ) (s after : State) (b : Book) → HoldsIn (Fits (part b)) s →
+  pub end_stays : (end : Option EndId) (w : Coming) (piece : List ℕ) (s after : State) (b : Book) → HoldsIn (Fits (part b)) s →
       HoldsIn (Fits (part (note_at end w piece s after b))) (hears_if end (event.Bytes w.link piece) s).state
   end_stays None w piece s after b holds = holds
   end_stays (Some end) w piece s after b holds =
@@ -263,7 +263,7 @@ module _ {X : Type 0} (part : Book → X) (Fits : X → Fact) (written : StaysWr
   hand_stays (Some link) back bytes at s b holds =
       end_stays (hearer_of back (lookup same_number link s.open_links)) (record { at = at; unit = None; link = link; back = back }) bytes s (piece_comes back link bytes s).state b holds
 
-  act_stays : (what : Move) (at : ℕ) (s : State) (b : Book) → HoldsIn (Fits (part b)) s → HoldsIn (Fits (part (note_coming what at s b))) (act s what).state
+  pub act_stays : (what : Move) (at : ℕ) (s : State) (b : Book) → HoldsIn (Fits (part b)) s → HoldsIn (Fits (part (note_coming what at s b))) (act s what).state
   act_stays move.Onward at s b holds = onward_stays (first_waiting s.bag) at s b holds
   act_stays (move.Deliver unit link) at s b holds = deliver_stays (chosen_place unit (length s.bag)) link at s b holds
   act_stays (move.Hand link back bytes) at s b holds = hand_stays (chosen_in link (handed_links s.links)) back bytes at s b holds
@@ -276,7 +276,7 @@ module _ {X : Type 0} (part : Book → X) (Fits : X → Fact) (written : StaysWr
   act_stays (move.Restart number) at s b holds = restart_stays (Fits (part b)) (written.stays (part b)) (chosen_place number (count_of s.ends)) s holds
   act_stays (move.Tick more) at s b holds = holds
 
-  note_stays : (w : World) (what : Move) (b : Book) → HoldsIn (Fits (part b)) w.state → HoldsIn (Fits (part (note w what b))) (happens w what).state
+  pub note_stays : (w : World) (what : Move) (b : Book) → HoldsIn (Fits (part b)) w.state → HoldsIn (Fits (part (note w what b))) (happens w what).state
   note_stays w what b holds =
       subst (λ (x : X). HoldsIn (Fits x) (happens w what).state) (sym (written.given w.moves (given_at w what) (happens w what).state (note_coming what w.moves w.state b)))
       (act_stays what w.moves w.state b holds)

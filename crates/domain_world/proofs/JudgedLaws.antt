@@ -49,7 +49,7 @@ use Rattle.domain_world.specs.ControllerNotes.{Answered, Where, answer_on, chann
 use Rattle.domain_world.specs.History.{Book, Judging, blank}
 use Rattle.domain_world.specs.Links.{handed_links, hearer_of, links_of}
 use Rattle.domain_world.specs.Moving.{settle}
-use Rattle.domain_world.specs.Past.{Coming, answers_of, at_controller, book, controller_of, first_of, judged_of, later_of, note, note_at, note_chosen, note_client, note_coming, note_controller, note_deliver, note_hand, note_member, note_messages, note_on, note_onward, note_own, note_piece, note_pieces, note_turn, note_turns, note_unit, onto, past, with_reply}
+use Rattle.domain_world.specs.Past.{Coming, answers_of, at_controller, book, controller_of, first_of, judged_of, later_of, note, note_at, note_chosen, note_client, note_coming, note_controller, note_deliver, note_hand, note_member, note_messages, note_on, note_onward, note_own, note_piece, note_pieces, note_turn, note_turns, note_unit, numbers_on, onto, past, with_reply}
 use Rattle.domain_world.specs.MemberNotes.{turn_note, turn_units}
 use Rattle.domain_world.specs.Served.{ServedUnit, served_units, units_if_taken, units_on, units_then, work_after}
 use Rattle.domain_world.specs.World.{World, first_world, happens}
@@ -169,44 +169,53 @@ told_right old after computers c told = subst (λ (how : Option Judged). IsRight
 
 -- ---- a unit
 
--- a call that was judged, if one was, was judged right
-abbrev pub RightIf : Option Judging → Type 0
-RightIf None = Unit {0}
-RightIf (Some j) = IsJudgedRight j
-
-passing_right : (channel : Option Channel) (j : Judging) → IsJudgedRight j → RightIf (passing channel j).judging
-passing_right None j right = right
-passing_right (Some channel) j right = right
-
-judging_right : (passed : Bool) (j : Judging) → IsJudgedRight j → RightIf (judging_by passed j).judging
-judging_right false j right = right
-judging_right true j right = passing_right (channel_in j.controller j.logon.computer j.computers) j right
-
-opening_right : (channel : Option Channel) (w : Where) (number : ℕ) → RightIf (opening channel w number).judging
-opening_right None w number = tt
-opening_right (Some channel) w number = tt
+-- the fact holds of the call that was judged, if one was
+abbrev pub HoldsIf : (Judging → Type 0) → Option Judging → Type 0
+HoldsIf Fits None = Unit {0}
+HoldsIf Fits (Some j) = Fits j
 
 -- what the unit comes to is what the controller makes of it
 abbrev pub IsServedBy : {W T : Type 0} → Server W T → ServedUnit W T → Type 0
 IsServedBy server unit = unit.part ≡ server.unit unit.bytes unit.work unit.talk unit.left
 
-heard_right : (what : Heard) (w : Where) (link : ℕ) (d : Desk) (left : List (List ℕ)) (part : ServedPart Desk Talk) →
-    part ≡ by_heard what link w.name w.moment d left → RightIf (heard_answer what w d (work_after part)).judging
-heard_right (heard.Close cause) w link d left part is = tt
-heard_right (heard.Answer bytes talk) w link d left part is = tt
-heard_right (heard.Waits talk) w link d left part is = tt
-heard_right (heard.Asked line (call.Challenge c) talk) w link d left part is = tt
-heard_right (heard.Asked line (call.Authenticate c) talk) w link d left part is = opening_right (opened_by w.controller c d) w line.call
-heard_right (heard.Asked line (call.Logoff c) talk) w link d left part is = tt
-heard_right (heard.Asked line (call.Logon c) talk) w link d left part is =
-    let after : Desk = answer_logon c.computer c.authenticator w.name w.moment line c.info c.validation d in
-    let right : IsJudgedRight (judging_of w line c d (Some after)) =
-    told_right d.work.actions after.work.actions d.work.computers c (by_names c.computer c.authenticator c w.name w.moment line d refl refl) in
-    subst (λ (p : ServedPart Desk Talk). RightIf (logon_answer (judging_of w line c d (work_after p))).judging) (sym is)
-    (judging_right (has_passed (judging_of w line c d (Some after)).how) (judging_of w line c d (Some after)) right)
+module _ (Fits : Judging → Type 0) where
+  passing_holds : (channel : Option Channel) (j : Judging) → Fits j → HoldsIf Fits (passing channel j).judging
+  passing_holds None j holds = holds
+  passing_holds (Some channel) j holds = holds
 
-unit_right : (w : Where) (link : ℕ) (unit : ServedUnit Desk Talk) → IsServedBy (controller_server w.name w.moment link) unit → RightIf (answer_on link w unit).judging
-unit_right w link unit is = heard_right (hear link unit.bytes unit.talk) w link unit.work unit.left unit.part is
+  judging_holds : (passed : Bool) (j : Judging) → Fits j → HoldsIf Fits (judging_by passed j).judging
+  judging_holds false j holds = holds
+  judging_holds true j holds = passing_holds (channel_in j.controller j.logon.computer j.computers) j holds
+
+  opening_holds : (channel : Option Channel) (w : Where) (number : ℕ) → HoldsIf Fits (opening channel w number).judging
+  opening_holds None w number = tt
+  opening_holds (Some channel) w number = tt
+
+-- a fact that holds of each Logon call that the controller answers
+abbrev pub HoldsOfCalls : (Judging → Type 0) → Where → Desk → Type 0
+HoldsOfCalls Fits w d =
+    (line : Line) (c : LogonCall) → Fits (judging_of w line c d (Some (answer_logon c.computer c.authenticator w.name w.moment line c.info c.validation d)))
+
+pub heard_holds : (Fits : Judging → Type 0) (what : Heard) (w : Where) (link : ℕ) (d : Desk) (left : List (List ℕ)) (part : ServedPart Desk Talk) → HoldsOfCalls Fits w d →
+    part ≡ by_heard what link w.name w.moment d left → HoldsIf Fits (heard_answer what w d (work_after part)).judging
+heard_holds Fits (heard.Close cause) w link d left part each is = tt
+heard_holds Fits (heard.Answer bytes talk) w link d left part each is = tt
+heard_holds Fits (heard.Waits talk) w link d left part each is = tt
+heard_holds Fits (heard.Asked line (call.Challenge c) talk) w link d left part each is = tt
+heard_holds Fits (heard.Asked line (call.Authenticate c) talk) w link d left part each is = opening_holds Fits (opened_by w.controller c d) w line.call
+heard_holds Fits (heard.Asked line (call.Logoff c) talk) w link d left part each is = tt
+heard_holds Fits (heard.Asked line (call.Logon c) talk) w link d left part each is =
+    let j : Judging = judging_of w line c d (Some (answer_logon c.computer c.authenticator w.name w.moment line c.info c.validation d)) in
+    subst (λ (p : ServedPart Desk Talk). HoldsIf Fits (logon_answer (judging_of w line c d (work_after p))).judging) (sym is)
+    (judging_holds Fits (has_passed j.how) j (each line c))
+
+pub calls_right : (w : Where) (d : Desk) → HoldsOfCalls IsJudgedRight w d
+calls_right w d line c =
+    let after : Desk = answer_logon c.computer c.authenticator w.name w.moment line c.info c.validation d in
+    told_right d.work.actions after.work.actions d.work.computers c (by_names c.computer c.authenticator c w.name w.moment line d refl refl)
+
+unit_right : (w : Where) (link : ℕ) (unit : ServedUnit Desk Talk) → IsServedBy (controller_server w.name w.moment link) unit → HoldsIf IsJudgedRight (answer_on link w unit).judging
+unit_right w link unit is = heard_holds IsJudgedRight (hear link unit.bytes unit.talk) w link unit.work unit.left unit.part (calls_right w unit.work) is
 
 -- ---- the units of a stream
 
@@ -228,7 +237,7 @@ module _ {W T : Type 0} where
     are_then (IsServedBy server) (λ later said rest. served_units server units later said rest) (λ later said rest. are_served server units later said rest) (server.unit bytes work talk left),
   )
 
-are_if_taken : {U : Type 0} (P : U → Type 0) (answer : Result (List Action) StepRefused) (units : List U) → AllByRecursion P units → AllByRecursion P (units_if_taken answer units)
+pub are_if_taken : {U : Type 0} (P : U → Type 0) (answer : Result (List Action) StepRefused) (units : List U) → AllByRecursion P units → AllByRecursion P (units_if_taken answer units)
 are_if_taken P (Ok actions) units each = each
 are_if_taken P (Err why) units each = tt
 
@@ -243,28 +252,30 @@ served_by : (running : Option Running) (number : ℕ) (piece : List ℕ) (c : Co
 served_by None number piece c now left = tt
 served_by (Some running) number piece c now left = served_at (lookup same_number number running.links) number piece c running now left
 
-answers_right : (w : Where) (link : ℕ) (units : List (ServedUnit Desk Talk)) → AllByRecursion (IsServedBy (controller_server w.name w.moment link)) units →
-    AllByRecursion (λ (one : Answered). RightIf one.judging) (map (answer_on link w) units)
-answers_right w link [] each = tt
-answers_right w link (unit ∷ units) each = (unit_right w link unit each.0, answers_right w link units each.1)
+pub answers_hold : (Fits : Judging → Type 0) (From : ServedUnit Desk Talk → Type 0) (w : Where) (link : ℕ) → ((unit : ServedUnit Desk Talk) → From unit → HoldsIf Fits (answer_on link w unit).judging) →
+    (units : List (ServedUnit Desk Talk)) → AllByRecursion From units → AllByRecursion (λ (one : Answered). HoldsIf Fits one.judging) (map (answer_on link w) units)
+answers_hold Fits From w link one [] each = tt
+answers_hold Fits From w link one (unit ∷ units) each = (one unit each.0, answers_hold Fits From w link one units each.1)
 
 -- ---- what is written down
 
+-- a fact that speaks of no reply holds of the calls as they are written down, each with its reply
+module _ (Fits : Judging → Type 0) (replied : (j : Judging) (number : Option ℕ) → Fits j → Fits (record j { reply = number })) where
+  reply_holds : (j : Option Judging) (number : Option ℕ) (later : List Judging) → HoldsIf Fits j → AllByRecursion Fits later → AllByRecursion Fits (with_reply j number ++ later)
+  reply_holds None number later holds each = each
+  reply_holds (Some j) number later holds each = (replied j number holds, each)
+
+  pub judged_hold : (answers : List Answered) (numbers : List ℕ) → AllByRecursion (λ (one : Answered). HoldsIf Fits one.judging) answers → AllByRecursion Fits (judged_of answers numbers)
+  judged_hold [] numbers each = tt
+  judged_hold (one ∷ answers) numbers each =
+      reply_holds one.judging (first_of numbers) (judged_of answers (later_of one.sends numbers)) each.0 (judged_hold answers (later_of one.sends numbers) each.1)
+
+pub onto_hold : (Fits : Judging → Type 0) (js old : List Judging) → AllByRecursion Fits js → AllByRecursion Fits old → AllByRecursion Fits (onto js old)
+onto_hold Fits [] old each was = was
+onto_hold Fits (j ∷ js) old each was = onto_hold Fits js (j ∷ old) each.1 (each.0, was)
+
 abbrev pub AreRight : List Judging → Type 0
 AreRight judgings = AllByRecursion IsJudgedRight judgings
-
-reply_right : (j : Option Judging) (number : Option ℕ) (later : List Judging) → RightIf j → AreRight later → AreRight (with_reply j number ++ later)
-reply_right None number later right each = each
-reply_right (Some j) number later right each = (right, each)
-
-judged_right : (answers : List Answered) (numbers : List ℕ) → AllByRecursion (λ (one : Answered). RightIf one.judging) answers → AreRight (judged_of answers numbers)
-judged_right [] numbers each = tt
-judged_right (one ∷ answers) numbers each =
-    reply_right one.judging (first_of numbers) (judged_of answers (later_of one.sends numbers)) each.0 (judged_right answers (later_of one.sends numbers) each.1)
-
-onto_right : (js old : List Judging) → AreRight js → AreRight old → AreRight (onto js old)
-onto_right [] old each was = was
-onto_right (j ∷ js) old each was = onto_right js (j ∷ old) each.1 (each.0, was)
 
 abbrev pub IsRight : Book → Type 0
 IsRight b = AreRight b.judged
@@ -272,9 +283,9 @@ IsRight b = AreRight b.judged
 controller_right : (c : Option ControllerState) (controller : ℕ) (w : Coming) (piece : List ℕ) (s after : State) (b : Book) → IsRight b → IsRight (note_controller c controller w piece s after b)
 controller_right None controller w piece s after b was = was
 controller_right (Some c) controller w piece s after b was =
-    onto_right (judged_of (answers_of controller c w piece s) _) b.judged
-    (judged_right (answers_of controller c w piece s) _
-    (answers_right (at_controller controller c w s) w.link (units_of_controller c w.link piece s.moment s.chances.left)
+    onto_hold IsJudgedRight (judged_of (answers_of controller c w piece s) (numbers_on w.link true s.bag after.bag)) b.judged
+    (judged_hold IsJudgedRight (λ j number right. right) (answers_of controller c w piece s) (numbers_on w.link true s.bag after.bag)
+    (answers_hold IsJudgedRight (IsServedBy (controller_server c.name s.moment w.link)) (at_controller controller c w s) w.link (unit_right (at_controller controller c w s) w.link) (units_of_controller c w.link piece s.moment s.chances.left)
     (are_if_taken (IsServedBy (controller_server c.name s.moment w.link)) (step_of c (event.Bytes w.link piece) s.moment s.chances.left).answer (units_by c.running w.link piece c s.moment s.chances.left)
     (served_by c.running w.link piece c s.moment s.chances.left))))
     was

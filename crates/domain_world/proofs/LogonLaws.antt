@@ -92,14 +92,14 @@ unfolding place_in
 not_unknown granted = granted.may.account
 
 -- the response to another challenge is another one
-not_response : IsGrantedBy (with_response (response_v1_of small_hash (replicate 8 8))) judging → ⊥
+pub not_response : IsGrantedBy (with_response (response_v1_of small_hash (replicate 8 8))) judging → ⊥
 unfolding place_in same_name names.upper_of units_of is_ess_pair
 not_response granted = elim granted.verifies [
   | inl short ↦ absurd (let never : replicate 8 8 ≡ replicate 8 9 = response_v1_of-one_to_one small_hash (replicate 8 8) small_challenge (record { eight = refl; bytes = All-replicate (λ (b : ℕ). b < 256) 8 8 (omega arith) }) (record { eight = refl; bytes = All-replicate (λ (b : ℕ). b < 256) 8 9 (omega arith) }) short.1 in cc)
   | inr long ↦ absurd (omega (arith, long.0, length-response_v1_of small_hash (replicate 8 8)))
 ]
 
-not_long : IsGrantedBy (with_response (replicate 25 0)) judging → ⊥
+pub not_long : IsGrantedBy (with_response (replicate 25 0)) judging → ⊥
 unfolding place_in same_name names.upper_of units_of is_ess_pair
 not_long granted = elim granted.verifies [
   | inl short ↦ absurd (let never : 25 ≡ 24 = short.0 in cc)
@@ -107,16 +107,16 @@ not_long granted = elim granted.verifies [
 ]
 
 -- one challenge was sent
-the_sent : (past : Past) (one : MessageTaken) (sent : ChallengeSent) → (IsUnusedChallenge past one sent → ⊥) → OneOf (IsUnusedChallenge past one) (sent ∷ []) → ⊥
+pub the_sent : (past : Past) (one : MessageTaken) (sent : ChallengeSent) → (IsUnusedChallenge past one sent → ⊥) → OneOf (IsUnusedChallenge past one) (sent ∷ []) → ⊥
 the_sent past one sent none unused = elim unused [ inl is ↦ none is | inr nothing ↦ nothing ]
 
-not_drawn_once : IsUnusedChallenge (run_in drawn_twice one_logon) message (challenge_on 3) → ⊥
+pub not_drawn_once : IsUnusedChallenge (run_in drawn_twice one_logon) message (challenge_on 3) → ⊥
 not_drawn_once unused = absurd (let never : 1 ≡ 0 = unused.only 1 refl in cc)
 
-not_drawn : IsUnusedChallenge (run_in (world_of small_links []) one_logon) message (challenge_on 3) → ⊥
+pub not_drawn : IsUnusedChallenge (run_in (world_of small_links []) one_logon) message (challenge_on 3) → ⊥
 not_drawn unused = absurd (let never : None ≡ Some small_challenge = unused.drawn in cc)
 
-not_link : IsLinkOf (run_in other_member_accepts one_logon) 3 0 → ⊥
+pub not_link : IsLinkOf (run_in other_member_accepts one_logon) 3 0 → ⊥
 not_link own =
     let at : Some (ToMember 0 1) ≡ Some own.route = own.at in
     let route : ToMember 0 1 ≡ own.route = cc in

@@ -142,7 +142,7 @@ unit_on : (binding : Option Agreed) (unit : RpcUnit) (link : ℕ) (joiner : Opti
 unit_on None unit link joiner = fresh_on unit.body unit.trailer unit.call link joiner
 unit_on (Some agreed) unit link joiner = bound_on unit.body unit.trailer unit link joiner agreed
 
-read_on : (read : Result RpcUnit UnitRefused) (link : ℕ) (talk : Talk) → IsOn link (hear_read read link talk)
+pub read_on : (read : Result RpcUnit UnitRefused) (link : ℕ) (talk : Talk) → IsOn link (hear_read read link talk)
 read_on (Err why) link talk = tt
 read_on (Ok unit) link talk = unit_on talk.binding unit link talk.joiner
 
@@ -337,7 +337,7 @@ step_each (Some running) w link piece c now left actions is = link_each (lookup 
 
 -- ---- a unit on the link of a member's turn
 
-asked_sends : (st : Option Step) (how : Standing) (controller : ℕ) (before after : Requester) → (asked_note st how controller before after).sends ≡ true
+pub asked_sends : (st : Option Step) (how : Standing) (controller : ℕ) (before after : Requester) → (asked_note st how controller before after).sends ≡ true
 asked_sends None how controller before after = refl
 asked_sends (Some (step.Bind c)) how controller before after = refl
 asked_sends (Some (step.Reply (question.Challenge client))) how controller before after = refl

@@ -14,6 +14,7 @@ use Rattle.member_server.specs.Machine.{fresh_member, step_of}
 use Rattle.member_server.specs.State.{State as MemberState}
 use Rattle.member_server.specs.declared.plan.MemberPlan.{MemberPlan}
 use Rattle.member_server.specs.declared.state.AtTurn.{AtTurn}
+use Rattle.member_server.specs.declared.state.Phase.{Phase}
 use Rattle.member_server.specs.declared.state.TurnTalk.{TurnTalk}
 use Rattle.domain_world.specs.declared.links.EndId.{EndId}
 use Rattle.domain_world.specs.declared.links.EndId.TheVariants.{Controller, Member, Client}
@@ -28,6 +29,7 @@ use Rattle.domain_world.specs.MemberNotes.{link_units, taken_link, turn_note, tu
 use Rattle.domain_world.specs.Past.{Coming, at_member, controller_of, first_of, later_of, note_at, note_client, note_controller, note_member, note_messages, note_turn, note_turns, numbers_on, past}
 use Rattle.domain_world.specs.Served.{ServedUnit}
 use Rattle.domain_world.specs.World.{first_world}
+use Rattle.domain_world.proofs.ListLaws.{got_append, got_behind}
 use Rattle.domain_world.proofs.FrameLaws.{Fact, HoldsAfter, HoldsIn, IsQuiet, Stays, StaysWritten, run_stays}
 use Rattle.domain_world.proofs.UnservedLaws.{LinksIn, Opens, Took, bytes_took, in_so, step_known}
 
@@ -45,14 +47,13 @@ set_cases (first ∷ items) (suc at) (suc k) new item there = elim (set_cases it
   | inr other ↦ inr (λ is. other.0 (omega (arith, is)), other.1)
 ]
 
-got_append : {T : Type 0} (items more : List T) (k : ℕ) (item : T) → slice_get items k ≡ Some item → slice_get (items ++ more) k ≡ Some item
-got_append [] more k item there = absurd cc
-got_append (first ∷ items) more zero item there = there
-got_append (first ∷ items) more (suc k) item there = got_append items more k item there
-
-got_last : {T : Type 0} (items : List T) (item : T) → slice_get (items ++ item ∷ []) (length items) ≡ Some item
-got_last [] item = refl
-got_last (first ∷ items) item = got_last items item
+-- what holds of each, and of the new one in its place, holds of each after the change
+pub each_put : {T : Type 0} (P : ℕ → T → Type 0) (items : List T) (at : ℕ) (new : T) → ((k : ℕ) (item : T) → k ≢ at → slice_get items k ≡ Some item → P k item) → P at new →
+    (k : ℕ) (item : T) → slice_get (slice_set items at new) k ≡ Some item → P k item
+each_put P items at new others here k item there = elim (set_cases items at k new item there) [
+  | inl same ↦ subst (P k) same.1 (subst (λ n. P n new) (sym same.0) here)
+  | inr other ↦ others k item other.0 other.1
+]
 
 -- ---- what is kept
 
@@ -67,7 +68,7 @@ pub record MayTake (taken : List ℕ) (links : List Route) (member link : ℕ) :
 pub record IsTakenOnce (taken : List ℕ) (members : List MemberState) (links : List Route) : Type 0 where
   pub once : AllPairs (λ (one other : ℕ). one ≢ other) taken
   pub below : All (λ (one : ℕ). one < length links) taken
-  pub each : (k : ℕ) (m : MemberState) → slice_get members k ≡ Some m → LinksIn (λ link. MayTake taken links k link) m.running
+  pub each : (k : ℕ) (m : MemberState) → slice_get members k ≡ Some m → LinksIn (λ link p. MayTake taken links k link) m.running
 
 -- so it is by the parts of a world
 abbrev pub Keeps : List ℕ → Fact
@@ -94,21 +95,16 @@ one_acceptor taken links member other link may more =
 
 -- a member is changed
 member_put : (taken : List ℕ) (members : List MemberState) (links : List Route) (at : ℕ) (new : MemberState) → IsTakenOnce taken members links →
-    LinksIn (λ link. MayTake taken links at link) new.running → IsTakenOnce taken (slice_set members at new) links
+    LinksIn (λ link p. MayTake taken links at link) new.running → IsTakenOnce taken (slice_set members at new) links
 member_put taken members links at new kept known = record {
   once = kept.once;
   below = kept.below;
-  each = λ k m there. elim (set_cases members at k new m there) [
-    | inl here ↦
-        subst (λ (x : MemberState). LinksIn (λ link. MayTake taken links k link) x.running) here.1
-        (subst (λ n. LinksIn (λ link. MayTake taken links n link) new.running) (sym here.0) known)
-    | inr other ↦ kept.each k m other.1
-  ];
+  each = each_put (λ (k : ℕ) (m : MemberState). LinksIn (λ link p. MayTake taken links k link) m.running) members at new (λ k m differs there. kept.each k m there) known;
 }
 
 -- a member is changed at a step at which these were taken
 member_took : (taken more : List ℕ) (members : List MemberState) (links : List Route) (at : ℕ) (new : MemberState) → IsTakenOnce taken members links →
-    Took (λ link. MayTake taken links at link) more (λ May. LinksIn May new.running) → IsTakenOnce (taken ++ more) (slice_set members at new) links
+    Took (λ link. MayTake taken links at link) more (λ May. LinksIn (λ link p. May link) new.running) → IsTakenOnce (taken ++ more) (slice_set members at new) links
 member_took taken [] members links at new kept took =
     subst (λ (all : List ℕ). IsTakenOnce all (slice_set members at new) links) (sym (append-nil taken)) (member_put taken members links at new kept took)
 member_took taken (one ∷ []) members links at new kept took =
@@ -116,18 +112,14 @@ member_took taken (one ∷ []) members links at new kept took =
     record {
       once = all_pairs_push (λ (a b : ℕ). a ≢ b) taken one kept.once may.free;
       below = All-push (λ (n : ℕ). n < length links) taken one kept.below (slice_get_within links one may.route may.at);
-      each = λ k m there. elim (set_cases members at k new m there) [
-        | inl here ↦
-            subst (λ (x : MemberState). LinksIn (λ link. MayTake (taken ++ one ∷ []) links k link) x.running) here.1
-            (subst (λ n. LinksIn (λ link. MayTake (taken ++ one ∷ []) links n link) new.running) (sym here.0)
-            (in_so (λ link. MayTake taken links at link × (link ≢ one)) (λ link. MayTake (taken ++ one ∷ []) links at link)
-            (λ link both. may_more taken links at link one both.0 (λ is. both.1 (sym is))) new.running took.1))
-        | inr other ↦
-            in_so (λ link. MayTake taken links k link) (λ link. MayTake (taken ++ one ∷ []) links k link)
-            (λ link its. may_more taken links k link one its
-            (λ is. other.0 (one_acceptor taken links k at link its (subst (λ n. MayTake taken links at n) is may))))
-            m.running (kept.each k m other.1)
-      ];
+      each = each_put (λ (k : ℕ) (m : MemberState). LinksIn (λ link p. MayTake (taken ++ one ∷ []) links k link) m.running) members at new
+          (λ k m differs there.
+          in_so (λ link p. MayTake taken links k link) (λ link p. MayTake (taken ++ one ∷ []) links k link)
+          (λ link p its. may_more taken links k link one its
+          (λ is. differs (one_acceptor taken links k at link its (subst (λ n. MayTake taken links at n) is may))))
+          m.running (kept.each k m there))
+          (in_so (λ link p. MayTake taken links at link × (link ≢ one)) (λ link p. MayTake (taken ++ one ∷ []) links at link)
+          (λ link p both. may_more taken links at link one both.0 (λ is. both.1 (sym is))) new.running took.1);
     }
 member_took taken (one ∷ another ∷ more) members links at new kept took = absurd took
 
@@ -138,7 +130,7 @@ link_made taken members links route kept = record {
   below = All-weaker (λ (n : ℕ). n < length links) (λ (n : ℕ). n < length (links ++ route ∷ []))
       (λ n lt. omega (arith, lt, length-append links (route ∷ []))) taken kept.below;
   each = λ k m there.
-      in_so (λ link. MayTake taken links k link) (λ link. MayTake taken (links ++ route ∷ []) k link) (λ link may. may_opened taken links route k link may) m.running (kept.each k m there);
+      in_so (λ link p. MayTake taken links k link) (λ link p. MayTake taken (links ++ route ∷ []) k link) (λ link p may. may_opened taken links route k link may) m.running (kept.each k m there);
 }
 
 -- the end that accepted the link is that member, where it is one
@@ -154,7 +146,7 @@ last_may (Controller at) taken links route is below = tt
 last_may (Client at) taken links route is below = tt
 last_may (Member at) taken links route is below = record {
   route = route;
-  at = got_last links route;
+  at = got_behind links route [];
   acceptor = is;
   free = All-weaker (λ (one : ℕ). one < length links) (λ (one : ℕ). one ≢ length links) (λ one lt same. omega (arith, lt, same)) taken below;
 }
@@ -172,15 +164,15 @@ client_hears None taken at what now ends chances links kept = kept
 client_hears (Some c) taken at what now ends chances links kept = kept
 
 member_hears : (found : Option MemberState) (taken : List ℕ) (at : ℕ) (what : Event) (now : ℕ) (ends : EndStates) (chances : Drawing) (links : List Route) →
-    slice_get ends.members at ≡ found → Opens what (λ link. MayTake taken links at link) → IsTakenOnce taken ends.members links →
+    slice_get ends.members at ≡ found → Opens what (λ link p. MayTake taken links at link) → IsTakenOnce taken ends.members links →
     IsTakenOnce taken (member_step found at what now ends chances).ends.members links
 member_hears None taken at what now ends chances links is opens kept = kept
 member_hears (Some m) taken at what now ends chances links is opens kept =
     member_put taken ends.members links at (step_of m what now chances.left).state kept
-    (step_known (λ link. MayTake taken links at link) what m now chances.left opens (kept.each at m is))
+    (step_known (λ link p. MayTake taken links at link) what m now chances.left opens (kept.each at m is))
 
 -- an event at which neither bytes come nor a link opens asks nothing
-quiet_opens : (what : Event) (May : ℕ → Type 0) → IsQuiet what → Opens what May
+pub quiet_opens : (what : Event) (May : ℕ → Phase → Type 0) → IsQuiet what → Opens what May
 quiet_opens (event.Bytes link piece) May quiet = absurd quiet
 quiet_opens (event.Opened link) May quiet = absurd quiet
 quiet_opens (event.Closed link) May quiet = tt
@@ -189,7 +181,7 @@ quiet_opens event.DialFailed May quiet = tt
 quiet_opens event.Stop May quiet = tt
 
 hear_keeps : (end : EndId) (taken : List ℕ) (what : Event) (now : ℕ) (ends : EndStates) (chances : Drawing) (links : List Route) →
-    Opens what (λ link. MayTakeAt end taken links link) → Keeps taken ends chances links → HoldsAfter (Keeps taken) (end_step end what now ends chances) links
+    Opens what (λ link p. MayTakeAt end taken links link) → Keeps taken ends chances links → HoldsAfter (Keeps taken) (end_step end what now ends chances) links
 hear_keeps (Controller at) taken what now ends chances links opens kept = controller_hears (slice_get ends.controllers at) taken at what now ends chances links kept
 hear_keeps (Member at) taken what now ends chances links opens kept = member_hears (slice_get ends.members at) taken at what now ends chances links refl opens kept
 hear_keeps (Client at) taken what now ends chances links opens kept = client_hears (slice_get ends.clients at) taken at what now ends chances links kept
@@ -197,11 +189,11 @@ hear_keeps (Client at) taken what now ends chances links opens kept = client_hea
 keeps_so : (taken : List ℕ) → Stays (Keeps taken)
 keeps_so taken = record {
   hears = λ end what now ends chances links quiet kept.
-      hear_keeps end taken what now ends chances links (quiet_opens what (λ link. MayTakeAt end taken links link) quiet) kept;
+      hear_keeps end taken what now ends chances links (quiet_opens what (λ link p. MayTakeAt end taken links link) quiet) kept;
   opens = λ route now ends chances links kept.
       hear_keeps (acceptor_of route) taken (event.Opened (length links)) now ends chances (links ++ route ∷ [])
       (last_may (acceptor_of route) taken links route refl kept.below) (link_made taken ends.members links route kept);
-  controllers = λ c at ends chances links kept. kept;
+  controllers = λ c at ends chances links is kept. kept;
   members = λ plan at ends chances links kept. member_put taken ends.members links at (fresh_member plan) kept tt;
   clients = λ client at ends chances links kept. kept;
 }
@@ -238,11 +230,11 @@ end_kept : (end : EndId) (w : Coming) (piece : List ℕ) (s after : State) (b : 
 end_kept (Controller at) w piece s after b kept =
     subst (λ (all : List ℕ). HoldsAfter (Keeps all) (end_step (Controller at) (event.Bytes w.link piece) s.moment s.ends s.chances) s.links)
     (sym (controller_taken (slice_get s.ends.controllers at) at w piece s after b))
-    (hear_keeps (Controller at) b.taken (event.Bytes w.link piece) s.moment s.ends s.chances s.links tt kept)
+    (controller_hears (slice_get s.ends.controllers at) b.taken at (event.Bytes w.link piece) s.moment s.ends s.chances s.links kept)
 end_kept (Client at) w piece s after b kept =
     subst (λ (all : List ℕ). HoldsAfter (Keeps all) (end_step (Client at) (event.Bytes w.link piece) s.moment s.ends s.chances) s.links)
     (sym (client_taken (slice_get s.ends.clients at) at w piece s b))
-    (hear_keeps (Client at) b.taken (event.Bytes w.link piece) s.moment s.ends s.chances s.links tt kept)
+    (client_hears (slice_get s.ends.clients at) b.taken at (event.Bytes w.link piece) s.moment s.ends s.chances s.links kept)
 end_kept (Member at) w piece s after b kept = member_bytes (slice_get s.ends.members at) at w piece s after b refl kept
 
 -- ---- a run
@@ -250,7 +242,7 @@ end_kept (Member at) w piece s after b kept = member_bytes (slice_get s.ends.mem
 keeps_written : StaysWritten (λ (b : Book). b.taken) Keeps
 keeps_written = record { stays = keeps_so; bytes = end_kept; given = λ at given after b. refl }
 
-fresh_links : (plans : List MemberPlan) (May : ℕ → Type 0) (k : ℕ) (m : MemberState) → slice_get (map fresh_member plans) k ≡ Some m → LinksIn May m.running
+pub fresh_links : (plans : List MemberPlan) (May : ℕ → Phase → Type 0) (k : ℕ) (m : MemberState) → slice_get (map fresh_member plans) k ≡ Some m → LinksIn May m.running
 fresh_links [] May k m there = absurd cc
 fresh_links (plan ∷ plans) May zero m there =
     let is : fresh_member plan ≡ m = cc in subst (λ (x : MemberState). LinksIn May x.running) is tt
@@ -260,7 +252,7 @@ first_kept : (plan : Plan) → HoldsIn (Keeps []) (first_world plan).state
 first_kept plan = record {
   once = λ i j d lt within. absurd (omega (arith, within));
   below = All-nil (λ (one : ℕ). one < 0);
-  each = λ k m there. fresh_links plan.members (λ link. MayTake [] [] k link) k m there;
+  each = λ k m there. fresh_links plan.members (λ link p. MayTake [] [] k link) k m there;
 }
 
 -- in every run a link takes at most one AUTHENTICATE

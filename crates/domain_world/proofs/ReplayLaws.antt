@@ -1,7 +1,6 @@
 -- In every run a replayed authenticator passes again exactly where the timestamps that passed since, each plus one, sum to a multiple of 2^32.
 use Rattle.std.proofs.Common.{◌≡◌, ◌≢◌, ◌↔◌, ℕ, zero, suc, ◌+◌, ◌-◌, ◌%◌, ◌^◌, Bool, true, false, List, [], ◌∷◌, ◌++◌, length, Option, Some, None, AllPairs, refl, sym, ap, ap₂, subst, ◌∙◌, arith, slice_get}
 use Rattle.std.proofs.lemmas.List.Elements.{recursion_from_All}
-use Rattle.std.proofs.lemmas.List.Sums.{sum_by-cons}
 use Rattle.wire_base.specs.Maps.{lookup}
 use Rattle.wire_base.specs.Names.{same_name}
 use Rattle.wire_base.specs.declared.authenticator.Authenticator.{Authenticator}
@@ -39,6 +38,7 @@ use Rattle.domain_world.specs.Links.{acceptor_of}
 use Rattle.domain_world.specs.MemberNotes.{turn_units}
 use Rattle.domain_world.specs.Past.{Coming, controller_of, is_channel, note_at, note_client, note_controller, note_member, note_messages, numbers_on, past}
 use Rattle.domain_world.specs.World.{first_controllers, first_world}
+use Rattle.domain_world.proofs.ListLaws.{moved_none, moved_one}
 use Rattle.domain_world.proofs.FrameLaws.{Fact, HoldsAfter, HoldsIn, IsQuiet, Stays, StaysWritten, run_stays}
 use Rattle.domain_world.proofs.JudgedLaws.{AreRight, judged_rightly}
 use Rattle.domain_world.proofs.MovedLaws.{found_in, moved_append, moved_same, one_channel}
@@ -88,7 +88,7 @@ follows_so : (judgings : List Judging) → Stays (Follows judgings)
 follows_so judgings = record {
   hears = λ end what now ends chances links quiet follow. end_follow end judgings what now ends chances links (no_bytes what quiet) follow;
   opens = λ route now ends chances links follow. end_follow (acceptor_of route) judgings (event.Opened (length links)) now ends chances links tt follow;
-  controllers = λ c at ends chances links follow.
+  controllers = λ c at ends chances links is follow.
       controller_put judgings judgings chances.left chances.left ends.controllers at (first_state c.table c.name) follow (record {
         order = follow.order;
         kept = fresh_kept judgings chances.left at;
@@ -107,12 +107,12 @@ controller_bytes None at w piece s after b is follow = follow
 controller_bytes (Some c) at w piece s after b is follow =
     bytes_follow (Some c) b.judged w.at at w.unit w.link piece s.moment s.ends s.chances (numbers_on w.link true s.bag after.bag) is follow c refl
 
-member_judged : (found : Option MemberState) (member : ℕ) (w : Coming) (piece : List ℕ) (s after : State) (b : Book) → (note_member found member w piece s after b).judged ≡ b.judged
+pub member_judged : (found : Option MemberState) (member : ℕ) (w : Coming) (piece : List ℕ) (s after : State) (b : Book) → (note_member found member w piece s after b).judged ≡ b.judged
 member_judged None member w piece s after b = refl
 member_judged (Some m) member w piece s after b =
     turns_judged (controller_of member s) (turn_units m w.link piece s.moment s.chances.left) w.unit (numbers_on w.link false s.bag after.bag) (note_messages member m w piece s b)
 
-client_judged : (found : Option ClientState) (client : ℕ) (w : Coming) (piece : List ℕ) (s : State) (b : Book) → (note_client found client w piece s b).judged ≡ b.judged
+pub client_judged : (found : Option ClientState) (client : ℕ) (w : Coming) (piece : List ℕ) (s : State) (b : Book) → (note_client found client w piece s b).judged ≡ b.judged
 client_judged None client w piece s b = refl
 client_judged (Some c) client w piece s b = refl
 
@@ -243,14 +243,6 @@ timestamp_if true timestamp timestamps = timestamp ∷ timestamps
 abbrev pub timestamps_on : Channel → List Judging → List ℕ
 timestamps_on channel [] = []
 timestamps_on channel (j ∷ judgings) = timestamp_if (passed_on channel j) (timestamp_of j) (timestamps_on channel judgings)
-
-moved_one : (timestamp : ℕ) (timestamps : List ℕ) → moved_by (timestamp ∷ timestamps) ≡ timestamp + 1 + moved_by timestamps
-unfolding moved_by
-moved_one timestamp timestamps = sum_by-cons (λ n. n + 1) timestamp timestamps
-
-moved_none : moved_by [] ≡ 0
-unfolding moved_by
-moved_none = refl
 
 moved_if_one : (passed : Bool) (timestamp : ℕ) (timestamps : List ℕ) (moved : ℕ) → moved_by timestamps ≡ moved → moved_by (timestamp_if passed timestamp timestamps) ≡ moved_if passed timestamp moved
 moved_if_one false timestamp timestamps moved is = is

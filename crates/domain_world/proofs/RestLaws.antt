@@ -50,7 +50,7 @@ turn_rest true false now work how left = IsRest-refl left
 turn_rest true true now work how [] = IsRest-nothing []
 turn_rest true true now work how (challenge ∷ left) = IsRest-later challenge left left (IsRest-refl left)
 
-next_rest : (now : ℕ) (desk : Desk) (left : List (List ℕ)) → IsRest (left_by (next_turn now desk left)) left
+pub next_rest : (now : ℕ) (desk : Desk) (left : List (List ℕ)) → IsRest (left_by (next_turn now desk left)) left
 next_rest now desk left = turn_rest _ _ now desk.0 desk.1 left
 
 units_rest : (part : ServedPart AtLink Talk) (rest : List ℕ) (left : List (List ℕ)) (number : ℕ) (how : Dialling) (work : Work) → IsRest (left_by part) left →

@@ -116,7 +116,7 @@ kept_on judgings now left rest controller name old new keeps moved fewer kept = 
 }
 
 -- a name is looked up whatever its case
-lookup_named : {V : Type 0} (one other : List ℕ) (entries : List (List ℕ × V)) → same_name one other ≡ true → lookup same_name other entries ≡ lookup same_name one entries
+pub lookup_named : {V : Type 0} (one other : List ℕ) (entries : List (List ℕ × V)) → same_name one other ≡ true → lookup same_name other entries ≡ lookup same_name one entries
 lookup_named one other [] same = refl
 lookup_named one other (entry ∷ entries) same =
     let key : same_name other entry.0 ≡ same_name one entry.0 =
@@ -417,7 +417,7 @@ how_passes : (passes : Bool) (key : List ℕ) (channel : ChannelState) (given : 
 how_passes true key channel given name now line info validation d = ap has_passed (told_first d.work.actions (judged.Passed _) _)
 how_passes false key channel given name now line info validation d = ap has_passed (told_first d.work.actions judged.Barred _)
 
-return_computers : (returned : Option (List ℕ)) (key name : List ℕ) (now : ℕ) (line : Line) (info : NetworkInfo) (validation : ℕ) (d : Desk) →
+pub return_computers : (returned : Option (List ℕ)) (key name : List ℕ) (now : ℕ) (line : Line) (info : NetworkInfo) (validation : ℕ) (d : Desk) →
     (judge_return returned key name now line info validation d).work.computers ≡ d.work.computers
 return_computers None key name now line info validation d = refl
 return_computers (Some credential) key name now line info validation d = refl
@@ -428,7 +428,7 @@ not_there : {V : Type 0} (hit : Bool) (entry : List ℕ × V) (entries rest : Li
 not_there true entry entries rest found none later = absurd cc
 not_there false entry entries rest found none later = ap (λ more. entry ∷ more) (later none)
 
-taken_none : {V : Type 0} (name : List ℕ) (entries : List (List ℕ × V)) → lookup same_name name entries ≡ None → take_out same_name name entries ≡ entries
+pub taken_none : {V : Type 0} (name : List ℕ) (entries : List (List ℕ × V)) → lookup same_name name entries ≡ None → take_out same_name name entries ≡ entries
 taken_none name [] none = refl
 taken_none name (entry ∷ entries) none =
     not_there (has_key same_name name entry) entry entries (take_out same_name name entries) (lookup same_name name entries) none (λ later. taken_none name entries later)

@@ -25,6 +25,7 @@ use Rattle.domain_world.specs.History.{Book, Calling, Mark, Opened, Opening, Rep
 use Rattle.domain_world.specs.Past.{Past, controller_of}
 use Rattle.domain_world.specs.SharedSequences.{IsBeforeTurn, Keeps, SequencesAreShared, Stands, any_foreign, channel_seed, timestamps_on}
 use Rattle.domain_world.specs.Sound.{Accepted, Holds, Sound, passed_units}
+use Rattle.domain_world.proofs.ListLaws.{got_nothing, moved_none}
 
 pub one_apart : {T : Type 0} (R : T → T → Type 0) (x : T) → AllPairs R (x ∷ [])
 one_apart R x i j d before within = absurd (omega arith)
@@ -147,13 +148,9 @@ not_one_byte : 1 ∷ [] ≡ small_seed → ⊥
 not_one_byte is = absurd (let none : 1 ≡ 8 = ap length is ∙ (IsBlock-add_to _ (moved_by []) (IsBlock-cred_of _ _)).eight in cc)
 
 -- a turn moves a seed
-moved_none : moved_by [] ≡ 0
+moved_zero : moved_by (0 ∷ []) ≡ 1
 unfolding moved_by
-moved_none = refl
-
-moved_one : moved_by (0 ∷ []) ≡ 1
-unfolding moved_by
-moved_one = refl
+moved_zero = refl
 
 moved_two : moved_by (0 ∷ 0 ∷ []) ≡ 2
 unfolding moved_by
@@ -163,7 +160,7 @@ seeds_apart : (one other : List ℕ) → channel_seed small_name one ≡ channel
 seeds_apart one other is = add_to-same _ (moved_by one) (moved_by other) is
 
 none_one : small_seed ≡ seed_after_one → ⊥
-none_one is = absurd (omega (arith, moved_none, moved_one, seeds_apart [] (0 ∷ []) is))
+none_one is = absurd (omega (arith, moved_none, moved_zero, seeds_apart [] (0 ∷ []) is))
 
 none_two : small_seed ≡ seed_after_two → ⊥
 none_two is = absurd (omega (arith, moved_none, moved_two, seeds_apart [] (0 ∷ 0 ∷ []) is))
@@ -214,10 +211,6 @@ of_sequences = record {
 
 -- ---- channels, as they are seen from outside
 
-no_mark : (unit : ℕ) (mark : Mark) → slice_get [] unit ≡ Some mark → ⊥
-no_mark zero mark is = absurd cc
-no_mark (suc unit) mark is = absurd cc
-
 no_view : (view : View) → None ≡ Some view → ⊥
 no_view view is = absurd cc
 
@@ -227,28 +220,28 @@ opening_whole zero number c is = (refl, cc, cc)
 opening_whole (suc zero) number c is = absurd cc
 opening_whole (suc (suc zero)) number c is = absurd cc
 opening_whole (suc (suc (suc zero))) number c is = absurd cc
-opening_whole (suc (suc (suc (suc unit)))) number c is = absurd (no_mark unit (Opening c number) is)
+opening_whole (suc (suc (suc (suc unit)))) number c is = absurd (got_nothing unit (Opening c number) is)
 
 opened_whole : (unit number request : ℕ) (c : Channel) → slice_get whole_history.marks unit ≡ Some (Opened c number request) → (1 ≡ number) × (0 ≡ request) × (small_name ≡ c)
 opened_whole zero number request c is = absurd cc
 opened_whole (suc zero) number request c is = (cc, cc, cc)
 opened_whole (suc (suc zero)) number request c is = absurd cc
 opened_whole (suc (suc (suc zero))) number request c is = absurd cc
-opened_whole (suc (suc (suc (suc unit)))) number request c is = absurd (no_mark unit (Opened c number request) is)
+opened_whole (suc (suc (suc (suc unit)))) number request c is = absurd (got_nothing unit (Opened c number request) is)
 
 calling_whole : (unit number timestamp : ℕ) (c : Channel) → slice_get whole_history.marks unit ≡ Some (Calling c number timestamp) → (unit ≡ 2) × (2 ≡ number) × (small_name ≡ c)
 calling_whole zero number timestamp c is = absurd cc
 calling_whole (suc zero) number timestamp c is = absurd cc
 calling_whole (suc (suc zero)) number timestamp c is = (refl, cc, cc)
 calling_whole (suc (suc (suc zero))) number timestamp c is = absurd cc
-calling_whole (suc (suc (suc (suc unit)))) number timestamp c is = absurd (no_mark unit (Calling c number timestamp) is)
+calling_whole (suc (suc (suc (suc unit)))) number timestamp c is = absurd (got_nothing unit (Calling c number timestamp) is)
 
 reply_whole : (unit number request : ℕ) (c : Channel) → slice_get whole_history.marks unit ≡ Some (ReplyTo c number request) → (2 ≡ number) × (2 ≡ request) × (small_name ≡ c)
 reply_whole zero number request c is = absurd cc
 reply_whole (suc zero) number request c is = absurd cc
 reply_whole (suc (suc zero)) number request c is = absurd cc
 reply_whole (suc (suc (suc zero))) number request c is = (cc, cc, cc)
-reply_whole (suc (suc (suc (suc unit)))) number request c is = absurd (no_mark unit (ReplyTo c number request) is)
+reply_whole (suc (suc (suc (suc unit)))) number request c is = absurd (got_nothing unit (ReplyTo c number request) is)
 
 -- who holds what
 view_whole : (i : ℕ) (v : View) → whole_history.views i ≡ Some v → (i ≡ 0) × (whole_view ≡ v)
@@ -275,10 +268,11 @@ whole_sound = record {
   held_before = λ i v challenge at holds. inl (holds_whole v challenge (view_whole i v at).1 holds);
   apart = λ i j u v challenge at also holds too. (view_whole i u at).0 ∙ sym (view_whole j v also).0;
   opening = λ i v unit number timestamp c at opens is. opens_whole v c.client (view_whole i v at).1 opens;
+  unopened = λ i v unit number c at opens out is. opens_whole v c.client (view_whole i v at).1 opens;
   opening_numbers = λ i v unit number c at holds is. omega (arith, (opening_whole unit number c is).1, ap View.call (view_whole i v at).1);
   numbers = λ i v unit number timestamp c at stands is. omega (arith, (calling_whole unit number timestamp c is).1, ap View.call (view_whole i v at).1);
   opening_distinct = λ unit other number more c d is also same. (opening_whole unit number c is).0 ∙ sym (opening_whole other more d also).0;
-  distinct = λ unit other number timestamp later c is also. (calling_whole unit number timestamp c is).0 ∙ sym (calling_whole other number later c also).0;
+  distinct = λ unit other number timestamp later c d is also same. (calling_whole unit number timestamp c is).0 ∙ sym (calling_whole other number later d also).0;
   openings = λ unit number request c is.
       let it = opened_whole unit number request c is in (
         subst (λ (r : ℕ). slice_get whole_history.marks r ≡ Some (Opening c number)) it.1 (ap (λ (n : ℕ). Some (Opening small_name n)) it.0 ∙ ap (λ (one : Channel). Some (Opening one number)) it.2),
@@ -292,7 +286,13 @@ whole_sound = record {
   stands = λ i v c at stands. inl (subst (λ (one : Channel). SameChannel small_name one) (stands_whole v c (view_whole i v at).1 stands) same_small);
   once = one_apart (λ (one other : Accepted). SameChannel one.channel other.channel → ⊥) (record { unit = Some 0; channel = small_name });
   on_accepted = (inl same_small, tt);
+  openers = (λ unit is. (1, (let zero_is : 0 ≡ unit = cc in subst (λ (u : ℕ). slice_get whole_history.marks u ≡ Some (Opening small_name 1)) zero_is refl)), tt);
   timestamps = (λ unit is. (2, (let two : 2 ≡ unit = cc in subst (λ (u : ℕ). slice_get whole_history.marks u ≡ Some (Calling small_name 2 0)) two refl)), tt);
+  waiting_before = λ controller computer server at. absurd (let none : None ≡ Some server = at in cc);
+  accepted_before = (inl refl, tt);
+  waiting_apart = λ controller more computer other server at also. absurd (let none : None ≡ Some server = at in cc);
+  waiting_unused = λ controller computer server at one. absurd (let none : None ≡ Some server = at in cc);
+  kept = λ controller computer c at. absurd (let none : None ≡ Some c = at in cc);
   turns = λ i v number c at stands asks. absurd (let none : None ≡ Some number = ap View.asking (view_whole i v at).1 ∙ asks in cc);
   ends = λ i v c at stands unit ended.
       let is : small_name ≡ c = stands_whole v c (view_whole i v at).1 stands in
@@ -311,7 +311,7 @@ whole_sound = record {
 pub of_soundness : OfSoundness
 of_soundness = record {
   meets = whole_sound;
-  fails = λ c sound. absurd (let same : 0 ≡ 1 = sound.distinct 0 1 5 0 0 c refl refl in omega arith);
+  fails = λ c sound. absurd (let same : 0 ≡ 1 = sound.distinct 0 1 5 0 0 c c refl refl refl in omega arith);
   fails_ended = λ sound. absurd (let call = (sound.ends 0 whole_view small_name refl refl 1 (inl refl)).0.2 in cc);
 }
 

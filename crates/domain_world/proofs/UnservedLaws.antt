@@ -76,37 +76,37 @@ IfUnserved X (phase.Asked bound place held) = Unit {0}
 IfUnserved X (phase.In on) = Unit {0}
 IfUnserved X (phase.Out bound status) = Unit {0}
 
--- the same where the link stays open
-abbrev pub IfUnservedAfter : Type 0 → Option Talk → Type 0
+-- the same where the link stays open, of how far it is
+abbrev pub IfUnservedAfter : (Phase → Type 0) → Option Talk → Type 0
 IfUnservedAfter X None = Unit {0}
-IfUnservedAfter X (Some talk) = IfUnserved X talk.phase
+IfUnservedAfter X (Some talk) = IfUnserved (X talk.phase) talk.phase
 
-abbrev pub IfUnservedPart : Type 0 → ServedPart AtLink Talk → Type 0
+abbrev pub IfUnservedPart : (Phase → Type 0) → ServedPart AtLink Talk → Type 0
 IfUnservedPart X (Err why) = Unit {0}
 IfUnservedPart X (Ok part) = IfUnservedAfter X part.value.1
 
 -- the link is closed, or its challenge has served
 abbrev pub HasServed : Option Talk → Type 0
-HasServed said = IfUnservedAfter ⊥ said
+HasServed said = IfUnservedAfter (λ (p : Phase). ⊥) said
 
-phase_so : (X Y : Type 0) → (X → Y) → (p : Phase) → IfUnserved X p → IfUnserved Y p
+pub phase_so : (X Y : Type 0) → (X → Y) → (p : Phase) → IfUnserved X p → IfUnserved Y p
 phase_so X Y so phase.Fresh known = so known
 phase_so X Y so (phase.Challenged bound challenge flags) known = so known
 phase_so X Y so (phase.Asked bound place held) known = tt
 phase_so X Y so (phase.In on) known = tt
 phase_so X Y so (phase.Out bound status) known = tt
 
-said_so : (X Y : Type 0) → (X → Y) → (said : Option Talk) → IfUnservedAfter X said → IfUnservedAfter Y said
+said_so : (X Y : Phase → Type 0) → ((p : Phase) → X p → Y p) → (said : Option Talk) → IfUnservedAfter X said → IfUnservedAfter Y said
 said_so X Y so None known = tt
-said_so X Y so (Some talk) known = phase_so X Y so talk.phase known
+said_so X Y so (Some talk) known = phase_so (X talk.phase) (Y talk.phase) (so talk.phase) talk.phase known
 
-part_so : (X Y : Type 0) → (X → Y) → (part : ServedPart AtLink Talk) → IfUnservedPart X part → IfUnservedPart Y part
+part_so : (X Y : Phase → Type 0) → ((p : Phase) → X p → Y p) → (part : ServedPart AtLink Talk) → IfUnservedPart X part → IfUnservedPart Y part
 part_so X Y so (Err why) known = tt
 part_so X Y so (Ok part) known = said_so X Y so part.value.1 known
 
 -- of a link whose challenge has served anything holds
-none_so : (X : Type 0) (said : Option Talk) → HasServed said → IfUnservedAfter X said
-none_so X said known = said_so ⊥ X (λ none. absurd none) said known
+pub none_so : (X : Phase → Type 0) (said : Option Talk) → HasServed said → IfUnservedAfter X said
+none_so X said known = said_so (λ p. ⊥) X (λ p none. absurd none) said known
 
 -- what holds anyway
 phase_known : (X : Type 0) (p : Phase) → X → IfUnserved X p
@@ -116,11 +116,11 @@ phase_known X (phase.Asked bound place held) known = tt
 phase_known X (phase.In on) known = tt
 phase_known X (phase.Out bound status) known = tt
 
-said_known : (X : Type 0) (said : Option Talk) → X → IfUnservedAfter X said
+said_known : (X : Type 0) (said : Option Talk) → X → IfUnservedAfter (λ p. X) said
 said_known X None known = tt
 said_known X (Some talk) known = phase_known X talk.phase known
 
-part_known : (X : Type 0) (part : ServedPart AtLink Talk) → X → IfUnservedPart X part
+pub part_known : (X : Type 0) (part : ServedPart AtLink Talk) → X → IfUnservedPart (λ p. X) part
 part_known X (Err why) known = tt
 part_known X (Ok part) known = said_known X part.value.1 known
 
@@ -268,7 +268,7 @@ out_serves : (unit : Result RpcUnit UnitRefused) (bound : Bound) (status : ℕ) 
 out_serves (Err why) bound status joiner at = tt
 out_serves (Ok unit) bound status joiner at = out_body unit.body unit.call bound status joiner at
 
-bound_serves : (p : Phase) (bytes : List ℕ) (joiner : Option RpcUnit) (at : AtLink) → HasServed (bound_unit p bytes joiner at).1
+pub bound_serves : (p : Phase) (bytes : List ℕ) (joiner : Option RpcUnit) (at : AtLink) → HasServed (bound_unit p bytes joiner at).1
 bound_serves phase.Fresh bytes joiner at = tt
 bound_serves (phase.Challenged bound challenge flags) bytes joiner at = challenged_serves (unit_of bytes) bound challenge flags joiner at
 bound_serves (phase.Asked bound place held) bytes joiner at = asked_serves (unit_of bytes) bytes bound place held joiner at
@@ -288,7 +288,7 @@ held_serves (bytes ∷ units) at talk known =
     let served : Served = bound_unit talk.phase bytes talk.joiner at in
     said_holds units (held_serves units) served.0 served.1 (bound_serves talk.phase bytes talk.joiner at)
 
-ended_serves : (how : Ending) (logon : Logon) (bound : Bound) → IfUnserved ⊥ (phase_after how logon bound)
+pub ended_serves : (how : Ending) (logon : Logon) (bound : Bound) → IfUnserved ⊥ (phase_after how logon bound)
 ended_serves (ending.Granted info) logon bound = tt
 ended_serves (ending.Refused status) logon bound = tt
 ended_serves (ending.NoController cause) logon bound = tt
@@ -297,8 +297,8 @@ ended_serves (ending.NoController cause) logon bound = tt
 
 -- What the units of a link come to, by what was taken of them: no AUTHENTICATE; or one, of a link whose challenge hadn't served before and has then.
 abbrev pub TakesOne : Type 0 → ℕ → List ℕ → ServedPart AtLink Talk → Type 0
-TakesOne X link [] part = IfUnservedPart X part
-TakesOne X link (one ∷ []) part = (one ≡ link) × X × IfUnservedPart ⊥ part
+TakesOne X link [] part = IfUnservedPart (λ (p : Phase). X) part
+TakesOne X link (one ∷ []) part = (one ≡ link) × X × IfUnservedPart (λ (p : Phase). ⊥) part
 TakesOne X link (one ∷ other ∷ more) part = ⊥
 
 abbrev pub LaterTake : LinkAt → List (List ℕ) → Option UnitRefused → Type 1
@@ -307,7 +307,7 @@ LaterTake w units why = (X : Type 0) (at : AtLink) (talk : Talk) (left : List (L
 
 behind_take : (X : Type 0) (link : ℕ) (is_taken : Bool) (rest : List ℕ) (part : ServedPart AtLink Talk) → X → TakesOne ⊥ link rest part →
     TakesOne X link (link_if is_taken link ++ rest) part
-behind_take X link false [] part known took = part_so ⊥ X (λ none. absurd none) part took
+behind_take X link false [] part known took = part_so (λ p. ⊥) (λ p. X) (λ p none. absurd none) part took
 behind_take X link true [] part known took = (refl, known, took)
 behind_take X link false (one ∷ []) part known took = absurd took.1
 behind_take X link true (one ∷ []) part known took = absurd took.1
@@ -315,13 +315,13 @@ behind_take X link false (one ∷ other ∷ more) part known took = absurd took
 behind_take X link true (one ∷ other ∷ more) part known took = absurd took
 
 module _ (X : Type 0) (w : LinkAt) (units : List (List ℕ)) (why : Option UnitRefused) (later : LaterTake w units why) where
-  said_take : (at : AtLink) (said : Option Talk) (left : List (List ℕ)) → IfUnservedAfter X said →
+  said_take : (at : AtLink) (said : Option Talk) (left : List (List ℕ)) → IfUnservedAfter (λ p. X) said →
       TakesOne X w.link (flat_map (taken_link w) (units_on at said left (λ next talk rest. served_units link_server units next talk rest)))
       (then_talk at said left (λ next talk rest. served_by link_server units why next talk rest))
   said_take at None left known = tt
   said_take at (Some talk) left known = later X at talk left known
 
-  part_take : (part : ServedPart AtLink Talk) → IfUnservedPart X part →
+  part_take : (part : ServedPart AtLink Talk) → IfUnservedPart (λ p. X) part →
       TakesOne X w.link (flat_map (taken_link w) (units_then part (λ next talk rest. served_units link_server units next talk rest)))
       (then_open part (λ next talk rest. served_by link_server units why next talk rest))
   part_take (Err refused) known = tt
@@ -343,7 +343,7 @@ module _ (X : Type 0) (w : LinkAt) (units : List (List ℕ)) (why : Option UnitR
       (then_talk (bound_unit p bytes joiner at).0 (bound_unit p bytes joiner at).1 left (λ next talk rest. served_by link_server units why next talk rest))
   bound_take p bytes joiner at left =
       let served : Served = bound_unit p bytes joiner at in
-      said_take served.0 served.1 left (none_so X served.1 (bound_serves p bytes joiner at))
+      said_take served.0 served.1 left (none_so (λ p. X) served.1 (bound_serves p bytes joiner at))
 
   unit_take : (p : Phase) (bytes : List ℕ) (joiner : Option RpcUnit) (at : AtLink) (left : List (List ℕ)) → IfUnserved X p →
       TakesOne X w.link
@@ -367,90 +367,89 @@ units_take w (bytes ∷ units) why X at talk left known = unit_take X w units wh
 
 -- ---- the links of a member
 
--- the fact holds of the number of each link whose challenge hasn't served, and no number comes twice among those
-abbrev pub Unserved : (ℕ → Type 0) → List (ℕ × LinkState Talk) → Type 0
+-- the fact holds of the number of each link whose challenge hasn't served and of how far it is, and no number comes twice among those
+abbrev pub Unserved : (ℕ → Phase → Type 0) → List (ℕ × LinkState Talk) → Type 0
 Unserved May [] = Unit {0}
-Unserved May (entry ∷ links) = IfUnserved (May entry.0) entry.1.talk.phase × Unserved (λ n. May n × (n ≢ entry.0)) links
+Unserved May (entry ∷ links) = IfUnserved (May entry.0 entry.1.talk.phase) entry.1.talk.phase × Unserved (λ n p. May n p × (n ≢ entry.0)) links
 
-links_so : (May Might : ℕ → Type 0) → ((n : ℕ) → May n → Might n) → (links : List (ℕ × LinkState Talk)) → Unserved May links → Unserved Might links
+pub links_so : (May Might : ℕ → Phase → Type 0) → ((n : ℕ) (p : Phase) → May n p → Might n p) → (links : List (ℕ × LinkState Talk)) → Unserved May links → Unserved Might links
 links_so May Might so [] all = tt
 links_so May Might so (entry ∷ links) all = (
-  phase_so (May entry.0) (Might entry.0) (so entry.0) entry.1.talk.phase all.0,
-  links_so (λ n. May n × (n ≢ entry.0)) (λ n. Might n × (n ≢ entry.0)) (λ n known. (so n known.0, known.1)) links all.1,
+  phase_so (May entry.0 entry.1.talk.phase) (Might entry.0 entry.1.talk.phase) (so entry.0 entry.1.talk.phase) entry.1.talk.phase all.0,
+  links_so (λ n p. May n p × (n ≢ entry.0)) (λ n p. Might n p × (n ≢ entry.0)) (λ n p known. (so n p known.0, known.1)) links all.1,
 )
 
-found_by : (hit : Bool) (May : ℕ → Type 0) (k : ℕ) (entry : ℕ × LinkState Talk) (links : List (ℕ × LinkState Talk)) (found : Option (LinkState Talk)) (link : LinkState Talk) →
+found_by : (hit : Bool) (May : ℕ → Phase → Type 0) (k : ℕ) (entry : ℕ × LinkState Talk) (links : List (ℕ × LinkState Talk)) (found : Option (LinkState Talk)) (link : LinkState Talk) →
     same_number k entry.0 ≡ hit → (if hit then Some entry.1 else found) ≡ Some link → Unserved May (entry ∷ links) →
-    (found ≡ Some link → IfUnserved (May k × (k ≢ entry.0)) link.talk.phase) → IfUnserved (May k) link.talk.phase
+    (found ≡ Some link → IfUnserved (May k link.talk.phase × (k ≢ entry.0)) link.talk.phase) → IfUnserved (May k link.talk.phase) link.talk.phase
 found_by true May k entry links found link is there all later =
     let here : entry.1 ≡ link = cc in
-    subst (λ (one : LinkState Talk). IfUnserved (May k) one.talk.phase) here (subst (λ n. IfUnserved (May n) entry.1.talk.phase) (sym (eqb-true k entry.0 is)) all.0)
-found_by false May k entry links found link is there all later = phase_so (May k × (k ≢ entry.0)) (May k) (λ both. both.0) link.talk.phase (later there)
+    subst (λ (one : LinkState Talk). IfUnserved (May k one.talk.phase) one.talk.phase) here
+    (subst (λ n. IfUnserved (May n entry.1.talk.phase) entry.1.talk.phase) (sym (eqb-true k entry.0 is)) all.0)
+found_by false May k entry links found link is there all later =
+    phase_so (May k link.talk.phase × (k ≢ entry.0)) (May k link.talk.phase) (λ both. both.0) link.talk.phase (later there)
 
-found_known : (May : ℕ → Type 0) (k : ℕ) (links : List (ℕ × LinkState Talk)) (link : LinkState Talk) → lookup same_number k links ≡ Some link → Unserved May links →
-    IfUnserved (May k) link.talk.phase
+pub found_known : (May : ℕ → Phase → Type 0) (k : ℕ) (links : List (ℕ × LinkState Talk)) (link : LinkState Talk) → lookup same_number k links ≡ Some link → Unserved May links →
+    IfUnserved (May k link.talk.phase) link.talk.phase
 found_known May k [] link there all = absurd cc
 found_known May k (entry ∷ links) link there all =
     found_by (same_number k entry.0) May k entry links (lookup same_number k links) link refl there all
-    (λ later. found_known (λ n. May n × (n ≢ entry.0)) k links link later all.1)
+    (λ later. found_known (λ n p. May n p × (n ≢ entry.0)) k links link later all.1)
 
-taken_if : (hit : Bool) (May : ℕ → Type 0) (k : ℕ) (entry : ℕ × LinkState Talk) (links rest : List (ℕ × LinkState Talk)) → same_number k entry.0 ≡ hit →
-    Unserved May (entry ∷ links) → Unserved (λ n. (May n × (n ≢ entry.0)) × (n ≢ k)) rest → Unserved (λ n. May n × (n ≢ k)) (if hit then links else entry ∷ rest)
+taken_if : (hit : Bool) (May : ℕ → Phase → Type 0) (k : ℕ) (entry : ℕ × LinkState Talk) (links rest : List (ℕ × LinkState Talk)) → same_number k entry.0 ≡ hit →
+    Unserved May (entry ∷ links) → Unserved (λ n p. (May n p × (n ≢ entry.0)) × (n ≢ k)) rest → Unserved (λ n p. May n p × (n ≢ k)) (if hit then links else entry ∷ rest)
 taken_if true May k entry links rest is all more =
-    links_so (λ n. May n × (n ≢ entry.0)) (λ n. May n × (n ≢ k)) (λ n known. (known.0, λ same. known.1 (same ∙ eqb-true k entry.0 is))) links all.1
+    links_so (λ n p. May n p × (n ≢ entry.0)) (λ n p. May n p × (n ≢ k)) (λ n p known. (known.0, λ same. known.1 (same ∙ eqb-true k entry.0 is))) links all.1
 taken_if false May k entry links rest is all more = (
-  phase_so (May entry.0) (May entry.0 × (entry.0 ≢ k)) (λ known. (known, λ same. eqb-false k entry.0 is (sym same))) entry.1.talk.phase all.0,
-  links_so (λ n. (May n × (n ≢ entry.0)) × (n ≢ k)) (λ n. (May n × (n ≢ k)) × (n ≢ entry.0)) (λ n known. ((known.0.0, known.1), known.0.1)) rest more,
+  phase_so (May entry.0 entry.1.talk.phase) (May entry.0 entry.1.talk.phase × (entry.0 ≢ k)) (λ known. (known, λ same. eqb-false k entry.0 is (sym same))) entry.1.talk.phase all.0,
+  links_so (λ n p. (May n p × (n ≢ entry.0)) × (n ≢ k)) (λ n p. (May n p × (n ≢ k)) × (n ≢ entry.0)) (λ n p known. ((known.0.0, known.1), known.0.1)) rest more,
 )
 
 -- a link that is out of the map is in it no more
-taken_known : (May : ℕ → Type 0) (k : ℕ) (links : List (ℕ × LinkState Talk)) → Unserved May links → Unserved (λ n. May n × (n ≢ k)) (take_out same_number k links)
+taken_known : (May : ℕ → Phase → Type 0) (k : ℕ) (links : List (ℕ × LinkState Talk)) → Unserved May links → Unserved (λ n p. May n p × (n ≢ k)) (take_out same_number k links)
 taken_known May k [] all = tt
 taken_known May k (entry ∷ links) all =
-    taken_if (same_number k entry.0) May k entry links (take_out same_number k links) refl all (taken_known (λ n. May n × (n ≢ entry.0)) k links all.1)
+    taken_if (same_number k entry.0) May k entry links (take_out same_number k links) refl all (taken_known (λ n p. May n p × (n ≢ entry.0)) k links all.1)
 
-put_if : (hit : Bool) (May : ℕ → Type 0) (k : ℕ) (v : LinkState Talk) (entry : ℕ × LinkState Talk) (links rest : List (ℕ × LinkState Talk)) → same_number k entry.0 ≡ hit →
-    IfUnserved (May k) v.talk.phase → Unserved May (entry ∷ links) → (k ≢ entry.0 → Unserved (λ n. May n × (n ≢ entry.0)) rest) →
+put_if : (hit : Bool) (May : ℕ → Phase → Type 0) (k : ℕ) (v : LinkState Talk) (entry : ℕ × LinkState Talk) (links rest : List (ℕ × LinkState Talk)) → same_number k entry.0 ≡ hit →
+    IfUnserved (May k v.talk.phase) v.talk.phase → Unserved May (entry ∷ links) → (k ≢ entry.0 → Unserved (λ n p. May n p × (n ≢ entry.0)) rest) →
     Unserved May (if hit then (k, v) ∷ links else entry ∷ rest)
 put_if true May k v entry links rest is known all more = (
   known,
-  links_so (λ n. May n × (n ≢ entry.0)) (λ n. May n × (n ≢ k)) (λ n old. (old.0, λ same. old.1 (same ∙ eqb-true k entry.0 is))) links all.1,
+  links_so (λ n p. May n p × (n ≢ entry.0)) (λ n p. May n p × (n ≢ k)) (λ n p old. (old.0, λ same. old.1 (same ∙ eqb-true k entry.0 is))) links all.1,
 )
 put_if false May k v entry links rest is known all more = (all.0, more (eqb-false k entry.0 is))
 
-put_known : (May : ℕ → Type 0) (k : ℕ) (v : LinkState Talk) (links : List (ℕ × LinkState Talk)) → IfUnserved (May k) v.talk.phase → Unserved May links →
+put_known : (May : ℕ → Phase → Type 0) (k : ℕ) (v : LinkState Talk) (links : List (ℕ × LinkState Talk)) → IfUnserved (May k v.talk.phase) v.talk.phase → Unserved May links →
     Unserved May (put same_number k v links)
 put_known May k v [] known all = (known, tt)
 put_known May k v (entry ∷ links) known all =
     put_if (same_number k entry.0) May k v entry links (put same_number k v links) refl known all
-    (λ differs. put_known (λ n. May n × (n ≢ entry.0)) k v links (phase_so (May k) (May k × (k ≢ entry.0)) (λ old. (old, differs)) v.talk.phase known) all.1)
+    (λ differs.
+    put_known (λ n p. May n p × (n ≢ entry.0)) k v links (phase_so (May k v.talk.phase) (May k v.talk.phase × (k ≢ entry.0)) (λ old. (old, differs)) v.talk.phase known) all.1)
 
 -- ---- what a step leaves
 
-abbrev pub DeskLinks : (ℕ → Type 0) → Result (Part Desk) StepRefused → Type 0
+abbrev pub DeskLinks : (ℕ → Phase → Type 0) → Result (Part Desk) StepRefused → Type 0
 DeskLinks May (Err why) = Unit {0}
 DeskLinks May (Ok part) = Unserved May part.value.0.links
 
-abbrev pub TurnLinks : (ℕ → Type 0) → ServedPart AtTurn TurnTalk → Type 0
+abbrev pub TurnLinks : (ℕ → Phase → Type 0) → ServedPart AtTurn TurnTalk → Type 0
 TurnLinks May (Err why) = Unit {0}
 TurnLinks May (Ok part) = Unserved May part.value.0.work.links
 
 -- a member that was halted has no links
-abbrev pub LinksIn : (ℕ → Type 0) → Option Running → Type 0
+abbrev pub LinksIn : (ℕ → Phase → Type 0) → Option Running → Type 0
 LinksIn May None = Unit {0}
 LinksIn May (Some running) = Unserved May running.links
 
-pub in_so : (May Might : ℕ → Type 0) → ((n : ℕ) → May n → Might n) → (r : Option Running) → LinksIn May r → LinksIn Might r
+pub in_so : (May Might : ℕ → Phase → Type 0) → ((n : ℕ) (p : Phase) → May n p → Might n p) → (r : Option Running) → LinksIn May r → LinksIn Might r
 in_so May Might so None all = tt
 in_so May Might so (Some running) all = links_so May Might so running.links all
 
-desk_so : (May Might : ℕ → Type 0) → ((n : ℕ) → May n → Might n) → (part : Result (Part Desk) StepRefused) → DeskLinks May part → DeskLinks Might part
-desk_so May Might so (Err why) all = tt
-desk_so May Might so (Ok part) all = links_so May Might so part.value.0.links all
-
-module _ (May : ℕ → Type 0) where
-  fewer_known : (k : ℕ) (links : List (ℕ × LinkState Talk)) → Unserved May links → Unserved May (take_out same_number k links)
-  fewer_known k links all = links_so (λ n. May n × (n ≢ k)) May (λ n both. both.0) (take_out same_number k links) (taken_known May k links all)
+module _ (May : ℕ → Phase → Type 0) where
+  pub fewer_known : (k : ℕ) (links : List (ℕ × LinkState Talk)) → Unserved May links → Unserved May (take_out same_number k links)
+  fewer_known k links all = links_so (λ n p. May n p × (n ≢ k)) May (λ n p both. both.0) (take_out same_number k links) (taken_known May k links all)
 
   kept_known : (said : Option Talk) (rest : List ℕ) (number : ℕ) (at : AtLink) (w : Work) → IfUnservedAfter (May number) said → Unserved May w.links →
       Unserved May (keep_link said rest number (after_link at w)).links
@@ -533,7 +532,7 @@ module _ (May : ℕ → Type 0) where
   turn_done (Err why) rest number all = tt
   turn_done (Ok part) rest number all = all
 
-  dialled_known : (cut : Cut) (number : ℕ) (talk : TurnTalk) (w : Work) (left : List (List ℕ)) → Unserved May w.links → DeskLinks May (serve_dialled cut number talk w left)
+  pub dialled_known : (cut : Cut) (number : ℕ) (talk : TurnTalk) (w : Work) (left : List (List ℕ)) → Unserved May w.links → DeskLinks May (serve_dialled cut number talk w left)
   dialled_known cut number talk w left all =
       turn_done (served_by turn_server cut.units cut.refused (at_turn number w) talk left) cut.rest number
       (turns_known cut.units cut.refused (at_turn number w) talk left all)
@@ -549,7 +548,7 @@ module _ (May : ℕ → Type 0) where
   close_known (dialling.Waits turn frames) link w all = fewer_known link w.links all
   close_known (dialling.On on said) link w all = close_if (on == link) link on said w all
 
-  opens_known : (full : Bool) (link : ℕ) (w : Work) → May link → Unserved May w.links → Unserved May (open_by full link w).links
+  opens_known : (full : Bool) (link : ℕ) (w : Work) → May link phase.Fresh → Unserved May w.links → Unserved May (open_by full link w).links
   opens_known true link w new all = all
   opens_known false link w new all = put_known May link fresh_link w.links new all
 
@@ -577,18 +576,34 @@ module _ (May : ℕ → Type 0) where
   turn_if true true now w how (challenge ∷ left) all =
       let starting = start_of w.logons.channel (timestamp_of now) challenge in dial_known starting.answer (with_requester w starting.state) how all
 
-  next_known : (part : Result (Part Desk) StepRefused) (now : ℕ) → DeskLinks May part → DeskLinks May (then_part part (next_turn now))
+  pub next_known : (part : Result (Part Desk) StepRefused) (now : ℕ) → DeskLinks May part → DeskLinks May (then_part part (next_turn now))
   next_known (Err why) now all = tt
   next_known (Ok part) now all =
       let w : Work = part.value.0 in
       turn_if (can_start w.logons.channel.turn w.logons.channel.waiting) (needs_challenge w.logons.channel.standing) now w part.value.1 part.left all
 
-  after_known : (part : ServedPart AtLink Talk) (rest : List ℕ) (number : ℕ) (how : Dialling) (w : Work) → IfUnservedPart (May number) part → Unserved May w.links →
+  pub after_known : (part : ServedPart AtLink Talk) (rest : List ℕ) (number : ℕ) (how : Dialling) (w : Work) → IfUnservedPart (May number) part → Unserved May w.links →
       DeskLinks May (after_units part rest number how w)
   after_known (Err why) rest number how w known all = tt
   after_known (Ok part) rest number how w known all = kept_known part.value.1 rest number part.value.0 w known all
 
--- ---- bytes on an accepted link
+-- ---- bytes
+
+-- What holds of the units of an accepted link and of what they come to, and of bytes on the link of the turn, at which there are no such units, holds of bytes
+-- on any link.
+module _ (Holds : List (ServedUnit AtLink Talk) → Result (Part Desk) StepRefused → Type 0) (link : ℕ) (piece : List ℕ) (running : Running) (left : List (List ℕ))
+    (accepted : (how : Dialling) → Holds (link_units_on (lookup same_number link running.links) link piece running left)
+    (bytes_on_link (lookup same_number link running.links) link piece how (work_of running) left))
+    (dialled : (said : LinkState TurnTalk) → Holds [] (serve_dialled (cut_stream (said.rest ++ piece)) link said.talk (work_of running) left)) where
+  bytes_if : (hit : Bool) (said : LinkState TurnTalk) (how : Dialling) →
+      Holds (link_units_by hit link piece running left) (bytes_by hit said link piece how (work_of running) left)
+  bytes_if true said how = dialled said
+  bytes_if false said how = accepted how
+
+  pub bytes_hold : (how : Dialling) → Holds (link_units_by (is_turn_link how link) link piece running left) (bytes_on how link piece (work_of running) left)
+  bytes_hold dialling.Nothing = accepted dialling.Nothing
+  bytes_hold (dialling.Waits turn frames) = accepted (dialling.Waits turn frames)
+  bytes_hold (dialling.On other said) = bytes_if (other == link) said (dialling.On other said)
 
 -- What holds of the links by what was taken: no AUTHENTICATE; or one, on a link whose challenge hadn't served, and then it has.
 abbrev pub Took : (ℕ → Type 0) → List ℕ → ((ℕ → Type 0) → Type 0) → Type 0
@@ -601,105 +616,101 @@ took_so May [] After Later so took = so May took
 took_so May (one ∷ []) After Later so took = (took.0, so (λ n. May n × (n ≢ one)) took.1)
 took_so May (one ∷ other ∷ more) After Later so took = absurd took
 
--- whatever was taken
-took_any : (May : ℕ → Type 0) (links : List ℕ) (After : (ℕ → Type 0) → Type 0) → ((Might : ℕ → Type 0) → ((n : ℕ) → Might n → May n) → After Might → After May) → Took May links After → After May
-took_any May [] After so took = took
-took_any May (one ∷ []) After so took = so (λ n. May n × (n ≢ one)) (λ n both. both.0) took.1
-took_any May (one ∷ other ∷ more) After so took = absurd took
-
 alone_took : (May : ℕ → Type 0) (links : List ℕ) (part : ServedPart AtLink Talk) (rest : List ℕ) (number : ℕ) (how : Dialling) (w : Work) → TakesOne (May number) number links part →
-    Unserved (λ n. May n × (n ≢ number)) w.links → Took May links (λ Might. DeskLinks Might (after_units part rest number how w))
+    Unserved (λ n p. May n × (n ≢ number)) w.links → Took May links (λ Might. DeskLinks (λ n p. Might n) (after_units part rest number how w))
 alone_took May [] part rest number how w took all =
-    after_known May part rest number how w took (links_so (λ n. May n × (n ≢ number)) May (λ n both. both.0) w.links all)
+    after_known (λ n p. May n) part rest number how w took (links_so (λ n p. May n × (n ≢ number)) (λ n p. May n) (λ n p both. both.0) w.links all)
 alone_took May (one ∷ []) part rest number how w took all = (
   subst May (sym took.0) took.1,
-  after_known (λ n. May n × (n ≢ one)) part rest number how w (part_so ⊥ (May number × (number ≢ one)) (λ none. absurd none) part took.2)
-      (links_so (λ n. May n × (n ≢ number)) (λ n. May n × (n ≢ one)) (λ n both. (both.0, λ same. both.1 (same ∙ took.0))) w.links all),
+  after_known (λ n p. May n × (n ≢ one)) part rest number how w (part_so (λ p. ⊥) (λ p. May number × (number ≢ one)) (λ p none. absurd none) part took.2)
+      (links_so (λ n p. May n × (n ≢ number)) (λ n p. May n × (n ≢ one)) (λ n p both. (both.0, λ same. both.1 (same ∙ took.0))) w.links all),
 )
 alone_took May (one ∷ other ∷ more) part rest number how w took all = absurd took
 
-module _ (May : ℕ → Type 0) (w : LinkAt) (piece : List ℕ) (running : Running) (left : List (List ℕ)) (all : Unserved May running.links) where
+module _ (May : ℕ → Type 0) (w : LinkAt) (piece : List ℕ) (running : Running) (left : List (List ℕ)) (all : Unserved (λ n p. May n) running.links) where
   on_link_took : (found : Option (LinkState Talk)) (how : Dialling) → lookup same_number w.link running.links ≡ found →
-      Took May (flat_map (taken_link w) (link_units_on found w.link piece running left)) (λ Might. DeskLinks Might (bytes_on_link found w.link piece how (work_of running) left))
+      Took May (flat_map (taken_link w) (link_units_on found w.link piece running left))
+      (λ Might. DeskLinks (λ n p. Might n) (bytes_on_link found w.link piece how (work_of running) left))
   on_link_took None how there = all
   on_link_took (Some link) how there =
       let cut : Cut = cut_stream (link.rest ++ piece) in
       let at : AtLink = at_link w.link (work_of running) in
       alone_took May (flat_map (taken_link w) (served_units link_server cut.units at link.talk left)) (served_by link_server cut.units cut.refused at link.talk left) cut.rest w.link how
       (without_link w.link (work_of running))
-      (units_take w cut.units cut.refused (May w.link) at link.talk left (found_known May w.link running.links link there all))
-      (taken_known May w.link running.links all)
-
-  bytes_if : (hit : Bool) (said : LinkState TurnTalk) (how : Dialling) →
-      Took May (flat_map (taken_link w) (link_units_by hit w.link piece running left)) (λ Might. DeskLinks Might (bytes_by hit said w.link piece how (work_of running) left))
-  bytes_if true said how = dialled_known May (cut_stream (said.rest ++ piece)) w.link said.talk (work_of running) left all
-  bytes_if false said how = on_link_took (lookup same_number w.link running.links) how refl
+      (units_take w cut.units cut.refused (May w.link) at link.talk left (found_known (λ n p. May n) w.link running.links link there all))
+      (taken_known (λ n p. May n) w.link running.links all)
 
   bytes_took_by : (how : Dialling) →
-      Took May (flat_map (taken_link w) (link_units_by (is_turn_link how w.link) w.link piece running left)) (λ Might. DeskLinks Might (bytes_on how w.link piece (work_of running) left))
-  bytes_took_by dialling.Nothing = on_link_took (lookup same_number w.link running.links) dialling.Nothing refl
-  bytes_took_by (dialling.Waits turn frames) = on_link_took (lookup same_number w.link running.links) (dialling.Waits turn frames) refl
-  bytes_took_by (dialling.On other said) = bytes_if (other == w.link) said (dialling.On other said)
+      Took May (flat_map (taken_link w) (link_units_by (is_turn_link how w.link) w.link piece running left))
+      (λ Might. DeskLinks (λ n p. Might n) (bytes_on how w.link piece (work_of running) left))
+  bytes_took_by how =
+      bytes_hold (λ units part. Took May (flat_map (taken_link w) units) (λ Might. DeskLinks (λ n p. Might n) part)) w.link piece running left
+      (λ other. on_link_took (lookup same_number w.link running.links) other refl)
+      (λ said. dialled_known (λ n p. May n) (cut_stream (said.rest ++ piece)) w.link said.talk (work_of running) left all) how
 
 -- ---- a step
 
 stepped_took : (May : ℕ → Type 0) (w : LinkAt) (left : List (List ℕ)) (units : List (ServedUnit AtLink Talk)) (part : Result (Part Desk) StepRefused) →
-    Took May (flat_map (taken_link w) units) (λ Might. DeskLinks Might part) →
+    Took May (flat_map (taken_link w) units) (λ Might. DeskLinks (λ n p. Might n) part) →
     Took May (flat_map (taken_link w) (units_if_taken (step_by actions_in state_in halted_state left part).answer units))
-    (λ Might. LinksIn Might (step_by actions_in state_in halted_state left part).state.running)
+    (λ Might. LinksIn (λ n p. Might n) (step_by actions_in state_in halted_state left part).state.running)
 stepped_took May w left units (Err why) took = tt
 stepped_took May w left units (Ok part) took = took
 
-running_took : (May : ℕ → Type 0) (w : LinkAt) (piece : List ℕ) (now : ℕ) (left : List (List ℕ)) (s : MemberState) (r : Option Running) → LinksIn May s.running → LinksIn May r →
+running_took : (May : ℕ → Type 0) (w : LinkAt) (piece : List ℕ) (now : ℕ) (left : List (List ℕ)) (s : MemberState) (r : Option Running) → LinksIn (λ n p. May n) s.running →
+    LinksIn (λ n p. May n) r →
     Took May (flat_map (taken_link w) (units_if_taken (step_on r s (event.Bytes w.link piece) now left).answer (link_units_in r w.link piece left)))
-    (λ Might. LinksIn Might (step_on r s (event.Bytes w.link piece) now left).state.running)
+    (λ Might. LinksIn (λ n p. Might n) (step_on r s (event.Bytes w.link piece) now left).state.running)
 running_took May w piece now left s None was all = was
 running_took May w piece now left s (Some running) was all =
     let what : Event = event.Bytes w.link piece in
     stepped_took May w left (link_units_in (Some running) w.link piece left) (event_part running what now left)
     (took_so May (flat_map (taken_link w) (link_units_in (Some running) w.link piece left))
-    (λ Might. DeskLinks Might (bytes_on running.dialling w.link piece (work_of running) left)) (λ Might. DeskLinks Might (event_part running what now left))
-    (λ Might known. next_known Might (bytes_on running.dialling w.link piece (work_of running) left) now known)
+    (λ Might. DeskLinks (λ n p. Might n) (bytes_on running.dialling w.link piece (work_of running) left)) (λ Might. DeskLinks (λ n p. Might n) (event_part running what now left))
+    (λ Might known. next_known (λ n p. Might n) (bytes_on running.dialling w.link piece (work_of running) left) now known)
     (bytes_took_by May w piece running left all running.dialling))
 
 -- of the units that a member serves on an accepted link at a step, one is an AUTHENTICATE that it takes, at most
-pub bytes_took : (May : ℕ → Type 0) (w : LinkAt) (m : MemberState) (piece : List ℕ) (now : ℕ) (left : List (List ℕ)) → LinksIn May m.running →
-    Took May (flat_map (taken_link w) (link_units m w.link piece now left)) (λ Might. LinksIn Might (step_of m (event.Bytes w.link piece) now left).state.running)
+pub bytes_took : (May : ℕ → Type 0) (w : LinkAt) (m : MemberState) (piece : List ℕ) (now : ℕ) (left : List (List ℕ)) → LinksIn (λ n p. May n) m.running →
+    Took May (flat_map (taken_link w) (link_units m w.link piece now left)) (λ Might. LinksIn (λ n p. Might n) (step_of m (event.Bytes w.link piece) now left).state.running)
 bytes_took May w m piece now left all = running_took May w piece now left m m.running all all
 
--- what must be known of a link that opens
-abbrev pub Opens : Event → (ℕ → Type 0) → Type 0
-Opens (event.Opened link) May = May link
+-- what held of the links holds on, whatever was taken
+pub took_known : (May : ℕ → Type 0) (links : List ℕ) (r : Option Running) → Took May links (λ Might. LinksIn (λ n p. Might n) r) → LinksIn (λ n p. May n) r
+took_known May [] r took = took
+took_known May (one ∷ []) r took = in_so (λ n p. May n × (n ≢ one)) (λ n p. May n) (λ n p both. both.0) r took.1
+took_known May (one ∷ other ∷ more) r took = absurd took
+
+-- what must be known of a link that opens; no bytes come
+abbrev pub Opens : Event → (ℕ → Phase → Type 0) → Type 0
+Opens (event.Opened link) May = May link phase.Fresh
+Opens (event.Bytes link piece) May = ⊥
 Opens _ May = Unit {0}
 
-event_known : (May : ℕ → Type 0) (what : Event) (running : Running) (left : List (List ℕ)) → Opens what May → Unserved May running.links →
+event_known : (May : ℕ → Phase → Type 0) (what : Event) (running : Running) (left : List (List ℕ)) → Opens what May → Unserved May running.links →
     DeskLinks May (by_event what running.dialling (work_of running) left)
 event_known May (event.Opened link) running left new all =
     let closed : Desk = close_link running.dialling link (work_of running) in
     opens_known May (nat_le 256 (length closed.0.links)) link closed.0 new (close_known May running.dialling link (work_of running) all)
-event_known May (event.Bytes link piece) running left new all =
-    let w : LinkAt = record { at = 0; member = 0; link = link; drawn = 0; left = 0 } in
-    let part : Result (Part Desk) StepRefused = bytes_on running.dialling link piece (work_of running) left in
-    took_any May (flat_map (taken_link w) (link_units_by (is_turn_link running.dialling link) link piece running left)) (λ Might. DeskLinks Might part)
-    (λ Might so known. desk_so Might May so part known) (bytes_took_by May w piece running left all running.dialling)
+event_known May (event.Bytes link piece) running left new all = absurd new
 event_known May (event.Closed link) running left new all = close_known May running.dialling link (work_of running) all
 event_known May (event.Dialled link) running left new all = answer_known May running.dialling link (work_of running) all
 event_known May event.DialFailed running left new all = fail_known May running.dialling (work_of running) all
 event_known May event.Stop running left new all = all
 
-stepped_known : (May : ℕ → Type 0) (left : List (List ℕ)) (part : Result (Part Desk) StepRefused) → DeskLinks May part →
+stepped_known : (May : ℕ → Phase → Type 0) (left : List (List ℕ)) (part : Result (Part Desk) StepRefused) → DeskLinks May part →
     LinksIn May (step_by actions_in state_in halted_state left part).state.running
 stepped_known May left (Err why) all = tt
 stepped_known May left (Ok part) all = all
 
-running_known : (May : ℕ → Type 0) (what : Event) (now : ℕ) (left : List (List ℕ)) (s : MemberState) (r : Option Running) → Opens what May → LinksIn May s.running → LinksIn May r →
+running_known : (May : ℕ → Phase → Type 0) (what : Event) (now : ℕ) (left : List (List ℕ)) (s : MemberState) (r : Option Running) → Opens what May → LinksIn May s.running → LinksIn May r →
     LinksIn May (step_on r s what now left).state.running
 running_known May what now left s None new was all = was
 running_known May what now left s (Some running) new was all =
     stepped_known May left (event_part running what now left)
     (next_known May (by_event what running.dialling (work_of running) left) now (event_known May what running left new all))
 
--- no step makes a challenge that has served one that hasn't
-pub step_known : (May : ℕ → Type 0) (what : Event) (m : MemberState) (now : ℕ) (left : List (List ℕ)) → Opens what May → LinksIn May m.running →
+-- no step at which no bytes come makes a challenge that has served one that hasn't
+pub step_known : (May : ℕ → Phase → Type 0) (what : Event) (m : MemberState) (now : ℕ) (left : List (List ℕ)) → Opens what May → LinksIn May m.running →
     LinksIn May (step_of m what now left).state.running
 step_known May what m now left new all = running_known May what now left m m.running new all all

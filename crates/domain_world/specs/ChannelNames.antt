@@ -1,7 +1,7 @@
 -- Both ends of a secure channel name it alike in what is written down of a run (MS-NRPC 3.1.4.1; the names are this project's own choice): the member that
 -- opens it, asks on it and takes its answers, and the controller at which its credentials pass. So no credential that passes in a unit that was made for
 -- the channel is a clash. And what a client sends for a CHALLENGE is written down, with the key that it keeps.
-use Rattle.std.specs.Prelude.{ℕ, ◌≡◌, Bool, true, false, List, [], ◌∷◌, ◌++◌, flat_map, map, Option, Some, None, Ok, slice_get}
+use Rattle.std.specs.Prelude.{ℕ, ◌≡◌, Bool, true, false, List, [], ◌∷◌, ◌++◌, flat_map, length, map, Option, Some, None, Ok, slice_get}
 use Rattle.std.specs.List.{AllByRecursion}
 use Rattle.wire_base.specs.Maps.{lookup}
 use Rattle.wire_base.specs.Names.{same_name}
@@ -71,7 +71,7 @@ use Rattle.domain_world.specs.History.{Calling, Judging, Mark, MessageMade, Open
 use Rattle.domain_world.specs.Links.{acceptor_of}
 use Rattle.domain_world.specs.MemberNotes.{TurnNote, half_channel, request_note, taking_note, turn_note}
 use Rattle.domain_world.specs.Moving.{end_of_peer, route_to}
-use Rattle.domain_world.specs.Past.{answered_marks, clashes, controller_of, sent_channel}
+use Rattle.domain_world.specs.Past.{Past, answered_marks, clashes, controller_of, sent_channel}
 use Rattle.domain_world.specs.Served.{ServedUnit, talk_after, work_after}
 
 -- ---- at a member
@@ -309,8 +309,9 @@ IsMarkedBy true talk before after = links_sent after.work.actions ≡ links_sent
 IsMarkedBy false None before after = Unit {0}
 IsMarkedBy false (Some talk) before after = links_sent after.work.actions ≡ links_sent before.work.actions
 
--- Whatever bytes come at a controller, it sends on their link alone, one unit for each mark; a unit on the link of a member's turn lets one unit out on that link
--- where it has a mark. In which order they are given is said by `answered_marks` and `turn_marks`, and by no law.
+-- Whatever bytes come at a controller, it sends on their link alone, one unit for each mark; a unit on the link of a member's turn lets one unit out on that
+-- link where it has a mark. In which order they are given is said by `answered_marks` and `turn_marks`; that what goes out comes in it, by
+-- `RepliesAreSentAsJudged` (`Replies`) and `RequestsComeFirst` (`CallLogons`).
 pub record UnitsHaveTheirMarks : Type 0 where
   pub controller : (c : ControllerState) (number : ℕ) (piece : List ℕ) (now : ℕ) (left : List (List ℕ)) (w : Where) (actions : List Action) →
       (controller_step c (event.Bytes number piece) now left).answer ≡ Ok actions →
@@ -318,6 +319,10 @@ pub record UnitsHaveTheirMarks : Type 0 where
   pub member : (controller : ℕ) (bytes : List ℕ) (before after : AtTurn) (talk : TurnTalk) (left : List (List ℕ)) →
       work_after (turn_server.unit bytes before talk left) ≡ Some after →
       IsMarkedBy (turn_note controller (turn_served bytes before talk left)).sends (talk_after (turn_server.unit bytes before talk left)) before after
+
+-- each unit of the bag has one entry that says what it was made for
+abbrev pub EachUnitIsMarked : Past → Type 0
+EachUnitIsMarked past = length past.book.sent ≡ length past.world.state.bag
 
 -- ---- what a client sends
 

@@ -457,11 +457,14 @@ pub record OfSequences : Type 0 where
 abbrev pub no_history : History ℕ
 no_history = record {
   views = λ i. None;
+  opening_out = λ i. false;
   marks = [];
   asked = λ i. 0;
   ended = λ i. [];
   made = λ i. [];
   turned = λ i. [];
+  waits = λ controller computer. None;
+  keeps = λ controller computer. None;
   accepted = [];
   passed = [];
   drawn = [];
@@ -503,11 +506,14 @@ pub record OfInStep : Type 0 where
 abbrev pub whole_history : History ℕ
 whole_history = record {
   views = whole_views;
+  opening_out = λ i. false;
   marks = Opening small_name 1 ∷ Opened small_name 1 0 ∷ Calling small_name 2 0 ∷ ReplyTo small_name 2 2 ∷ [];
   asked = λ i. 2;
   ended = λ i. 2 ∷ [];
   made = λ i. 2 ∷ [];
   turned = λ i. 0 ∷ [];
+  waits = λ controller computer. None;
+  keeps = λ controller computer. None;
   accepted = record { unit = Some 0; channel = small_name } ∷ [];
   passed = record { unit = Some 2; channel = small_name; timestamp = 0 } ∷ [];
   drawn = [] ∷ [];

@@ -1,8 +1,10 @@
 -- What is to hold of the secure channels of a run in which no credential passed on a unit that was made for another channel, one channel at a time: of its
--- requester, of the units that were made for it, and of what its controller accepted and passed. It names no machine, no layout of a unit and no other end, so that
--- it serves any end that asks on a channel. It is the invariant that the claims on answers rest on; that a run keeps it isn't proved yet.
+-- requester, of the units that were made for it, and of what its controller accepted and passed. It names no machine, no layout of a unit and no other end, so
+-- that it serves any end that asks on a channel. It is the invariant that the claims on answers rest on: that each event of a channel keeps it is said in
+-- `SoundEvents`; that a run is made of such events isn't proved yet.
 use Rattle.std.specs.Prelude.{ℕ, ◌≡◌, ◌≢◌, ◌+◌, ◌<◌, ◌≤◌, ◌⊎◌, Bool, true, false, List, [], ◌∷◌, ◌++◌, map, Option, Some, None, slice_get, AllPairs}
 use Rattle.std.specs.List.{AllByRecursion}
+use Rattle.wire_base.specs.Names.{SameName}
 use Rattle.channel_keys.specs.Credentials.{cred_of}
 use Rattle.authenticators.specs.Channels.{Channel, SameChannel, channel_key, same_channel}
 use Rattle.authenticators.specs.Sequences.{add_to, moved_by}
@@ -25,6 +27,8 @@ pub record Passing : Type 0 where
 pub record History (Who : Type 0) : Type 0 where
   -- each requester, as it is seen (`View` of the channel's client); None where there is none of that name
   pub views : Who → Option View
+  -- whether its NetrServerAuthenticate2 is out: it was sent, with the challenge of the opening that is under way
+  pub opening_out : Who → Bool
   -- what each unit of the bag was made for
   pub marks : List Mark
   -- the unit that carries the requester's last call on a channel
@@ -35,10 +39,13 @@ pub record History (Who : Type 0) : Type 0 where
   pub made : Who → List ℕ
   -- the timestamps of its Logon turns on the channel that stands, the newest first
   pub turned : Who → List ℕ
+  -- at each controller, by its number, for each computer, by its name: the server's challenge that waits for an opening, and the channel that is kept
+  pub waits : ℕ → List ℕ → Option (List ℕ)
+  pub keeps : ℕ → List ℕ → Option Channel
   -- the openings that were accepted and the calls that passed, the newest first
   pub accepted : List Accepted
   pub passed : List Passing
-  -- the challenges that were drawn, in order, and the moves that were made
+  -- the challenges that were drawn, in order; and how often a requester used a number for a bind or a request, or more
   pub drawn : List (List ℕ)
   pub moves : ℕ
 
@@ -73,17 +80,20 @@ pub record Sound {Who : Type 0} (h : History Who) : Type 0 where
   -- for a channel that is only being opened no call was made yet
   pub opening : (i : Who) (v : View) (unit number timestamp : ℕ) (c : Channel) → h.views i ≡ Some v → v.opening ≡ Some c.client →
       slice_get h.marks unit ≡ Some (Calling c number timestamp) → ⊥
-  -- an opening made with a challenge that a requester holds has a number below its next one, and so has a call made for the channel that stands
+  -- nor was an opening made with the challenge of an opening that is under way and isn't out
+  pub unopened : (i : Who) (v : View) (unit number : ℕ) (c : Channel) → h.views i ≡ Some v → v.opening ≡ Some c.client →
+      h.opening_out i ≡ false → slice_get h.marks unit ≡ Some (Opening c number) → ⊥
+  -- an opening made with a challenge that a requester holds has a number below its next one, and so has a call made with it
   pub opening_numbers : (i : Who) (v : View) (unit number : ℕ) (c : Channel) → h.views i ≡ Some v → Holds v c.client →
       slice_get h.marks unit ≡ Some (Opening c number) → number < v.call
-  pub numbers : (i : Who) (v : View) (unit number timestamp : ℕ) (c : Channel) → h.views i ≡ Some v → v.stands ≡ Some c →
+  pub numbers : (i : Who) (v : View) (unit number timestamp : ℕ) (c : Channel) → h.views i ≡ Some v → Holds v c.client →
       slice_get h.marks unit ≡ Some (Calling c number timestamp) → number < v.call
   -- one opening is made with a client's challenge
   pub opening_distinct : (unit other number more : ℕ) (c d : Channel) → slice_get h.marks unit ≡ Some (Opening c number) →
       slice_get h.marks other ≡ Some (Opening d more) → c.client ≡ d.client → unit ≡ other
-  -- the calls made for one channel have different numbers
-  pub distinct : (unit other number timestamp later : ℕ) (c : Channel) → slice_get h.marks unit ≡ Some (Calling c number timestamp) →
-      slice_get h.marks other ≡ Some (Calling c number later) → unit ≡ other
+  -- the calls made with a client's challenge have different numbers
+  pub distinct : (unit other number timestamp later : ℕ) (c d : Channel) → slice_get h.marks unit ≡ Some (Calling c number timestamp) →
+      slice_get h.marks other ≡ Some (Calling d number later) → c.client ≡ d.client → unit ≡ other
   -- each reply that accepts an opening answers one made for that channel, of that number, which was accepted
   pub openings : (unit number request : ℕ) (c : Channel) → slice_get h.marks unit ≡ Some (Opened c number request) →
       (slice_get h.marks request ≡ Some (Opening c number)) × IsAcceptedOpening h.accepted request
@@ -95,9 +105,24 @@ pub record Sound {Who : Type 0} (h : History Who) : Type 0 where
       OneOf (λ (one : Accepted). SameChannel one.channel c) h.accepted
   pub once : AllPairs (λ (one other : Accepted). SameChannel one.channel other.channel → ⊥) h.accepted
   pub on_accepted : AllByRecursion (λ (pass : Passing). OneOf (λ (one : Accepted). SameChannel one.channel pass.channel) h.accepted) h.passed
+  -- an opening that was accepted in a unit of the bag was made for that channel
+  pub openers : AllByRecursion (λ (one : Accepted). (unit : ℕ) → one.unit ≡ Some unit →
+      (number : ℕ) × (slice_get h.marks unit ≡ Some (Opening one.channel number))) h.accepted
   -- a call that passed in a unit of the bag was made for that channel, with that timestamp
   pub timestamps : AllByRecursion (λ (pass : Passing). (unit : ℕ) → pass.unit ≡ Some unit →
       (number : ℕ) × (slice_get h.marks unit ≡ Some (Calling pass.channel number pass.timestamp))) h.passed
+  -- each server's challenge that waits at a controller, or that a channel was accepted with, was drawn
+  pub waiting_before : (controller : ℕ) (computer server : List ℕ) → h.waits controller computer ≡ Some server →
+      OneOf (λ (drawn : List ℕ). drawn ≡ server) h.drawn
+  pub accepted_before : AllByRecursion (λ (one : Accepted). OneOf (λ (drawn : List ℕ). drawn ≡ one.channel.server) h.drawn) h.accepted
+  -- one that waits was drawn for one computer at one controller, and no channel was accepted with it
+  pub waiting_apart : (controller more : ℕ) (computer other server : List ℕ) → h.waits controller computer ≡ Some server →
+      h.waits more other ≡ Some server → (controller ≡ more) × SameName computer other
+  pub waiting_unused : (controller : ℕ) (computer server : List ℕ) → h.waits controller computer ≡ Some server →
+      OneOf (λ (one : Accepted). one.channel.server ≡ server) h.accepted → ⊥
+  -- each channel that a controller keeps was accepted
+  pub kept : (controller : ℕ) (computer : List ℕ) (c : Channel) → h.keeps controller computer ≡ Some c →
+      OneOf (λ (one : Accepted). SameChannel one.channel c) h.accepted
   -- the call that is out on the channel that stands is the last one that the requester made
   pub turns : (i : Who) (v : View) (number : ℕ) (c : Channel) → h.views i ≡ Some v → v.stands ≡ Some c → v.asking ≡ Some number →
       (timestamp : ℕ) × (slice_get h.marks (h.asked i) ≡ Some (Calling c number timestamp))
@@ -108,7 +133,7 @@ pub record Sound {Who : Type 0} (h : History Who) : Type 0 where
   -- the requester's seed is the client's credential moved by the timestamps of its turns on the channel that stands
   pub seeds : (i : Who) (v : View) (c : Channel) → h.views i ≡ Some v → v.stands ≡ Some c →
       v.seed ≡ Some (add_to (cred_of (channel_key c) c.client) (moved_by (h.turned i)))
-  -- a requester's next number is at most one above the moves: so no number comes round within a run
+  -- a requester's next number is at most one above the count of numbers used: so no number comes round within a run
   pub calls : (i : Who) (v : View) → h.views i ≡ Some v → v.call ≤ h.moves + 1
 
 -- ---- both ends in step

@@ -3,11 +3,17 @@
 ghost use Rattle.std.specs.Prelude.{◌≡◌, ◌+◌, ◌++◌, ◌≤◌, ◌↔◌, [], true, false, List, Err, length, All, IfOk, OnOk, OnErr, IsTrue};
 ghost use Rattle.domain_world.specs.declared.moves.Move.{Move};
 ghost use Rattle.domain_world.specs.declared.plan.Plan.{Plan};
+ghost use Rattle.domain_world.specs.ChannelNames.{EachUnitIsMarked};
 ghost use Rattle.domain_world.specs.Claims.{ChallengesServeOnce, PassesTheNextCredential, ReplaysBySum};
 ghost use Rattle.domain_world.specs.Counting.{AreCounted};
+ghost use Rattle.domain_world.specs.Grants.{GrantsWhoMayLogOn};
+ghost use Rattle.domain_world.specs.LetIn.{LetsInWhoAsked};
+ghost use Rattle.domain_world.specs.OwnChallenges.{MessagesHaveOwnChallenges};
 ghost use Rattle.domain_world.specs.Past.{past};
-ghost use Rattle.domain_world.specs.World.{IsMove, move_limit, actions_of_run, first_world, run, run_of, report_of, report_of_run};
+ghost use Rattle.domain_world.specs.Replies.{RepliesCarryTheirJudgement};
+ghost use Rattle.domain_world.specs.World.{IsMove, actions_of_run, first_world, move_limit, report_of, report_of_run, run, run_of};
 
+use crate::claims::members_let_in_who_asked;
 use crate::counting::Report;
 use crate::moves::Moves;
 use crate::world::{World, WorldRefused};
@@ -41,6 +47,11 @@ pub fn drive(alloc: Global, world: &mut World, moves: &Moves) -> Result<Report, 
     ensures challenges { OnOk result ((plan : Plan) (earlier : List Move) →
         world.old ≡ run earlier (first_world plan) →
         ChallengesServeOnce (past plan (earlier ++ moves.now))) }
+    // The challenge by which each AUTHENTICATE that a member took in the run is to be checked is its link's own unused one, the
+    // member accepted that link, and no two CHALLENGEs that were sent have one challenge.
+    ensures messages { OnOk result ((plan : Plan) (earlier : List Move) →
+        world.old ≡ run earlier (first_world plan) →
+        MessagesHaveOwnChallenges (past plan (earlier ++ moves.now))) }
     // Each controller of the run passed an authenticator exactly where it was the next one of its channel.
     ensures next { OnOk result ((plan : Plan) (earlier : List Move) →
         world.old ≡ run earlier (first_world plan) →
@@ -49,6 +60,24 @@ pub fn drive(alloc: Global, world: &mut World, moves: &Moves) -> Result<Report, 
     ensures replays { OnOk result ((plan : Plan) (earlier : List Move) →
         world.old ≡ run earlier (first_world plan) →
         ReplaysBySum (past plan (earlier ++ moves.now))) }
+    // A member let somebody in on a link only where it took an AUTHENTICATE on that link, and a unit of the bag as the answer for it.
+    ensures let_in { OnOk result ((plan : Plan) (earlier : List Move) →
+        world.old ≡ run earlier (first_world plan) →
+        LetsInWhoAsked (past plan (earlier ++ moves.now))) }
+    // Each controller of the run granted a Logon call exactly where its authenticator was the next one, it asked for validation
+    // level 2, the account might log on then, and the response was the written function of the stored hash, by the accounts of
+    // the plan.
+    ensures grants { OnOk result ((plan : Plan) (earlier : List Move) →
+        world.old ≡ run earlier (first_world plan) →
+        GrantsWhoMayLogOn (past plan (earlier ++ moves.now))) }
+    // Each unit of the bag has one entry that says what it was made for.
+    ensures marked { OnOk result ((plan : Plan) (earlier : List Move) →
+        world.old ≡ run earlier (first_world plan) →
+        EachUnitIsMarked (past plan (earlier ++ moves.now))) }
+    // Each unit that is marked as a reply carries what its controller judged of the call that it answers.
+    ensures replies { OnOk result ((plan : Plan) (earlier : List Move) →
+        world.old ≡ run earlier (first_world plan) →
+        RepliesCarryTheirJudgement (past plan (earlier ++ moves.now))) }
 {
     if world.is_stopped() {
         return Err(WorldRefused::Stopped);
@@ -60,5 +89,6 @@ pub fn drive(alloc: Global, world: &mut World, moves: &Moves) -> Result<Report, 
         }
     }
     world.draws_differ();
+    members_let_in_who_asked();
     Ok(world.report())
 }
