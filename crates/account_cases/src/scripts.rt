@@ -1,64 +1,48 @@
 //! Cases of `outside`: what each step of a line is answered in memory, and at its end what was kept and whether it is still told.
 
-use case_words::{add_answer, bytes, eight, no_case, number, number64, text, word};
+use case_words::{
+    add_answer, add_debug, answer_steps, blob, bytes, debug_text, eight_list, no_case, number,
+    number_list, number64, text, told, word,
+};
 use hex::FromHex;
 use outside::{
-    Chances, Clock, CounterChances, Draws, Event, Events, Files, ListChances, ListClock, MapFiles,
+    Chances, Clock, CounterChances, Event, Events, Files, ListChances, ListClock, MapFiles,
     Moments, Port, ScriptPort, Sends, Sink, SurePort, SureSink, Texts, VecSink,
 };
 use std::alloc::Global;
-use wire_base::{Blob, Calls};
+use wire_base::Blob;
 
-/// Bytes as a `Blob`.
-fn blob(alloc: Global, word: &str) -> anyhow::Result<Blob> {
-    let bytes = bytes(alloc, word)?;
-    Ok(Blob::from_vec(bytes))
-}
+// ---- sinks
 
-/// Numbers between commas, or `-` for none.
-fn calls(alloc: Global, word: &str) -> anyhow::Result<Calls> {
-    let mut calls = Calls::new(alloc);
-    if word != "-" {
-        for part in word.split(',') {
-            calls.push(number(part)?)?;
-        }
-    }
-    Ok(calls)
-}
-
-/// That what was kept is told, or that memory for it wasn't found.
-fn add_told(answers: &mut String, tells: bool) -> anyhow::Result<()> {
-    add_answer(answers, if tells { "told" } else { "not told" })
-}
-
-/// How much is taken of each piece, from a place of the words on.
-fn puts<S: Sink>(
-    alloc: Global,
-    sink: &mut S,
-    words: &[&str],
-    from: usize,
-) -> anyhow::Result<String> {
-    let mut answers = String::new(alloc);
-    for piece in words.iter().skip(from) {
-        let piece = bytes(alloc, piece)?;
-        let answer = sink.put(&piece);
-        let answer = format!(in alloc; "{answer:?}")?;
-        add_answer(&mut answers, &answer)?;
-    }
-    Ok(answers)
+/// How much is taken of a piece.
+fn put<S: Sink>(alloc: Global, sink: &mut S, piece: &str) -> anyhow::Result<String> {
+    let piece = bytes(alloc, piece)?;
+    debug_text(alloc, sink.put(&piece))
 }
 
 /// The bytes that were kept, and whether all is told, behind the answers.
 fn add_kept(alloc: Global, answers: &mut String, kept: &[u8], tells: bool) -> anyhow::Result<()> {
     let kept = text(alloc, kept)?;
     add_answer(answers, &kept)?;
-    add_told(answers, tells)
+    add_answer(answers, told(tells))
+}
+
+/// What a sink takes of each piece, and the bytes kept.
+fn text_of_sink(alloc: Global, sink: &mut VecSink, words: &[&str]) -> anyhow::Result<String> {
+    let mut answers = answer_steps(alloc, words, 2, sink, put::<VecSink>)?;
+    add_kept(alloc, &mut answers, sink.bytes(), sink.tells())?;
+    Ok(answers)
 }
 
 /// `sink FAILING PIECE..`: how much was taken of each piece, and the bytes kept.
 fn sink(alloc: Global, words: &[&str]) -> anyhow::Result<String> {
-    let mut sink = VecSink::new(alloc, calls(alloc, word(words, 1))?);
-    let mut answers = puts(alloc, &mut sink, words, 2)?;
+    let mut sink = VecSink::new(alloc, number_list(alloc, word(words, 1))?);
+    text_of_sink(alloc, &mut sink, words)
+}
+
+/// What a sink that never fails takes of each piece, and the bytes kept.
+fn text_of_sure_sink(alloc: Global, sink: &mut SureSink, words: &[&str]) -> anyhow::Result<String> {
+    let mut answers = answer_steps(alloc, words, 1, sink, put::<SureSink>)?;
     add_kept(alloc, &mut answers, sink.bytes(), sink.tells())?;
     Ok(answers)
 }
@@ -66,10 +50,10 @@ fn sink(alloc: Global, words: &[&str]) -> anyhow::Result<String> {
 /// `sure_sink PIECE..`: the same of a sink that never fails.
 fn sure_sink(alloc: Global, words: &[&str]) -> anyhow::Result<String> {
     let mut sink = SureSink::new(alloc);
-    let mut answers = puts(alloc, &mut sink, words, 1)?;
-    add_kept(alloc, &mut answers, sink.bytes(), sink.tells())?;
-    Ok(answers)
+    text_of_sure_sink(alloc, &mut sink, words)
 }
+
+// ---- clocks
 
 /// Moments between commas, or `-` for none.
 fn moments(alloc: Global, word: &str) -> anyhow::Result<Moments> {
@@ -82,76 +66,79 @@ fn moments(alloc: Global, word: &str) -> anyhow::Result<Moments> {
     Ok(moments)
 }
 
+/// So many moments of a clock.
+fn text_of_clock(alloc: Global, clock: &mut ListClock, count: u32) -> anyhow::Result<String> {
+    let mut answers = String::new(alloc);
+    for _ in 0..count {
+        add_debug(alloc, &mut answers, clock.now())?;
+    }
+    add_answer(&mut answers, told(clock.tells()))?;
+    Ok(answers)
+}
+
 /// `clock FIRST LATER COUNT`: so many moments.
 fn clock(alloc: Global, words: &[&str]) -> anyhow::Result<String> {
     let first = number64(word(words, 1))?;
-    let later = moments(alloc, word(words, 2))?;
     let count = number(word(words, 3))?;
+    let later = moments(alloc, word(words, 2))?;
     let mut clock = ListClock::new(alloc, first, later);
-    let mut answers = String::new(alloc);
-    for _ in 0..count {
-        let moment = format!(in alloc; "{}", clock.now())?;
-        add_answer(&mut answers, &moment)?;
-    }
-    add_told(&mut answers, clock.tells())?;
-    Ok(answers)
+    text_of_clock(alloc, &mut clock, count)
+}
+
+// ---- challenges
+
+/// Starts a maker of challenges with a seed and a boot.
+fn start<C: Chances>(
+    alloc: Global,
+    chances: &mut C,
+    seed: &str,
+    boot: &str,
+) -> anyhow::Result<String> {
+    let seed = <[u8; 32]>::from_hex(seed)?;
+    chances.start(seed, number(boot)?);
+    Ok("started".to_string(alloc)?)
 }
 
 /// A step of a maker of challenges: `next`, or `start,SEED,BOOT`.
 fn draw<C: Chances>(alloc: Global, chances: &mut C, step: &str) -> anyhow::Result<String> {
-    let parts: Vec<&str> = step.split(',').collect(alloc)?;
-    if word(&parts, 0) != "start" {
-        let drawn = chances.next();
-        return Ok(format!(in alloc; "{drawn:?}")?);
-    }
-    let seed = <[u8; 32]>::from_hex(word(&parts, 1))?;
-    let boot = number(word(&parts, 2))?;
-    chances.start(seed, boot);
-    Ok("started".to_string(alloc)?)
-}
-
-/// Challenges between commas, or `-` for none.
-fn draws(alloc: Global, word: &str) -> anyhow::Result<Draws> {
-    let mut draws = Draws::new(alloc);
-    if word != "-" {
-        for part in word.split(',') {
-            draws.push(eight(part)?)?;
+    match step.split_once(',') {
+        Some((_, rest)) => {
+            let (seed, boot) = rest.split_once(',').unwrap_or((rest, ""));
+            start(alloc, chances, seed, boot)
         }
+        None => debug_text(alloc, chances.next()),
     }
-    Ok(draws)
 }
 
 /// `list_chances DRAWS STEP..`: what each step gives.
 fn list_chances(alloc: Global, words: &[&str]) -> anyhow::Result<String> {
-    let mut chances = ListChances::new(draws(alloc, word(words, 1))?);
-    let mut answers = String::new(alloc);
-    for step in words.iter().skip(2) {
-        let answer = draw(alloc, &mut chances, step)?;
-        add_answer(&mut answers, &answer)?;
-    }
-    Ok(answers)
+    let mut chances = ListChances::new(eight_list(alloc, word(words, 1))?);
+    answer_steps(alloc, words, 2, &mut chances, draw::<ListChances>)
 }
 
 /// `counter_chances STEP..`: what each step gives.
 fn counter_chances(alloc: Global, words: &[&str]) -> anyhow::Result<String> {
     let mut chances = CounterChances::new();
-    let mut answers = String::new(alloc);
-    for step in words.iter().skip(1) {
-        let answer = draw(alloc, &mut chances, step)?;
-        add_answer(&mut answers, &answer)?;
-    }
-    Ok(answers)
+    answer_steps(alloc, words, 1, &mut chances, draw::<CounterChances>)
 }
 
-/// Names with contents, `NAME:CONTENT` between commas, or `-` for none.
+// ---- files
+
+/// A name with its content, `NAME:CONTENT`.
+fn file(alloc: Global, part: &str) -> anyhow::Result<(Blob, Blob)> {
+    let (name, content) = part.split_once(':').unwrap_or((part, "-"));
+    let name = blob(alloc, name)?;
+    let content = blob(alloc, content)?;
+    Ok((name, content))
+}
+
+/// Names with contents between commas, or `-` for none.
 fn texts(alloc: Global, word: &str) -> anyhow::Result<Texts> {
     let mut texts = Texts::new(alloc);
     if word != "-" {
         for part in word.split(',') {
-            let (name, content) = part.split_once(':').unwrap_or((part, "-"));
-            let name = blob(alloc, name)?;
-            let content = blob(alloc, content)?;
-            texts.push((name, content))?;
+            let text = file(alloc, part)?;
+            texts.push(text)?;
         }
     }
     Ok(texts)
@@ -160,37 +147,44 @@ fn texts(alloc: Global, word: &str) -> anyhow::Result<Texts> {
 /// What is read of a name.
 fn read(alloc: Global, files: &mut MapFiles, name: &str) -> anyhow::Result<String> {
     let name = bytes(alloc, name)?;
-    let read = files.read(alloc, &name);
-    Ok(format!(in alloc; "{read:?}")?)
+    debug_text(alloc, files.read(alloc, &name))
+}
+
+/// What is read of each name, and whether all is told.
+fn text_of_files(alloc: Global, files: &mut MapFiles, words: &[&str]) -> anyhow::Result<String> {
+    let mut answers = answer_steps(alloc, words, 3, files, read)?;
+    add_answer(&mut answers, told(files.tells()))?;
+    Ok(answers)
 }
 
 /// `files FILES FAILING NAME..`: what is read of each name.
 fn files(alloc: Global, words: &[&str]) -> anyhow::Result<String> {
+    let failing = number_list(alloc, word(words, 2))?;
     let texts = texts(alloc, word(words, 1))?;
-    let failing = calls(alloc, word(words, 2))?;
     let mut files = MapFiles::new(alloc, texts, failing);
-    let mut answers = String::new(alloc);
-    for name in words.iter().skip(3) {
-        let answer = read(alloc, &mut files, name)?;
-        add_answer(&mut answers, &answer)?;
-    }
-    add_told(&mut answers, files.tells())?;
-    Ok(answers)
+    text_of_files(alloc, &mut files, words)
+}
+
+// ---- events
+
+/// Bytes that come on a link.
+fn bytes_on(alloc: Global, link: u32, word: &str) -> anyhow::Result<Event> {
+    Ok(Event::Bytes(link, blob(alloc, word)?))
 }
 
 /// An event: `opened:LINK`, `bytes:LINK:BYTES`, `closed:LINK`, `dialled:LINK`, `dial_failed`, else `Stop`.
-fn event(alloc: Global, word_of_event: &str) -> anyhow::Result<Event> {
-    let parts: Vec<&str> = word_of_event.split(':').collect(alloc)?;
-    let link = number(word(&parts, 1)).unwrap_or(0);
-    let bytes = blob(alloc, word(&parts, 2))?;
-    Ok(match word(&parts, 0) {
-        "opened" => Event::Opened(link),
-        "bytes" => Event::Bytes(link, bytes),
-        "closed" => Event::Closed(link),
-        "dialled" => Event::Dialled(link),
-        "dial_failed" => Event::DialFailed,
-        _ => Event::Stop,
-    })
+fn event(alloc: Global, word: &str) -> anyhow::Result<Event> {
+    let (name, rest) = word.split_once(':').unwrap_or((word, ""));
+    let (link, bytes) = rest.split_once(':').unwrap_or((rest, ""));
+    let link = number(link).unwrap_or(0);
+    match name {
+        "opened" => Ok(Event::Opened(link)),
+        "bytes" => bytes_on(alloc, link, bytes),
+        "closed" => Ok(Event::Closed(link)),
+        "dialled" => Ok(Event::Dialled(link)),
+        "dial_failed" => Ok(Event::DialFailed),
+        _ => Ok(Event::Stop),
+    }
 }
 
 /// Events between commas, or `-` for none.
@@ -198,91 +192,92 @@ fn events(alloc: Global, word: &str) -> anyhow::Result<Events> {
     let mut events = Events::new(alloc);
     if word != "-" {
         for part in word.split(',') {
-            events.push(event(alloc, part)?)?;
+            let event = event(alloc, part)?;
+            events.push(event)?;
         }
     }
     Ok(events)
 }
 
+/// `event EVENT`: its copy.
+fn copy_event(alloc: Global, words: &[&str]) -> anyhow::Result<String> {
+    let event = event(alloc, word(words, 1))?;
+    debug_text(alloc, event.copy(alloc))
+}
+
+// ---- ports
+
+/// `listen,ADDRESS`.
+fn listen<P: Port>(alloc: Global, port: &mut P, address: &str) -> anyhow::Result<String> {
+    let address = bytes(alloc, address)?;
+    debug_text(alloc, port.listen(&address))
+}
+
+/// `dial,PEER`.
+fn dial<P: Port>(alloc: Global, port: &mut P, peer: &str) -> anyhow::Result<String> {
+    let peer = bytes(alloc, peer)?;
+    debug_text(alloc, port.dial(&peer))
+}
+
+/// `send,LINK,BYTES`.
+fn send<P: Port>(alloc: Global, port: &mut P, rest: &str) -> anyhow::Result<String> {
+    let (link, bytes_word) = rest.split_once(',').unwrap_or((rest, ""));
+    let link = number(link)?;
+    let bytes = bytes(alloc, bytes_word)?;
+    debug_text(alloc, port.send(link, &bytes))
+}
+
+/// `close,LINK`.
+fn close<P: Port>(alloc: Global, port: &mut P, link: &str) -> anyhow::Result<String> {
+    port.close(number(link)?);
+    Ok("closed".to_string(alloc)?)
+}
+
 /// A step of a port: `listen,ADDRESS`, `next` or `next,WANT`, `dial,PEER`, `send,LINK,BYTES`, `close,LINK`.
 fn call<P: Port>(alloc: Global, port: &mut P, step: &str) -> anyhow::Result<String> {
-    let parts: Vec<&str> = step.split(',').collect(alloc)?;
-    match word(&parts, 0) {
-        "listen" => listen(alloc, port, &parts),
-        "next" => next(alloc, port, &parts),
-        "dial" => dial(alloc, port, &parts),
-        "send" => send(alloc, port, &parts),
-        "close" => close(alloc, port, &parts),
+    let (name, rest) = step.split_once(',').unwrap_or((step, ""));
+    match name {
+        "listen" => listen(alloc, port, rest),
+        "next" => debug_text(alloc, port.next(number(rest).ok())),
+        "dial" => dial(alloc, port, rest),
+        "send" => send(alloc, port, rest),
+        "close" => close(alloc, port, rest),
         _ => no_case(alloc),
     }
 }
 
-/// `listen,ADDRESS`.
-fn listen<P: Port>(alloc: Global, port: &mut P, parts: &[&str]) -> anyhow::Result<String> {
-    let address = bytes(alloc, word(parts, 1))?;
-    let answer = port.listen(&address);
-    Ok(format!(in alloc; "{answer:?}")?)
+/// The sends that were kept, and whether all is told, behind the answers.
+fn add_sends(alloc: Global, answers: &mut String, sent: &Sends, tells: bool) -> anyhow::Result<()> {
+    add_debug(alloc, answers, sent)?;
+    add_answer(answers, told(tells))
 }
 
-/// `next` or `next,WANT`.
-fn next<P: Port>(alloc: Global, port: &mut P, parts: &[&str]) -> anyhow::Result<String> {
-    let event = port.next(number(word(parts, 1)).ok());
-    Ok(format!(in alloc; "{event:?}")?)
-}
-
-/// `dial,PEER`.
-fn dial<P: Port>(alloc: Global, port: &mut P, parts: &[&str]) -> anyhow::Result<String> {
-    let peer = bytes(alloc, word(parts, 1))?;
-    let link = port.dial(&peer);
-    Ok(format!(in alloc; "{link:?}")?)
-}
-
-/// `send,LINK,BYTES`.
-fn send<P: Port>(alloc: Global, port: &mut P, parts: &[&str]) -> anyhow::Result<String> {
-    let link = number(word(parts, 1))?;
-    let bytes = bytes(alloc, word(parts, 2))?;
-    let answer = port.send(link, &bytes);
-    Ok(format!(in alloc; "{answer:?}")?)
-}
-
-/// `close,LINK`.
-fn close<P: Port>(alloc: Global, port: &mut P, parts: &[&str]) -> anyhow::Result<String> {
-    let link = number(word(parts, 1))?;
-    port.close(link);
-    Ok("closed".to_string(alloc)?)
-}
-
-/// What each step gives, from a place of the words on.
-fn calls_of<P: Port>(
-    alloc: Global,
-    port: &mut P,
-    words: &[&str],
-    from: usize,
-) -> anyhow::Result<String> {
-    let mut answers = String::new(alloc);
-    for step in words.iter().skip(from) {
-        let answer = call(alloc, port, step)?;
-        add_answer(&mut answers, &answer)?;
-    }
+/// What each step gives, and the sends.
+fn text_of_port(alloc: Global, port: &mut ScriptPort, words: &[&str]) -> anyhow::Result<String> {
+    let mut answers = answer_steps(alloc, words, 3, port, call::<ScriptPort>)?;
+    add_sends(alloc, &mut answers, port.sent(), port.tells())?;
     Ok(answers)
 }
 
-/// The sends that were kept, and whether all is told, behind the answers.
-fn add_sends(alloc: Global, answers: &mut String, sent: &Sends, tells: bool) -> anyhow::Result<()> {
-    let sends = format!(in alloc; "{sent:?}")?;
-    add_answer(answers, &sends)?;
-    add_told(answers, tells)
+/// The answer to events that no port may list.
+fn not_to_be_listed(alloc: Global) -> anyhow::Result<String> {
+    Ok("not to be listed".to_string(alloc)?)
 }
 
 /// `port EVENTS FAILING STEP..`: what each step gives, and the sends.
 fn port(alloc: Global, words: &[&str]) -> anyhow::Result<String> {
+    let failing = number_list(alloc, word(words, 2))?;
     let events = events(alloc, word(words, 1))?;
-    let failing = calls(alloc, word(words, 2))?;
     if !ScriptPort::may_list(events.items()) {
-        return Ok("not to be listed".to_string(alloc)?);
+        return not_to_be_listed(alloc);
     }
     let mut port = ScriptPort::new(alloc, events, failing);
-    let mut answers = calls_of(alloc, &mut port, words, 3)?;
+    text_of_port(alloc, &mut port, words)
+}
+
+/// What each step gives of a port that never fails, and the sends.
+fn text_of_sure_port(alloc: Global, port: &mut SurePort, words: &[&str]) -> anyhow::Result<String> {
+    let mut answers = answer_steps(alloc, words, 2, port, call::<SurePort>)?;
     add_sends(alloc, &mut answers, port.sent(), port.tells())?;
     Ok(answers)
 }
@@ -291,19 +286,10 @@ fn port(alloc: Global, words: &[&str]) -> anyhow::Result<String> {
 fn sure_port(alloc: Global, words: &[&str]) -> anyhow::Result<String> {
     let events = events(alloc, word(words, 1))?;
     if !ScriptPort::may_list(events.items()) {
-        return Ok("not to be listed".to_string(alloc)?);
+        return not_to_be_listed(alloc);
     }
     let mut port = SurePort::new(alloc, events);
-    let mut answers = calls_of(alloc, &mut port, words, 2)?;
-    add_sends(alloc, &mut answers, port.sent(), port.tells())?;
-    Ok(answers)
-}
-
-/// `event EVENT`: its copy.
-fn copy_event(alloc: Global, words: &[&str]) -> anyhow::Result<String> {
-    let event = event(alloc, word(words, 1))?;
-    let copy = event.copy(alloc);
-    Ok(format!(in alloc; "{copy:?}")?)
+    text_of_sure_port(alloc, &mut port, words)
 }
 
 /// What an operation gives.

@@ -1,12 +1,15 @@
 //! Cases of `account_table`: documents as bytes in hex, names as 16-bit units in hex.
 
-use account_table::{Table, TableRefused};
-use case_words::{add_answer, bytes, no_case, number, size, text_units, word};
+use account_table::Table;
+use case_words::{
+    answer_steps, bytes, debug_text, no_case, number, number16, size, text_units, word,
+};
 use std::alloc::Global;
 
-/// A refusal.
-fn text_of_refusal(alloc: Global, refused: &TableRefused) -> anyhow::Result<String> {
-    Ok(format!(in alloc; "{refused:?}")?)
+/// The table of a word.
+pub(crate) fn table(alloc: Global, word: &str) -> anyhow::Result<Table> {
+    let document = bytes(alloc, word)?;
+    Ok(Table::read(alloc, &document)?)
 }
 
 /// The number of accounts.
@@ -27,85 +30,105 @@ fn text_of_table(alloc: Global, table: &Table) -> anyhow::Result<String> {
     Ok(format!(in alloc; "{domain:?} {sid:?} {count}")?)
 }
 
-/// `read DOCUMENT`: the table, or the refusal.
-fn read(alloc: Global, words: &[&str]) -> anyhow::Result<String> {
-    let document = bytes(alloc, word(words, 1))?;
-    match Table::read(alloc, &document) {
+/// What is read of a document: the table, or the refusal.
+fn text_of_document(alloc: Global, document: &[u8]) -> anyhow::Result<String> {
+    match Table::read(alloc, document) {
         Ok(table) => text_of_table(alloc, &table),
-        Err(refused) => text_of_refusal(alloc, &refused),
+        Err(refused) => debug_text(alloc, refused),
     }
 }
 
-/// `account DOCUMENT AT`: the account at a place.
-fn account(alloc: Global, words: &[&str]) -> anyhow::Result<String> {
-    let at = number(word(words, 2))?;
+/// `read DOCUMENT`.
+fn read(alloc: Global, words: &[&str]) -> anyhow::Result<String> {
     let document = bytes(alloc, word(words, 1))?;
-    let table = Table::read(alloc, &document)?;
-    let account = table.account(at);
-    Ok(format!(in alloc; "{account:?}")?)
+    text_of_document(alloc, &document)
 }
 
-/// `find DOCUMENT USER`: the place of the account of that name.
-fn find(alloc: Global, words: &[&str]) -> anyhow::Result<String> {
-    let user = text_units(alloc, word(words, 2))?;
-    let document = bytes(alloc, word(words, 1))?;
-    let table = Table::read(alloc, &document)?;
-    let place = table.find(user.units());
-    Ok(format!(in alloc; "{place:?}")?)
+/// The place of the account of a user's name.
+fn find(alloc: Global, table: &Table, user: &str) -> anyhow::Result<String> {
+    let user = text_units(alloc, user)?;
+    debug_text(alloc, table.find(user.units()))
 }
 
-/// `machine DOCUMENT ACCOUNT CHANNEL COMPUTER`: the place of the account that opens the channel.
-fn machine(alloc: Global, words: &[&str]) -> anyhow::Result<String> {
+/// The place of the account that opens the channel.
+fn machine(alloc: Global, table: &Table, words: &[&str]) -> anyhow::Result<String> {
+    let channel = number16(word(words, 3))?;
     let account = text_units(alloc, word(words, 2))?;
-    let channel = word(words, 3).parse::<u16>()?;
     let computer = text_units(alloc, word(words, 4))?;
-    let document = bytes(alloc, word(words, 1))?;
-    let table = Table::read(alloc, &document)?;
-    let place = table.machine(account.units(), channel, computer.units());
-    Ok(format!(in alloc; "{place:?}")?)
+    debug_text(
+        alloc,
+        table.machine(account.units(), channel, computer.units()),
+    )
 }
 
-/// `knows DOCUMENT COMPUTER`: whether a computer's account has that name.
-fn knows(alloc: Global, words: &[&str]) -> anyhow::Result<String> {
-    let computer = text_units(alloc, word(words, 2))?;
-    let document = bytes(alloc, word(words, 1))?;
-    let table = Table::read(alloc, &document)?;
-    let known = table.knows(computer.units());
-    Ok(format!(in alloc; "{known}")?)
+/// Whether a computer's account has that name.
+fn knows(alloc: Global, table: &Table, computer: &str) -> anyhow::Result<String> {
+    let computer = text_units(alloc, computer)?;
+    debug_text(alloc, table.knows(computer.units()))
 }
 
-/// `route DOCUMENT DOMAIN`: where the accounts of a domain are.
-fn route(alloc: Global, words: &[&str]) -> anyhow::Result<String> {
-    let domain = text_units(alloc, word(words, 2))?;
-    let document = bytes(alloc, word(words, 1))?;
-    let table = Table::read(alloc, &document)?;
-    let route = table.route(domain.units());
-    Ok(format!(in alloc; "{route:?}")?)
+/// Where the accounts of a domain are.
+fn route(alloc: Global, table: &Table, domain: &str) -> anyhow::Result<String> {
+    let domain = text_units(alloc, domain)?;
+    debug_text(alloc, table.route(domain.units()))
+}
+
+/// What an operation on a table gives.
+fn answer_of(
+    alloc: Global,
+    operation: &str,
+    table: &Table,
+    words: &[&str],
+) -> anyhow::Result<String> {
+    match operation {
+        "account" => debug_text(alloc, table.account(number(word(words, 2))?)),
+        "find" => find(alloc, table, word(words, 2)),
+        "machine" => machine(alloc, table, words),
+        "knows" => knows(alloc, table, word(words, 2)),
+        "route" => route(alloc, table, word(words, 2)),
+        _ => no_case(alloc),
+    }
+}
+
+/// What an operation on the table of a line gives: `account DOCUMENT AT`, `find DOCUMENT USER`, `machine DOCUMENT ACCOUNT CHANNEL COMPUTER`,
+/// `knows DOCUMENT COMPUTER`, `route DOCUMENT DOMAIN`.
+fn answer_of_word(alloc: Global, operation: &str, words: &[&str]) -> anyhow::Result<String> {
+    let table = table(alloc, word(words, 1))?;
+    answer_of(alloc, operation, &table, words)
+}
+
+/// Puts a user of a number behind a document.
+fn put_user(alloc: Global, document: &mut String, number: u32) -> anyhow::Result<()> {
+    let user = format!(in alloc;
+        "[[user]]\nname = 'u{number}'\nrid = 1\nhash = '11111111111111111111111111111111'\n"
+    )?;
+    Ok(document.push_str(&user)?)
 }
 
 /// A document of so many users, from `u0` on.
 fn document_of_users(alloc: Global, count: u32) -> anyhow::Result<String> {
     let mut document = String::from_str(alloc, "domain = 'CORP'\nsid = 'S-1-5-21-1-2-3'\n")?;
     for number in 0..count {
-        let user = format!(in alloc;
-            "[[user]]\nname = 'u{number}'\nrid = 1\nhash = '11111111111111111111111111111111'\n"
-        )?;
-        document.push_str(&user)?;
+        put_user(alloc, &mut document, number)?;
     }
     Ok(document)
 }
 
+/// A table of so many users.
+fn table_of_users(alloc: Global, count: u32) -> anyhow::Result<Table> {
+    let document = document_of_users(alloc, count)?;
+    Ok(Table::read(alloc, document.as_bytes())?)
+}
+
+/// The step of `find_among` that a name is.
+fn find_step(alloc: Global, table: &mut Table, user: &str) -> anyhow::Result<String> {
+    find(alloc, table, user)
+}
+
 /// `find_among COUNT USER..`: the same as `find` for each name, among so many users `u0`, `u1` and so on.
 fn find_among(alloc: Global, words: &[&str]) -> anyhow::Result<String> {
-    let document = document_of_users(alloc, number(word(words, 1))?)?;
-    let table = Table::read(alloc, document.as_bytes())?;
-    let mut answers = String::new(alloc);
-    for user in words.iter().skip(2) {
-        let user = text_units(alloc, user)?;
-        let place = table.find(user.units());
-        add_answer(&mut answers, &format!(in alloc; "{place:?}")?)?;
-    }
-    Ok(answers)
+    let mut table = table_of_users(alloc, number(word(words, 1))?)?;
+    answer_steps(alloc, words, 2, &mut table, find_step)
 }
 
 /// A document of a machine and so many users, all without keys.
@@ -121,23 +144,15 @@ fn document_without_keys(alloc: Global, count: usize) -> anyhow::Result<String> 
 /// `read_without_keys COUNT`: the refusal of a machine and so many users, all without keys.
 fn read_without_keys(alloc: Global, words: &[&str]) -> anyhow::Result<String> {
     let document = document_without_keys(alloc, size(word(words, 1))?)?;
-    match Table::read(alloc, document.as_bytes()) {
-        Ok(table) => text_of_table(alloc, &table),
-        Err(refused) => text_of_refusal(alloc, &refused),
-    }
+    text_of_document(alloc, document.as_bytes())
 }
 
 /// What an operation gives.
 pub(crate) fn answer(alloc: Global, operation: &str, words: &[&str]) -> anyhow::Result<String> {
     match operation {
         "read" => read(alloc, words),
-        "account" => account(alloc, words),
-        "find" => find(alloc, words),
-        "machine" => machine(alloc, words),
-        "knows" => knows(alloc, words),
-        "route" => route(alloc, words),
         "find_among" => find_among(alloc, words),
         "read_without_keys" => read_without_keys(alloc, words),
-        _ => no_case(alloc),
+        _ => answer_of_word(alloc, operation, words),
     }
 }

@@ -1,5 +1,6 @@
-//! The loop of a program of cases.
+//! The loop of a program of cases, and the loop over the steps of a scenario.
 
+use crate::words::add_answer;
 use std::alloc::Global;
 use std::io;
 
@@ -28,4 +29,22 @@ pub fn answer_lines<F: Fn(Global, &[&str]) -> anyhow::Result<String>>(
         println!(rt; "{text}")?;
     }
     Ok(())
+}
+
+/// What the function answers to each step, over a state that it changes. The steps are the words from a place on.
+pub fn answer_steps<S, F: Fn(Global, &mut S, &str) -> anyhow::Result<String>>(
+    alloc: Global,
+    words: &[&str],
+    from: usize,
+    state: &mut S,
+    answer: F,
+) -> anyhow::Result<String>
+    requires { F.IsAlwaysCallable answer }
+{
+    let mut answers = String::new(alloc);
+    for step in words.iter().skip(from) {
+        let text = answer(alloc, state, step)?;
+        add_answer(&mut answers, &text)?;
+    }
+    Ok(answers)
 }

@@ -5,6 +5,7 @@ ghost use Rattle.std.specs.Prelude.{◌≤◌, length};
 
 use hex::FromHex;
 use std::alloc::Global;
+use std::fmt::Debug;
 use wire_base::{Blob, Units};
 
 /// A run of so many equal bytes or more is answered as a count.
@@ -15,6 +16,14 @@ pub fn word<'a>(words: &[&'a str], at: usize) -> &'a str {
     match words.get(at) {
         Some(word) => *word,
         None => "",
+    }
+}
+
+/// The part in front of the first `/`, and what stands behind it; all and nothing where there is none.
+pub fn halves(word: &str) -> (&str, &str) {
+    match word.split_once('/') {
+        Some(halves) => halves,
+        None => (word, ""),
     }
 }
 
@@ -181,9 +190,29 @@ pub fn long_text(alloc: Global, bytes: &[u8]) -> anyhow::Result<String> {
     Ok(text)
 }
 
+/// A value as `{:?}` prints it.
+pub fn debug_text<T: Debug + Drop>(alloc: Global, value: T) -> anyhow::Result<String> {
+    Ok(format!(in alloc; "{value:?}")?)
+}
+
+/// A value as `{:?}` prints the `Ok` of it.
+pub fn ok_text<T: Debug + Drop>(alloc: Global, value: T) -> anyhow::Result<String> {
+    Ok(format!(in alloc; "Ok({value:?})")?)
+}
+
+/// A refusal as `{:?}` prints the `Err` of it.
+pub fn refusal_text<T: Debug + Drop>(alloc: Global, refused: T) -> anyhow::Result<String> {
+    Ok(format!(in alloc; "Err({refused:?})")?)
+}
+
 /// A truth value.
 pub fn truth(value: bool) -> &'static str {
     if value { "true" } else { "false" }
+}
+
+/// Whether all that was kept is told.
+pub fn told(tells: bool) -> &'static str {
+    if tells { "told" } else { "not told" }
 }
 
 /// Appends the answer of a step of a scenario.
@@ -193,4 +222,20 @@ pub fn add_answer(text: &mut String, step: &str) -> anyhow::Result<()> {
     }
     text.push_str(step)?;
     Ok(())
+}
+
+/// Appends a value, as `{:?}` prints it, as the answer of a step of a scenario.
+pub fn add_debug<T: Debug + Drop>(
+    alloc: Global,
+    text: &mut String,
+    value: T,
+) -> anyhow::Result<()> {
+    let step = debug_text(alloc, value)?;
+    add_answer(text, step.as_str())
+}
+
+/// Appends bytes, as `long_text` writes them, as the answer of a step of a scenario.
+pub fn add_bytes(alloc: Global, text: &mut String, bytes: &[u8]) -> anyhow::Result<()> {
+    let step = long_text(alloc, bytes)?;
+    add_answer(text, &step)
 }

@@ -5,7 +5,9 @@ ghost use Rattle.logon_client.specs.Plans.{CanLogOn, is_level};
 ghost use Rattle.logon_client.specs.declared.plan.AuthKind.{AuthKind};
 
 use crate::scenes::{actions_text, add_left, chances, play};
-use case_words::{add_answer, blob, no_case, number, number8, sixteen, text_units, word};
+use case_words::{
+    add_answer, add_debug, blob, no_case, number, number8, sixteen, text_units, word,
+};
 use logon_client::{AuthKind, Client, ClientPlan};
 use outside::ListChances;
 use std::alloc::Global;
@@ -79,12 +81,6 @@ pub(crate) fn can_log_on(plan: &ClientPlan) -> bool
     short && plan.echo <= 4096 && is_level(plan.level, plan.auth)
 }
 
-/// The outcome that a client has.
-fn outcome(alloc: Global, end: &Client) -> anyhow::Result<String> {
-    let outcome = end.outcome();
-    Ok(format!(in alloc; "{outcome:?}")?)
-}
-
 /// What a client begins with.
 fn begin(alloc: Global, end: &mut Client) -> anyhow::Result<String> {
     let actions = end.begin(alloc)?;
@@ -101,8 +97,7 @@ fn play_all(
     let mut answers = begin(alloc, end)?;
     let played = play(alloc, end, chances, steps)?;
     add_answer(&mut answers, &played)?;
-    let outcome = outcome(alloc, end)?;
-    add_answer(&mut answers, &outcome)?;
+    add_debug(alloc, &mut answers, end.outcome())?;
     add_left(alloc, &mut answers, chances)?;
     Ok(answers)
 }

@@ -1,20 +1,25 @@
 //! Cases of `domain_controller`: a controller and its events, a scenario a line, and the lines that it puts.
 
+use crate::members::name;
 use crate::scenes::{chances, play_and_count};
 use account_table::Table;
-use case_words::{bytes, flags, no_case, word};
+use case_words::{bytes, debug_text, flags, no_case, word};
 use domain_controller::Controller;
 use end_loop::End;
 use outside::{Action, CloseCause, DropCause, Judged, Outcome};
 use std::alloc::Global;
-use wire_base::{Blob, Name};
+use wire_base::Blob;
+
+/// The account table of a word.
+pub(crate) fn table(alloc: Global, word: &str) -> anyhow::Result<Table> {
+    let document = bytes(alloc, word)?;
+    Ok(Table::read(alloc, &document)?)
+}
 
 /// The controller of a line: its table and its name.
 fn controller(alloc: Global, words: &[&str]) -> anyhow::Result<Controller> {
-    let document = bytes(alloc, word(words, 1))?;
-    let name = bytes(alloc, word(words, 2))?;
-    let name = Name::read(alloc, &name)?;
-    let table = Table::read(alloc, &document)?;
+    let name = name(alloc, word(words, 2))?;
+    let table = table(alloc, word(words, 1))?;
     Ok(Controller::new(alloc, table, name)?)
 }
 
@@ -28,25 +33,47 @@ fn run(alloc: Global, words: &[&str]) -> anyhow::Result<String> {
     play_and_count(alloc, &mut end, &mut chances, steps)
 }
 
-/// The action of a name: a status of eight hex digits is a call that passed.
+/// Bytes that are sent.
+fn send(alloc: Global) -> anyhow::Result<Action> {
+    Ok(Action::Send(1, Blob::copy(alloc, b"bytes")?))
+}
+
+/// A peer that is dialled.
+fn dial(alloc: Global) -> anyhow::Result<Action> {
+    Ok(Action::Dial(Blob::copy(alloc, b"peer")?))
+}
+
+/// How the call of a name was judged: eight hex digits are the status of one that passed.
+fn judged(name: &str) -> anyhow::Result<Action> {
+    match name {
+        "barred" => Ok(Action::Judged(Judged::Barred)),
+        "none" => Ok(Action::Judged(Judged::NoChannel)),
+        status => Ok(Action::Judged(Judged::Passed(flags(status)?))),
+    }
+}
+
+/// The action of a name: another name than these is one that `judged` has.
 fn action(alloc: Global, name: &str) -> anyhow::Result<Action> {
-    Ok(match name {
-        "send" => Action::Send(1, Blob::copy(alloc, b"bytes")?),
-        "dial" => Action::Dial(Blob::copy(alloc, b"peer")?),
-        "close" => Action::Close(1, CloseCause::CallDone),
-        "told" => Action::Told(1, Outcome::NoController(DropCause::BadReply)),
-        "barred" => Action::Judged(Judged::Barred),
-        "none" => Action::Judged(Judged::NoChannel),
-        status => Action::Judged(Judged::Passed(flags(status)?)),
-    })
+    match name {
+        "send" => send(alloc),
+        "dial" => dial(alloc),
+        "close" => Ok(Action::Close(1, CloseCause::CallDone)),
+        "told" => Ok(Action::Told(1, Outcome::NoController(DropCause::BadReply))),
+        name => judged(name),
+    }
+}
+
+/// The line that an end puts for the action, as text.
+fn line_text(alloc: Global, end: &Controller, action: &Action) -> anyhow::Result<String> {
+    let line = end.line(alloc, action)?;
+    debug_text(alloc, str::from_utf8(line.bytes()).unwrap_or("no text"))
 }
 
 /// `controller.line DOCUMENT NAME ACTION`: the line that the controller puts for the action, as text.
 fn line(alloc: Global, words: &[&str]) -> anyhow::Result<String> {
+    let action = action(alloc, word(words, 3))?;
     let end = controller(alloc, words)?;
-    let line = end.line(alloc, &action(alloc, word(words, 3))?)?;
-    let line = str::from_utf8(line.bytes()).unwrap_or("no text");
-    Ok(format!(in alloc; "{line:?}")?)
+    line_text(alloc, &end, &action)
 }
 
 /// What an operation gives.

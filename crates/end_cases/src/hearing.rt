@@ -1,8 +1,9 @@
 //! Cases of `end_links`: the units of a link, served in order.
 
-ghost use Rattle.std.specs.Prelude.{◌≡◌};
+ghost use Rattle.std.specs.Prelude.{◌≡◌, ◌≤◌, length};
 
-use case_words::{add_answer, bytes, text, word};
+use crate::links::frames_in_hex;
+use case_words::{add_answer, add_debug, bytes, word};
 use end_links::{Link, ServesUnits, serve_piece};
 use outside::{Chances, Draws, ListChances, StepRefused};
 use rpc_units::UnitRefused;
@@ -74,42 +75,8 @@ impl ServesUnits<()> for Heard {
     }
 }
 
-/// The units, the bytes that wait behind them where the link stays open, and the refusal.
-fn heard_text(alloc: Global, heard: &Heard, link: &Option<Link<()>>) -> anyhow::Result<String> {
-    let mut answer = String::new(alloc);
-    for unit in heard.units.items() {
-        let step = text(alloc, unit.bytes())?;
-        add_answer(&mut answer, step.as_str())?;
-    }
-    let refused = heard.refused;
-    let last = match link {
-        Some(link) => {
-            let waits = link.rest_len();
-            format!(in alloc; "{waits} {refused:?}")?
-        }
-        None => format!(in alloc; "closed {refused:?}")?,
-    };
-    add_answer(&mut answer, last.as_str())?;
-    Ok(answer)
-}
-
-/// What an end hears of pieces on a new link.
-fn hear(alloc: Global, pieces: &[&[u8]]) -> anyhow::Result<(Heard, Option<Link<()>>)> {
-    let mut chances = ListChances::new(Draws::new(alloc));
-    let mut heard = Heard {
-        units: Frames::new(alloc),
-        refused: None,
-    };
-    let mut link = Some(Link::new(alloc, ())?);
-    for piece in pieces {
-        if let Some(open) = link {
-            let (after, left) = serve_piece(alloc, heard, open, piece, &mut chances)?;
-            heard = after;
-            link = left;
-        }
-    }
-    Ok((heard, link))
-}
+/// An end, and its link while it is open.
+type Hearing = (Heard, Option<Link<()>>);
 
 /// The bytes that wait; none where the link is closed.
 fn waiting(link: &Option<Link<()>>) -> Option<usize> {
@@ -117,6 +84,67 @@ fn waiting(link: &Option<Link<()>>) -> Option<usize> {
         Some(link) => Some(link.rest_len()),
         None => None,
     }
+}
+
+/// The bytes that wait behind the units where the link stays open, and the refusal.
+fn rest_text(
+    alloc: Global,
+    waits: Option<usize>,
+    refused: Option<UnitRefused>,
+) -> anyhow::Result<String> {
+    match waits {
+        Some(waits) => Ok(format!(in alloc; "{waits} {refused:?}")?),
+        None => Ok(format!(in alloc; "closed {refused:?}")?),
+    }
+}
+
+/// The units, the bytes that wait behind them where the link stays open, and the refusal.
+fn heard_text(alloc: Global, heard: &Heard, waits: Option<usize>) -> anyhow::Result<String> {
+    let rest = rest_text(alloc, waits, heard.refused)?;
+    let mut answer = frames_in_hex(alloc, &heard.units)?;
+    add_answer(&mut answer, &rest)?;
+    Ok(answer)
+}
+
+/// An end on a new link.
+fn silence(alloc: Global) -> anyhow::Result<Hearing> {
+    let link = Link::new(alloc, ())?;
+    let heard = Heard {
+        units: Frames::new(alloc),
+        refused: None,
+    };
+    Ok((heard, Some(link)))
+}
+
+/// What an end heard when a piece comes behind the others.
+fn hear(alloc: Global, before: Hearing, piece: &[u8]) -> anyhow::Result<Hearing> {
+    let (heard, link) = before;
+    let mut chances = ListChances::new(Draws::new(alloc));
+    match link {
+        Some(open) => Ok(serve_piece(alloc, heard, open, piece, &mut chances)?),
+        None => Ok((heard, None)),
+    }
+}
+
+/// What an end heard when the piece of a word comes behind the others.
+fn hear_word(alloc: Global, before: Hearing, word: &str) -> anyhow::Result<Hearing> {
+    let piece = bytes(alloc, word)?;
+    hear(alloc, before, &piece)
+}
+
+/// What an end hears of the pieces of words on a new link.
+fn hear_words(alloc: Global, words: &[&str]) -> anyhow::Result<Hearing> {
+    let mut hearing = silence(alloc)?;
+    for word in words.iter().skip(1) {
+        hearing = hear_word(alloc, hearing, word)?;
+    }
+    Ok(hearing)
+}
+
+/// `hear PIECE ..`.
+pub(crate) fn hear_pieces(alloc: Global, words: &[&str]) -> anyhow::Result<String> {
+    let (heard, link) = hear_words(alloc, words)?;
+    heard_text(alloc, &heard, waiting(&link))
 }
 
 /// Whether two lists are of the same units.
@@ -132,15 +160,24 @@ fn are_same(one: &[Blob], other: &[Blob]) -> bool {
     true
 }
 
-/// Whether an end hears of both pieces what it heard of the whole.
+/// What an end hears of two pieces on a new link.
+fn hear_both(alloc: Global, front: &[u8], rest: &[u8]) -> anyhow::Result<Hearing> {
+    let before = hear(alloc, silence(alloc)?, front)?;
+    hear(alloc, before, rest)
+}
+
+/// Whether an end hears of a stream in two pieces, cut at a place, what it heard of the whole.
 fn hears_same(
     alloc: Global,
-    front: &[u8],
-    rest: &[u8],
+    stream: &[u8],
+    at: usize,
     whole: &Heard,
     waits: Option<usize>,
-) -> anyhow::Result<bool> {
-    let (heard, link) = hear(alloc, &[front, rest])?;
+) -> anyhow::Result<bool>
+    requires { at ≤ length stream.now }
+{
+    let (front, rest) = stream.split_at(at);
+    let (heard, link) = hear_both(alloc, front, rest)?;
     Ok(
         waiting(&link) == waits
             && heard.refused == whole.refused
@@ -148,29 +185,34 @@ fn hears_same(
     )
 }
 
-/// `hear PIECE ..`.
-pub(crate) fn hear_pieces(alloc: Global, words: &[&str]) -> anyhow::Result<String> {
-    let mut pieces: Vec<Vec<u8>> = Vec::new(alloc);
-    for word in words.iter().skip(1) {
-        pieces.push(bytes(alloc, word)?)?;
+/// At how many places a stream may be cut so that an end hears the same.
+fn count_same(
+    alloc: Global,
+    stream: &[u8],
+    whole: &Heard,
+    waits: Option<usize>,
+) -> anyhow::Result<u32> {
+    let mut same = 0u32;
+    for at in 0..stream.len() {
+        if hears_same(alloc, stream, at, whole, waits)? {
+            same = same.saturating_add(1);
+        }
     }
-    let lent: Vec<&[u8]> = pieces.iter().map(|piece| piece.as_slice()).collect(alloc)?;
-    let (heard, link) = hear(alloc, &lent)?;
-    heard_text(alloc, &heard, &link)
+    Ok(same)
+}
+
+/// What an end hears of a stream, and at how many places it may be cut so that the same is heard.
+fn cuts_text(alloc: Global, stream: &[u8]) -> anyhow::Result<String> {
+    let (whole, link) = hear(alloc, silence(alloc)?, stream)?;
+    let waits = waiting(&link);
+    let same = count_same(alloc, stream, &whole, waits)?;
+    let mut answer = heard_text(alloc, &whole, waits)?;
+    add_debug(alloc, &mut answer, same)?;
+    Ok(answer)
 }
 
 /// `cuts STREAM`.
 pub(crate) fn hear_cuts(alloc: Global, words: &[&str]) -> anyhow::Result<String> {
     let stream = bytes(alloc, word(words, 1))?;
-    let (whole, link) = hear(alloc, &[&stream])?;
-    let waits = waiting(&link);
-    let mut same = 0u32;
-    for at in 0..stream.len() {
-        let (front, rest) = stream.split_at(at);
-        if hears_same(alloc, front, rest, &whole, waits)? {
-            same = same.saturating_add(1);
-        }
-    }
-    let text = heard_text(alloc, &whole, &link)?;
-    Ok(format!(in alloc; "{text};{same}")?)
+    cuts_text(alloc, &stream)
 }

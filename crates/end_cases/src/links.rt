@@ -4,14 +4,18 @@ ghost use Rattle.std.specs.Prelude.{◌≡◌, ◌≤◌, ◌<◌, ◌^◌, true
 ghost use Rattle.rpc_units.specs.Joining.{IsWholeCall};
 
 use crate::hearing;
-use case_words::{add_answer, blob, bytes, no_case, number, number16, sixteen, text, truth, word};
+use case_words::{
+    add_answer, answer_steps, blob, bytes, debug_text, halves, no_case, number, number16, sixteen,
+    text, truth, word,
+};
 use end_links::{
     Binding, Link, Links, SaysHeld, bind, bind_ack, bind_nak, call_bytes, call_frames, fault,
     fragment_limit, join_frames, request, response, short_unit_bytes, unit_bytes,
 };
 use rpc_units::{Body, Contexts, Syntax, Unit, read_unit};
 use std::alloc::Global;
-use wire_base::Blob;
+use std::mem;
+use wire_base::{Blob, Frames};
 
 // ---- bindings
 
@@ -39,57 +43,79 @@ fn ack_text(
     text(alloc, bytes.bytes())
 }
 
-/// The limit that a binding has, and whether it accepts each of these contexts.
-fn binding_text(alloc: Global, binding: &Binding, ids: &[&str]) -> anyhow::Result<String> {
-    let limit = binding.limit();
-    let mut answer = format!(in alloc; "{limit}")?;
-    for id in ids {
-        let accepts = binding.accepts(number16(id)?);
-        add_answer(&mut answer, truth(accepts))?;
+/// Puts whether a binding accepts the context of a word behind the answers.
+fn add_accepted(answer: &mut String, binding: &Binding, id: &str) -> anyhow::Result<()> {
+    add_answer(answer, truth(binding.accepts(number16(id)?)))
+}
+
+/// The limit that a binding has, and whether it accepts each of these contexts, from the third word on.
+fn binding_text(alloc: Global, binding: &Binding, words: &[&str]) -> anyhow::Result<String> {
+    let mut answer = debug_text(alloc, binding.limit())?;
+    for id in words.iter().skip(3) {
+        add_accepted(&mut answer, binding, id)?;
     }
     Ok(answer)
 }
 
-/// What a bind is answered, and what it agrees on.
+/// What a bind agrees on.
 fn agreed_text(
+    alloc: Global,
+    served: &Syntax,
+    receive: u16,
+    contexts: &Contexts,
+    words: &[&str],
+) -> anyhow::Result<String> {
+    let binding = Binding::new(alloc, served, receive, contexts)?;
+    binding_text(alloc, &binding, words)
+}
+
+/// What a bind is answered, and what it agrees on.
+fn bound_text(
     alloc: Global,
     served: &Syntax,
     call: u32,
     receive: u16,
     contexts: &Contexts,
-    ids: &[&str],
+    words: &[&str],
 ) -> anyhow::Result<String>
     requires { length contexts.now ≤ 242 }
 {
-    let ack = ack_text(alloc, served, call, receive, contexts)?;
-    let binding = Binding::new(alloc, served, receive, contexts)?;
-    let agreed = binding_text(alloc, &binding, ids)?;
-    Ok(format!(in alloc; "{ack};{agreed}")?)
+    let mut answer = ack_text(alloc, served, call, receive, contexts)?;
+    let agreed = agreed_text(alloc, served, receive, contexts, words)?;
+    add_answer(&mut answer, &agreed)?;
+    Ok(answer)
+}
+
+/// What the bind of these bytes is answered, and what it agrees on.
+fn answer_to_bind(
+    alloc: Global,
+    served: &Syntax,
+    bytes: &[u8],
+    words: &[&str],
+) -> anyhow::Result<String> {
+    match read_unit(alloc, bytes) {
+        Ok(unit) => match &unit.body {
+            Body::Bind {
+                receive,
+                contexts,
+                ..
+            } => bound_text(alloc, served, unit.call, *receive, contexts, words),
+            _ => no_case(alloc),
+        },
+        Err(_) => no_case(alloc),
+    }
 }
 
 /// `answer INTERFACE BIND ID ..`.
 fn answer_to(alloc: Global, words: &[&str]) -> anyhow::Result<String> {
     let served = interface(word(words, 1))?;
     let bind = bytes(alloc, word(words, 2))?;
-    let ids: Vec<&str> = words.iter().skip(3).copied().collect(alloc)?;
-    let Ok(unit) = read_unit(alloc, &bind) else {
-        return no_case(alloc);
-    };
-    let Body::Bind {
-        receive,
-        contexts,
-        ..
-    } = &unit.body
-    else {
-        return no_case(alloc);
-    };
-    agreed_text(alloc, &served, unit.call, *receive, contexts, &ids)
+    answer_to_bind(alloc, &served, &bind, words)
 }
 
 /// `limit RECEIVE`.
 fn limit(alloc: Global, words: &[&str]) -> anyhow::Result<String> {
-    let limit = fragment_limit(number16(word(words, 1))?);
-    Ok(format!(in alloc; "{limit}")?)
+    debug_text(alloc, fragment_limit(number16(word(words, 1))?))
 }
 
 /// `nak CALL`.
@@ -132,6 +158,33 @@ fn has_length(stub: &Blob) -> bool
     stub.bytes().len() <= 0xFFFF_FFFF
 }
 
+/// Puts a byte string in hex behind the answers.
+fn add_text(alloc: Global, answer: &mut String, bytes: &[u8]) -> anyhow::Result<()> {
+    let step = text(alloc, bytes)?;
+    add_answer(answer, &step)
+}
+
+/// The frames one by one.
+pub(crate) fn frames_in_hex(alloc: Global, frames: &Frames) -> anyhow::Result<String> {
+    let mut answer = String::new(alloc);
+    for frame in frames.items() {
+        add_text(alloc, &mut answer, frame.bytes())?;
+    }
+    Ok(answer)
+}
+
+/// Whether the frames of a call or reply are its bytes when joined.
+fn are_bytes(alloc: Global, frames: &Frames, unit: &Unit, limit: u16) -> anyhow::Result<bool>
+    requires whole { IsWholeCall unit.now }
+    requires plain { unit.now.trailer ≡ None }
+    requires least { 1432 ≤ limit }
+    requires most { limit ≤ 5840 }
+{
+    let joined = join_frames(alloc, frames)?;
+    let bytes = call_bytes(alloc, unit, limit)?;
+    Ok(joined.bytes() == bytes.bytes())
+}
+
 /// The frames of a call or reply, and whether they are its bytes when joined.
 fn frames_text(alloc: Global, unit: &Unit, limit: u16) -> anyhow::Result<String>
     requires whole { IsWholeCall unit.now }
@@ -141,14 +194,9 @@ fn frames_text(alloc: Global, unit: &Unit, limit: u16) -> anyhow::Result<String>
         return no_case(alloc);
     }
     let frames = call_frames(alloc, unit, limit)?;
-    let joined = join_frames(alloc, &frames)?;
-    let bytes = call_bytes(alloc, unit, limit)?;
-    let mut answer = String::new(alloc);
-    for frame in frames.items() {
-        let step = text(alloc, frame.bytes())?;
-        add_answer(&mut answer, step.as_str())?;
-    }
-    add_answer(&mut answer, truth(joined.bytes() == bytes.bytes()))?;
+    let are_bytes = are_bytes(alloc, &frames, unit, limit)?;
+    let mut answer = frames_in_hex(alloc, &frames)?;
+    add_answer(&mut answer, truth(are_bytes))?;
     Ok(answer)
 }
 
@@ -195,60 +243,63 @@ impl SaysHeld for Said {
     }
 }
 
-/// The links with one more of that number, where there is room.
-fn put(alloc: Global, links: Links<Said>, number: u32, bytes: u16) -> anyhow::Result<Links<Said>> {
+/// Links of this kind.
+type SaidLinks = Links<Said>;
+
+/// Puts one more link of that number, where there is room.
+fn put(alloc: Global, links: &mut SaidLinks, number: u32, bytes: u16) -> anyhow::Result<()> {
     if links.is_full() {
-        return Ok(links);
+        return Ok(());
     }
     let link = Link::new(alloc, Said { bytes })?;
-    Ok(links.put(number, link)?)
+    *links = mem::replace(links, Links::new(alloc)).put(number, link)?;
+    Ok(())
 }
 
-/// The links with those of the numbers from `from` up to `to`, where there is room.
-fn fill(alloc: Global, links: Links<Said>, from: u32, to: u32) -> anyhow::Result<Links<Said>> {
-    let mut links = links;
+/// Puts links of the numbers from `from` up to `to`, where there is room.
+fn fill(alloc: Global, links: &mut SaidLinks, from: u32, to: u32) -> anyhow::Result<()> {
     for number in from..to {
-        links = put(alloc, links, number, 0)?;
+        put(alloc, links, number, 0)?;
     }
-    Ok(links)
+    Ok(())
 }
 
-/// A step on links: the links afterwards, behind the answer.
-fn step(
-    alloc: Global,
-    links: Links<Said>,
-    parts: &[&str],
-    answer: &mut String,
-) -> anyhow::Result<Links<Said>> {
-    let one = number(word(parts, 1))?;
-    let other = number16(word(parts, 2))?;
-    let links = match word(parts, 0) {
-        "put" => put(alloc, links, one, other)?,
-        "fill" => fill(alloc, links, one, u32::from(other))?,
-        _ => {
-            let (rest, link) = links.take(one);
-            add_answer(answer, truth(link.is_some()))?;
-            rest
-        }
-    };
+/// How many links there are, whether no more may be put, what they hold, and whether there is one of that number.
+fn links_text(alloc: Global, links: &SaidLinks, number: u32) -> anyhow::Result<String> {
     let count = links.len();
     let full = links.is_full();
     let held = links.held();
-    let found = links.get(one).is_some();
-    let text = format!(in alloc; "{count} {full} {held} {found}")?;
-    add_answer(answer, text.as_str())?;
-    Ok(links)
+    let found = links.get(number).is_some();
+    Ok(format!(in alloc; "{count} {full} {held} {found}")?)
+}
+
+/// Takes the link of that number out. Whether there was one, and the links afterwards.
+fn take(alloc: Global, links: &mut SaidLinks, number: u32) -> anyhow::Result<String> {
+    let (rest, link) = mem::replace(links, Links::new(alloc)).take(number);
+    *links = rest;
+    let taken = link.is_some();
+    let left = links_text(alloc, links, number)?;
+    Ok(format!(in alloc; "{taken};{left}")?)
+}
+
+/// What a step on links gives: `put/NUMBER/BYTES`, `fill/FROM/TO`, `take/NUMBER/0`.
+fn step(alloc: Global, links: &mut SaidLinks, step: &str) -> anyhow::Result<String> {
+    let (name, rest) = halves(step);
+    let (one, other) = halves(rest);
+    let one = number(one)?;
+    let other = number16(other)?;
+    match name {
+        "put" => put(alloc, links, one, other)?,
+        "fill" => fill(alloc, links, one, u32::from(other))?,
+        _ => return take(alloc, links, one),
+    }
+    links_text(alloc, links, one)
 }
 
 /// `map STEP ..`.
 fn map(alloc: Global, words: &[&str]) -> anyhow::Result<String> {
-    let mut links = Links::new(alloc);
-    let mut answer = String::new(alloc);
-    for word in words.iter().skip(1) {
-        let parts: Vec<&str> = word.split('/').collect(alloc)?;
-        links = step(alloc, links, &parts, &mut answer)?;
-    }
-    Ok(answer)
+    let mut links = SaidLinks::new(alloc);
+    answer_steps(alloc, words, 1, &mut links, step)
 }
 
 /// What an operation gives.

@@ -7,7 +7,7 @@ use std::alloc::Global;
 use wire_base::Name;
 
 /// A name in ASCII.
-fn name(alloc: Global, word: &str) -> anyhow::Result<Name> {
+pub(crate) fn name(alloc: Global, word: &str) -> anyhow::Result<Name> {
     let bytes = bytes(alloc, word)?;
     Ok(Name::read(alloc, &bytes)?)
 }

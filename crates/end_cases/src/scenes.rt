@@ -1,36 +1,52 @@
 //! Scenarios of an end: its events, and its actions.
 
-use case_words::{add_answer, bytes, eight, number, number64, text, word};
+use case_words::{
+    add_answer, add_debug, add_part, blob, debug_text, eight_list, list_text, number, number64,
+    refusal_text, text, word,
+};
 use end_loop::End;
-use outside::{Action, Actions, Chances, Draws, Event, ListChances};
+use outside::{Action, Actions, Chances, Event, Judged, ListChances};
 use std::alloc::Global;
-use wire_base::Blob;
+use std::fmt::Debug;
 
-/// The event of a step `opened/LINK`, `bytes/LINK/BYTES`, `closed/LINK`, `dialled/LINK`, `failed`; else `Stop`.
-fn event(alloc: Global, step: &str) -> anyhow::Result<Event> {
-    let parts: Vec<&str> = step.split('/').collect(alloc)?;
-    let parts = parts.as_slice();
-    let link = number(word(parts, 1)).unwrap_or(0);
-    let piece = Blob::from_vec(bytes(alloc, word(parts, 2))?);
-    Ok(match word(parts, 0) {
+/// Bytes that come on a link.
+fn bytes_on(alloc: Global, link: u32, word: &str) -> anyhow::Result<Event> {
+    Ok(Event::Bytes(link, blob(alloc, word)?))
+}
+
+/// The event of a name without bytes, else `Stop`.
+fn event_of(name: &str, link: u32) -> Event {
+    match name {
         "opened" => Event::Opened(link),
-        "bytes" => Event::Bytes(link, piece),
         "closed" => Event::Closed(link),
         "dialled" => Event::Dialled(link),
         "failed" => Event::DialFailed,
         _ => Event::Stop,
-    })
+    }
 }
 
-/// Challenges between commas, or `-` for none.
-fn draws(alloc: Global, word: &str) -> anyhow::Result<Draws> {
-    let mut draws = Draws::new(alloc);
-    if word != "-" {
-        for part in word.split(',') {
-            draws.push(eight(part)?)?;
-        }
+/// The event of these parts: `opened LINK`, `bytes LINK BYTES`, `closed LINK`, `dialled LINK`, `failed`; else `Stop`.
+pub(crate) fn event(alloc: Global, parts: &[&str]) -> anyhow::Result<Event> {
+    let link = number(word(parts, 1)).unwrap_or(0);
+    match word(parts, 0) {
+        "bytes" => bytes_on(alloc, link, word(parts, 2)),
+        name => Ok(event_of(name, link)),
     }
-    Ok(draws)
+}
+
+/// A word, the number of what it tells of, and a value.
+pub(crate) fn numbered_text<T: Debug + Drop>(
+    alloc: Global,
+    what: &str,
+    number: u32,
+    value: T,
+) -> anyhow::Result<String> {
+    Ok(format!(in alloc; "{what} {number} {value:?}")?)
+}
+
+/// How a call was judged, as a word.
+fn judged_text(alloc: Global, how: &Judged) -> anyhow::Result<String> {
+    Ok(format!(in alloc; "judged {how:?}")?)
 }
 
 /// An action as a word: `send LINK BYTES`, `dial PEER`, `close LINK CAUSE`, `told LINK OUTCOME`, `judged HOW`.
@@ -38,9 +54,9 @@ fn action_text(alloc: Global, action: &Action) -> anyhow::Result<String> {
     match action {
         Action::Send(link, bytes) => send_text(alloc, *link, bytes.bytes()),
         Action::Dial(peer) => dial_text(alloc, peer.bytes()),
-        Action::Close(link, cause) => Ok(format!(in alloc; "close {link} {cause:?}")?),
-        Action::Told(link, outcome) => Ok(format!(in alloc; "told {link} {outcome:?}")?),
-        Action::Judged(how) => Ok(format!(in alloc; "judged {how:?}")?),
+        Action::Close(link, cause) => numbered_text(alloc, "close", *link, cause),
+        Action::Told(link, outcome) => numbered_text(alloc, "told", *link, outcome),
+        Action::Judged(how) => judged_text(alloc, how),
     }
 }
 
@@ -56,20 +72,19 @@ fn dial_text(alloc: Global, peer: &[u8]) -> anyhow::Result<String> {
     Ok(format!(in alloc; "dial {peer}")?)
 }
 
+/// Puts an action behind the others.
+fn put_action(alloc: Global, all: &mut String, action: &Action) -> anyhow::Result<()> {
+    let one = action_text(alloc, action)?;
+    add_part(all, &one)
+}
+
 /// Actions between commas, or `-` for none.
 pub(crate) fn actions_text(alloc: Global, actions: &Actions) -> anyhow::Result<String> {
     let mut all = String::new(alloc);
     for action in actions.items() {
-        if !all.is_empty() {
-            all.push(',')?;
-        }
-        let one = action_text(alloc, action)?;
-        all.push_str(&one)?;
+        put_action(alloc, &mut all, action)?;
     }
-    if all.is_empty() {
-        all.push('-')?;
-    }
-    Ok(all)
+    list_text(alloc, all)
 }
 
 /// The step for an event at the moment.
@@ -82,14 +97,13 @@ fn step<E: End>(
 ) -> anyhow::Result<String> {
     match end.step(alloc, event, now, chances) {
         Ok(actions) => actions_text(alloc, &actions),
-        Err(refused) => Ok(format!(in alloc; "Err({refused:?})")?),
+        Err(refused) => refusal_text(alloc, refused),
     }
 }
 
 /// The link that the end waits for.
 fn wants<E: End>(alloc: Global, end: &E) -> anyhow::Result<String> {
-    let link = end.wants();
-    Ok(format!(in alloc; "{link:?}")?)
+    debug_text(alloc, end.wants())
 }
 
 /// How many challenges are left, of at most 1,000.
@@ -102,6 +116,19 @@ fn count_left(chances: &mut ListChances) -> u32 {
     1000
 }
 
+/// The answer to an event.
+fn answer_event<E: End>(
+    alloc: Global,
+    end: &mut E,
+    chances: &mut ListChances,
+    now: u64,
+    word: &str,
+) -> anyhow::Result<String> {
+    let parts: Vec<&str> = word.split('/').collect(alloc)?;
+    let event = event(alloc, &parts)?;
+    step(alloc, end, &event, now, chances)
+}
+
 /// The answer to a step that is no moment: `wants`, or an event.
 fn answer<E: End>(
     alloc: Global,
@@ -110,11 +137,10 @@ fn answer<E: End>(
     now: u64,
     word: &str,
 ) -> anyhow::Result<String> {
-    if word == "wants" {
-        return wants(alloc, end);
+    match word {
+        "wants" => wants(alloc, end),
+        _ => answer_event(alloc, end, chances, now, word),
     }
-    let event = event(alloc, word)?;
-    step(alloc, end, &event, now, chances)
 }
 
 /// The answers to the steps of an end that may draw these challenges: `at/MOMENT`, `wants`, or an event.
@@ -140,7 +166,7 @@ pub(crate) fn play<E: End>(
 
 /// The challenges of a word, to be drawn.
 pub(crate) fn chances(alloc: Global, word: &str) -> anyhow::Result<ListChances> {
-    Ok(ListChances::new(draws(alloc, word)?))
+    Ok(ListChances::new(eight_list(alloc, word)?))
 }
 
 /// Puts the number of challenges that are left behind the answers.
@@ -149,8 +175,7 @@ pub(crate) fn add_left(
     answers: &mut String,
     chances: &mut ListChances,
 ) -> anyhow::Result<()> {
-    let left = count_left(chances);
-    add_answer(answers, &format!(in alloc; "{left}")?)
+    add_debug(alloc, answers, count_left(chances))
 }
 
 /// The answers to the steps of an end, and the number of challenges that are left.

@@ -2,49 +2,23 @@
 
 ghost use Rattle.std.specs.Prelude.{◌≡◌, false};
 
+use crate::scenes::{chances, event};
 use crate::small::Small;
-use case_words::{add_answer, bytes, eight, no_case, number, number64, text, word};
+use case_words::{
+    add_answer, add_debug, debug_text, no_case, number, number_list, number64, sends_text, text,
+    told, word,
+};
 use end_loop::{Halt, begin_with, serve_at};
 use outside::{
-    Action, Actions, Draws, Event, Events, ListChances, ListClock, Moments, ScriptPort, Sends,
-    VecSink,
+    Action, Actions, Event, Events, ListChances, ListClock, Moments, ScriptPort, VecSink,
 };
 use std::alloc::Global;
-use wire_base::{Blob, Calls};
+use wire_base::Blob;
 
-/// Numbers between commas, or `-` for none.
-fn calls(alloc: Global, word: &str) -> anyhow::Result<Calls> {
-    let mut calls = Calls::new(alloc);
-    if word != "-" {
-        for part in word.split(',') {
-            calls.push(number(part)?)?;
-        }
-    }
-    Ok(calls)
-}
-
-/// Challenges between commas, or `-` for none.
-fn draws(alloc: Global, word: &str) -> anyhow::Result<Draws> {
-    let mut draws = Draws::new(alloc);
-    if word != "-" {
-        for part in word.split(',') {
-            draws.push(eight(part)?)?;
-        }
-    }
-    Ok(draws)
-}
-
-/// An event: `opened:LINK`, `bytes:LINK:BYTES`, `closed:LINK`, else `Stop`.
-fn event(alloc: Global, word_of_event: &str) -> anyhow::Result<Event> {
-    let parts: Vec<&str> = word_of_event.split(':').collect(alloc)?;
-    let link = number(word(&parts, 1)).unwrap_or(0);
-    let bytes = Blob::from_vec(bytes(alloc, word(&parts, 2))?);
-    Ok(match word(&parts, 0) {
-        "opened" => Event::Opened(link),
-        "bytes" => Event::Bytes(link, bytes),
-        "closed" => Event::Closed(link),
-        _ => Event::Stop,
-    })
+/// An event `NAME:LINK:BYTES` with the parts of `scenes::event`.
+fn event_of_word(alloc: Global, word: &str) -> anyhow::Result<Event> {
+    let parts: Vec<&str> = word.split(':').collect(alloc)?;
+    event(alloc, &parts)
 }
 
 /// Events between commas, or `-` for none.
@@ -52,47 +26,53 @@ fn events(alloc: Global, word: &str) -> anyhow::Result<Events> {
     let mut events = Events::new(alloc);
     if word != "-" {
         for part in word.split(',') {
-            events.push(event(alloc, part)?)?;
+            let event = event_of_word(alloc, part)?;
+            events.push(event)?;
         }
     }
     Ok(events)
 }
 
-/// The sends that were kept, `LINK:BYTES` between commas, or `-` for none.
-fn sent(alloc: Global, sends: &Sends) -> anyhow::Result<String> {
-    let mut all = String::new(alloc);
-    for (link, bytes) in sends.items() {
-        let bytes = text(alloc, bytes.bytes())?;
-        if !all.is_empty() {
-            all.push(',')?;
-        }
-        let one = format!(in alloc; "{link}:{bytes}")?;
-        all.push_str(&one)?;
+/// The outside in memory that the small end is served over.
+struct Memory {
+    port: ScriptPort,
+    out: VecSink,
+    clock: ListClock,
+    chances: ListChances,
+}
+
+impl Drop for Memory {
+    // As it would be derived: written out, it is one call wherever one is let go, which keeps the proofs of those places short.
+    fn drop(self) {
+        let Memory {
+            port: _port,
+            out: _out,
+            clock: _clock,
+            chances: _chances,
+        } = self;
     }
-    if all.is_empty() {
-        all.push('-')?;
-    }
-    Ok(all)
+}
+
+/// Adds what was sent, and the lines put.
+fn add_sent(alloc: Global, answers: &mut String, memory: &Memory) -> anyhow::Result<()> {
+    let sends = sends_text(alloc, memory.port.sent().items())?;
+    add_answer(answers, &sends)?;
+    let lines = text(alloc, memory.out.bytes())?;
+    add_answer(answers, &lines)
 }
 
 /// What is seen after a run: how it ended, what was sent, the lines put, the end, and whether port, sink and clock still tell all.
 fn seen(
     alloc: Global,
     done: Result<(), Halt>,
-    port: &ScriptPort,
-    out: &VecSink,
-    clock: &ListClock,
+    memory: &Memory,
     end: &Small,
 ) -> anyhow::Result<String> {
-    let mut answers = format!(in alloc; "{done:?}")?;
-    let sends = sent(alloc, port.sent())?;
-    add_answer(&mut answers, &sends)?;
-    let lines = text(alloc, out.bytes())?;
-    add_answer(&mut answers, &lines)?;
-    let state = format!(in alloc; "{end:?}")?;
-    add_answer(&mut answers, &state)?;
-    let tells = port.tells() && out.tells() && clock.tells();
-    add_answer(&mut answers, if tells { "told" } else { "not told" })?;
+    let mut answers = debug_text(alloc, done)?;
+    add_sent(alloc, &mut answers, memory)?;
+    add_debug(alloc, &mut answers, end)?;
+    let tells = memory.port.tells() && memory.out.tells() && memory.clock.tells();
+    add_answer(&mut answers, told(tells))?;
     Ok(answers)
 }
 
@@ -110,29 +90,37 @@ fn small() -> Small
 
 /// The port of a line: its events, and the numbers of its calls that fail. None where it may not list the events.
 fn port(alloc: Global, words: &[&str]) -> anyhow::Result<Option<ScriptPort>> {
+    let failing = number_list(alloc, word(words, 2))?;
     let events = events(alloc, word(words, 1))?;
-    let failing = calls(alloc, word(words, 2))?;
     if !ScriptPort::may_list(events.items()) {
         return Ok(None);
     }
     Ok(Some(ScriptPort::new(alloc, events, failing)))
 }
 
-/// The clock of a line: its first moment, which repeats.
-fn clock(alloc: Global, words: &[&str]) -> anyhow::Result<ListClock> {
-    let first = number64(word(words, 5))?;
-    Ok(ListClock::new(alloc, first, Moments::new(alloc)))
+/// The sink of a line: the numbers of its puts that fail.
+fn sink(alloc: Global, words: &[&str]) -> anyhow::Result<VecSink> {
+    Ok(VecSink::new(alloc, number_list(alloc, word(words, 3))?))
 }
 
-/// `loop.serve EVENTS FAILING FAILING_PUTS DRAWS MOMENT MOST`: the small end is served at an address.
-fn serve(alloc: Global, words: &[&str]) -> anyhow::Result<String> {
-    let Some(mut port) = port(alloc, words)? else {
-        return no_case(alloc);
+/// The outside of a line: its clock has a first moment, which repeats. None where the port may not list the events.
+fn memory_of(alloc: Global, words: &[&str]) -> anyhow::Result<Option<Memory>> {
+    let first = number64(word(words, 5))?;
+    let chances = chances(alloc, word(words, 4))?;
+    let out = sink(alloc, words)?;
+    let Some(port) = port(alloc, words)? else {
+        return Ok(None);
     };
-    let mut out = VecSink::new(alloc, calls(alloc, word(words, 3))?);
-    let mut chances = ListChances::new(draws(alloc, word(words, 4))?);
-    let mut clock = clock(alloc, words)?;
-    let most = number(word(words, 6))?;
+    Ok(Some(Memory {
+        port,
+        out,
+        clock: ListClock::new(alloc, first, Moments::new(alloc)),
+        chances,
+    }))
+}
+
+/// How the small end is served at an address.
+fn serve_over(alloc: Global, memory: &mut Memory, most: u32) -> anyhow::Result<String> {
     let mut end = small();
     let done = serve_at(
         alloc,
@@ -141,38 +129,61 @@ fn serve(alloc: Global, words: &[&str]) -> anyhow::Result<String> {
         [0; 32],
         1,
         most,
-        &mut port,
-        &mut out,
-        &mut clock,
-        &mut chances,
+        &mut memory.port,
+        &mut memory.out,
+        &mut memory.clock,
+        &mut memory.chances,
     );
-    seen(alloc, done, &port, &out, &clock, &end)
+    seen(alloc, done, memory, &end)
 }
 
-/// `loop.begin EVENTS FAILING FAILING_PUTS DRAWS MOMENT MOST`: the small end, where a dial waits, is served from a first dial on.
-fn begin(alloc: Global, words: &[&str]) -> anyhow::Result<String> {
-    let Some(mut port) = port(alloc, words)? else {
+/// `loop.serve EVENTS FAILING FAILING_PUTS DRAWS MOMENT MOST`: the small end is served at an address.
+fn serve(alloc: Global, words: &[&str]) -> anyhow::Result<String> {
+    let most = number(word(words, 6))?;
+    let Some(mut memory) = memory_of(alloc, words)? else {
         return no_case(alloc);
     };
-    let mut out = VecSink::new(alloc, calls(alloc, word(words, 3))?);
-    let mut chances = ListChances::new(draws(alloc, word(words, 4))?);
-    let mut clock = clock(alloc, words)?;
-    let most = number(word(words, 6))?;
+    serve_over(alloc, &mut memory, most)
+}
+
+/// A first dial.
+fn first_dial(alloc: Global) -> anyhow::Result<Actions> {
+    let peer = Blob::copy(alloc, b"peer")?;
     let mut first = Actions::new(alloc);
-    first.push(Action::Dial(Blob::copy(alloc, b"peer")?))?;
+    first.push(Action::Dial(peer))?;
+    Ok(first)
+}
+
+/// How the small end, where a dial waits, is served from these actions on.
+fn begin_over(
+    alloc: Global,
+    memory: &mut Memory,
+    first: &Actions,
+    most: u32,
+) -> anyhow::Result<String> {
     let mut end = small();
     end.waiting = 1;
     let done = begin_with(
         alloc,
         &mut end,
-        &first,
+        first,
         most,
-        &mut port,
-        &mut out,
-        &mut clock,
-        &mut chances,
+        &mut memory.port,
+        &mut memory.out,
+        &mut memory.clock,
+        &mut memory.chances,
     );
-    seen(alloc, done, &port, &out, &clock, &end)
+    seen(alloc, done, memory, &end)
+}
+
+/// `loop.begin EVENTS FAILING FAILING_PUTS DRAWS MOMENT MOST`: the small end, where a dial waits, is served from a first dial on.
+fn begin(alloc: Global, words: &[&str]) -> anyhow::Result<String> {
+    let most = number(word(words, 6))?;
+    let first = first_dial(alloc)?;
+    let Some(mut memory) = memory_of(alloc, words)? else {
+        return no_case(alloc);
+    };
+    begin_over(alloc, &mut memory, &first, most)
 }
 
 /// The answer to an operation.

@@ -4,15 +4,18 @@ ghost use Rattle.std.specs.Prelude.{◌≡◌, ◌≤◌, true, length};
 ghost use Rattle.logon_stubs.specs.Parts.{FitsText, FitsBytes};
 ghost use Rattle.logon_stubs.specs.Writing.{CanWriteNetworkInfo};
 
+use crate::members::name;
+use crate::scenes::numbered_text;
 use case_words::{
-    add_answer, bytes, eight, no_case, number, number16, sixteen, text, text_units, truth, word,
+    add_part, answer_steps, blob, bytes, debug_text, eight, no_case, number, number16, sixteen,
+    text, text_units, truth, word,
 };
 use channel_client::{Channel, TakeRefused, Taken, Turn};
 use logon_stubs::NetworkInfo;
 use outside::DropCause;
-use rpc_units::read_unit;
+use rpc_units::{Unit, read_unit};
 use std::alloc::Global;
-use wire_base::{Blob, Frames, Name, NoMemory, Units};
+use wire_base::{Blob, Frames, NoMemory, Units};
 
 /// A channel at work, and the right to its turn while one is out.
 #[derive(Drop)]
@@ -50,28 +53,51 @@ fn is_account(units: &Units) -> bool
     units.units().len() <= 65
 }
 
+/// The domain, the user and the workstation of a step.
+fn names(alloc: Global, parts: &[&str]) -> anyhow::Result<(Units, Units, Units)> {
+    let domain = text_units(alloc, word(parts, 1))?;
+    let user = text_units(alloc, word(parts, 2))?;
+    let workstation = text_units(alloc, word(parts, 3))?;
+    Ok((domain, user, workstation))
+}
+
+/// The responses of a step: NT and LM.
+fn responses(alloc: Global, parts: &[&str]) -> anyhow::Result<(Blob, Blob)> {
+    let nt = blob(alloc, word(parts, 5))?;
+    let lm = blob(alloc, word(parts, 6))?;
+    Ok((nt, lm))
+}
+
 /// A logon of a step `ask/DOMAIN/USER/WORKSTATION/CHALLENGE/NT/LM`.
 fn info(alloc: Global, parts: &[&str]) -> anyhow::Result<NetworkInfo> {
+    let challenge = eight(word(parts, 4))?;
+    let (nt, lm) = responses(alloc, parts)?;
+    let (domain, user, workstation) = names(alloc, parts)?;
     Ok(NetworkInfo {
-        domain: text_units(alloc, word(parts, 1))?,
+        domain,
         control: 0,
         logon_id: 0,
-        user: text_units(alloc, word(parts, 2))?,
-        workstation: text_units(alloc, word(parts, 3))?,
-        challenge: eight(word(parts, 4))?,
-        nt: Blob::from_vec(bytes(alloc, word(parts, 5))?),
-        lm: Blob::from_vec(bytes(alloc, word(parts, 6))?),
+        user,
+        workstation,
+        challenge,
+        nt,
+        lm,
     })
+}
+
+/// No text.
+fn no_text(alloc: Global) -> Units {
+    Units::from_vec(Vec::new(alloc))
 }
 
 /// A logon without names and responses.
 fn empty_info(alloc: Global) -> NetworkInfo {
     NetworkInfo {
-        domain: Units::from_vec(Vec::new(alloc)),
+        domain: no_text(alloc),
         control: 0,
         logon_id: 0,
-        user: Units::from_vec(Vec::new(alloc)),
-        workstation: Units::from_vec(Vec::new(alloc)),
+        user: no_text(alloc),
+        workstation: no_text(alloc),
         challenge: [0; 8],
         nt: Blob::from_vec(Vec::new(alloc)),
         lm: Blob::from_vec(Vec::new(alloc)),
@@ -83,8 +109,7 @@ fn ask(alloc: Global, scene: &mut Scene, logon: NetworkInfo) -> anyhow::Result<S
     if !can_write(&logon) {
         return no_case(alloc);
     }
-    let place = scene.channel.ask(logon);
-    Ok(format!(in alloc; "{place:?}")?)
+    debug_text(alloc, scene.channel.ask(logon))
 }
 
 /// Lets so many logons wait, and answers for the last.
@@ -103,15 +128,17 @@ fn can(alloc: Global, scene: &Scene) -> anyhow::Result<String> {
     Ok(format!(in alloc; "{start} {draw}")?)
 }
 
+/// Puts a frame in hex behind the others.
+fn put_frame(alloc: Global, all: &mut String, frame: &[u8]) -> anyhow::Result<()> {
+    let one = text(alloc, frame)?;
+    add_part(all, &one)
+}
+
 /// Frames in hex, between commas.
 fn frames_text(alloc: Global, frames: &Frames) -> anyhow::Result<String> {
     let mut all = String::new(alloc);
     for frame in frames.items() {
-        if !all.is_empty() {
-            all.push(',')?;
-        }
-        let one = text(alloc, frame.bytes())?;
-        all.push_str(&one)?;
+        put_frame(alloc, &mut all, frame.bytes())?;
     }
     Ok(all)
 }
@@ -129,35 +156,46 @@ fn start(alloc: Global, scene: &mut Scene, parts: &[&str]) -> anyhow::Result<Str
     }
 }
 
+/// The frames that are sent next.
+fn next_text(alloc: Global, frames: &Frames) -> anyhow::Result<String> {
+    let frames = frames_text(alloc, frames)?;
+    Ok(format!(in alloc; "next {frames}")?)
+}
+
 /// What a unit came to; the right goes back to the scene where it comes back.
 fn taken_text(alloc: Global, scene: &mut Scene, taken: Taken) -> anyhow::Result<String> {
-    Ok(match taken {
+    match taken {
         Taken::Skip(turn) => {
             scene.turn = Some(turn);
-            "skip".to_string(alloc)?
+            Ok("skip".to_string(alloc)?)
         }
         Taken::Next(turn, frames) => {
             scene.turn = Some(turn);
-            let frames = frames_text(alloc, frames.frames())?;
-            format!(in alloc; "next {frames}")?
+            next_text(alloc, frames.frames())
         }
-        Taken::Half => "half".to_string(alloc)?,
-        Taken::Opened => "opened".to_string(alloc)?,
-        Taken::Answer(place, verdict) => format!(in alloc; "answer {place} {verdict:?}")?,
-        Taken::Dropped(place, cause) => format!(in alloc; "dropped {place} {cause:?}")?,
-    })
+        Taken::Half => Ok("half".to_string(alloc)?),
+        Taken::Opened => Ok("opened".to_string(alloc)?),
+        Taken::Answer(place, verdict) => numbered_text(alloc, "answer", place, verdict),
+        Taken::Dropped(place, cause) => numbered_text(alloc, "dropped", place, cause),
+    }
 }
 
-/// Takes the unit of these bytes.
-fn take(alloc: Global, scene: &mut Scene, unit: &[u8]) -> anyhow::Result<String> {
-    let unit = read_unit(alloc, unit)?;
+/// Takes a unit.
+fn take_unit(alloc: Global, scene: &mut Scene, unit: &Unit) -> anyhow::Result<String> {
     let Some(turn) = scene.turn.take() else {
         return Ok("no turn".to_string(alloc)?);
     };
-    match scene.channel.take(alloc, turn, &unit) {
+    match scene.channel.take(alloc, turn, unit) {
         Ok(taken) => taken_text(alloc, scene, taken),
         Err(TakeRefused::Memory(_)) => Err(NoMemory.into()),
     }
+}
+
+/// Takes the unit of a word.
+fn take(alloc: Global, scene: &mut Scene, word: &str) -> anyhow::Result<String> {
+    let bytes = bytes(alloc, word)?;
+    let unit = read_unit(alloc, &bytes)?;
+    take_unit(alloc, scene, &unit)
 }
 
 /// Gives the turn up.
@@ -169,32 +207,34 @@ fn lose(alloc: Global, scene: &mut Scene) -> anyhow::Result<String> {
     Ok(format!(in alloc; "{place}")?)
 }
 
-/// The answer to a step.
-fn step(alloc: Global, scene: &mut Scene, step: &str) -> anyhow::Result<String> {
-    let parts: Vec<&str> = step.split('/').collect(alloc)?;
-    match word(&parts, 0) {
-        "ask" => {
-            let logon = info(alloc, &parts)?;
-            ask(alloc, scene, logon)
-        }
-        "fill" => fill(alloc, scene, number(word(&parts, 1))?),
+/// The answer to a step of these parts.
+fn answer_step(alloc: Global, scene: &mut Scene, parts: &[&str]) -> anyhow::Result<String> {
+    match word(parts, 0) {
+        "ask" => ask(alloc, scene, info(alloc, parts)?),
+        "fill" => fill(alloc, scene, number(word(parts, 1))?),
         "can" => can(alloc, scene),
-        "start" => start(alloc, scene, &parts),
-        "take" => take(alloc, scene, &bytes(alloc, word(&parts, 1))?),
+        "start" => start(alloc, scene, parts),
+        "take" => take(alloc, scene, word(parts, 1)),
         "lose" => lose(alloc, scene),
         _ => no_case(alloc),
     }
 }
 
+/// The answer to a step.
+fn step(alloc: Global, scene: &mut Scene, step: &str) -> anyhow::Result<String> {
+    let parts: Vec<&str> = step.split('/').collect(alloc)?;
+    answer_step(alloc, scene, &parts)
+}
+
 /// The channel of a line: `SECRET COMPUTER ACCOUNT KIND`. None where it may not have the account.
 fn channel(alloc: Global, words: &[&str]) -> anyhow::Result<Option<Channel>> {
     let secret = sixteen(word(words, 1))?;
-    let computer = Name::read(alloc, &bytes(alloc, word(words, 2))?)?;
-    let account = text_units(alloc, word(words, 3))?;
     let kind = number16(word(words, 4))?;
+    let account = text_units(alloc, word(words, 3))?;
     if !is_account(&account) {
         return Ok(None);
     }
+    let computer = name(alloc, word(words, 2))?;
     let channel = Channel::new(alloc, secret, computer, account, kind)?;
     Ok(Some(channel))
 }
@@ -208,12 +248,7 @@ fn run(alloc: Global, words: &[&str]) -> anyhow::Result<String> {
         channel,
         turn: None,
     };
-    let mut answers = String::new(alloc);
-    for word in words.iter().skip(5) {
-        let answer = step(alloc, &mut scene, word)?;
-        add_answer(&mut answers, &answer)?;
-    }
-    Ok(answers)
+    answer_steps(alloc, words, 5, &mut scene, step)
 }
 
 /// The answer to an operation.

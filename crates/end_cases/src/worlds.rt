@@ -4,95 +4,83 @@ ghost use Rattle.std.specs.Prelude.{◌≡◌, ◌≤◌, true, length, All};
 ghost use Rattle.logon_client.specs.Plans.{CanLogOn};
 ghost use Rattle.domain_world.specs.World.{IsMove, IsPlan};
 
-use crate::{clients, members};
-use account_table::Table;
-use case_words::{add_answer, blob, bytes, no_case, number, number64, word};
-use domain_world::{ClientPlans, MemberPlans, Move, Moves, Plan, Tables, World, drive, moves_from};
+use crate::clients;
+use crate::controllers::table;
+use crate::members::{self, name};
+use case_words::{add_debug, blob, debug_text, no_case, number, number64, word};
+use domain_world::{
+    ClientPlans, MemberPlans, Move, Moves, Plan, Report, Tables, World, drive, moves_from,
+};
 use std::alloc::Global;
-use wire_base::{Name, Names};
+use wire_base::Names;
 
 /// The parts of a word, between slashes.
 fn parts<'a>(alloc: Global, word: &'a str) -> anyhow::Result<Vec<&'a str>> {
     Ok(word.split('/').collect(alloc)?)
 }
 
-/// The account tables of the words `controller/DOCUMENT/NAME`.
-fn tables(alloc: Global, words: &[&str]) -> anyhow::Result<Tables> {
-    let mut tables = Tables::new(alloc);
-    for each in words {
-        let parts = parts(alloc, each)?;
-        if word(parts.as_slice(), 0) == "controller" {
-            let document = bytes(alloc, word(parts.as_slice(), 1))?;
-            tables.push(Table::read(alloc, &document)?)?;
-        }
-    }
-    Ok(tables)
+/// Puts the controller of the parts `controller DOCUMENT NAME`.
+fn put_controller(alloc: Global, plan: &mut Plan, parts: &[&str]) -> anyhow::Result<()> {
+    let table = table(alloc, word(parts, 1))?;
+    plan.tables.push(table)?;
+    let name = name(alloc, word(parts, 2))?;
+    plan.controllers.push(name)?;
+    Ok(())
 }
 
-/// The controllers' names of those words.
-fn names(alloc: Global, words: &[&str]) -> anyhow::Result<Names> {
-    let mut names = Names::new(alloc);
-    for each in words {
-        let parts = parts(alloc, each)?;
-        if word(parts.as_slice(), 0) == "controller" {
-            let name = bytes(alloc, word(parts.as_slice(), 2))?;
-            names.push(Name::read(alloc, &name)?)?;
-        }
-    }
-    Ok(names)
+/// Puts the member of the parts `member COMPUTER DOMAIN SECRET CONTROLLER`.
+fn put_member(alloc: Global, plan: &mut Plan, parts: &[&str]) -> anyhow::Result<()> {
+    let member = members::plan(alloc, parts)?;
+    plan.members.push(member)?;
+    Ok(())
 }
 
-/// The plans of the words `member/COMPUTER/DOMAIN/SECRET/CONTROLLER`.
-fn member_plans(alloc: Global, words: &[&str]) -> anyhow::Result<MemberPlans> {
-    let mut plans = MemberPlans::new(alloc);
-    for each in words {
-        let parts = parts(alloc, each)?;
-        if word(parts.as_slice(), 0) == "member" {
-            plans.push(members::plan(alloc, parts.as_slice())?)?;
-        }
-    }
-    Ok(plans)
+/// Puts the client of the parts `client SERVER DOMAIN USER WORKSTATION HASH LEVEL KIND ECHO`.
+fn put_client(alloc: Global, plan: &mut Plan, parts: &[&str]) -> anyhow::Result<()> {
+    let client = clients::plan(alloc, parts)?;
+    plan.clients.push(client)?;
+    Ok(())
 }
 
-/// The plans of the words `client/SERVER/DOMAIN/USER/WORKSTATION/HASH/LEVEL/KIND/ECHO`.
-fn client_plans(alloc: Global, words: &[&str]) -> anyhow::Result<ClientPlans> {
-    let mut plans = ClientPlans::new(alloc);
-    for each in words {
-        let parts = parts(alloc, each)?;
-        if word(parts.as_slice(), 0) == "client" {
-            plans.push(clients::plan(alloc, parts.as_slice())?)?;
+/// Puts what these parts say of a plan, where they do: an end, or the moment as `now MOMENT`.
+fn put_parts(alloc: Global, plan: &mut Plan, parts: &[&str]) -> anyhow::Result<()> {
+    match word(parts, 0) {
+        "controller" => put_controller(alloc, plan, parts),
+        "member" => put_member(alloc, plan, parts),
+        "client" => put_client(alloc, plan, parts),
+        "now" => {
+            plan.now = number64(word(parts, 1))?;
+            Ok(())
         }
+        _ => Ok(()),
     }
-    Ok(plans)
 }
 
-/// The moment of the word `now/MOMENT`, 0 where there is none.
-fn moment(alloc: Global, words: &[&str]) -> anyhow::Result<u64> {
-    let mut now = 0;
-    for each in words {
-        let parts = parts(alloc, each)?;
-        if word(parts.as_slice(), 0) == "now" {
-            now = number64(word(parts.as_slice(), 1))?;
-        }
-    }
-    Ok(now)
+/// Puts what a word says of a plan.
+fn put_word(alloc: Global, plan: &mut Plan, word: &str) -> anyhow::Result<()> {
+    let parts = parts(alloc, word)?;
+    put_parts(alloc, plan, &parts)
 }
 
-/// The plan of a line, of which the seed is 32 zeros.
-fn read_plan(alloc: Global, words: &[&str]) -> anyhow::Result<Plan> {
-    let now = moment(alloc, words)?;
-    let tables = tables(alloc, words)?;
-    let controllers = names(alloc, words)?;
-    let members = member_plans(alloc, words)?;
-    let clients = client_plans(alloc, words)?;
-    Ok(Plan {
-        tables,
-        controllers,
-        members,
-        clients,
-        now,
+/// A plan without ends, at the moment 0, of which the seed is 32 zeros.
+fn empty_plan(alloc: Global) -> Plan {
+    Plan {
+        tables: Tables::new(alloc),
+        controllers: Names::new(alloc),
+        members: MemberPlans::new(alloc),
+        clients: ClientPlans::new(alloc),
+        now: 0,
         seed: [0; 32],
-    })
+    }
+}
+
+/// The plan of a line.
+fn read_plan(alloc: Global, words: &[&str]) -> anyhow::Result<Plan> {
+    let mut plan = empty_plan(alloc);
+    for each in words {
+        put_word(alloc, &mut plan, each)?;
+    }
+    Ok(plan)
 }
 
 /// The first number of a move, 0 where there is none.
@@ -105,40 +93,59 @@ fn second(parts: &[&str]) -> u32 {
     number(word(parts, 2)).unwrap_or(0)
 }
 
+/// The move of a name and its numbers. None where it is no move, or one with other parts.
+fn move_of(name: &str, one: u32, other: u32) -> Option<Move> {
+    match name {
+        "start" => Some(Move::Start(one)),
+        "stranger" => Some(Move::Stranger(one)),
+        "connect" => Some(Move::Connect),
+        "fail" => Some(Move::FailDial),
+        "onward" => Some(Move::Onward),
+        "lose" => Some(Move::Lose),
+        "deliver" => Some(Move::Deliver {
+            unit: one,
+            link: other,
+        }),
+        "shut" => Some(Move::Shut(one)),
+        "restart" => Some(Move::Restart(one)),
+        _ => None,
+    }
+}
+
+/// The move of the parts `hand LINK WAY BYTES`.
+fn hand(alloc: Global, parts: &[&str]) -> anyhow::Result<Option<Move>> {
+    let bytes = blob(alloc, word(parts, 3))?;
+    Ok(Some(Move::Hand {
+        link: first(parts),
+        back: word(parts, 2) == "back",
+        bytes,
+    }))
+}
+
 /// The move of a word: `start/NUMBER`, `stranger/NUMBER`, `connect`, `fail`, `onward`, `lose`, `deliver/UNIT/LINK`, `hand/LINK/WAY/BYTES` (the way `back` or
 /// another), `shut/NUMBER`, `restart/NUMBER`, `tick/NUMBER`. None where it is no move.
 fn read_move(alloc: Global, parts: &[&str]) -> anyhow::Result<Option<Move>> {
-    Ok(Some(match word(parts, 0) {
-        "start" => Move::Start(first(parts)),
-        "stranger" => Move::Stranger(first(parts)),
-        "connect" => Move::Connect,
-        "fail" => Move::FailDial,
-        "onward" => Move::Onward,
-        "lose" => Move::Lose,
-        "deliver" => Move::Deliver {
-            unit: first(parts),
-            link: second(parts),
-        },
-        "hand" => Move::Hand {
-            link: first(parts),
-            back: word(parts, 2) == "back",
-            bytes: blob(alloc, word(parts, 3))?,
-        },
-        "shut" => Move::Shut(first(parts)),
-        "restart" => Move::Restart(first(parts)),
-        "tick" => Move::Tick(number64(word(parts, 1))?),
-        _ => return Ok(None),
-    }))
+    match word(parts, 0) {
+        "hand" => hand(alloc, parts),
+        "tick" => Ok(Some(Move::Tick(number64(word(parts, 1))?))),
+        name => Ok(move_of(name, first(parts), second(parts))),
+    }
+}
+
+/// Puts the move of a word, where it is one.
+fn put_move(alloc: Global, moves: &mut Moves, word: &str) -> anyhow::Result<()> {
+    let parts = parts(alloc, word)?;
+    match read_move(alloc, &parts)? {
+        Some(what) => Ok(moves.push(what)?),
+        None => Ok(()),
+    }
 }
 
 /// The moves of a line.
 fn read_moves(alloc: Global, words: &[&str]) -> anyhow::Result<Moves> {
     let mut moves = Moves::new(alloc);
     for each in words {
-        let parts = parts(alloc, each)?;
-        if let Some(what) = read_move(alloc, parts.as_slice())? {
-            moves.push(what)?;
-        }
+        put_move(alloc, &mut moves, each)?;
     }
     Ok(moves)
 }
@@ -167,6 +174,15 @@ fn can_log_on(plans: &ClientPlans) -> bool
     plans.items().iter().all(|plan| clients::can_log_on(plan))
 }
 
+/// The report, and the outcomes of the clients at the first four places.
+fn text_of_world(alloc: Global, world: &World, report: &Report) -> anyhow::Result<String> {
+    let mut answers = debug_text(alloc, report)?;
+    for client in 0..4u32 {
+        add_debug(alloc, &mut answers, world.outcome(client))?;
+    }
+    Ok(answers)
+}
+
 /// The report of a world of the plan, driven by the moves, and the outcomes of the clients at the first four places.
 fn play(alloc: Global, plan: Plan, moves: &Moves) -> anyhow::Result<String>
     requires plan { IsPlan plan }
@@ -175,12 +191,7 @@ fn play(alloc: Global, plan: Plan, moves: &Moves) -> anyhow::Result<String>
 {
     let mut world = World::new(alloc, plan)?;
     let report = drive(alloc, &mut world, moves)?;
-    let mut answers = format!(in alloc; "{report:?}")?;
-    for client in 0..4u32 {
-        let outcome = world.outcome(client);
-        add_answer(&mut answers, &format!(in alloc; "{outcome:?}")?)?;
-    }
-    Ok(answers)
+    text_of_world(alloc, &world, &report)
 }
 
 /// The report and the outcomes, where the plan and the moves are ones that a world can have.
@@ -196,8 +207,8 @@ fn play_if(alloc: Global, plan: Plan, moves: &Moves) -> anyhow::Result<String> {
 
 /// `world.run WORD ..`: the plan's words and the moves: the report, and the outcomes of the clients at the first four places.
 fn run(alloc: Global, words: &[&str]) -> anyhow::Result<String> {
-    let plan = read_plan(alloc, words)?;
     let moves = read_moves(alloc, words)?;
+    let plan = read_plan(alloc, words)?;
     play_if(alloc, plan, &moves)
 }
 
@@ -205,8 +216,8 @@ fn run(alloc: Global, words: &[&str]) -> anyhow::Result<String> {
 fn drill(alloc: Global, words: &[&str]) -> anyhow::Result<String> {
     let from = number64(word(words, 1))?;
     let count = number(word(words, 2))?;
-    let plan = read_plan(alloc, words)?;
     let moves = moves_from(alloc, from, count)?;
+    let plan = read_plan(alloc, words)?;
     play_if(alloc, plan, &moves)
 }
 
@@ -215,7 +226,7 @@ fn made(alloc: Global, words: &[&str]) -> anyhow::Result<String> {
     let from = number64(word(words, 1))?;
     let count = number(word(words, 2))?;
     let moves = moves_from(alloc, from, count)?;
-    Ok(format!(in alloc; "{moves:?}")?)
+    debug_text(alloc, &moves)
 }
 
 /// What an operation gives.

@@ -4,77 +4,66 @@ ghost use Rattle.std.specs.Prelude.{◌≡◌, ◌<◌, ◌≤◌, ◌^◌, true
 
 use crate::maps;
 use case_words::{
-    add_answer, bytes, long_text, number, number16, number64, size, text_units, truth, word,
+    add_bytes, add_debug, bytes, debug_text, long_text, number, number16, number64, ok_text,
+    refusal_text, size, text_units, truth, word,
 };
 use std::alloc::Global;
 use wire_base::{
-    Blob, Name, NameRefused, Numbers, Sid, SidRefused, Units, UnitsRefused,
-    same_units as same_texts, u16_at, u32_at, u64_at, upper_unit,
+    Blob, Name, Numbers, Sid, Units, same_units as same_texts, u16_at, u32_at, u64_at, upper_unit,
 };
 
-/// `u16 BYTES PLACE`.
-fn short(alloc: Global, words: &[&str]) -> anyhow::Result<String> {
-    let at = size(word(words, 2))?;
-    let bytes = bytes(alloc, word(words, 1))?;
-    let found = u16_at(&bytes, at);
-    Ok(format!(in alloc; "{found:?}")?)
+// ---- numbers and bytes
+
+/// The number at a place of bytes.
+fn number_at(alloc: Global, operation: &str, bytes: &[u8], at: usize) -> anyhow::Result<String> {
+    match operation {
+        "u16" => debug_text(alloc, u16_at(bytes, at)),
+        "u32" => debug_text(alloc, u32_at(bytes, at)),
+        _ => debug_text(alloc, u64_at(bytes, at)),
+    }
 }
 
-/// `u32 BYTES PLACE`.
-fn long(alloc: Global, words: &[&str]) -> anyhow::Result<String> {
+/// `u16 BYTES PLACE`, and `u32` and `u64`.
+fn number_in(alloc: Global, operation: &str, words: &[&str]) -> anyhow::Result<String> {
     let at = size(word(words, 2))?;
     let bytes = bytes(alloc, word(words, 1))?;
-    let found = u32_at(&bytes, at);
-    Ok(format!(in alloc; "{found:?}")?)
+    number_at(alloc, operation, &bytes, at)
 }
 
-/// `u64 BYTES PLACE`.
-fn longest(alloc: Global, words: &[&str]) -> anyhow::Result<String> {
-    let at = size(word(words, 2))?;
-    let bytes = bytes(alloc, word(words, 1))?;
-    let found = u64_at(&bytes, at);
-    Ok(format!(in alloc; "{found:?}")?)
-}
-
-/// `blob BYTES`: the bytes copied, and given back.
-fn blob(alloc: Global, words: &[&str]) -> anyhow::Result<String> {
-    let bytes = bytes(alloc, word(words, 1))?;
-    let copy = Blob::copy(alloc, &bytes)?;
-    let mut answer = format!(in alloc; "{copy:?}")?;
-    let back = long_text(alloc, copy.bytes())?;
-    add_answer(&mut answer, back.as_str())?;
+/// The bytes copied, and given back.
+fn blob(alloc: Global, bytes: &[u8]) -> anyhow::Result<String> {
+    let copy = Blob::copy(alloc, bytes)?;
+    let mut answer = debug_text(alloc, &copy)?;
+    add_bytes(alloc, &mut answer, copy.bytes())?;
     Ok(answer)
 }
 
-/// `blob_back BYTES`: the bytes of a vector, given back as one.
-fn blob_back(alloc: Global, words: &[&str]) -> anyhow::Result<String> {
-    let bytes = bytes(alloc, word(words, 1))?;
-    long_text(alloc, &Blob::from_vec(bytes).into_vec())
+/// `upper UNIT`.
+fn upper(alloc: Global, words: &[&str]) -> anyhow::Result<String> {
+    debug_text(alloc, upper_unit(number16(word(words, 1))?))
 }
 
-/// The numbers of the words behind a place.
-fn numbers(alloc: Global, words: &[&str], behind: usize) -> anyhow::Result<Vec<u32>> {
+// ---- lists
+
+/// The numbers from the second word on.
+fn numbers(alloc: Global, words: &[&str]) -> anyhow::Result<Vec<u32>> {
     let mut numbers = Vec::new(alloc);
-    for word in words.iter().skip(behind) {
+    for word in words.iter().skip(2) {
         numbers.push(number(word)?)?;
     }
     Ok(numbers)
 }
 
 /// The items of a list by their places, and what stands behind the last.
-fn push_items(alloc: Global, answer: &mut String, list: &Numbers) -> anyhow::Result<()> {
+fn add_items(alloc: Global, answer: &mut String, list: &Numbers) -> anyhow::Result<()> {
     for at in 0..list.len() {
-        let item = list.get(at);
-        let step = format!(in alloc; "{item:?}")?;
-        add_answer(answer, step.as_str())?;
+        add_debug(alloc, answer, list.get(at))?;
     }
-    let item = list.get(list.len());
-    let step = format!(in alloc; "{item:?}")?;
-    add_answer(answer, step.as_str())
+    add_debug(alloc, answer, list.get(list.len()))
 }
 
 /// Whether a list has no items, before the numbers were put and after, and how many it has.
-fn size_answer(alloc: Global, list: &Numbers) -> anyhow::Result<String> {
+fn size_text(alloc: Global, list: &Numbers) -> anyhow::Result<String> {
     let before = truth(Numbers::new(alloc).is_empty());
     let after = truth(list.is_empty());
     let count = list.len();
@@ -82,152 +71,140 @@ fn size_answer(alloc: Global, list: &Numbers) -> anyhow::Result<String> {
 }
 
 /// Appends a copy of a list, and the vector that a list made of the copy's vector gives back.
-fn push_copy(alloc: Global, answer: &mut String, list: &Numbers) -> anyhow::Result<()> {
+fn add_copy(alloc: Global, answer: &mut String, list: &Numbers) -> anyhow::Result<()> {
     let copy = Numbers::copy(alloc, list.items())?;
-    let step = format!(in alloc; "{copy:?}")?;
-    add_answer(answer, step.as_str())?;
-    let back = Numbers::from_vec(copy.into_vec()).into_vec();
-    let step = format!(in alloc; "{back:?}")?;
-    add_answer(answer, step.as_str())
+    add_debug(alloc, answer, &copy)?;
+    add_debug(alloc, answer, Numbers::from_vec(copy.into_vec()).into_vec())
 }
 
-/// The list of numbers, put one by one.
-fn list_of(alloc: Global, numbers: &[u32]) -> anyhow::Result<Numbers> {
+/// A list, its items, and a copy.
+fn list_text(alloc: Global, list: &Numbers) -> anyhow::Result<String> {
+    let mut answer = size_text(alloc, list)?;
+    add_items(alloc, &mut answer, list)?;
+    add_copy(alloc, &mut answer, list)?;
+    Ok(answer)
+}
+
+/// The list of the numbers from the first word on, put one by one.
+fn list_of(alloc: Global, words: &[&str]) -> anyhow::Result<Numbers> {
     let mut list = Numbers::new(alloc);
-    for number in numbers {
-        list.push(*number)?;
+    for word in words.iter().skip(1) {
+        list.push(number(word)?)?;
     }
     Ok(list)
 }
 
 /// `list NUMBER ..`.
 fn list(alloc: Global, words: &[&str]) -> anyhow::Result<String> {
-    let numbers = numbers(alloc, words, 1)?;
-    let list = list_of(alloc, &numbers)?;
-    let mut answer = size_answer(alloc, &list)?;
-    push_items(alloc, &mut answer, &list)?;
-    push_copy(alloc, &mut answer, &list)?;
-    Ok(answer)
+    let list = list_of(alloc, words)?;
+    list_text(alloc, &list)
 }
 
-/// `upper UNIT`.
-fn upper(alloc: Global, words: &[&str]) -> anyhow::Result<String> {
-    let upper = upper_unit(number16(word(words, 1))?);
-    Ok(format!(in alloc; "{upper}")?)
+// ---- texts
+
+/// Appends the bytes of a text.
+fn add_written(alloc: Global, answer: &mut String, units: &Units) -> anyhow::Result<()> {
+    let bytes = units.bytes(alloc)?;
+    add_bytes(alloc, answer, bytes.bytes())
 }
 
 /// A text that was read, its duplicate's bytes, and its units.
-fn units_answer(alloc: Global, read: Units) -> anyhow::Result<String> {
-    let mut answer = format!(in alloc; "Ok({read:?})")?;
-    let bytes = read.duplicate(alloc)?.bytes(alloc)?;
-    let step = long_text(alloc, bytes.bytes())?;
-    add_answer(&mut answer, step.as_str())?;
-    let units = read.into_vec();
-    let step = format!(in alloc; "{units:?}")?;
-    add_answer(&mut answer, step.as_str())?;
+fn units_text(alloc: Global, read: Units) -> anyhow::Result<String> {
+    let copy = read.duplicate(alloc)?;
+    let mut answer = ok_text(alloc, &read)?;
+    add_written(alloc, &mut answer, &copy)?;
+    add_debug(alloc, &mut answer, read.into_vec())?;
     Ok(answer)
 }
 
-/// A refusal of units.
-fn units_refused(alloc: Global, refused: UnitsRefused) -> anyhow::Result<String> {
-    Ok(format!(in alloc; "Err({refused:?})")?)
-}
-
-/// `units BYTES`.
-fn units(alloc: Global, words: &[&str]) -> anyhow::Result<String> {
-    let bytes = bytes(alloc, word(words, 1))?;
-    match Units::read(alloc, &bytes) {
-        Ok(read) => units_answer(alloc, read),
-        Err(refused) => units_refused(alloc, refused),
+/// The text that is read of bytes.
+fn units(alloc: Global, bytes: &[u8]) -> anyhow::Result<String> {
+    match Units::read(alloc, bytes) {
+        Ok(read) => units_text(alloc, read),
+        Err(refused) => refusal_text(alloc, refused),
     }
 }
 
-/// `units_back BYTES`.
-fn units_back(alloc: Global, words: &[&str]) -> anyhow::Result<String> {
-    let read = text_units(alloc, word(words, 1))?;
+/// The bytes of a text that was read, copied.
+fn units_back(alloc: Global, bytes: &[u8]) -> anyhow::Result<String> {
+    let read = Units::read(alloc, bytes)?;
     let copy = Units::copy(alloc, read.units())?;
-    let bytes = Units::from_vec(copy.into_vec()).bytes(alloc)?;
-    long_text(alloc, bytes.bytes())
-}
-
-/// A name that was read, its copy's bytes, and its units.
-fn name_answer(alloc: Global, read: Name) -> anyhow::Result<String> {
-    let mut answer = format!(in alloc; "Ok({read:?})")?;
-    let copy = read.copy(alloc)?;
-    let step = long_text(alloc, copy.bytes())?;
-    add_answer(&mut answer, step.as_str())?;
-    let units = read.units(alloc)?;
-    let step = format!(in alloc; "{units:?}")?;
-    add_answer(&mut answer, step.as_str())?;
-    Ok(answer)
-}
-
-/// A refusal of a name.
-fn name_refused(alloc: Global, refused: NameRefused) -> anyhow::Result<String> {
-    Ok(format!(in alloc; "Err({refused:?})")?)
-}
-
-/// `name BYTES`.
-fn name(alloc: Global, words: &[&str]) -> anyhow::Result<String> {
-    let bytes = bytes(alloc, word(words, 1))?;
-    match Name::read(alloc, &bytes) {
-        Ok(read) => name_answer(alloc, read),
-        Err(refused) => name_refused(alloc, refused),
-    }
-}
-
-/// `same BYTES BYTES`.
-fn same(alloc: Global, words: &[&str]) -> anyhow::Result<String> {
-    let one = Name::read(alloc, &bytes(alloc, word(words, 1))?)?;
-    let other = Name::read(alloc, &bytes(alloc, word(words, 2))?)?;
-    Ok(truth(one.same(&other)).to_string(alloc)?)
-}
-
-/// `same_units BYTES UNITS`.
-fn same_units(alloc: Global, words: &[&str]) -> anyhow::Result<String> {
-    let one = Name::read(alloc, &bytes(alloc, word(words, 1))?)?;
-    let other = text_units(alloc, word(words, 2))?;
-    Ok(truth(one.same_units(other.units())).to_string(alloc)?)
+    let back = Units::from_vec(copy.into_vec()).bytes(alloc)?;
+    long_text(alloc, back.bytes())
 }
 
 /// `same_texts UNITS UNITS`.
 fn same_text(alloc: Global, words: &[&str]) -> anyhow::Result<String> {
     let one = text_units(alloc, word(words, 1))?;
     let other = text_units(alloc, word(words, 2))?;
-    Ok(truth(same_texts(one.units(), other.units())).to_string(alloc)?)
+    debug_text(alloc, same_texts(one.units(), other.units()))
 }
 
-/// Appends an identifier's parts, and a copy.
-fn push_sid(alloc: Global, answer: &mut String, sid: &Sid) -> anyhow::Result<()> {
-    let authority = sid.authority();
-    let step = format!(in alloc; "{authority}")?;
-    add_answer(answer, step.as_str())?;
-    let numbers = sid.numbers();
-    let step = format!(in alloc; "{numbers:?}")?;
-    add_answer(answer, step.as_str())?;
-    let copy = sid.copy(alloc)?;
-    let step = format!(in alloc; "{copy:?}")?;
-    add_answer(answer, step.as_str())
+// ---- names
+
+/// Appends the bytes of a name's copy, and its units.
+fn add_name(alloc: Global, answer: &mut String, read: &Name) -> anyhow::Result<()> {
+    let copy = read.copy(alloc)?;
+    add_bytes(alloc, answer, copy.bytes())?;
+    add_debug(alloc, answer, read.units(alloc)?)
 }
 
-/// An identifier that was read, its parts, and a copy.
-fn sid_answer(alloc: Global, read: Sid) -> anyhow::Result<String> {
-    let mut answer = format!(in alloc; "Ok({read:?})")?;
-    push_sid(alloc, &mut answer, &read)?;
+/// A name that was read, its copy's bytes, and its units.
+fn name_text(alloc: Global, read: &Name) -> anyhow::Result<String> {
+    let mut answer = ok_text(alloc, read)?;
+    add_name(alloc, &mut answer, read)?;
     Ok(answer)
 }
 
-/// A refusal of an identifier.
-fn sid_refused(alloc: Global, refused: SidRefused) -> anyhow::Result<String> {
-    Ok(format!(in alloc; "Err({refused:?})")?)
+/// The name that is read of bytes.
+fn name(alloc: Global, bytes: &[u8]) -> anyhow::Result<String> {
+    match Name::read(alloc, bytes) {
+        Ok(read) => name_text(alloc, &read),
+        Err(refused) => refusal_text(alloc, refused),
+    }
 }
 
-/// `sid TEXT`.
-fn sid(alloc: Global, words: &[&str]) -> anyhow::Result<String> {
-    let bytes = bytes(alloc, word(words, 1))?;
-    match Sid::read(alloc, &bytes) {
-        Ok(read) => sid_answer(alloc, read),
-        Err(refused) => sid_refused(alloc, refused),
+/// The name of a word.
+fn name_of(alloc: Global, word: &str) -> anyhow::Result<Name> {
+    let bytes = bytes(alloc, word)?;
+    Ok(Name::read(alloc, &bytes)?)
+}
+
+/// `same BYTES BYTES`.
+fn same(alloc: Global, words: &[&str]) -> anyhow::Result<String> {
+    let one = name_of(alloc, word(words, 1))?;
+    let other = name_of(alloc, word(words, 2))?;
+    debug_text(alloc, one.same(&other))
+}
+
+/// `same_units BYTES UNITS`.
+fn same_units(alloc: Global, words: &[&str]) -> anyhow::Result<String> {
+    let one = name_of(alloc, word(words, 1))?;
+    let other = text_units(alloc, word(words, 2))?;
+    debug_text(alloc, one.same_units(other.units()))
+}
+
+// ---- identifiers
+
+/// Appends an identifier's parts, and a copy.
+fn add_sid(alloc: Global, answer: &mut String, sid: &Sid) -> anyhow::Result<()> {
+    add_debug(alloc, answer, sid.authority())?;
+    add_debug(alloc, answer, sid.numbers())?;
+    add_debug(alloc, answer, sid.copy(alloc)?)
+}
+
+/// An identifier that was read, its parts, and a copy.
+fn sid_text(alloc: Global, read: &Sid) -> anyhow::Result<String> {
+    let mut answer = ok_text(alloc, read)?;
+    add_sid(alloc, &mut answer, read)?;
+    Ok(answer)
+}
+
+/// The identifier that is read of a text.
+fn sid(alloc: Global, bytes: &[u8]) -> anyhow::Result<String> {
+    match Sid::read(alloc, bytes) {
+        Ok(read) => sid_text(alloc, &read),
+        Err(refused) => refusal_text(alloc, refused),
     }
 }
 
@@ -238,44 +215,63 @@ fn is_sid(authority: u64, numbers: &[u32]) -> bool
     authority < 1 << 48 && !numbers.is_empty() && numbers.len() <= 15
 }
 
-/// `sid_of AUTHORITY NUMBER ..`.
-fn sid_of(alloc: Global, words: &[&str]) -> anyhow::Result<String> {
-    let authority = number64(word(words, 1))?;
-    let numbers = numbers(alloc, words, 2)?;
-    if !is_sid(authority, &numbers) {
+/// The identifier of these parts, where there is one, its parts, and a copy.
+fn sid_of_parts(alloc: Global, authority: u64, numbers: &[u32]) -> anyhow::Result<String> {
+    if !is_sid(authority, numbers) {
         return Ok("out of range".to_string(alloc)?);
     }
-    let sid = Sid::new(alloc, authority, &numbers)?;
-    let mut answer = format!(in alloc; "{sid:?}")?;
-    push_sid(alloc, &mut answer, &sid)?;
+    let sid = Sid::new(alloc, authority, numbers)?;
+    let mut answer = debug_text(alloc, &sid)?;
+    add_sid(alloc, &mut answer, &sid)?;
     Ok(answer)
 }
 
-/// What an operation on numbers and lists gives.
-fn number_answer(alloc: Global, operation: &str, words: &[&str]) -> anyhow::Result<String> {
+/// `sid_of AUTHORITY NUMBER ..`.
+fn sid_of(alloc: Global, words: &[&str]) -> anyhow::Result<String> {
+    let authority = number64(word(words, 1))?;
+    let numbers = numbers(alloc, words)?;
+    sid_of_parts(alloc, authority, &numbers)
+}
+
+// ---- operations
+
+/// What an operation on bytes gives.
+fn answer_to_bytes(alloc: Global, operation: &str, bytes: &[u8]) -> anyhow::Result<String> {
     match operation {
-        "u16" => short(alloc, words),
-        "u32" => long(alloc, words),
-        "u64" => longest(alloc, words),
-        "blob" => blob(alloc, words),
-        "blob_back" => blob_back(alloc, words),
-        "list" => list(alloc, words),
-        _ => maps::answer(alloc, operation, words),
+        "blob" => blob(alloc, bytes),
+        "units" => units(alloc, bytes),
+        "units_back" => units_back(alloc, bytes),
+        "name" => name(alloc, bytes),
+        _ => sid(alloc, bytes),
     }
+}
+
+/// What the operation on the bytes of a line gives: `blob`, `units`, `units_back`, `name`, and of a text `sid`.
+fn answer_to_word(alloc: Global, operation: &str, words: &[&str]) -> anyhow::Result<String> {
+    let bytes = bytes(alloc, word(words, 1))?;
+    answer_to_bytes(alloc, operation, &bytes)
+}
+
+/// `blob_back BYTES`: the bytes of a vector, given back as one.
+fn blob_back(alloc: Global, words: &[&str]) -> anyhow::Result<String> {
+    let bytes = bytes(alloc, word(words, 1))?;
+    long_text(alloc, &Blob::from_vec(bytes).into_vec())
 }
 
 /// What an operation gives.
 pub(crate) fn answer(alloc: Global, operation: &str, words: &[&str]) -> anyhow::Result<String> {
     match operation {
+        "u16" | "u32" | "u64" => number_in(alloc, operation, words),
+        "blob" | "units" | "units_back" | "name" | "sid" => {
+            answer_to_word(alloc, operation, words)
+        }
+        "blob_back" => blob_back(alloc, words),
+        "list" => list(alloc, words),
         "upper" => upper(alloc, words),
-        "units" => units(alloc, words),
-        "units_back" => units_back(alloc, words),
-        "name" => name(alloc, words),
         "same" => same(alloc, words),
         "same_units" => same_units(alloc, words),
         "same_texts" => same_text(alloc, words),
-        "sid" => sid(alloc, words),
         "sid_of" => sid_of(alloc, words),
-        _ => number_answer(alloc, operation, words),
+        _ => maps::answer(alloc, operation, words),
     }
 }

@@ -12,6 +12,7 @@ mod memo;
 mod messages;
 mod ndr;
 mod ndr_writing;
+mod outcomes;
 mod pairs;
 mod streams;
 mod stubs;

@@ -1,7 +1,9 @@
 //! Cases of the maps of `wire_base`: a scenario of steps each.
 
-use case_words::{add_answer, no_case, number, text_units, word};
+use case_words::{answer_steps, debug_text, halves, no_case, number, text_units};
 use std::alloc::Global;
+use std::fmt::Debug;
+use std::mem;
 use wire_base::{List, Units, find_number, put_named, put_number, take_named, take_number};
 
 /// Numbers by numbers.
@@ -10,9 +12,13 @@ type ByNumber = List<(u32, u32)>;
 /// Numbers by names.
 type ByName = List<(Units, u32)>;
 
-/// The parts of a step, joined by `/`.
-fn parts<'a>(alloc: Global, step: &'a str) -> anyhow::Result<Vec<&'a str>> {
-    Ok(step.split('/').collect(alloc)?)
+/// A value that was taken, and the entries that are left.
+fn taken_text<E: Debug + Drop>(
+    alloc: Global,
+    value: Option<u32>,
+    left: E,
+) -> anyhow::Result<String> {
+    Ok(format!(in alloc; "{value:?} {left:?}")?)
 }
 
 // ---- by numbers
@@ -20,83 +26,49 @@ fn parts<'a>(alloc: Global, step: &'a str) -> anyhow::Result<Vec<&'a str>> {
 /// `add/KEY/VALUE`: an entry behind the others, whatever its key.
 fn add_number(
     alloc: Global,
-    entries: ByNumber,
+    entries: &mut ByNumber,
     key: u32,
     value: u32,
-    answer: &mut String,
-) -> anyhow::Result<ByNumber> {
-    let mut entries = entries;
+) -> anyhow::Result<String> {
     entries.push((key, value))?;
-    let step = format!(in alloc; "{entries:?}")?;
-    add_answer(answer, step.as_str())?;
-    Ok(entries)
+    debug_text(alloc, &*entries)
 }
 
 /// `put/KEY/VALUE`.
 fn put_by_number(
     alloc: Global,
-    entries: ByNumber,
+    entries: &mut ByNumber,
     key: u32,
     value: u32,
-    answer: &mut String,
-) -> anyhow::Result<ByNumber> {
-    let entries = put_number(entries, key, value)?;
-    let step = format!(in alloc; "{entries:?}")?;
-    add_answer(answer, step.as_str())?;
-    Ok(entries)
+) -> anyhow::Result<String> {
+    *entries = put_number(mem::replace(entries, List::new(alloc)), key, value)?;
+    debug_text(alloc, &*entries)
 }
 
 /// `take/KEY`.
-fn take_by_number(
-    alloc: Global,
-    entries: ByNumber,
-    key: u32,
-    answer: &mut String,
-) -> anyhow::Result<ByNumber> {
-    let (entries, value) = take_number(entries, key);
-    let step = format!(in alloc; "{value:?} {entries:?}")?;
-    add_answer(answer, step.as_str())?;
-    Ok(entries)
+fn take_by_number(alloc: Global, entries: &mut ByNumber, key: u32) -> anyhow::Result<String> {
+    let (rest, value) = take_number(mem::replace(entries, List::new(alloc)), key);
+    *entries = rest;
+    taken_text(alloc, value, &*entries)
 }
 
-/// `find/KEY`.
-fn find_by_number(
-    alloc: Global,
-    entries: ByNumber,
-    key: u32,
-    answer: &mut String,
-) -> anyhow::Result<ByNumber> {
-    let value = find_number(entries.items(), key);
-    let step = format!(in alloc; "{value:?}")?;
-    add_answer(answer, step.as_str())?;
-    Ok(entries)
-}
-
-/// A step of a map by numbers.
-fn number_step(
-    alloc: Global,
-    entries: ByNumber,
-    step: &str,
-    answer: &mut String,
-) -> anyhow::Result<ByNumber> {
-    let parts = parts(alloc, step)?;
-    let key = number(word(&parts, 1))?;
-    match word(&parts, 0) {
-        "add" => add_number(alloc, entries, key, number(word(&parts, 2))?, answer),
-        "put" => put_by_number(alloc, entries, key, number(word(&parts, 2))?, answer),
-        "take" => take_by_number(alloc, entries, key, answer),
-        _ => find_by_number(alloc, entries, key, answer),
+/// What a step on a map by numbers gives.
+fn number_step(alloc: Global, entries: &mut ByNumber, step: &str) -> anyhow::Result<String> {
+    let (name, rest) = halves(step);
+    let (key, value) = halves(rest);
+    let key = number(key)?;
+    match name {
+        "add" => add_number(alloc, entries, key, number(value)?),
+        "put" => put_by_number(alloc, entries, key, number(value)?),
+        "take" => take_by_number(alloc, entries, key),
+        _ => debug_text(alloc, find_number(entries.items(), key)),
     }
 }
 
-/// `numbers STEP ..`.
+/// `numbers STEP ..`: the steps `add/KEY/VALUE`, `put/KEY/VALUE`, `take/KEY` and `find/KEY`.
 fn numbers(alloc: Global, words: &[&str]) -> anyhow::Result<String> {
     let mut entries = ByNumber::new(alloc);
-    let mut answer = String::new(alloc);
-    for step in words.iter().skip(1) {
-        entries = number_step(alloc, entries, step, &mut answer)?;
-    }
-    Ok(answer)
+    answer_steps(alloc, words, 1, &mut entries, number_step)
 }
 
 // ---- by names
@@ -104,69 +76,53 @@ fn numbers(alloc: Global, words: &[&str]) -> anyhow::Result<String> {
 /// `add/UNITS/VALUE`: an entry behind the others, whatever its key.
 fn add_named(
     alloc: Global,
-    entries: ByName,
+    entries: &mut ByName,
     key: Units,
     value: u32,
-    answer: &mut String,
-) -> anyhow::Result<ByName> {
-    let mut entries = entries;
+) -> anyhow::Result<String> {
     entries.push((key, value))?;
-    let step = format!(in alloc; "{entries:?}")?;
-    add_answer(answer, step.as_str())?;
-    Ok(entries)
+    debug_text(alloc, &*entries)
 }
 
 /// `put/UNITS/VALUE`.
 fn put_by_name(
     alloc: Global,
-    entries: ByName,
+    entries: &mut ByName,
     key: Units,
     value: u32,
-    answer: &mut String,
-) -> anyhow::Result<ByName> {
-    let entries = put_named(entries, key, value)?;
-    let step = format!(in alloc; "{entries:?}")?;
-    add_answer(answer, step.as_str())?;
-    Ok(entries)
+) -> anyhow::Result<String> {
+    *entries = put_named(mem::replace(entries, List::new(alloc)), key, value)?;
+    debug_text(alloc, &*entries)
 }
 
 /// `take/UNITS`.
-fn take_by_name(
-    alloc: Global,
-    entries: ByName,
-    key: &Units,
-    answer: &mut String,
-) -> anyhow::Result<ByName> {
-    let (entries, value) = take_named(entries, key.units());
-    let step = format!(in alloc; "{value:?} {entries:?}")?;
-    add_answer(answer, step.as_str())?;
-    Ok(entries)
+fn take_by_name(alloc: Global, entries: &mut ByName, key: &Units) -> anyhow::Result<String> {
+    let (rest, value) = take_named(mem::replace(entries, List::new(alloc)), key.units());
+    *entries = rest;
+    taken_text(alloc, value, &*entries)
 }
 
-/// A step of a map by names.
-fn name_step(
-    alloc: Global,
-    entries: ByName,
-    step: &str,
-    answer: &mut String,
-) -> anyhow::Result<ByName> {
-    let parts = parts(alloc, step)?;
-    let key = text_units(alloc, word(&parts, 1))?;
-    match word(&parts, 0) {
-        "add" => add_named(alloc, entries, key, number(word(&parts, 2))?, answer),
-        "put" => put_by_name(alloc, entries, key, number(word(&parts, 2))?, answer),
-        _ => take_by_name(alloc, entries, &key, answer),
+/// What a step on a map by names gives: `add/UNITS/VALUE`, `put/UNITS/VALUE`, `take/UNITS`.
+fn name_step(alloc: Global, entries: &mut ByName, step: &str) -> anyhow::Result<String> {
+    let (name, rest) = halves(step);
+    let (key, value) = halves(rest);
+    match name {
+        "add" => {
+            let value = number(value)?;
+            add_named(alloc, entries, text_units(alloc, key)?, value)
+        }
+        "put" => {
+            let value = number(value)?;
+            put_by_name(alloc, entries, text_units(alloc, key)?, value)
+        }
+        _ => take_by_name(alloc, entries, &text_units(alloc, key)?),
     }
 }
 
 /// `names STEP ..`.
 fn names(alloc: Global, words: &[&str]) -> anyhow::Result<String> {
     let mut entries = ByName::new(alloc);
-    let mut answer = String::new(alloc);
-    for step in words.iter().skip(1) {
-        entries = name_step(alloc, entries, step, &mut answer)?;
-    }
-    Ok(answer)
+    answer_steps(alloc, words, 1, &mut entries, name_step)
 }
 
 /// What an operation gives.

@@ -6,15 +6,16 @@ ghost use Rattle.ntlm_messages.specs.Negotiate.{CanWriteNegotiate};
 ghost use Rattle.ntlm_messages.specs.Challenge.{CanWriteChallenge};
 ghost use Rattle.ntlm_messages.specs.Authenticate.{CanWriteAuthenticate};
 
+use crate::outcomes::{not_to_be_written, written_text};
 use crate::pairs;
-use case_words::{blob, bytes, eight, flags, long_text, sixteen, word};
+use case_words::{blob, bytes, debug_text, eight, flags, sixteen, word};
 use ntlm_flags::{
     NTLMSSP_NEGOTIATE_OEM_DOMAIN_SUPPLIED, NTLMSSP_NEGOTIATE_OEM_WORKSTATION_SUPPLIED,
     NTLMSSP_NEGOTIATE_UNICODE, NTLMSSP_NEGOTIATE_VERSION, has_flag,
 };
 use ntlm_messages::{
-    Authenticate, Challenge, Negotiate, WriteRefused, read_authenticate, read_challenge,
-    read_negotiate, text_units, units_of_text, view_authenticate, view_challenge, view_negotiate,
+    Authenticate, Challenge, Negotiate, read_authenticate, read_challenge, read_negotiate,
+    text_units, units_of_text, view_authenticate, view_challenge, view_negotiate,
     write_authenticate, write_challenge, write_negotiate,
 };
 use std::alloc::Global;
@@ -34,22 +35,6 @@ fn mic(word: &str) -> anyhow::Result<Option<[u8; 16]>> {
         return Ok(None);
     }
     Ok(Some(sixteen(word)?))
-}
-
-/// What was written of a message.
-fn written(alloc: Global, outcome: Result<Blob, WriteRefused>) -> anyhow::Result<String> {
-    match outcome {
-        Ok(bytes) => {
-            let text = long_text(alloc, bytes.bytes())?;
-            Ok(format!(in alloc; "Ok({text})")?)
-        }
-        Err(refused) => Ok(format!(in alloc; "Err({refused:?})")?),
-    }
-}
-
-/// The answer to a message that may not be written.
-fn not_to_be_written(alloc: Global) -> anyhow::Result<String> {
-    Ok("not to be written".to_string(alloc)?)
 }
 
 /// Whether a text has an even length, where texts are UTF-16LE.
@@ -90,67 +75,56 @@ fn may_write_authenticate(value: &Authenticate) -> bool
         && is_even(value.flags, value.workstation.bytes())
 }
 
-/// `negotiate BYTES`.
-fn negotiate(alloc: Global, words: &[&str]) -> anyhow::Result<String> {
-    let bytes = bytes(alloc, word(words, 1))?;
-    let read = read_negotiate(alloc, &bytes);
-    Ok(format!(in alloc; "{read:?}")?)
+// ---- the bytes of a message
+
+/// The bytes of a NEGOTIATE that was read.
+fn negotiate_again(alloc: Global, bytes: &[u8]) -> anyhow::Result<String> {
+    let read = read_negotiate(alloc, bytes)?;
+    written_text(alloc, write_negotiate(alloc, &read))
 }
 
-/// `negotiate_view BYTES`.
-fn negotiate_lent(alloc: Global, words: &[&str]) -> anyhow::Result<String> {
-    let bytes = bytes(alloc, word(words, 1))?;
-    let view = view_negotiate(&bytes);
-    Ok(format!(in alloc; "{view:?}")?)
+/// The bytes of a CHALLENGE that was read.
+fn challenge_again(alloc: Global, bytes: &[u8]) -> anyhow::Result<String> {
+    let read = read_challenge(alloc, bytes)?;
+    written_text(alloc, write_challenge(alloc, &read))
 }
 
-/// `negotiate_again BYTES`.
-fn negotiate_again(alloc: Global, words: &[&str]) -> anyhow::Result<String> {
-    let bytes = bytes(alloc, word(words, 1))?;
-    let read = read_negotiate(alloc, &bytes)?;
-    written(alloc, write_negotiate(alloc, &read))
+/// The bytes of an AUTHENTICATE that was read.
+fn authenticate_again(alloc: Global, bytes: &[u8]) -> anyhow::Result<String> {
+    let read = read_authenticate(alloc, bytes)?;
+    written_text(alloc, write_authenticate(alloc, &read))
 }
 
-/// `challenge BYTES`.
-fn challenge(alloc: Global, words: &[&str]) -> anyhow::Result<String> {
-    let bytes = bytes(alloc, word(words, 1))?;
-    let read = read_challenge(alloc, &bytes);
-    Ok(format!(in alloc; "{read:?}")?)
+/// What an operation on bytes gives: `negotiate`, `negotiate_view`, `negotiate_again`, and the same of the other messages.
+fn answer_to_bytes(alloc: Global, operation: &str, bytes: &[u8]) -> anyhow::Result<String> {
+    match operation {
+        "negotiate" => debug_text(alloc, read_negotiate(alloc, bytes)),
+        "negotiate_view" => debug_text(alloc, view_negotiate(bytes)),
+        "negotiate_again" => negotiate_again(alloc, bytes),
+        "challenge" => debug_text(alloc, read_challenge(alloc, bytes)),
+        "challenge_view" => debug_text(alloc, view_challenge(bytes)),
+        "challenge_again" => challenge_again(alloc, bytes),
+        "authenticate" => debug_text(alloc, read_authenticate(alloc, bytes)),
+        "authenticate_view" => debug_text(alloc, view_authenticate(bytes)),
+        "authenticate_again" => authenticate_again(alloc, bytes),
+        _ => pairs::answer_to_bytes(alloc, operation, bytes),
+    }
 }
 
-/// `challenge_view BYTES`.
-fn challenge_lent(alloc: Global, words: &[&str]) -> anyhow::Result<String> {
+/// What the operation on the bytes of a line gives.
+fn answer_to_word(alloc: Global, operation: &str, words: &[&str]) -> anyhow::Result<String> {
     let bytes = bytes(alloc, word(words, 1))?;
-    let view = view_challenge(&bytes);
-    Ok(format!(in alloc; "{view:?}")?)
+    answer_to_bytes(alloc, operation, &bytes)
 }
 
-/// `challenge_again BYTES`.
-fn challenge_again(alloc: Global, words: &[&str]) -> anyhow::Result<String> {
-    let bytes = bytes(alloc, word(words, 1))?;
-    let read = read_challenge(alloc, &bytes)?;
-    written(alloc, write_challenge(alloc, &read))
-}
+// ---- the fields of a message
 
-/// `authenticate BYTES`.
-fn authenticate(alloc: Global, words: &[&str]) -> anyhow::Result<String> {
-    let bytes = bytes(alloc, word(words, 1))?;
-    let read = read_authenticate(alloc, &bytes);
-    Ok(format!(in alloc; "{read:?}")?)
-}
-
-/// `authenticate_view BYTES`.
-fn authenticate_lent(alloc: Global, words: &[&str]) -> anyhow::Result<String> {
-    let bytes = bytes(alloc, word(words, 1))?;
-    let view = view_authenticate(&bytes);
-    Ok(format!(in alloc; "{view:?}")?)
-}
-
-/// `authenticate_again BYTES`.
-fn authenticate_again(alloc: Global, words: &[&str]) -> anyhow::Result<String> {
-    let bytes = bytes(alloc, word(words, 1))?;
-    let read = read_authenticate(alloc, &bytes)?;
-    written(alloc, write_authenticate(alloc, &read))
+/// The bytes of a NEGOTIATE, where it may be written.
+fn negotiate_text(alloc: Global, value: &Negotiate) -> anyhow::Result<String> {
+    if !may_write_negotiate(value) {
+        return not_to_be_written(alloc);
+    }
+    written_text(alloc, write_negotiate(alloc, value))
 }
 
 /// `negotiate_of FLAGS DOMAIN WORKSTATION VERSION`.
@@ -165,10 +139,15 @@ fn negotiate_of(alloc: Global, words: &[&str]) -> anyhow::Result<String> {
         workstation,
         version,
     };
-    if !may_write_negotiate(&value) {
+    negotiate_text(alloc, &value)
+}
+
+/// The bytes of a CHALLENGE, where it may be written.
+fn challenge_text(alloc: Global, value: &Challenge) -> anyhow::Result<String> {
+    if !may_write_challenge(value) {
         return not_to_be_written(alloc);
     }
-    written(alloc, write_negotiate(alloc, &value))
+    written_text(alloc, write_challenge(alloc, value))
 }
 
 /// `challenge_of FLAGS TARGET CHALLENGE INFO VERSION`.
@@ -185,10 +164,15 @@ fn challenge_of(alloc: Global, words: &[&str]) -> anyhow::Result<String> {
         info,
         version,
     };
-    if !may_write_challenge(&value) {
+    challenge_text(alloc, &value)
+}
+
+/// The bytes of an AUTHENTICATE, where it may be written.
+fn authenticate_text(alloc: Global, value: &Authenticate) -> anyhow::Result<String> {
+    if !may_write_authenticate(value) {
         return not_to_be_written(alloc);
     }
-    written(alloc, write_challenge(alloc, &value))
+    written_text(alloc, write_authenticate(alloc, value))
 }
 
 /// The names of an AUTHENTICATE: domain, user and workstation.
@@ -225,55 +209,40 @@ fn authenticate_of(alloc: Global, words: &[&str]) -> anyhow::Result<String> {
         version,
         mic,
     };
-    if !may_write_authenticate(&value) {
-        return not_to_be_written(alloc);
-    }
-    written(alloc, write_authenticate(alloc, &value))
+    authenticate_text(alloc, &value)
 }
 
-/// `text FLAGS BYTES`.
-fn field_text(alloc: Global, words: &[&str]) -> anyhow::Result<String> {
-    let flags = flags(word(words, 1))?;
-    let bytes = bytes(alloc, word(words, 2))?;
-    let read = text_units(alloc, flags, &bytes);
-    Ok(format!(in alloc; "{read:?}")?)
-}
+// ---- the texts of a message
 
-/// `read_text FLAGS BYTES`: the text of a message that was read.
-fn read_text(alloc: Global, words: &[&str]) -> anyhow::Result<String> {
-    let flags = flags(word(words, 1))?;
-    let bytes = bytes(alloc, word(words, 2))?;
-    if !is_even(flags, &bytes) {
+/// The text of a message that was read.
+fn read_text(alloc: Global, flags: u32, bytes: &[u8]) -> anyhow::Result<String> {
+    if !is_even(flags, bytes) {
         return Ok("odd".to_string(alloc)?);
     }
-    let read = units_of_text(alloc, flags, &bytes)?;
-    Ok(format!(in alloc; "{read:?}")?)
+    debug_text(alloc, units_of_text(alloc, flags, bytes)?)
 }
 
-/// What an operation on fields gives.
-fn answer_of_fields(alloc: Global, operation: &str, words: &[&str]) -> anyhow::Result<String> {
-    match operation {
-        "negotiate_of" => negotiate_of(alloc, words),
-        "challenge_of" => challenge_of(alloc, words),
-        "authenticate_of" => authenticate_of(alloc, words),
-        "text" => field_text(alloc, words),
-        "read_text" => read_text(alloc, words),
-        _ => pairs::answer(alloc, operation, words),
+/// `text FLAGS BYTES`, and `read_text FLAGS BYTES`: the text of a message that is yet to be read, and of one that was.
+fn text(alloc: Global, words: &[&str], was_read: bool) -> anyhow::Result<String> {
+    let flags = flags(word(words, 1))?;
+    let bytes = bytes(alloc, word(words, 2))?;
+    if was_read {
+        read_text(alloc, flags, &bytes)
+    } else {
+        debug_text(alloc, text_units(alloc, flags, &bytes))
     }
 }
 
 /// What an operation gives.
 pub(crate) fn answer(alloc: Global, operation: &str, words: &[&str]) -> anyhow::Result<String> {
     match operation {
-        "negotiate" => negotiate(alloc, words),
-        "negotiate_view" => negotiate_lent(alloc, words),
-        "negotiate_again" => negotiate_again(alloc, words),
-        "challenge" => challenge(alloc, words),
-        "challenge_view" => challenge_lent(alloc, words),
-        "challenge_again" => challenge_again(alloc, words),
-        "authenticate" => authenticate(alloc, words),
-        "authenticate_view" => authenticate_lent(alloc, words),
-        "authenticate_again" => authenticate_again(alloc, words),
-        _ => answer_of_fields(alloc, operation, words),
+        "negotiate_of" => negotiate_of(alloc, words),
+        "challenge_of" => challenge_of(alloc, words),
+        "authenticate_of" => authenticate_of(alloc, words),
+        "text" => text(alloc, words, false),
+        "read_text" => text(alloc, words, true),
+        "pairs_of" => pairs::pairs_of(alloc, words),
+        "pair_value" => pairs::value_of_id(alloc, words),
+        _ => answer_to_word(alloc, operation, words),
     }
 }

@@ -1,145 +1,40 @@
 //! Cases of `ndr_codec`: the steps of a reader. `ndr_writing` has those of a writer.
 
 use crate::ndr_writing;
-use case_words::{add_answer, bytes, no_case, number, number16, size, word};
+use case_words::{answer_steps, bytes, debug_text, halves, no_case, number, number16, size, word};
 use ndr_codec::{
     Head, Reader, read_bytes, read_halves, read_head, read_reserved, read_some_pointer,
     read_unique_text, read_units,
 };
 use std::alloc::Global;
 
-/// The name of a step and its value; an empty one where there is none.
-pub(crate) fn parts(step: &str) -> (&str, &str) {
-    match step.split_once('/') {
-        Some(parts) => parts,
-        None => (step, ""),
-    }
-}
-
-// ---- items
-
-/// A byte.
-fn byte(alloc: Global, reader: &mut Reader<'_>) -> anyhow::Result<String> {
-    let read = reader.byte();
-    Ok(format!(in alloc; "{read:?}")?)
-}
-
-/// A 16-bit number.
-fn short(alloc: Global, reader: &mut Reader<'_>) -> anyhow::Result<String> {
-    let read = reader.short();
-    Ok(format!(in alloc; "{read:?}")?)
-}
-
-/// A 32-bit number.
-fn long(alloc: Global, reader: &mut Reader<'_>) -> anyhow::Result<String> {
-    let read = reader.long();
-    Ok(format!(in alloc; "{read:?}")?)
-}
-
-/// A pointer.
-fn pointer(alloc: Global, reader: &mut Reader<'_>) -> anyhow::Result<String> {
-    let read = reader.pointer();
-    Ok(format!(in alloc; "{read:?}")?)
-}
-
-/// Bytes.
-fn take(alloc: Global, reader: &mut Reader<'_>, count: usize) -> anyhow::Result<String> {
-    let read = reader.take(count);
-    Ok(format!(in alloc; "{read:?}")?)
-}
-
-/// A `string`.
-fn string(alloc: Global, reader: &mut Reader<'_>) -> anyhow::Result<String> {
-    let read = reader.text(alloc);
-    Ok(format!(in alloc; "{read:?}")?)
-}
-
-/// The target of a counted string.
-fn counted(alloc: Global, reader: &mut Reader<'_>, len: u16) -> anyhow::Result<String> {
-    let read = reader.counted(alloc, len);
-    Ok(format!(in alloc; "{read:?}")?)
-}
-
-/// The target of counted bytes.
-fn counted_bytes(alloc: Global, reader: &mut Reader<'_>, len: u16) -> anyhow::Result<String> {
-    let read = reader.counted_bytes(alloc, len);
-    Ok(format!(in alloc; "{read:?}")?)
-}
-
-/// A security identifier.
-fn sid(alloc: Global, reader: &mut Reader<'_>) -> anyhow::Result<String> {
-    let read = reader.sid(alloc);
-    Ok(format!(in alloc; "{read:?}")?)
-}
-
-// ---- parts of several items
-
-/// A pointer that may not be null.
-fn some_pointer(alloc: Global, reader: &mut Reader<'_>) -> anyhow::Result<String> {
-    let read = read_some_pointer(reader);
-    Ok(format!(in alloc; "{read:?}")?)
-}
-
-/// A `string` behind a unique pointer.
-fn unique_text(alloc: Global, reader: &mut Reader<'_>) -> anyhow::Result<String> {
-    let read = read_unique_text(alloc, reader);
-    Ok(format!(in alloc; "{read:?}")?)
-}
-
-/// A number of 64 bits.
-fn halves(alloc: Global, reader: &mut Reader<'_>) -> anyhow::Result<String> {
-    let read = read_halves(reader);
-    Ok(format!(in alloc; "{read:?}")?)
-}
-
-/// Reserved numbers.
-fn reserved(alloc: Global, reader: &mut Reader<'_>, count: u32) -> anyhow::Result<String> {
-    let read = read_reserved(reader, count);
-    Ok(format!(in alloc; "{read:?}")?)
-}
-
 /// The head of a counted string of items of so many bytes.
 fn head(alloc: Global, reader: &mut Reader<'_>, size: u16) -> anyhow::Result<String> {
     if size == 0 {
         return no_case(alloc);
     }
-    let read = read_head(reader, size);
-    Ok(format!(in alloc; "{read:?}")?)
+    debug_text(alloc, read_head(reader, size))
 }
 
 /// A head of a word: its length, and 1 where it has a target.
 fn head_of(value: &str) -> anyhow::Result<Head> {
-    let (len, there) = parts(value);
+    let (len, there) = halves(value);
     Ok(Head {
         len: number16(len)?,
         there: there == "1",
     })
 }
 
-/// The target of a counted string with that head.
-fn units(alloc: Global, reader: &mut Reader<'_>, head: Head) -> anyhow::Result<String> {
-    let read = read_units(alloc, reader, head);
-    Ok(format!(in alloc; "{read:?}")?)
-}
-
-/// The target of counted bytes with that head.
-fn target_bytes(alloc: Global, reader: &mut Reader<'_>, head: Head) -> anyhow::Result<String> {
-    let read = read_bytes(alloc, reader, head);
-    Ok(format!(in alloc; "{read:?}")?)
-}
-
-// ---- steps
-
 /// What a reader gives of a part of several items.
 fn part(alloc: Global, reader: &mut Reader<'_>, name: &str, value: &str) -> anyhow::Result<String> {
     match name {
-        "some_pointer" => some_pointer(alloc, reader),
-        "unique_text" => unique_text(alloc, reader),
-        "halves" => halves(alloc, reader),
-        "reserved" => reserved(alloc, reader, number(value)?),
+        "some_pointer" => debug_text(alloc, read_some_pointer(reader)),
+        "unique_text" => debug_text(alloc, read_unique_text(alloc, reader)),
+        "halves" => debug_text(alloc, read_halves(reader)),
+        "reserved" => debug_text(alloc, read_reserved(reader, number(value)?)),
         "head" => head(alloc, reader, number16(value)?),
-        "units" => units(alloc, reader, head_of(value)?),
-        "bytes" => target_bytes(alloc, reader, head_of(value)?),
+        "units" => debug_text(alloc, read_units(alloc, reader, head_of(value)?)),
+        "bytes" => debug_text(alloc, read_bytes(alloc, reader, head_of(value)?)),
         _ => no_case(alloc),
     }
 }
@@ -152,39 +47,39 @@ fn long_item(
     value: &str,
 ) -> anyhow::Result<String> {
     match name {
-        "text" => string(alloc, reader),
-        "counted" => counted(alloc, reader, number16(value)?),
-        "counted_bytes" => counted_bytes(alloc, reader, number16(value)?),
-        "sid" => sid(alloc, reader),
-        "take" => take(alloc, reader, size(value)?),
+        "text" => debug_text(alloc, reader.text(alloc)),
+        "counted" => debug_text(alloc, reader.counted(alloc, number16(value)?)),
+        "counted_bytes" => debug_text(alloc, reader.counted_bytes(alloc, number16(value)?)),
+        "sid" => debug_text(alloc, reader.sid(alloc)),
+        "take" => debug_text(alloc, reader.take(size(value)?)),
         _ => part(alloc, reader, name, value),
     }
 }
 
-/// What a reader gives of a step.
-fn item(alloc: Global, reader: &mut Reader<'_>, step: &str) -> anyhow::Result<String> {
-    let (name, value) = parts(step);
+/// What a reader gives of an item.
+fn item(alloc: Global, reader: &mut Reader<'_>, name: &str, value: &str) -> anyhow::Result<String> {
     match name {
-        "byte" => byte(alloc, reader),
-        "short" => short(alloc, reader),
-        "long" => long(alloc, reader),
-        "pointer" => pointer(alloc, reader),
+        "byte" => debug_text(alloc, reader.byte()),
+        "short" => debug_text(alloc, reader.short()),
+        "long" => debug_text(alloc, reader.long()),
+        "pointer" => debug_text(alloc, reader.pointer()),
         _ => long_item(alloc, reader, name, value),
     }
 }
 
-/// `read STUB STEP ..`.
+/// What a reader gives of a step, and the place where it then stands.
+fn step_text(alloc: Global, reader: &mut Reader<'_>, step: &str) -> anyhow::Result<String> {
+    let (name, value) = halves(step);
+    let read = item(alloc, reader, name, value)?;
+    let place = reader.place();
+    Ok(format!(in alloc; "{read} {place}")?)
+}
+
+/// `read STUB STEP ..`: each step an item's name, and behind a `/` its length, its count or its head.
 fn read(alloc: Global, words: &[&str]) -> anyhow::Result<String> {
     let stub = bytes(alloc, word(words, 1))?;
     let mut reader = Reader::new(&stub);
-    let mut answer = String::new(alloc);
-    for step in words.iter().skip(2) {
-        let read = item(alloc, &mut reader, step)?;
-        let place = reader.place();
-        let step = format!(in alloc; "{read} {place}")?;
-        add_answer(&mut answer, step.as_str())?;
-    }
-    Ok(answer)
+    answer_steps(alloc, words, 2, &mut reader, step_text)
 }
 
 /// What an operation gives.

@@ -2,15 +2,14 @@
 
 ghost use Rattle.std.specs.Prelude.{◌≤◌, length, IfOk};
 
-use crate::ndr::parts;
 use anyhow::anyhow;
-use case_words::{blob, bytes, long_text, number, number8, number16, number64, text_units};
+use case_words::{blob, bytes, halves, long_text, number, number8, number16, number64, text_units};
 use ndr_codec::{
     Writer, write_bytes, write_bytes_head, write_halves, write_reserved, write_unique_text,
     write_units, write_units_head,
 };
 use std::alloc::Global;
-use wire_base::{Blob, Sid, Units};
+use wire_base::{Blob, NoMemory, Sid, Units};
 
 /// A refusal of a value that may not be written.
 fn not_to_be_written() -> anyhow::Error {
@@ -39,7 +38,7 @@ fn short_bytes(alloc: Global, value: &str) -> anyhow::Result<Blob>
     Ok(bytes)
 }
 
-// ---- items
+// ---- numbers and pointers
 
 /// Puts a byte.
 fn put_byte(writer: &mut Writer, value: &str) -> anyhow::Result<()> {
@@ -61,28 +60,39 @@ fn put_pointer(writer: &mut Writer, value: &str) -> anyhow::Result<()> {
     Ok(writer.pointer(value == "1")?)
 }
 
+/// Puts a number of 64 bits.
+fn put_halves(writer: &mut Writer, value: &str) -> anyhow::Result<()> {
+    Ok(write_halves(writer, number64(value)?)?)
+}
+
+/// Puts reserved numbers.
+fn put_reserved(writer: &mut Writer, value: &str) -> anyhow::Result<()> {
+    Ok(write_reserved(writer, number(value)?)?)
+}
+
+// ---- bytes
+
 /// Puts bytes as they are.
 fn put_raw(alloc: Global, writer: &mut Writer, value: &str) -> anyhow::Result<()> {
     let bytes = bytes(alloc, value)?;
     Ok(writer.raw(&bytes)?)
 }
 
-/// Puts a `string`.
-fn put_text(alloc: Global, writer: &mut Writer, value: &str) -> anyhow::Result<()> {
-    let units = short_units(alloc, value)?;
-    Ok(writer.text(&units)?)
+/// Puts the target of counted bytes, their head, or the target where they have one.
+fn put_of_bytes(writer: &mut Writer, name: &str, bytes: &Blob) -> Result<(), NoMemory>
+    requires { length bytes.now ≤ 65535 }
+{
+    match name {
+        "counted_bytes" => writer.counted_bytes(bytes),
+        "bytes_head" => write_bytes_head(writer, bytes),
+        _ => write_bytes(writer, bytes),
+    }
 }
 
-/// Puts the target of a counted string.
-fn put_counted(alloc: Global, writer: &mut Writer, value: &str) -> anyhow::Result<()> {
-    let units = short_units(alloc, value)?;
-    Ok(writer.counted(&units)?)
-}
-
-/// Puts the target of counted bytes.
-fn put_counted_bytes(alloc: Global, writer: &mut Writer, value: &str) -> anyhow::Result<()> {
+/// Puts what is of counted bytes.
+fn put_bytes(alloc: Global, writer: &mut Writer, name: &str, value: &str) -> anyhow::Result<()> {
     let bytes = short_bytes(alloc, value)?;
-    Ok(writer.counted_bytes(&bytes)?)
+    Ok(put_of_bytes(writer, name, &bytes)?)
 }
 
 /// Puts a security identifier, given as its text.
@@ -91,7 +101,25 @@ fn put_sid(alloc: Global, writer: &mut Writer, value: &str) -> anyhow::Result<()
     Ok(writer.sid(&sid)?)
 }
 
-// ---- parts of several items
+// ---- texts
+
+/// Puts a `string`, the target of a counted string, its head, or the target where it has one.
+fn put_of_units(writer: &mut Writer, name: &str, units: &Units) -> Result<(), NoMemory>
+    requires { length units.now ≤ 32767 }
+{
+    match name {
+        "text" => writer.text(units),
+        "counted" => writer.counted(units),
+        "units_head" => write_units_head(writer, units),
+        _ => write_units(writer, units),
+    }
+}
+
+/// Puts what is of a text.
+fn put_units(alloc: Global, writer: &mut Writer, name: &str, value: &str) -> anyhow::Result<()> {
+    let units = short_units(alloc, value)?;
+    Ok(put_of_units(writer, name, &units)?)
+}
 
 /// Puts a `string` behind a unique pointer.
 fn put_some_text(alloc: Global, writer: &mut Writer, value: &str) -> anyhow::Result<()> {
@@ -107,57 +135,9 @@ fn put_unique_text(alloc: Global, writer: &mut Writer, value: &str) -> anyhow::R
     put_some_text(alloc, writer, value)
 }
 
-/// Puts a number of 64 bits.
-fn put_halves(writer: &mut Writer, value: &str) -> anyhow::Result<()> {
-    Ok(write_halves(writer, number64(value)?)?)
-}
-
-/// Puts reserved numbers.
-fn put_reserved(writer: &mut Writer, value: &str) -> anyhow::Result<()> {
-    Ok(write_reserved(writer, number(value)?)?)
-}
-
-/// Puts the head of a counted string.
-fn put_units_head(alloc: Global, writer: &mut Writer, value: &str) -> anyhow::Result<()> {
-    let units = short_units(alloc, value)?;
-    Ok(write_units_head(writer, &units)?)
-}
-
-/// Puts the head of counted bytes.
-fn put_bytes_head(alloc: Global, writer: &mut Writer, value: &str) -> anyhow::Result<()> {
-    let bytes = short_bytes(alloc, value)?;
-    Ok(write_bytes_head(writer, &bytes)?)
-}
-
-/// Puts the target of a counted string, where it has one.
-fn put_units(alloc: Global, writer: &mut Writer, value: &str) -> anyhow::Result<()> {
-    let units = short_units(alloc, value)?;
-    Ok(write_units(writer, &units)?)
-}
-
-/// Puts the target of counted bytes, where they have one.
-fn put_bytes(alloc: Global, writer: &mut Writer, value: &str) -> anyhow::Result<()> {
-    let bytes = short_bytes(alloc, value)?;
-    Ok(write_bytes(writer, &bytes)?)
-}
-
 // ---- steps
 
-/// Puts a part of several items.
-fn put_part(alloc: Global, writer: &mut Writer, name: &str, value: &str) -> anyhow::Result<()> {
-    match name {
-        "unique_text" => put_unique_text(alloc, writer, value),
-        "halves" => put_halves(writer, value),
-        "reserved" => put_reserved(writer, value),
-        "units_head" => put_units_head(alloc, writer, value),
-        "bytes_head" => put_bytes_head(alloc, writer, value),
-        "units" => put_units(alloc, writer, value),
-        "bytes" => put_bytes(alloc, writer, value),
-        _ => Err(anyhow!("no such item")),
-    }
-}
-
-/// Puts a text, bytes or an identifier.
+/// Puts bytes, a text or an identifier.
 fn put_long_item(
     alloc: Global,
     writer: &mut Writer,
@@ -166,22 +146,24 @@ fn put_long_item(
 ) -> anyhow::Result<()> {
     match name {
         "raw" => put_raw(alloc, writer, value),
-        "text" => put_text(alloc, writer, value),
-        "counted" => put_counted(alloc, writer, value),
-        "counted_bytes" => put_counted_bytes(alloc, writer, value),
+        "counted_bytes" | "bytes_head" | "bytes" => put_bytes(alloc, writer, name, value),
+        "text" | "counted" | "units_head" | "units" => put_units(alloc, writer, name, value),
+        "unique_text" => put_unique_text(alloc, writer, value),
         "sid" => put_sid(alloc, writer, value),
-        _ => put_part(alloc, writer, name, value),
+        _ => Err(anyhow!("no such item")),
     }
 }
 
 /// Puts the item of a step.
 fn put_item(alloc: Global, writer: &mut Writer, step: &str) -> anyhow::Result<()> {
-    let (name, value) = parts(step);
+    let (name, value) = halves(step);
     match name {
         "byte" => put_byte(writer, value),
         "short" => put_short(writer, value),
         "long" => put_long(writer, value),
         "pointer" => put_pointer(writer, value),
+        "halves" => put_halves(writer, value),
+        "reserved" => put_reserved(writer, value),
         _ => put_long_item(alloc, writer, name, value),
     }
 }

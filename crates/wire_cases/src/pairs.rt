@@ -3,41 +3,50 @@
 ghost use Rattle.std.specs.Prelude.{◌≡◌, true};
 ghost use Rattle.ntlm_messages.specs.Pairs.{IsPair, ArePairs};
 
-use case_words::{blob, bytes, long_text, no_case, number16, word};
+use crate::outcomes::not_to_be_written;
+use case_words::{blob, bytes, debug_text, long_text, no_case, number16, word};
 use ntlm_messages::{Pairs, pair_value, read_pairs, timestamp, write_pairs};
 use std::alloc::Global;
 use wire_base::Blob;
 
-/// `pairs BYTES`.
-fn pairs(alloc: Global, words: &[&str]) -> anyhow::Result<String> {
-    let bytes = bytes(alloc, word(words, 1))?;
-    let read = read_pairs(alloc, &bytes);
-    Ok(format!(in alloc; "{read:?}")?)
-}
-
-/// `pairs_again BYTES`.
-fn pairs_again(alloc: Global, words: &[&str]) -> anyhow::Result<String> {
-    let bytes = bytes(alloc, word(words, 1))?;
-    let read = read_pairs(alloc, &bytes)?;
+/// The bytes of pairs that were read.
+fn pairs_again(alloc: Global, bytes: &[u8]) -> anyhow::Result<String> {
+    let read = read_pairs(alloc, bytes)?;
     let again = write_pairs(alloc, &read)?;
     long_text(alloc, again.bytes())
 }
 
-/// `pair_value ID BYTES`: the value of the first pair of an id.
-fn value_of_id(alloc: Global, words: &[&str]) -> anyhow::Result<String> {
-    let id = number16(word(words, 1))?;
-    let bytes = bytes(alloc, word(words, 2))?;
-    let read = read_pairs(alloc, &bytes)?;
-    let value = pair_value(&read, id);
-    Ok(format!(in alloc; "{value:?}")?)
+/// The time of pairs that were read.
+fn time(alloc: Global, bytes: &[u8]) -> anyhow::Result<String> {
+    let read = read_pairs(alloc, bytes)?;
+    debug_text(alloc, timestamp(&read))
 }
 
-/// `timestamp BYTES`.
-fn time(alloc: Global, words: &[&str]) -> anyhow::Result<String> {
-    let bytes = bytes(alloc, word(words, 1))?;
-    let read = read_pairs(alloc, &bytes)?;
-    let time = timestamp(&read);
-    Ok(format!(in alloc; "{time:?}")?)
+/// What an operation on bytes gives: `pairs`, `pairs_again`, `timestamp`.
+pub(crate) fn answer_to_bytes(
+    alloc: Global,
+    operation: &str,
+    bytes: &[u8],
+) -> anyhow::Result<String> {
+    match operation {
+        "pairs" => debug_text(alloc, read_pairs(alloc, bytes)),
+        "pairs_again" => pairs_again(alloc, bytes),
+        "timestamp" => time(alloc, bytes),
+        _ => no_case(alloc),
+    }
+}
+
+/// The value of the first pair of an id, of pairs that are read.
+fn value_text(alloc: Global, id: u16, bytes: &[u8]) -> anyhow::Result<String> {
+    let read = read_pairs(alloc, bytes)?;
+    debug_text(alloc, pair_value(&read, id))
+}
+
+/// `pair_value ID BYTES`: the value of the first pair of an id.
+pub(crate) fn value_of_id(alloc: Global, words: &[&str]) -> anyhow::Result<String> {
+    let id = number16(word(words, 1))?;
+    let bytes = bytes(alloc, word(words, 2))?;
+    value_text(alloc, id, &bytes)
 }
 
 /// A pair of a word.
@@ -68,33 +77,32 @@ fn may_write_pairs(pairs: &[(u16, Blob)]) -> bool
     pairs.iter().all(may_write_pair)
 }
 
+/// Puts the pair of a word behind the others.
+fn put_pair(alloc: Global, pairs: &mut Pairs, word: &str) -> anyhow::Result<()> {
+    let pair = pair(alloc, word)?;
+    Ok(pairs.push(pair)?)
+}
+
 /// The pairs of the words.
 fn pairs_in(alloc: Global, words: &[&str]) -> anyhow::Result<Pairs> {
     let mut pairs = Pairs::new(alloc);
     for word in words.iter().skip(1) {
-        pairs.push(pair(alloc, word)?)?;
+        put_pair(alloc, &mut pairs, word)?;
     }
     Ok(pairs)
 }
 
-/// `pairs_of ID=BYTES ..`.
-fn pairs_of(alloc: Global, words: &[&str]) -> anyhow::Result<String> {
-    let pairs = pairs_in(alloc, words)?;
+/// The bytes of the pairs, where they may be written.
+fn pairs_text(alloc: Global, pairs: &Pairs) -> anyhow::Result<String> {
     if !may_write_pairs(pairs.items()) {
-        return Ok("not to be written".to_string(alloc)?);
+        return not_to_be_written(alloc);
     }
-    let bytes = write_pairs(alloc, &pairs)?;
+    let bytes = write_pairs(alloc, pairs)?;
     long_text(alloc, bytes.bytes())
 }
 
-/// What an operation gives.
-pub(crate) fn answer(alloc: Global, operation: &str, words: &[&str]) -> anyhow::Result<String> {
-    match operation {
-        "pairs" => pairs(alloc, words),
-        "pairs_again" => pairs_again(alloc, words),
-        "pairs_of" => pairs_of(alloc, words),
-        "pair_value" => value_of_id(alloc, words),
-        "timestamp" => time(alloc, words),
-        _ => no_case(alloc),
-    }
+/// `pairs_of ID=BYTES ..`.
+pub(crate) fn pairs_of(alloc: Global, words: &[&str]) -> anyhow::Result<String> {
+    let pairs = pairs_in(alloc, words)?;
+    pairs_text(alloc, &pairs)
 }

@@ -2,17 +2,27 @@
 
 ghost use Rattle.std.specs.Prelude.{◌≡◌, false, IfOk, IfSome, OnOk};
 
-use case_words::{add_answer, blob, bytes, long_text, no_case, sixteen};
+use case_words::{
+    add_answer, add_bytes, add_debug, answer_steps, blob, bytes, debug_text, halves, long_text,
+    no_case, sixteen,
+};
 use rpc_units::{Came, Incoming, Inflow, UnitRefused, read_stream, set_value};
 use std::alloc::Global;
 use wire_base::{Blob, Frames};
 
 // ---- pieces
 
-/// A unit that came, with its bytes.
-fn unit_text(alloc: Global, size: usize, unit: &[u8]) -> anyhow::Result<String> {
+/// Puts a unit that came, with its bytes, behind the answers.
+fn add_unit(alloc: Global, answer: &mut String, size: usize, unit: &[u8]) -> anyhow::Result<()> {
     let text = long_text(alloc, unit)?;
-    Ok(format!(in alloc; "Unit({size}) {text}")?)
+    let step = format!(in alloc; "Unit({size}) {text}")?;
+    add_answer(answer, &step)
+}
+
+/// Puts a refusal behind the answers.
+fn add_refused(alloc: Global, answer: &mut String, refused: UnitRefused) -> anyhow::Result<()> {
+    let step = format!(in alloc; "Refused({refused:?})")?;
+    add_answer(answer, &step)
 }
 
 /// What comes of a piece, up to a refusal, behind which there is no stream.
@@ -29,17 +39,15 @@ fn take_piece(
     for _ in 0..u32::MAX {
         match coming.next() {
             Came::Unit(size) => {
-                let step = unit_text(alloc, size, coming.unit())?;
+                add_unit(alloc, answer, size, coming.unit())?;
                 coming.done();
-                add_answer(answer, step.as_str())?;
             }
             Came::Waits => {
                 add_answer(answer, "Waits")?;
                 return Ok(Some(coming.into_flow()));
             }
             Came::Refused(refused) => {
-                let step = format!(in alloc; "Refused({refused:?})")?;
-                add_answer(answer, step.as_str())?;
+                add_refused(alloc, answer, refused)?;
                 return Ok(None);
             }
         }
@@ -47,13 +55,26 @@ fn take_piece(
     Ok(None)
 }
 
+/// What comes of the piece of a word.
+fn take_word(
+    alloc: Global,
+    flow: Inflow,
+    word: &str,
+    answer: &mut String,
+) -> anyhow::Result<Option<Inflow>>
+    requires { flow.broken ≡ false }
+    ensures { IfOk result (λ found. IfSome found (λ next. next.broken ≡ false)) }
+{
+    let piece = bytes(alloc, word)?;
+    take_piece(alloc, flow, &piece, answer)
+}
+
 /// `stream PIECE ..`.
 fn stream(alloc: Global, words: &[&str]) -> anyhow::Result<String> {
     let mut flow = Inflow::new(alloc)?;
     let mut answer = String::new(alloc);
     for word in words.iter().skip(1) {
-        let piece = bytes(alloc, word)?;
-        match take_piece(alloc, flow, &piece, &mut answer)? {
+        match take_word(alloc, flow, word, &mut answer)? {
             Some(next) => flow = next,
             None => return Ok(answer),
         }
@@ -61,11 +82,17 @@ fn stream(alloc: Global, words: &[&str]) -> anyhow::Result<String> {
     Ok(answer)
 }
 
+/// Puts the piece of a word behind the others.
+fn put_piece(alloc: Global, pieces: &mut Frames, word: &str) -> anyhow::Result<()> {
+    let piece = blob(alloc, word)?;
+    Ok(pieces.push(piece)?)
+}
+
 /// The pieces of the words.
 fn pieces(alloc: Global, words: &[&str]) -> anyhow::Result<Frames> {
     let mut pieces = Frames::new(alloc);
     for word in words.iter().skip(1) {
-        pieces.push(blob(alloc, word)?)?;
+        put_piece(alloc, &mut pieces, word)?;
     }
     Ok(pieces)
 }
@@ -78,11 +105,9 @@ fn read_text(
 ) -> anyhow::Result<String> {
     let mut answer = String::new(alloc);
     for unit in units {
-        let step = long_text(alloc, unit.bytes())?;
-        add_answer(&mut answer, step.as_str())?;
+        add_bytes(alloc, &mut answer, unit.bytes())?;
     }
-    let step = format!(in alloc; "{refused:?}")?;
-    add_answer(&mut answer, step.as_str())?;
+    add_debug(alloc, &mut answer, refused)?;
     Ok(answer)
 }
 
@@ -104,20 +129,7 @@ fn front_text(alloc: Global, size: usize, unit: &[u8]) -> anyhow::Result<String>
 /// `fill/BYTES`.
 fn fill(alloc: Global, flow: &mut Inflow, value: &str) -> anyhow::Result<String> {
     let piece = bytes(alloc, value)?;
-    let count = flow.fill(&piece);
-    Ok(format!(in alloc; "{count}")?)
-}
-
-/// `held`.
-fn held(alloc: Global, flow: &Inflow) -> anyhow::Result<String> {
-    let count = flow.len();
-    Ok(format!(in alloc; "{count}")?)
-}
-
-/// `next`.
-fn next(alloc: Global, flow: &mut Inflow) -> anyhow::Result<String> {
-    let next = flow.next();
-    Ok(format!(in alloc; "{next:?}")?)
+    debug_text(alloc, flow.fill(&piece))
 }
 
 /// `take`.
@@ -128,8 +140,7 @@ fn take(alloc: Global, flow: &mut Inflow) -> anyhow::Result<String> {
             flow.done();
             Ok(answer)
         }
-        Ok(None) => Ok("Ok(None)".to_string(alloc)?),
-        Err(refused) => Ok(format!(in alloc; "Err({refused:?})")?),
+        none => debug_text(alloc, none),
     }
 }
 
@@ -143,18 +154,17 @@ fn replace(alloc: Global, flow: &mut Inflow, value: &[u8; 16]) -> anyhow::Result
             set_value(flow.unit(), value);
             front_text(alloc, size, flow.unit())
         }
-        Ok(None) => Ok("Ok(None)".to_string(alloc)?),
-        Err(refused) => Ok(format!(in alloc; "Err({refused:?})")?),
+        none => debug_text(alloc, none),
     }
 }
 
-/// What a step gives.
+/// What a step gives: `fill/BYTES`, `held`, `next`, `take`, `value/BYTES`.
 fn step_text(alloc: Global, flow: &mut Inflow, step: &str) -> anyhow::Result<String> {
-    let (name, value) = step.split_once('/').unwrap_or((step, ""));
+    let (name, value) = halves(step);
     match name {
         "fill" => fill(alloc, flow, value),
-        "held" => held(alloc, flow),
-        "next" => next(alloc, flow),
+        "held" => debug_text(alloc, flow.len()),
+        "next" => debug_text(alloc, flow.next()),
         "take" => take(alloc, flow),
         "value" => replace(alloc, flow, &sixteen(value)?),
         _ => no_case(alloc),
@@ -164,12 +174,7 @@ fn step_text(alloc: Global, flow: &mut Inflow, step: &str) -> anyhow::Result<Str
 /// `flow STEP ..`.
 fn flow(alloc: Global, words: &[&str]) -> anyhow::Result<String> {
     let mut flow = Inflow::new(alloc)?;
-    let mut answer = String::new(alloc);
-    for step in words.iter().skip(1) {
-        let text = step_text(alloc, &mut flow, step)?;
-        add_answer(&mut answer, text.as_str())?;
-    }
-    Ok(answer)
+    answer_steps(alloc, words, 1, &mut flow, step_text)
 }
 
 /// What an operation gives.

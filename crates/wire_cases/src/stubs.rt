@@ -4,7 +4,8 @@ ghost use Rattle.std.specs.Prelude.{◌≡◌, true};
 ghost use Rattle.ndr_codec.specs.Parts.{FitsText, IfThere};
 ghost use Rattle.logon_stubs.specs.Writing.{CanWriteNetworkInfo, CanWriteSamInfo, CanWriteCall, CanWriteReply};
 
-use case_words::{bytes, long_text, no_case, number16, word};
+use crate::outcomes::not_to_be_written;
+use case_words::{bytes, debug_text, long_text, no_case, number16, word};
 use logon_stubs::{
     Call, NetworkInfo, Reply, SamInfo, read_call, read_reply, write_call, write_reply,
 };
@@ -85,26 +86,10 @@ fn fits_reply(reply: &Reply) -> bool
     }
 }
 
-/// `call OPNUM STUB`.
-fn call(alloc: Global, words: &[&str]) -> anyhow::Result<String> {
-    let opnum = number16(word(words, 1))?;
-    let stub = bytes(alloc, word(words, 2))?;
-    let read = read_call(alloc, opnum, &stub);
-    Ok(format!(in alloc; "{read:?}")?)
-}
-
-/// `reply OPNUM STUB`.
-fn reply(alloc: Global, words: &[&str]) -> anyhow::Result<String> {
-    let opnum = number16(word(words, 1))?;
-    let stub = bytes(alloc, word(words, 2))?;
-    let read = read_reply(alloc, opnum, &stub);
-    Ok(format!(in alloc; "{read:?}")?)
-}
-
 /// The stub of a request.
 fn call_text(alloc: Global, call: &Call) -> anyhow::Result<String> {
     if !fits_call(call) {
-        return Ok("not to be written".to_string(alloc)?);
+        return not_to_be_written(alloc);
     }
     let stub = write_call(alloc, call)?;
     long_text(alloc, stub.bytes())
@@ -113,45 +98,43 @@ fn call_text(alloc: Global, call: &Call) -> anyhow::Result<String> {
 /// The stub of a reply.
 fn reply_text(alloc: Global, reply: &Reply) -> anyhow::Result<String> {
     if !fits_reply(reply) {
-        return Ok("not to be written".to_string(alloc)?);
+        return not_to_be_written(alloc);
     }
     let stub = write_reply(alloc, reply)?;
     long_text(alloc, stub.bytes())
 }
 
-/// The stub that is written of a request that was read.
-fn read_call_text(alloc: Global, opnum: u16, stub: &[u8]) -> anyhow::Result<String> {
+/// The stub of a request that was read.
+fn call_again(alloc: Global, opnum: u16, stub: &[u8]) -> anyhow::Result<String> {
     let read = read_call(alloc, opnum, stub)?;
     call_text(alloc, &read)
 }
 
-/// `call_again OPNUM STUB`.
-fn call_again(alloc: Global, words: &[&str]) -> anyhow::Result<String> {
-    let opnum = number16(word(words, 1))?;
-    let stub = bytes(alloc, word(words, 2))?;
-    read_call_text(alloc, opnum, &stub)
-}
-
-/// The stub that is written of a reply that was read.
-fn read_reply_text(alloc: Global, opnum: u16, stub: &[u8]) -> anyhow::Result<String> {
+/// The stub of a reply that was read.
+fn reply_again(alloc: Global, opnum: u16, stub: &[u8]) -> anyhow::Result<String> {
     let read = read_reply(alloc, opnum, stub)?;
     reply_text(alloc, &read)
 }
 
-/// `reply_again OPNUM STUB`.
-fn reply_again(alloc: Global, words: &[&str]) -> anyhow::Result<String> {
-    let opnum = number16(word(words, 1))?;
-    let stub = bytes(alloc, word(words, 2))?;
-    read_reply_text(alloc, opnum, &stub)
-}
-
-/// What an operation gives.
-pub(crate) fn answer(alloc: Global, operation: &str, words: &[&str]) -> anyhow::Result<String> {
+/// What an operation on the stub of a call or reply gives.
+fn answer_to_stub(
+    alloc: Global,
+    operation: &str,
+    opnum: u16,
+    stub: &[u8],
+) -> anyhow::Result<String> {
     match operation {
-        "call" => call(alloc, words),
-        "reply" => reply(alloc, words),
-        "call_again" => call_again(alloc, words),
-        "reply_again" => reply_again(alloc, words),
+        "call" => debug_text(alloc, read_call(alloc, opnum, stub)),
+        "reply" => debug_text(alloc, read_reply(alloc, opnum, stub)),
+        "call_again" => call_again(alloc, opnum, stub),
+        "reply_again" => reply_again(alloc, opnum, stub),
         _ => no_case(alloc),
     }
+}
+
+/// What an operation gives: `call OPNUM STUB`, `reply OPNUM STUB`, `call_again OPNUM STUB`, `reply_again OPNUM STUB`.
+pub(crate) fn answer(alloc: Global, operation: &str, words: &[&str]) -> anyhow::Result<String> {
+    let opnum = number16(word(words, 1))?;
+    let stub = bytes(alloc, word(words, 2))?;
+    answer_to_stub(alloc, operation, opnum, &stub)
 }

@@ -6,14 +6,14 @@ ghost use Rattle.rpc_units.specs.declared.unit.Syntax.{Syntax as RpcSyntax};
 ghost use Rattle.rpc_units.specs.Writing.{HasCounts, HasPieces, HasValue, IsWritable};
 
 use crate::joining;
+use crate::outcomes::{not_to_be_written, written_text};
 use crate::unit_words::unit;
-use case_words::{bytes, long_text, sixteen, word};
+use case_words::{bytes, debug_text, long_text, no_case, sixteen, word};
 use rpc_units::{
-    Body, Contexts, Syntax, Syntaxes, Trailer, Unit, UnitWriteRefused, copy_unit, read_unit,
-    sealed_range, set_value, view_unit, write_unit,
+    Body, Contexts, Syntax, Syntaxes, Trailer, Unit, copy_unit, read_unit, sealed_range, set_value,
+    view_unit, write_unit,
 };
 use std::alloc::Global;
-use wire_base::Blob;
 
 /// Whether each context has at most 255 transfer syntaxes.
 fn are_short(contexts: &[(u16, Syntax, Syntaxes)]) -> bool
@@ -61,70 +61,58 @@ pub(crate) fn may_write(unit: &Unit) -> bool
         && has_value(&unit.trailer)
 }
 
-/// What was written of a unit.
-fn written(alloc: Global, outcome: Result<Blob, UnitWriteRefused>) -> anyhow::Result<String> {
-    match outcome {
-        Ok(bytes) => {
-            let text = long_text(alloc, bytes.bytes())?;
-            Ok(format!(in alloc; "Ok({text})")?)
-        }
-        Err(refused) => Ok(format!(in alloc; "Err({refused:?})")?),
-    }
-}
-
 /// The bytes of a unit, where it may be written.
 fn unit_text(alloc: Global, unit: &Unit) -> anyhow::Result<String> {
     if !may_write(unit) {
-        return Ok("not to be written".to_string(alloc)?);
+        return not_to_be_written(alloc);
     }
-    written(alloc, write_unit(alloc, unit))
+    written_text(alloc, write_unit(alloc, unit))
 }
 
-/// `read BYTES`.
-fn read(alloc: Global, words: &[&str]) -> anyhow::Result<String> {
-    let bytes = bytes(alloc, word(words, 1))?;
-    let read = read_unit(alloc, &bytes);
-    Ok(format!(in alloc; "{read:?}")?)
+/// The unit that a view lends, copied.
+fn copy(alloc: Global, bytes: &[u8]) -> anyhow::Result<String> {
+    let view = view_unit(bytes)?;
+    debug_text(alloc, copy_unit(alloc, &view)?)
 }
 
-/// `view BYTES`.
-fn view(alloc: Global, words: &[&str]) -> anyhow::Result<String> {
-    let bytes = bytes(alloc, word(words, 1))?;
-    let view = view_unit(&bytes);
-    Ok(format!(in alloc; "{view:?}")?)
-}
-
-/// `copy BYTES`: the unit that a view lends, copied.
-fn copy(alloc: Global, words: &[&str]) -> anyhow::Result<String> {
-    let bytes = bytes(alloc, word(words, 1))?;
-    let view = view_unit(&bytes)?;
-    let copy = copy_unit(alloc, &view)?;
-    Ok(format!(in alloc; "{copy:?}")?)
-}
-
-/// `again BYTES`.
-fn again(alloc: Global, words: &[&str]) -> anyhow::Result<String> {
-    let bytes = bytes(alloc, word(words, 1))?;
-    let read = read_unit(alloc, &bytes)?;
+/// The bytes of a unit that was read.
+fn again(alloc: Global, bytes: &[u8]) -> anyhow::Result<String> {
+    let read = read_unit(alloc, bytes)?;
     unit_text(alloc, &read)
 }
 
-/// `range BYTES`.
-fn range(alloc: Global, words: &[&str]) -> anyhow::Result<String> {
+/// What an operation on the bytes of a unit gives: `read`, `view`, `copy`, `again`, `range`.
+fn answer_to_bytes(alloc: Global, operation: &str, bytes: &[u8]) -> anyhow::Result<String> {
+    match operation {
+        "read" => debug_text(alloc, read_unit(alloc, bytes)),
+        "view" => debug_text(alloc, view_unit(bytes)),
+        "copy" => copy(alloc, bytes),
+        "again" => again(alloc, bytes),
+        "range" => debug_text(alloc, sealed_range(bytes)),
+        _ => no_case(alloc),
+    }
+}
+
+/// What the operation on the bytes of a line gives.
+fn answer_to_word(alloc: Global, operation: &str, words: &[&str]) -> anyhow::Result<String> {
     let bytes = bytes(alloc, word(words, 1))?;
-    let range = sealed_range(&bytes);
-    Ok(format!(in alloc; "{range:?}")?)
+    answer_to_bytes(alloc, operation, &bytes)
+}
+
+/// Bytes at whose end a value is set.
+fn value_text(alloc: Global, bytes: &mut [u8], value: &[u8; 16]) -> anyhow::Result<String> {
+    if bytes.len() < 16 {
+        return Ok("too short".to_string(alloc)?);
+    }
+    set_value(bytes, value);
+    long_text(alloc, bytes)
 }
 
 /// `value BYTES VALUE`.
 fn value(alloc: Global, words: &[&str]) -> anyhow::Result<String> {
     let value = sixteen(word(words, 2))?;
     let mut bytes = bytes(alloc, word(words, 1))?;
-    if bytes.len() < 16 {
-        return Ok("too short".to_string(alloc)?);
-    }
-    set_value(&mut bytes, &value);
-    long_text(alloc, &bytes)
+    value_text(alloc, &mut bytes, &value)
 }
 
 /// `of UNIT`.
@@ -136,13 +124,9 @@ fn of_word(alloc: Global, words: &[&str]) -> anyhow::Result<String> {
 /// What an operation gives.
 pub(crate) fn answer(alloc: Global, operation: &str, words: &[&str]) -> anyhow::Result<String> {
     match operation {
-        "read" => read(alloc, words),
-        "view" => view(alloc, words),
-        "copy" => copy(alloc, words),
-        "again" => again(alloc, words),
-        "range" => range(alloc, words),
         "value" => value(alloc, words),
         "of" => of_word(alloc, words),
+        "read" | "view" | "copy" | "again" | "range" => answer_to_word(alloc, operation, words),
         _ => joining::answer(alloc, operation, words),
     }
 }
