@@ -140,7 +140,8 @@ impl Channel {
         timestamp: u32,
         challenge: [u8; 8],
     ) -> Result<Option<(Turn, ShortFrames)>, NoMemory>
-        ensures answer { IfOk result (λ given. given ≡ (start_of self.old timestamp challenge).answer) }
+        ensures answer { IfOk result
+            (λ given. given ≡ (start_of self.old timestamp challenge).answer) }
         ensures state { OnOk result (self.new ≡ (start_of self.old timestamp challenge).state) }
         ensures unchanged { OnErr result (self.new ≡ self.old) }
     {

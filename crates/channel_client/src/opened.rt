@@ -56,7 +56,8 @@ impl Opened {
 
     /// The next authenticator, with this timestamp.
     pub(crate) fn make(&mut self, timestamp: u32) -> Authenticator
-        ensures authenticator { result ≡ authenticator_of (open_key self.old) self.old.seed timestamp }
+        ensures authenticator { result ≡
+            authenticator_of (open_key self.old) self.old.seed timestamp }
         ensures state { self.new ≡ after_call self.old timestamp }
     {
         self.sequence.make(timestamp)

@@ -16,7 +16,8 @@ pub fn cred(key: [u8; 16], input: [u8; 8]) -> [u8; 8]
     ensures undone { cred_back_of key result ≡ input }
 
     // Two inputs never have one credential.
-    ensures one_to_one { (other : List ℕ) → IsBlock other → cred_of key other ≡ result → other ≡ input }
+    ensures one_to_one { (other : List ℕ) → IsBlock other →
+        cred_of key other ≡ result → other ≡ input }
 {
     let once = des_under(&key, 0, &input);
     des_under(&key, 7, &once)

@@ -62,7 +62,8 @@ impl Schedule {
 /// effect.
 pub fn des_block8(key: [u8; 8], block: [u8; 8]) -> [u8; 8]
     ensures value { result ≡ des_of key block }
-    ensures parity_is_free { (other : List ℕ) → SameButLowBits key other → result ≡ des_of other block }
+    ensures parity_is_free { (other : List ℕ) → SameButLowBits key other →
+        result ≡ des_of other block }
 {
     encipher_bytes(&round_keys(&key), block)
 }

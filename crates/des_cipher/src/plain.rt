@@ -26,7 +26,8 @@ pub fn spread_key(key: [u8; 7]) -> [u8; 8]
 /// effect.
 pub fn des_block8(key: [u8; 8], block: [u8; 8]) -> [u8; 8]
     ensures value { result ≡ des_of key block }
-    ensures parity_is_free { (other : List ℕ) → SameButLowBits key other → result ≡ des_of other block }
+    ensures parity_is_free { (other : List ℕ) → SameButLowBits key other →
+        result ≡ des_of other block }
 {
     let mut key_bits = [false; 64];
     write_bits(&key, &mut key_bits);

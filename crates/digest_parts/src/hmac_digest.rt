@@ -49,7 +49,8 @@ impl Hmac {
     /// Takes a piece: the HMAC then stands for its message followed by the piece.
     #[tactic(auto, unfolding(crate::specs::StandsFor::StandsForUnder))]
     pub fn update(&mut self, piece: &[u8])
-        ensures { (key message : List ℕ) → StandsForUnder self.old key message → StandsForUnder self.new key (message ++ piece.now) }
+        ensures { (key message : List ℕ) →
+            StandsForUnder self.old key message → StandsForUnder self.new key (message ++ piece.now) }
     {
         self.inner.update(piece);
     }
@@ -57,7 +58,8 @@ impl Hmac {
     /// The HMAC-MD5 of the message, under the key, for which it stands.
     #[tactic(auto, unfolding(crate::specs::StandsFor::StandsForUnder, crate::specs::Hmac::hmac_of))]
     pub fn finish(self) -> [u8; 16]
-        ensures { (key message : List ℕ) → StandsForUnder self key message → result ≡ hmac_of key message }
+        ensures { (key message : List ℕ) → StandsForUnder self key message →
+            result ≡ hmac_of key message }
     {
         let Hmac { inner, mut outer } = self;
         outer.update(&inner.finalize());

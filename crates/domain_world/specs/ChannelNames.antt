@@ -320,7 +320,7 @@ pub record UnitsHaveTheirMarks : Type 0 where
       work_after (turn_server.unit bytes before talk left) ≡ Some after →
       IsMarkedBy (turn_note controller (turn_served bytes before talk left)).sends (talk_after (turn_server.unit bytes before talk left)) before after
 
--- each unit of the bag has one entry that says what it was made for
+-- there are as many entries of what units were made for as units in the bag, so that the number of a unit is that of its entry
 abbrev pub EachUnitIsMarked : Past → Type 0
 EachUnitIsMarked past = length past.book.sent ≡ length past.world.state.bag
 

@@ -95,7 +95,8 @@ pub fn grants_tell_apart()
 /// links on which members took one no two are the same.
 #[tactic(auto, using(crate::proofs::MessageOnceLaws::messages_once))]
 pub fn links_take_one_message()
-    ensures { (plan : Plan) (moves : List Move) → AllPairs (λ (one other : ℕ). one ≢ other) (past plan moves).book.taken }
+    ensures { (plan : Plan) (moves : List Move) →
+        AllPairs (λ (one other : ℕ). one ≢ other) (past plan moves).book.taken }
 {}
 
 /// In every run, over all moves from a plan on, a member lets somebody in on a link only where it took an AUTHENTICATE on that link (MS-NLMP 3.2.5.1.2) at an
@@ -147,7 +148,8 @@ pub fn units_have_their_marks()
     ensures { UnitsHaveTheirMarks }
 {}
 
-/// In every run, over all moves from a plan on, each unit of the bag has one entry that says what it was made for.
+/// In every run, over all moves from a plan on, there are as many entries of what units were made for as units in the bag, so that the number of a unit is
+/// that of its entry.
 #[tactic(auto, using(crate::proofs::BagFrameLaws::each_marked))]
 pub fn each_unit_is_marked()
     ensures { (plan : Plan) (moves : List Move) → EachUnitIsMarked (past plan moves) }

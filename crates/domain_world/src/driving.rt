@@ -70,7 +70,7 @@ pub fn drive(alloc: Global, world: &mut World, moves: &Moves) -> Result<Report, 
     ensures grants { OnOk result ((plan : Plan) (earlier : List Move) →
         world.old ≡ run earlier (first_world plan) →
         GrantsWhoMayLogOn (past plan (earlier ++ moves.now))) }
-    // Each unit of the bag has one entry that says what it was made for.
+    // There are as many entries of what units were made for as units in the bag.
     ensures marked { OnOk result ((plan : Plan) (earlier : List Move) →
         world.old ≡ run earlier (first_world plan) →
         EachUnitIsMarked (past plan (earlier ++ moves.now))) }

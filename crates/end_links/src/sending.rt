@@ -19,7 +19,8 @@ pub fn call_bytes(alloc: Global, unit: &Unit, limit: u16) -> Result<Blob, NoMemo
     requires least { 1432 ≤ limit }
     requires most { limit ≤ 5840 }
     ensures value { IfOk result (λ bytes. bytes ≡ bytes_of_call unit.now limit) }
-    ensures short { IfOk result (λ bytes. 8 * length bytes ≤ 9 * length (stub_of unit.now.body) + 408) }
+    ensures short { IfOk result
+        (λ bytes. 8 * length bytes ≤ 9 * length (stub_of unit.now.body) + 408) }
 {
     cut_bytes(alloc, unit, limit)
 }

@@ -71,7 +71,8 @@ pub(crate) fn offer_in(trailer: &Option<Trailer>) -> Option<Offer>
 
 /// The same of a trailer that is there.
 fn offer_at(trailer: &Trailer) -> Option<Offer>
-    ensures { result ≡ offer_at ((trailer.now.kind == 10) && is_served trailer.now.level) trailer.now }
+    ensures { result ≡
+        offer_at ((trailer.now.kind == 10) && is_served trailer.now.level) trailer.now }
 {
     if trailer.kind != 10 || !is_served(trailer.level) {
         return None;

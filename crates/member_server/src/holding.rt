@@ -45,7 +45,8 @@ fn turn_bytes(how: &Dialling) -> u64
 
 /// The bytes that a member holds that keeps this.
 fn bytes_of(running: &Running) -> u64
-    ensures count { result ≡ held_by talk_bytes running.now.links + turn_bytes running.now.dialling }
+    ensures count { result ≡
+        held_by talk_bytes running.now.links + turn_bytes running.now.dialling }
     ensures most { result ≤ 35120591 }
 {
     running.links.held() + turn_bytes(&running.dialling)

@@ -41,7 +41,8 @@ pub(crate) fn call_answer(
 
 /// The answer to WhoAmI: the name, where it fits a string.
 fn who_answer(alloc: Global, name: &Units) -> Result<Answer, NoMemory>
-    ensures value { IfOk result (λ given. given ≡ who_answer (nat_le (length name.now) 32767) name.now) }
+    ensures value { IfOk result
+        (λ given. given ≡ who_answer (nat_le (length name.now) 32767) name.now) }
     ensures short { IfOk result IsShortAnswer }
 {
     if name.units().len() > 32767 {

@@ -105,7 +105,8 @@ pub(crate) fn unit_asked(
     joiner: Joiner,
     at: AtLink,
 ) -> Result<(AtLink, Option<Talk>), NoMemory>
-    ensures { IfOk result (λ served. served ≡ unit_asked (unit_of bytes.now) bytes.now bound place held joiner at) }
+    ensures { IfOk result
+        (λ served. served ≡ unit_asked (unit_of bytes.now) bytes.now bound place held joiner at) }
 {
     let Ok(unit) = view_unit(bytes) else {
         return shut_call(joiner, at, CloseCause::BadUnit);
@@ -188,7 +189,8 @@ fn send_reply(
     at: AtLink,
 ) -> Result<(AtLink, Option<Talk>), NoMemory>
     requires { length stub ≤ 65558 }
-    ensures { IfOk result (λ served. served ≡ send_reply (is_plain on.bound.level) call context stub on joiner at) }
+    ensures { IfOk result
+        (λ served. served ≡ send_reply (is_plain on.bound.level) call context stub on joiner at) }
 {
     if !is_plain(on.bound.level) {
         return seal_reply(alloc, stub, call, context, on, joiner, at);
@@ -243,7 +245,8 @@ fn seal_reply(
     at: AtLink,
 ) -> Result<(AtLink, Option<Talk>), NoMemory>
     requires { length stub ≤ 65558 }
-    ensures { IfOk result (λ served. served ≡ seal_reply on.session call context stub on joiner at) }
+    ensures { IfOk result
+        (λ served. served ≡ seal_reply on.session call context stub on joiner at) }
 {
     let LoggedOn {
         bound,
@@ -329,7 +332,8 @@ fn answer_call(
     joiner: Joiner,
     at: AtLink,
 ) -> Result<(AtLink, Option<Talk>), NoMemory>
-    ensures { IfOk result (λ served. served ≡ answer_call unit.now.body unit.now.call on joiner at) }
+    ensures { IfOk result
+        (λ served. served ≡ answer_call unit.now.body unit.now.call on joiner at) }
 {
     match &unit.body {
         Body::Request {

@@ -123,7 +123,8 @@ fn send_request(
 
 /// These frames are sent on that link.
 fn send_frames(alloc: Global, frames: &ShortFrames, link: u32, work: Work) -> Result<Work, NoMemory>
-    ensures { IfOk result (λ sent. sent ≡ tell_at work (action.Send link (joined_frames frames.now))) }
+    ensures { IfOk result
+        (λ sent. sent ≡ tell_at work (action.Send link (joined_frames frames.now))) }
 {
     match frames.join(alloc) {
         Ok(bytes) => tell_at(work, Action::Send(link, bytes)),
@@ -218,7 +219,8 @@ fn take_whole(
     joiner: Joiner,
     at: AtTurn,
 ) -> Result<(AtTurn, Option<TurnTalk>), NoMemory>
-    ensures { IfOk result (λ served. served ≡ take_by (take_of at.work.logons.channel unit) joiner at) }
+    ensures { IfOk result
+        (λ served. served ≡ take_by (take_of at.work.logons.channel unit) joiner at) }
 {
     take(alloc, &unit, turn, joiner, at)
 }

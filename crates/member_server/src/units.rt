@@ -45,7 +45,8 @@ pub(crate) fn bound_unit(
     at: AtLink,
 ) -> Result<(AtLink, Option<Talk>), NoMemory>
     ensures len { length bytes.new ≡ length bytes.old }
-    ensures served { IfOk result (λ served. served ≡ bound_unit talk.phase bytes.old talk.joiner at) }
+    ensures served { IfOk result
+        (λ served. served ≡ bound_unit talk.phase bytes.old talk.joiner at) }
 {
     let Talk { joiner, phase } = talk;
     match phase {

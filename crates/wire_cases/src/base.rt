@@ -210,7 +210,8 @@ fn sid(alloc: Global, bytes: &[u8]) -> anyhow::Result<String> {
 
 /// Whether there is an identifier of these parts.
 fn is_sid(authority: u64, numbers: &[u32]) -> bool
-    ensures { result ≡ true → (authority < 2 ^ 48) × (1 ≤ length numbers.now) × (length numbers.now ≤ 15) }
+    ensures { result ≡ true → (authority < 2 ^ 48) × (1 ≤ length numbers.now) ×
+        (length numbers.now ≤ 15) }
 {
     authority < 1 << 48 && !numbers.is_empty() && numbers.len() <= 15
 }
