@@ -1,49 +1,70 @@
 //! Cases of `nt_words`: what words ask for, and what files come to.
 
-use crate::line::{calls, command_line, role};
+use crate::line::{command_line, role};
 use crate::top::text_of_exit;
-use case_words::{blob, no_case, word};
-use nt_top::Exit;
-use nt_words::{FilesRefused, Job, Setup, job_of, set_up};
-use outside::{Files, MapFiles, Texts};
+use case_words::{add_answer, add_debug, blob, debug_text, no_case, number_list, told, word};
+use nt_top::{Exit, Role};
+use nt_words::{ControllerSetup, FilesRefused, SecretSetup, Setup, job_of, set_up};
+use outside::{MapFiles, Texts};
 use std::alloc::Global;
+use wire_base::Blob;
 
 /// `job ROLE WORD..`: what the words ask for, or why they aren't of the form.
 fn job_case(alloc: Global, words: &[&str]) -> anyhow::Result<String> {
     let command = command_line(alloc, words, 2)?;
-    let job = job_of(alloc, role(word(words, 1)), &command);
-    Ok(format!(in alloc; "{job:?}")?)
+    debug_text(alloc, job_of(alloc, role(word(words, 1)), &command))
 }
 
-/// Files of `NAME=BYTES` between commas, or `-` for none.
-pub(crate) fn files(alloc: Global, word: &str) -> anyhow::Result<Texts> {
-    let mut files = Texts::new(alloc);
+/// A file `NAME=BYTES`.
+fn file(alloc: Global, part: &str) -> anyhow::Result<(Blob, Blob)> {
+    let (name, content) = part.split_once('=').unwrap_or((part, "-"));
+    let content = blob(alloc, content)?;
+    let name = Blob::copy(alloc, name.as_bytes())?;
+    Ok((name, content))
+}
+
+/// Files between commas, or `-` for none.
+fn texts(alloc: Global, word: &str) -> anyhow::Result<Texts> {
+    let mut texts = Texts::new(alloc);
     if word != "-" {
         for part in word.split(',') {
-            let (name, content) = part.split_once('=').unwrap_or((part, "-"));
-            let name = wire_base::Blob::copy(alloc, name.as_bytes())?;
-            files.push((name, blob(alloc, content)?))?;
+            let text = file(alloc, part)?;
+            texts.push(text)?;
         }
     }
-    Ok(files)
+    Ok(texts)
+}
+
+/// The files of a word, of which the calls of another word fail.
+pub(crate) fn files(alloc: Global, word: &str, failing: &str) -> anyhow::Result<MapFiles> {
+    let failing = number_list(alloc, failing)?;
+    let texts = texts(alloc, word)?;
+    Ok(MapFiles::new(alloc, texts, failing))
+}
+
+/// The domain of a table, and the seed.
+fn text_of_table(alloc: Global, files: ControllerSetup) -> anyhow::Result<String> {
+    let (table, seed) = files.into_parts();
+    let mut text = debug_text(alloc, table.domain())?;
+    add_debug(alloc, &mut text, seed.as_slice())?;
+    Ok(text)
+}
+
+/// The secret, and the seed.
+fn text_of_secret(alloc: Global, files: &SecretSetup) -> anyhow::Result<String> {
+    let (secret, seed) = (files.secret(), files.seed());
+    let mut text = debug_text(alloc, secret.as_slice())?;
+    add_debug(alloc, &mut text, seed.as_slice())?;
+    Ok(text)
 }
 
 /// What a job starts from.
 fn text_of_setup(alloc: Global, setup: Setup) -> anyhow::Result<String> {
-    let text = match setup {
-        Setup::Controller(_, files) => {
-            let (table, seed) = files.into_parts();
-            let domain = table.domain();
-            format!(in alloc; "{domain:?};{seed:?}")
-        }
-        Setup::Member(_, files) | Setup::Logon(_, files) => {
-            let secret = files.secret();
-            let seed = files.seed();
-            format!(in alloc; "{secret:?};{seed:?}")
-        }
-        Setup::Check(_) | Setup::Show(_) | Setup::Drill(_) => "no files".to_string(alloc),
-    };
-    Ok(text?)
+    match setup {
+        Setup::Controller(_, files) => text_of_table(alloc, files),
+        Setup::Member(_, files) | Setup::Logon(_, files) => text_of_secret(alloc, &files),
+        Setup::Check(_) | Setup::Show(_) | Setup::Drill(_) => Ok("no files".to_string(alloc)?),
+    }
 }
 
 /// What the files of a job come to.
@@ -54,21 +75,27 @@ fn text_of_files(alloc: Global, came: Result<Setup, FilesRefused>) -> anyhow::Re
     }
 }
 
+/// What the files of the words' job come to.
+fn text_of_job(
+    alloc: Global,
+    role: Role,
+    command: &[String],
+    files: &mut MapFiles,
+) -> anyhow::Result<String> {
+    match job_of(alloc, role, command) {
+        Ok(job) => text_of_files(alloc, set_up(alloc, files, job)),
+        Err(refused) => text_of_exit(alloc, &Exit::from(refused)),
+    }
+}
+
 /// `files ROLE FAILING FILES WORD..`: what the files of the words' job come to, where these calls of the files fail; and whether all that
 /// was kept is still told.
 fn files_case(alloc: Global, words: &[&str]) -> anyhow::Result<String> {
-    let mut files = MapFiles::new(
-        alloc,
-        files(alloc, word(words, 3))?,
-        calls(alloc, word(words, 2))?,
-    );
     let command = command_line(alloc, words, 4)?;
-    let text = match job_of(alloc, role(word(words, 1)), &command) {
-        Ok(job) => text_of_files(alloc, set_up(alloc, &mut files, job))?,
-        Err(refused) => text_of_exit(alloc, &Exit::from(refused))?,
-    };
-    let told = if files.tells() { "told" } else { "not told" };
-    Ok(format!(in alloc; "{text};{told}")?)
+    let mut files = files(alloc, word(words, 3), word(words, 2))?;
+    let mut text = text_of_job(alloc, role(word(words, 1)), &command, &mut files)?;
+    add_answer(&mut text, told(files.tells()))?;
+    Ok(text)
 }
 
 /// What an operation gives.

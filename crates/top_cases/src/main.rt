@@ -4,6 +4,7 @@
 //! operation gives.
 #![tactic(auto)]
 
+mod in_memory;
 mod jobs;
 mod line;
 mod narrow;

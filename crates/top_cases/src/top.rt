@@ -1,65 +1,61 @@
 //! Cases of `nt_top`.
 
-use crate::line::{calls, command_line, role};
+use crate::in_memory::{Memory, run_over, sink};
+use crate::line::{command_line, role};
 use crate::narrow::NarrowSink;
 use account_table::TableRefused;
-use case_words::{no_case, number, word};
+use case_words::{add_answer, add_debug, debug_text, no_case, number, told, word};
 use logon_client::{NoAnswerCause, PeerFault, RefusedCause};
-use nt_top::{Exit, Role, exit_line, exit_text, report, run};
-use outside::{ListChances, ListClock, MapFiles, ScriptPort, Sink, VecSink};
+use nt_top::{Exit, Role, exit_line, exit_text, report};
+use outside::{Sink, VecSink};
 use std::alloc::Global;
-use wire_base::List;
 
 /// Runs a command over an outside in memory, of which the sink is given and the rest is empty.
 fn run_on<S: Sink>(alloc: Global, role: Role, words: &[String], out: &mut S) -> (Exit, bool) {
-    let mut port = ScriptPort::new(alloc, List::new(alloc), List::new(alloc));
-    let mut files = MapFiles::new(alloc, List::new(alloc), List::new(alloc));
-    let mut clock = ListClock::new(alloc, 0, List::new(alloc));
-    let mut chances = ListChances::new(List::new(alloc));
-    let exit = run(
-        alloc,
-        role,
-        words,
-        &mut port,
-        &mut files,
-        out,
-        &mut clock,
-        &mut chances,
-    );
-    (exit, port.tells() && files.tells() && clock.tells())
+    let mut memory = Memory::empty(alloc);
+    let exit = run_over(alloc, role, words, &mut memory, out);
+    (exit, memory.tells())
 }
 
 /// An exit: the status, and the line that is printed on standard error, as text.
 pub(crate) fn text_of_exit(alloc: Global, exit: &Exit) -> anyhow::Result<String> {
-    let status = exit.status();
     let line = exit_line(alloc, exit)?;
-    let line = str::from_utf8(line.bytes()).unwrap_or("no text");
-    Ok(format!(in alloc; "{exit:?};{status};{line:?}")?)
+    let mut text = debug_text(alloc, exit)?;
+    add_debug(alloc, &mut text, exit.status())?;
+    add_debug(
+        alloc,
+        &mut text,
+        str::from_utf8(line.bytes()).unwrap_or("no text"),
+    )?;
+    Ok(text)
+}
+
+/// Adds the text that was put, and whether all that was kept is still told.
+fn add_put(alloc: Global, text: &mut String, put: &[u8], tells: bool) -> anyhow::Result<()> {
+    add_debug(alloc, text, str::from_utf8(put).unwrap_or("no text"))?;
+    add_answer(text, told(tells))
 }
 
 /// An exit, the text that was put, and whether all that was kept is still told.
 fn text_of_run(alloc: Global, exit: &Exit, put: &[u8], tells: bool) -> anyhow::Result<String> {
-    let exit = text_of_exit(alloc, exit)?;
-    let put = str::from_utf8(put).unwrap_or("no text");
-    let told = if tells { "told" } else { "not told" };
-    Ok(format!(in alloc; "{exit};{put:?};{told}")?)
+    let mut text = text_of_exit(alloc, exit)?;
+    add_put(alloc, &mut text, put, tells)?;
+    Ok(text)
 }
 
 /// `run ROLE FAILING WORD..`: how the command ends over a sink of which these calls fail, and what was put.
 fn run_case(alloc: Global, words: &[&str]) -> anyhow::Result<String> {
-    let role = role(word(words, 1));
-    let mut out = VecSink::new(alloc, calls(alloc, word(words, 2))?);
     let command = command_line(alloc, words, 3)?;
-    let (exit, tells) = run_on(alloc, role, &command, &mut out);
+    let mut out = sink(alloc, word(words, 2))?;
+    let (exit, tells) = run_on(alloc, role(word(words, 1)), &command, &mut out);
     text_of_run(alloc, &exit, out.bytes(), tells && out.tells())
 }
 
 /// `narrow ROLE FAILING WORD..`: the same over a sink that takes at most three bytes of a piece.
 fn narrow_case(alloc: Global, words: &[&str]) -> anyhow::Result<String> {
-    let role = role(word(words, 1));
-    let mut out = NarrowSink(VecSink::new(alloc, calls(alloc, word(words, 2))?));
     let command = command_line(alloc, words, 3)?;
-    let (exit, tells) = run_on(alloc, role, &command, &mut out);
+    let mut out = NarrowSink(sink(alloc, word(words, 2))?);
+    let (exit, tells) = run_on(alloc, role(word(words, 1)), &command, &mut out);
     text_of_run(alloc, &exit, out.0.bytes(), tells && out.0.tells())
 }
 
@@ -87,15 +83,20 @@ fn exit_case(alloc: Global, words: &[&str]) -> anyhow::Result<String> {
     text_of_exit(alloc, &exit_of(word(words, 1), number))
 }
 
+/// What is reported of an exit, and what was put.
+fn text_of_report(alloc: Global, exit: &Exit, errors: &mut VecSink) -> anyhow::Result<String> {
+    let said = exit_text(alloc, exit)?;
+    let status = report(exit, said.bytes(), errors);
+    let mut text = debug_text(alloc, status)?;
+    add_put(alloc, &mut text, errors.bytes(), errors.tells())?;
+    Ok(text)
+}
+
 /// `say FAILING NAME NUMBER`: the status of the exit that is reported to a sink of which these calls fail, and what was put.
 fn say_case(alloc: Global, words: &[&str]) -> anyhow::Result<String> {
-    let exit = exit_of(word(words, 2), number(word(words, 3))?);
-    let mut errors = VecSink::new(alloc, calls(alloc, word(words, 1))?);
-    let text = exit_text(alloc, &exit)?;
-    let status = report(&exit, text.bytes(), &mut errors);
-    let put = str::from_utf8(errors.bytes()).unwrap_or("no text");
-    let told = if errors.tells() { "told" } else { "not told" };
-    Ok(format!(in alloc; "{status};{put:?};{told}")?)
+    let number = number(word(words, 3))?;
+    let mut errors = sink(alloc, word(words, 1))?;
+    text_of_report(alloc, &exit_of(word(words, 2), number), &mut errors)
 }
 
 /// What an operation gives.
