@@ -15,7 +15,7 @@ import hashlib
 import hmac
 
 from des import des, spread
-from forms import LIVE_SECRET, line, values
+from forms import LIVE_SECRET, agree, line, values
 from logon_stubs import AUTHENTICATE, CHALLENGE, LOGOFF, LOGON, BadArm, plain_sam, read, sam_shown, write
 from ndr_codec import Refused
 from rpc_units import ACK, AUTH3, BIND, FAULT, LIMIT, NAK, NDR, NETLOGON, NONE, REQUEST, RESPONSE, whole
@@ -67,20 +67,20 @@ def check_formulas():
     for channel in netlogon["channels"]:
         client, server = (bytes.fromhex(channel[f"{side}_challenge"]) for side in ("client", "server"))
         key = strong_key(bytes.fromhex(channel["secret"]), client, server)
-        assert key.hex() == channel["strong_key"]
-        assert credential(key, client).hex() == channel["client_credential_strong_key"]
-        assert credential(key, server).hex() == channel["server_credential_strong_key"]
+        agree(key.hex, channel["strong_key"], "strong key")
+        agree(credential(key, client).hex, channel["client_credential_strong_key"], "client's credential")
+        agree(credential(key, server).hex, channel["server_credential_strong_key"], "server's credential")
     for sequence in netlogon["sequences"]:
         key = bytes.fromhex(sequence["key"])
         for step in sequence["steps"]:
             before, after = (bytes.fromhex(step[f"seed_{when}"]) for when in ("before", "after"))
-            assert credential(key, plus(before, step["timestamp"])).hex() == step["credential"]
-            assert plus(before, step["timestamp"] + 1) == after
-            assert credential(key, after).hex() == step["awaited_return"]
+            agree(credential(key, plus(before, step["timestamp"])).hex, step["credential"], "credential")
+            agree(plus(before, step["timestamp"] + 1).hex, step["seed_after"], "seed")
+            agree(credential(key, after).hex, step["awaited_return"], "awaited return")
     for cipher in values("digests")["rc4"]:
         if not cipher["offset"]:
             key, plain = bytes.fromhex(cipher["key"]), bytes.fromhex(cipher["plaintext"])
-            assert rc4(key, plain).hex() == cipher["ciphertext"]
+            agree(rc4(key, plain).hex, cipher["ciphertext"], "RC4")
 
 
 # ---- the end that asks
@@ -350,7 +350,7 @@ def published_cases():
     for channel in values("netlogon")["channels"]:
         end = Requester(bytes.fromhex(channel["secret"])).ask().start(0, channel["client_challenge"]).ack()
         end.reply({"challenge": bytes.fromhex(channel["server_challenge"]), "status": 0}).start().ack()
-        assert end.turn["fields"]["credential"].hex() == channel["client_credential_strong_key"]
+        agree(end.turn["fields"]["credential"].hex, channel["client_credential_strong_key"], "client's credential")
         right = bytes.fromhex(channel["server_credential_strong_key"])
         out.append(end.reply({"credential": right, "flags": OFFERED, "status": 0}).can().case())
     return out

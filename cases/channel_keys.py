@@ -71,6 +71,10 @@ def cases():
         out.append((line("channel.cred_back", key, credential), text))
         out.append((line("channel.cred_back", key, text), case["credential_back_of_input"]))
         out.append((line("channel.cred", key, case["credential_back_of_input"]), text))
+    for maker in netlogon["challenge_maker"]:
+        if maker["boot"] == 0:
+            # The first draw is the credential of 8 zeros.
+            out.append((line("channel.cred", maker["key"], "00" * 8), maker["first_draws"][0]))
     for name, answer in FLAGS:
         out.append((line("channel.flag", name), answer))
     for offered, answer in GRANTED:

@@ -21,12 +21,19 @@ def both(operation, words, answer):
     ]
 
 
+def without_parity(key):
+    """The seven upper bits of each of the 8 bytes of a key, as the key of 7 bytes whose spread form it is but for parity (FIPS 46-3)."""
+    bits = "".join(f"{byte >> 1:07b}" for byte in bytes.fromhex(key))
+    return f"{int(bits, 2):014x}"
+
+
 def cases():
     """Each line and its answer."""
     des = values("des")
     out = []
     for case in des["keys_of_8_bytes"]:
         out += both("block8", [case["key"], case["block"]], case["result"])
+        out += both("back", [without_parity(case["key"]), case["block"]], case["decrypted_block"])
     for key, block, result in KEYS_OF_8_BYTES:
         out += both("block8", [key, block], result)
     for case in des["keys_of_7_bytes"]:

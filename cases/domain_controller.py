@@ -14,7 +14,7 @@ from channel_client import credential, crypted, frames_of, plus, strong_key
 from des import des, spread
 from documents import ANN, BOB, EVE, FILE1, FILE2, HEAD, PDC2, USER_DEFAULTS, document
 from end_links import MEMO, NDR64, answer_of, limit_of
-from forms import LIVE_SECRET, line, live_calls, values
+from forms import LIVE_SECRET, agree, line, live_calls, values
 from logon_stubs import AUTHENTICATE, CHALLENGE, LOGOFF, LOGON, BadArm, plain_sam, read, write
 from md4 import md4
 from ndr_codec import Refused as NdrRefused
@@ -647,12 +647,13 @@ def recorded_cases():
         sent = read_unit(bytes.fromhex(end.answers[-1].split(" ")[-1]))
         reply, fields = read("reply", asked["opnum"], sent["stub"])[0], replied["fields"]
         if asked["opnum"] == LOGON:
-            assert reply["returned"][0].hex() == fields["returned"]["credential"]
+            agree(reply["returned"][0].hex, fields["returned"]["credential"], replied["name"])
         elif asked["opnum"] == AUTHENTICATE:
-            assert reply["credential"].hex() == fields["credential"] and call["flags"] == reply["flags"]
+            agree(reply["credential"].hex, fields["credential"], replied["name"])
+            agree(lambda: reply["flags"], call["flags"], replied["name"])
         else:
-            assert reply["challenge"].hex() == fields["challenge"]
-        assert reply["status"] == fields["status"]
+            agree(reply["challenge"].hex, fields["challenge"], replied["name"])
+        agree(lambda: reply["status"], fields["status"], replied["name"])
     return [end.case()]
 
 
@@ -665,7 +666,7 @@ def published_cases():
             end = Controller(machines=[FILE1 | {"hash": secret.hex()}], challenges=[server.hex()]).bound().asks(client=client.hex())
             right = bytes.fromhex(channel[f"client_credential_{kind}"])
             end.authenticates(flags=flags, credential=right)
-            assert channel[f"server_credential_{kind}"] in end.answers[-1]
+            agree(lambda: channel[f"server_credential_{kind}"] in end.answers[-1], True, f"server's credential, {kind}")
             out.append(end.case())
     return out
 

@@ -2,6 +2,7 @@
 
 import json
 import pathlib
+import sys
 
 VALUES = pathlib.Path(__file__).resolve().parent / "values"
 
@@ -9,6 +10,16 @@ VALUES = pathlib.Path(__file__).resolve().parent / "values"
 def values(name):
     """The published values of a file of values/."""
     return json.loads((VALUES / f"{name}.json").read_text(encoding="utf-8"))
+
+
+# Whether what is published twice is held against each other, which `make.py --check` asks for. Else a value that is changed changes its own lines alone.
+is_checking = False
+
+
+def agree(worked_out, published, name):
+    """What is worked out of some published values is what others say, where that is to be held against each other."""
+    if is_checking and worked_out() != published:
+        sys.exit(f"{name}: published values contradict each other")
 
 
 def live_calls():

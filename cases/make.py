@@ -2,7 +2,8 @@
 """Writes what the case programs are run on, and what they must answer.
 
     python3 cases/make.py           writes crates/PROGRAM/stdin and crates/PROGRAM/stdout of each program
-    python3 cases/make.py --check   says which of those files are not what it would write; status 1 where any isn't
+    python3 cases/make.py --check   says which of those files are not what it would write; status 1 where any isn't, or where two published
+                                    values contradict each other
 
 Each library has a module here (`cases/LIBRARY.py`) with a function `cases()`, which gives pairs of a line and its answer. Answers
 come from published values (`values/`), from literals that name their source, or from Python's own libraries: never from a program of
@@ -88,6 +89,7 @@ def main():
     only_check = sys.argv[1:] == ["--check"]
     if sys.argv[1:] and not only_check:
         sys.exit(__doc__)
+    importlib.import_module("forms").is_checking = only_check
     differs = False
     for path, text in files():
         name = path.relative_to(HERE.parent)

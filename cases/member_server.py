@@ -15,7 +15,7 @@ import logon_client
 from channel_client import Dropped, frames_of
 from documents import ANN, BOB, EVE, FILE1, FILE2
 from end_links import MEMO, answer_of, limit_of, text
-from forms import array, line, struct, units_of, values
+from forms import agree, array, line, struct, units_of, values
 from memo_stubs import echo as read_echo
 from memo_stubs import write as write_memo
 from ndr_codec import Reader
@@ -805,7 +805,7 @@ def foreign_cases():
             member.opened().bytes(write_unit(bind)).bytes(write_unit(whole(AUTH3, call=1, trailer=(10, level, 1, bytes.fromhex(case["message"])))))
             turns(member, controller)
             told = [answer for answer in member.answers if "told 1 In" in answer]
-            assert not told or array(case["exported_key"]) in told[0], case["name"]
+            agree(lambda: not told or array(case["exported_key"]) in told[0], True, case["name"])
             out.append(member.case())
     return out
 

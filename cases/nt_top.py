@@ -13,6 +13,7 @@ import struct
 
 import domain_world
 from forms import line, utf16, values
+from ntlm_messages import KINDS, read, read_pairs, recorded_messages
 
 # The NT hash of `Password`, and the challenge of MS-NLMP 4.2.1.
 HASH = "a4f49c406510bdcab6824ee7c30fd852"
@@ -191,6 +192,31 @@ def of_foreign_messages():
     return out
 
 
+def of_recorded_links():
+    """The messages of two recorded links between Samba's client and its controller: the response answers that link's challenge alone."""
+    out = []
+    for session in values("units")["sessions"]:
+        messages = recorded_messages(session)
+        negotiate, challenge, last = [read(kind, message) for kind, message in zip(KINDS, messages)]
+        server, nt_hash = challenge["challenge"].hex(), session["nt_hash"]
+        out.append((check(messages[2].hex(), server, nt_hash), ACCEPTED))
+        out.append((check(messages[2].hex(), altered(server), nt_hash), REFUSED))
+        out.append((check(messages[2].hex(), server, altered(nt_hash)), REFUSED))
+        pairs = [(f"pair {number}", value.hex()) for number, value in read_pairs(challenge["Info"])]
+        for kind, (message, found, parts) in enumerate([
+            (messages[0], negotiate, fields_of(negotiate, "Domain", "Workstation")),
+            (messages[1], challenge, fields_of(challenge, "Target", "challenge") + pairs),
+            (messages[2], last, fields_of(last, "Lm", "Nt", "Domain", "User", "Workstation", "Key")),
+        ], 1):
+            out.append(show(message.hex(), kind, f"{found['flags']:08x}", parts))
+    return out
+
+
+def fields_of(found, *names):
+    """These fields of a message, in the order of its lines."""
+    return [(name.lower(), found[name].hex()) for name in names]
+
+
 def of_shows():
     """Messages by their fields, and what is no message."""
     names = [(name, utf16(value)) for name, value in [("domain", "Domain"), ("user", "User"), ("workstation", "COMPUTER")]]
@@ -355,6 +381,7 @@ def cases():
         of_checks()
         + of_settings()
         + of_foreign_messages()
+        + of_recorded_links()
         + of_shows()
         + of_words()
         + of_drills()

@@ -12,6 +12,7 @@ import hmac
 
 from forms import line, utf16, values
 from md4 import md4
+from ntlm_messages import read, recorded_messages
 
 # Flags of MS-NLMP 2.2.2.5.
 KEY_EXCH = 0x40000000
@@ -196,6 +197,16 @@ def of_message(case):
     return out
 
 
+def of_recorded_link(session):
+    """The responses and keys of the message of a recorded link between Samba's client and its controller."""
+    _, challenge, message = recorded_messages(session)
+    found = read("authenticate", message)
+    server = read("challenge", challenge)["challenge"].hex()
+    fields = {name.lower(): found[name].hex() for name in ["Lm", "Nt", "Domain", "User", "Key"]} | {"flags": f"{found['flags']:08x}"}
+    checks = [{"challenge": server, "accepted": True}, {"challenge": altered(server, 7), "accepted": False}]
+    return of_message({"fields": fields, "nt_hash": session["nt_hash"], "checks": checks, "exported_key": session["exported_key"]})
+
+
 def cases():
     """Each line and its answer."""
     settings = values("ntlm")["settings"]
@@ -205,4 +216,6 @@ def cases():
         out += of_lengths(case)
     for case in values("messages")["authenticate"]:
         out += of_message(case)
+    for session in values("units")["sessions"]:
+        out += of_recorded_link(session)
     return out

@@ -4,7 +4,7 @@ import hashlib
 import hmac
 
 from des import des, spread
-from forms import values
+from forms import agree, values
 from md4 import md4
 from rpc_units import may_be_written
 from rpc_units import write as write_unit
@@ -163,10 +163,10 @@ def check_formulas():
     for case in values("ntlm")["settings"]:
         secret, challenge = bytes.fromhex(case["nt_hash"]), bytes.fromhex(case["server_challenge"])
         user, domain = bytes.fromhex(case["user_utf16"]), bytes.fromhex(case["domain_utf16"])
-        assert desl(secret, challenge).hex() == case["v1"]["nt_response"]
-        assert base_key(secret, user, domain, challenge, desl(secret, challenge)).hex() == case["v1"]["base_key"]
+        agree(desl(secret, challenge).hex, case["v1"]["nt_response"], case["name"])
+        agree(base_key(secret, user, domain, challenge, desl(secret, challenge)).hex, case["v1"]["base_key"], case["name"])
         nt = bytes.fromhex(case["v2"]["nt_response"])
-        assert base_key(secret, user, domain, challenge, nt).hex() == case["v2"]["base_key"]
+        agree(base_key(secret, user, domain, challenge, nt).hex, case["v2"]["base_key"], case["name"])
         for found in case["v1_ess"]["sessions"] + case["v2"]["sessions"]:
             exported, flags = bytes.fromhex(found["exported_key"]), int(found["flags"], 16)
             for side in NAMES:
@@ -174,8 +174,8 @@ def check_formulas():
                 for unit in found.get(f"{side}_sealed") or []:
                     plain = bytes.fromhex(unit["unit"])
                     hidden, signature = one.sending.seal(plain, unit["from"], unit["to"])
-                    assert (hidden.hex(), signature.hex()) == (unit["sealed_unit"], unit["signature"])
+                    agree(lambda: (hidden.hex(), signature.hex()), (unit["sealed_unit"], unit["signature"]), case["name"])
                     assert other.taking.open(hidden, unit["from"], unit["to"], signature) == plain
                 one = Session(exported, flags, side)
                 for unit in found.get(f"{side}_signed") or []:
-                    assert one.sending.sign(bytes.fromhex(unit["unit"])).hex() == unit["signature"]
+                    agree(one.sending.sign(bytes.fromhex(unit["unit"])).hex, unit["signature"], case["name"])
