@@ -192,6 +192,11 @@ def of_foreign_messages():
     return out
 
 
+def fields_of(found, *names):
+    """These fields of a message, in the order of its lines."""
+    return [(name.lower(), found[name].hex()) for name in names]
+
+
 def of_recorded_links():
     """The messages of two recorded links between Samba's client and its controller: the response answers that link's challenge alone."""
     out = []
@@ -210,11 +215,6 @@ def of_recorded_links():
         ], 1):
             out.append(show(message.hex(), kind, f"{found['flags']:08x}", parts))
     return out
-
-
-def fields_of(found, *names):
-    """These fields of a message, in the order of its lines."""
-    return [(name.lower(), found[name].hex()) for name in names]
 
 
 def of_shows():

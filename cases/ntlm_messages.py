@@ -170,10 +170,11 @@ def recorded_cases():
     """The messages of Samba's client and controller on two recorded links."""
     out = []
     for session in values("units")["sessions"]:
-        for kind, data in zip(KINDS, recorded_messages(session)):
+        messages = recorded_messages(session)
+        for kind, data in zip(KINDS, messages):
             out += read_cases(kind, data)
             out.append((line(f"messages.{kind}_again", data), ok(compact(write(kind, read(kind, data))))))
-        agree(lambda: read("authenticate", data)["flags"], int(session["flags"], 16), session["name"])
+        agree(lambda: read("authenticate", messages[2])["flags"], int(session["flags"], 16), session["name"])
     return out
 
 
@@ -499,6 +500,7 @@ def pairs_shown(pairs):
 
 
 def published_pairs(pairs):
+    """Published pairs in the form that `read_pairs` gives."""
     return [(kind, bytes.fromhex(value)) for kind, value in pairs]
 
 

@@ -4,10 +4,12 @@ ghost use Rattle.std.specs.Prelude.{◌≡◌, ◌++◌};
 ghost use Rattle.digest_parts.specs.Hmac.{hmac_of};
 ghost use Rattle.digest_parts.specs.Md4.{md4_of};
 
-use digest_parts::{Hmac, Md4Hasher, hmac_md5, md4};
+use digest_parts::{Hmac, Md4Hasher};
+#[cfg(test)]
+use digest_parts::{hmac_md5, md4};
 
-/// The MD4 digest of two pieces.
-fn md4_of_two(first: &[u8], second: &[u8]) -> [u8; 16]
+/// The MD4 digest (RFC 1320), 16 bytes, of two pieces, one behind the other.
+pub fn md4_of_two(first: &[u8], second: &[u8]) -> [u8; 16]
     ensures { result ≡ md4_of (first.now ++ second.now) }
 {
     let mut hasher = Md4Hasher::new();
@@ -16,8 +18,8 @@ fn md4_of_two(first: &[u8], second: &[u8]) -> [u8; 16]
     hasher.finish()
 }
 
-/// The HMAC-MD5 of two pieces.
-fn hmac_of_two(key: &[u8], first: &[u8], second: &[u8]) -> [u8; 16]
+/// The HMAC-MD5 (RFC 2104), 16 bytes, of two pieces under a key of any length.
+pub fn hmac_of_two(key: &[u8], first: &[u8], second: &[u8]) -> [u8; 16]
     ensures { result ≡ hmac_of key.now (first.now ++ second.now) }
 {
     let mut hmac = Hmac::new(key);
@@ -26,8 +28,9 @@ fn hmac_of_two(key: &[u8], first: &[u8], second: &[u8]) -> [u8; 16]
     hmac.finish()
 }
 
-/// The HMAC-MD5 of three pieces, of which the first has eight bytes.
-fn hmac_of_three(key: &[u8; 16], first: &[u8; 8], second: &[u8], third: &[u8]) -> [u8; 16]
+/// The HMAC-MD5 (RFC 2104), 16 bytes, of three pieces under a key of 16 bytes: of a challenge of eight bytes, and of a response in two parts, as
+/// MS-NLMP 3.3.2 takes it.
+pub fn hmac_of_three(key: &[u8; 16], first: &[u8; 8], second: &[u8], third: &[u8]) -> [u8; 16]
     ensures { result ≡ hmac_of key.now (first.now ++ second.now ++ third.now) }
 {
     let mut hmac = Hmac::new(key);
