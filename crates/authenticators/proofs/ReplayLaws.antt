@@ -1,4 +1,5 @@
--- When an authenticator passes: the law of replay, at which seed it passes, and that what one end makes the other passes.
+-- When an authenticator passes: the law of replay, at which seed it passes, and that what one end makes the other
+-- passes.
 use Rattle.std.proofs.Common.{◌≡◌, ℕ, ◌+◌, ◌%◌, ◌^◌, ◌↔◌, true, List, ◌∷◌, ap, ap₂, sym, ◌∙◌, arith}
 use Rattle.std.proofs.lemmas.Slice.Eq.{bytes_eq-Decides}
 use Rattle.wire_base.specs.declared.authenticator.Authenticator.{Authenticator}
@@ -8,8 +9,8 @@ use Rattle.channel_keys.proofs.CredLaws.{cred_of-one_to_one}
 use Rattle.authenticators.specs.Sequences.{SequenceState, add_to, seed_after, moved_by, Passes, passes, authenticator_of, judge_by, judge_of}
 use Rattle.authenticators.proofs.SeedLaws.{IsBlock-add_to, add_to-add_to, add_to-same, add_to-alike, add_to-seeds, seed_after-moved_by}
 
--- where an authenticator passes at a seed, and timestamps, its own first, are accepted from there on, it passes again exactly where
--- these timestamps, each plus one, sum to a multiple of 2^32
+-- where an authenticator passes at a seed, and timestamps, its own first, are accepted from there on, it passes again
+-- exactly where these timestamps, each plus one, sum to a multiple of 2^32
 pub replay : (key seed : List ℕ) (given : Authenticator) (later : List ℕ) → IsBlock seed → Passes key seed given → Passes key (seed_after seed (given.timestamp ∷ later)) given ↔ (moved_by (given.timestamp ∷ later) % 2 ^ 32 ≡ 0)
 replay key seed given later h pass =
     let t : ℕ = given.timestamp in

@@ -1,5 +1,5 @@
--- The sequence of authenticators on a secure channel (MS-NRPC 3.1.4.5). A session key has 16 bytes, a seed and a credential have 8, and
--- a timestamp is a number below 2^32. That a refusal moves nothing is this project's own choice.
+-- The sequence of authenticators on a secure channel (MS-NRPC 3.1.4.5). A session key has 16 bytes, a seed and a
+-- credential have 8, and a timestamp is a number below 2^32. That a refusal moves nothing is this project's own choice.
 use Rattle.std.specs.Prelude.{◌≡◌, ℕ, ◌+◌, ◌%◌, ◌^◌, Bool, true, false, List, [], ◌∷◌, ◌++◌, take, drop, Option, Some, None, Result, Ok, Err, bytes_eq, unwrap_or, sum_by}
 use Rattle.std.specs.Int.{w32, to_le_bytes, from_le_bytes}
 use Rattle.wire_base.specs.declared.authenticator.Authenticator.{Authenticator}

@@ -1,5 +1,5 @@
-//! The sequence of authenticators on a secure channel (MS-NRPC 3.1.4.5): each proves its sender by the session key and a seed
-//! that moves with it. Besides, the timestamp of a moment, and when two secure channels are one.
+//! The sequence of authenticators on a secure channel (MS-NRPC 3.1.4.5): each proves its sender by the session key and
+//! a seed that moves with it. Besides, the timestamp of a moment, and when two secure channels are one.
 //!
 //! No call takes memory.
 #![tactic(auto)]

@@ -9,8 +9,8 @@ use channel_keys::CredKey;
 use std::marker::Model;
 use wire_base::Authenticator;
 
-/// One end's sequence of authenticators on a channel (MS-NRPC 3.1.4.5). Clauses see the session key, the seed, and the return
-/// credential that is awaited, if any.
+/// One end's sequence of authenticators on a channel (MS-NRPC 3.1.4.5). Clauses see the session key, the seed, and the
+/// return credential that is awaited, if any.
 #[derive(Drop)]
 pub struct Sequence {
     key: CredKey,
@@ -27,8 +27,8 @@ impl Model for Sequence {
 }
 
 impl Sequence {
-    /// The sequence of a channel with this session key, from this seed on, which is at first the client's credential. No return
-    /// credential is awaited.
+    /// The sequence of a channel with this session key, from this seed on, which is at first the client's credential.
+    /// No return credential is awaited.
     pub fn new(key: [u8; 16], seed: [u8; 8]) -> Sequence
         ensures { result ≡ record { key = key; seed = seed; awaited = None } }
     {
@@ -46,8 +46,8 @@ impl Sequence {
         self.key.key()
     }
 
-    /// The next authenticator, with this timestamp. The seed moves on by the timestamp and one, and the credential of the new seed is
-    /// awaited in return.
+    /// The next authenticator, with this timestamp. The seed moves on by the timestamp and one, and the credential of
+    /// the new seed is awaited in return.
     pub fn make(&mut self, timestamp: u32) -> Authenticator
         ensures authenticator { result ≡ authenticator_of self.old.key self.old.seed timestamp }
         ensures sequence { self.new ≡ sequence_after self.old timestamp }
@@ -85,8 +85,9 @@ impl Sequence {
         Ok(())
     }
 
-    /// Judges an authenticator of the other end. It passes exactly where its credential is that of the seed with its timestamp added;
-    /// then the seed moves on by the timestamp and one, and the credential of the new seed is returned.
+    /// Judges an authenticator of the other end. It passes exactly where its credential is that of the seed with its
+    /// timestamp added; then the seed moves on by the timestamp and one, and the credential of the new seed is
+    /// returned.
     ///
     /// `NotNext` exactly where it doesn't pass; then nothing changes.
     pub fn judge(&mut self, given: &Authenticator) -> Result<[u8; 8], NotNext>

@@ -1,5 +1,5 @@
-//! The words of a line: values in hex, numbers in decimal digits, and `-` for what is empty. A part of a long byte string that repeats is
-//! `COUNT*HEX`, and its parts are joined by `+`; so are the bytes of `long_text`.
+//! The words of a line: values in hex, numbers in decimal digits, and `-` for what is empty. A part of a long byte
+//! string that repeats is `COUNT*HEX`, and its parts are joined by `+`; so are the bytes of `long_text`.
 
 ghost use Rattle.std.specs.Prelude.{◌≤◌, length};
 

@@ -1,4 +1,5 @@
--- The types of secure channels (MS-NRPC 2.2.1.3.13, NETLOGON_SECURE_CHANNEL_TYPE): a 16-bit number, of which these are used.
+-- The types of secure channels (MS-NRPC 2.2.1.3.13, NETLOGON_SECURE_CHANNEL_TYPE): a 16-bit number, of which these are
+-- used.
 use Rattle.std.specs.Prelude.{ℕ}
 
 -- WorkstationSecureChannel

@@ -1,5 +1,5 @@
--- The session key of a secure channel (MS-NRPC 3.1.4.3), of 16 bytes, as compositions of lists of bytes. The secret is the account's
--- NT hash, of 16 bytes; the client's and the server's challenge have 8.
+-- The session key of a secure channel (MS-NRPC 3.1.4.3), of 16 bytes, as compositions of lists of bytes. The secret is
+-- the account's NT hash, of 16 bytes; the client's and the server's challenge have 8.
 use Rattle.std.specs.Prelude.{ℕ, ◌+◌, ◌%◌, ◌^◌, Bool, true, false, List, ◌++◌, take, drop, replicate}
 use Rattle.std.specs.Int.{w32, to_le_bytes, from_le_bytes}
 use Rattle.md5.specs.Md5.{md5}

@@ -8,8 +8,8 @@ use crate::parts::{des_back_under, des_under, seven};
 use des_cipher::Schedule;
 use std::marker::Model;
 
-/// The credential of 8 bytes under a session key (MS-NRPC 3.1.4.4.2): DES under bytes 0 to 6 of the key, and then under bytes
-/// 7 to 13. `cred_back` undoes it.
+/// The credential of 8 bytes under a session key (MS-NRPC 3.1.4.4.2): DES under bytes 0 to 6 of the key, and then under
+/// bytes 7 to 13. `cred_back` undoes it.
 #[tactic(auto, unfolding(crate::specs::Credentials::cred_of))]
 pub fn cred(key: [u8; 16], input: [u8; 8]) -> [u8; 8]
     ensures value { result ≡ cred_of key input }
@@ -33,7 +33,8 @@ pub fn cred_back(key: [u8; 16], output: [u8; 8]) -> [u8; 8]
     des_back_under(&key, 0, &once)
 }
 
-/// A session key of 16 bytes with the schedules of its two keys of DES, for many credentials under one key. Clauses see the key.
+/// A session key of 16 bytes with the schedules of its two keys of DES, for many credentials under one key. Clauses see
+/// the key.
 #[derive(Drop)]
 pub struct CredKey {
     key: [u8; 16],

@@ -1,5 +1,5 @@
-//! Laws of the definitions that contracts cite: that the constants have the standard's values, and what is known of every credential.
-//! Each function does nothing, and its clauses are the laws.
+//! Laws of the definitions that contracts cite: that the constants have the standard's values, and what is known of
+//! every credential. Each function does nothing, and its clauses are the laws.
 
 ghost use Rattle.std.specs.Prelude.{◌≡◌, ℕ, List};
 ghost use Rattle.des_cipher.specs.Des.{IsBlock};
@@ -28,8 +28,8 @@ pub fn channel_types_have_their_values()
     ensures backup_controller { BACKUP_CONTROLLER_CHANNEL ≡ backup_controller_channel }
 {}
 
-/// A credential is a block of 8 bytes, and so is what it is the credential of; each undoes the other, so under one key two blocks never
-/// have one credential (MS-NRPC 3.1.4.4.2).
+/// A credential is a block of 8 bytes, and so is what it is the credential of; each undoes the other, so under one key
+/// two blocks never have one credential (MS-NRPC 3.1.4.4.2).
 pub fn credentials_are_one_to_one()
     ensures block { (key input : List ℕ) → IsBlock (cred_of key input) }
     ensures back_block { (key output : List ℕ) → IsBlock (cred_back_of key output) }

@@ -1,5 +1,5 @@
-//! The keys and credentials of Netlogon's secure channel (MS-NRPC 3.1.4.3 and 3.1.4.4), without AES, its flags, and the types that a
-//! channel may have.
+//! The keys and credentials of Netlogon's secure channel (MS-NRPC 3.1.4.3 and 3.1.4.4), without AES, its flags, and the
+//! types that a channel may have.
 //!
 //! No call refuses or takes memory. DES, MD5 and HMAC-MD5 are what the protocol asks for: use them for nothing else.
 #![tactic(auto)]

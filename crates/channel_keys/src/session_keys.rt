@@ -22,7 +22,8 @@ pub fn session_key(secret: [u8; 16], client: [u8; 8], server: [u8; 8], flags: u3
     }
 }
 
-/// The strong key (MS-NRPC 3.1.4.3.2): HMAC-MD5, under the account's secret (its NT hash), of MD5 of four zeros and both challenges.
+/// The strong key (MS-NRPC 3.1.4.3.2): HMAC-MD5, under the account's secret (its NT hash), of MD5 of four zeros and
+/// both challenges.
 #[tactic(auto, unfolding(crate::specs::SessionKeys::strong_key_of))]
 pub fn strong_key(secret: [u8; 16], client: [u8; 8], server: [u8; 8]) -> [u8; 16]
     ensures { result ≡ strong_key_of secret client server }
@@ -34,8 +35,8 @@ pub fn strong_key(secret: [u8; 16], client: [u8; 8], server: [u8; 8]) -> [u8; 16
     hmac_md5(&secret, &digest.finalize())
 }
 
-/// The DES key (MS-NRPC 3.1.4.3.3): the sum of both challenges, half by half, under bytes 0 to 6 of the secret and then under
-/// bytes 9 to 15, and eight zeros.
+/// The DES key (MS-NRPC 3.1.4.3.3): the sum of both challenges, half by half, under bytes 0 to 6 of the secret and then
+/// under bytes 9 to 15, and eight zeros.
 #[tactic(auto, unfolding(crate::specs::SessionKeys::des_key_of))]
 pub fn des_key(secret: [u8; 16], client: [u8; 8], server: [u8; 8]) -> [u8; 16]
     ensures { result ≡ des_key_of secret client server }

@@ -1,5 +1,5 @@
--- What crates above may use of `des_of`, its inverse and `spread_of`: lengths, bounds, that a key's low bits have no effect, and
--- that DES and its inverse undo each other.
+-- What crates above may use of `des_of`, its inverse and `spread_of`: lengths, bounds, that a key's low bits have no
+-- effect, and that DES and its inverse undo each other.
 use Rattle.std.proofs.Common.{◌≡◌, ℕ, zero, suc, ◌+◌, ◌-◌, ◌*◌, ◌/◌, ◌%◌, ◌^◌, ◌<◌, ◌≤◌, ◌==◌, Bool, true, false, cond, List, [], ◌∷◌, ◌++◌, map, length, get_or, take, drop, All, slice_range, reverse, refl, ap, sym, ◌∙◌, arith, nat_lt, add-one, lit<, lit≤}
 use Rattle.std.proofs.lemmas.List.{length-map, length-append, get_or-map, get_or_append_left, get_or-append_right, ext_get_or, length-take, take_all}
 use Rattle.std.proofs.lemmas.Nat.Bits.{bit_at-suc}

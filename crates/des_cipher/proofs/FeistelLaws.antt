@@ -1,4 +1,5 @@
--- The inverse law of the cipher: a round undoes itself with the halves exchanged, so the rounds in reverse order undo the rounds.
+-- The inverse law of the cipher: a round undoes itself with the halves exchanged, so the rounds in reverse order undo
+-- the rounds.
 use Rattle.std.proofs.Common.{◌≡◌, ℕ, suc, Bool, true, false, List, [], ◌∷◌, ◌++◌, map, length, get_or, take, drop, reverse, refl, ap, sym, ◌∙◌, arith}
 use Rattle.std.proofs.lemmas.List.{length-append, length-drop, length-take-le, take-append-drop, take_at, drop_at, reverse-append, reverse-reverse}
 use Rattle.std.proofs.lemmas.List.FromFn.{fill_by_all}

@@ -9,7 +9,8 @@ use Rattle.des_cipher.specs.KeyPlaces.{key_places, left_order, right_order, left
 use Rattle.des_cipher.specs.declared.left_rows.TheConstants.{LEFT_KEYS}
 use Rattle.des_cipher.specs.declared.right_rows.TheConstants.{RIGHT_KEYS}
 
--- the bit of four bits of a byte that a key bit is, those of the left beginning with the byte's first, and those of the right with its fourth
+-- the bit of four bits of a byte that a key bit is, those of the left beginning with the byte's first, and those of the
+-- right with its fourth
 left_bit : ℕ → ℕ → ℕ → ℕ
 left_bit i v p = cond (nat_lt (8 * i) p && nat_le p (8 * i + 8)) (bit_at v (3 - (p - 1) % 8)) 0
 

@@ -1,4 +1,5 @@
--- The cipher (FIPS 46-3, "Enciphering" and "The Cipher Function f"), on lists of bits, under a list of round keys of 48 bits each.
+-- The cipher (FIPS 46-3, "Enciphering" and "The Cipher Function f"), on lists of bits, under a list of round keys of 48
+-- bits each.
 use Rattle.std.specs.Prelude.{ℕ, ◌+◌, ◌*◌, Bool, List, [], ◌∷◌, ◌++◌, slice_index, take, drop}
 use Rattle.des_cipher.specs.Bits.{bit, permuted, combined, number_bits, number_of}
 use Rattle.des_cipher.specs.Tables.{initial_permutation, final_permutation, expansion, round_permutation, s_boxes}

@@ -13,7 +13,8 @@ enciphered key block = cipher (round_keys key) block
 unfoldable pub des_of : List ℕ → List ℕ → List ℕ
 des_of key block = bytes_of (enciphered (bits_of key) (bits_of block))
 
--- the inverse of DES on lists of 64 bits (FIPS 46-3, "Deciphering"): the same cipher under the round keys in reverse order
+-- the inverse of DES on lists of 64 bits (FIPS 46-3, "Deciphering"): the same cipher under the round keys in reverse
+-- order
 abbrev pub deciphered : List Bool → List Bool → List Bool
 deciphered key block = cipher (reverse (round_keys key)) block
 

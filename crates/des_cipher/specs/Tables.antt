@@ -1,4 +1,5 @@
--- The tables of FIPS 46-3. A permutation lists, for each bit of its output in order, the number of the bit of its input.
+-- The tables of FIPS 46-3. A permutation lists, for each bit of its output in order, the number of the bit of its
+-- input.
 use Rattle.std.specs.Prelude.{ℕ, List, [], ◌∷◌}
 
 -- the initial permutation IP

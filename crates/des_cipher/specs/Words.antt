@@ -1,5 +1,5 @@
--- Words of 64 and 32 bits whose bits, the highest first, are those of the lists that the cipher is defined on (this project's own choice): blocks,
--- the boxes joined with P, and round keys.
+-- Words of 64 and 32 bits whose bits, the highest first, are those of the lists that the cipher is defined on (this
+-- project's own choice): blocks, the boxes joined with P, and round keys.
 use Rattle.std.specs.Prelude.{ℕ, ◌-◌, ◌*◌, ◌/◌, ◌%◌, ◌^◌, Bool, false, List, [], ◌++◌, slice_index_or, take, drop, replicate, bit_and, bit_xor}
 use Rattle.des_cipher.specs.Bits.{permuted, number_bits}
 use Rattle.des_cipher.specs.Cipher.{substituted}
@@ -23,7 +23,8 @@ joined box v = permuted round_permutation (in_place box (substituted (slice_inde
 abbrev pub six : ℕ → List Bool → List Bool
 six at word = take 6 (drop at word)
 
--- the 48 bits of a round key, of which one word has the groups for boxes 1, 3, 5 and 7 and another those for 2, 4, 6 and 8
+-- the 48 bits of a round key, of which one word has the groups for boxes 1, 3, 5 and 7 and another those for 2, 4, 6
+-- and 8
 unfoldable pub interleaved : List Bool → List Bool → List Bool
 interleaved odd even =
     six 0 odd ++ six 0 even ++ six 8 odd ++ six 8 even ++ six 16 odd ++ six 16 even ++ six 24 odd ++ six 24 even

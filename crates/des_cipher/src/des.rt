@@ -11,8 +11,8 @@ use crate::word_cipher::encipher;
 use crate::word_schedule::{RoundKey, round_keys};
 use std::marker::Model;
 
-/// A key of 7 bytes with its sixteen round keys (FIPS 46-3, "Key schedule calculation"), for many blocks under one key. Clauses see
-/// the key.
+/// A key of 7 bytes with its sixteen round keys (FIPS 46-3, "Key schedule calculation"), for many blocks under one key.
+/// Clauses see the key.
 #[derive(Drop)]
 pub struct Schedule {
     key: [u8; 7],

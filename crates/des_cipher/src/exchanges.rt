@@ -1,4 +1,5 @@
-//! The initial and the final permutation (FIPS 46-3, IP and its inverse) of a block in a word, each as five exchanges of bits.
+//! The initial and the final permutation (FIPS 46-3, IP and its inverse) of a block in a word, each as five exchanges
+//! of bits.
 
 ghost use Rattle.std.specs.Prelude.{◌≡◌, ◌<◌};
 ghost use Rattle.des_cipher.specs.Words.{exchanged};

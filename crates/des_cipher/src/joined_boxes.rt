@@ -1,4 +1,5 @@
-//! The S-boxes joined with P (FIPS 46-3): entry v of table i is P of what box i + 1 gives for the six bits v, in its place.
+//! The S-boxes joined with P (FIPS 46-3): entry v of table i is P of what box i + 1 gives for the six bits v, in its
+//! place.
 
 /// The joined tables: for each box an entry for each number of six bits.
 pub(crate) const SUBSTITUTION: [[u32; 64]; 8] = [

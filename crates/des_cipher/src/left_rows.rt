@@ -1,6 +1,7 @@
 //! What the upper four bits of each key byte give to the round keys.
 
-/// For each byte of a key and each value of its upper four bits, the left half words that they give, one for each round.
+/// For each byte of a key and each value of its upper four bits, the left half words that they give, one for each
+/// round.
 pub(crate) const LEFT_KEYS: [[[u32; 16]; 16]; 8] = [
     [
         [

@@ -1,8 +1,8 @@
-//! DES (FIPS 46-3) on single blocks, under keys of 8 bytes and of 7 bytes, and its inverse under keys of 7 bytes. A `Schedule` keeps
-//! the round keys of one key.
+//! DES (FIPS 46-3) on single blocks, under keys of 8 bytes and of 7 bytes, and its inverse under keys of 7 bytes. A
+//! `Schedule` keeps the round keys of one key.
 //!
-//! The calls at the root work on words; those of `plain` work on lists of bits as the standard writes them, and serve as the
-//! reference. No call refuses or takes memory, and none claims constant time.
+//! The calls at the root work on words; those of `plain` work on lists of bits as the standard writes them, and serve
+//! as the reference. No call refuses or takes memory, and none claims constant time.
 #![tactic(auto)]
 
 mod bits;

@@ -1,4 +1,5 @@
-//! DES on lists of bits, step by step as FIPS 46-3 has it: slow, and the reference for the calls of the same names at the root.
+//! DES on lists of bits, step by step as FIPS 46-3 has it: slow, and the reference for the calls of the same names at
+//! the root.
 
 ghost use Rattle.std.specs.Prelude.{◌≡◌, ℕ, List};
 ghost use Rattle.des_cipher.specs.Bits.{bits_of};

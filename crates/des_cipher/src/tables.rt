@@ -1,4 +1,5 @@
-//! The tables of FIPS 46-3. A permutation lists, for each bit of its output, the number of the bit of its input, from 1.
+//! The tables of FIPS 46-3. A permutation lists, for each bit of its output, the number of the bit of its input, from
+//! 1.
 
 /// The initial permutation IP.
 pub(crate) const INITIAL_PERMUTATION: [u8; 64] = [

@@ -1,5 +1,5 @@
-//! The cipher function f (FIPS 46-3, "The Cipher Function f") on words. A half that is rotated has the groups of E side by side: the
-//! groups for boxes 1, 3, 5 and 7 in one rotation, and those for 2, 4, 6 and 8 in another.
+//! The cipher function f (FIPS 46-3, "The Cipher Function f") on words. A half that is rotated has the groups of E side
+//! by side: the groups for boxes 1, 3, 5 and 7 in one rotation, and those for 2, 4, 6 and 8 in another.
 
 ghost use Rattle.std.specs.Prelude.{◌≡◌, ◌<◌, ◌≤◌, ◌/◌, ◌^◌, bit_and};
 ghost use Rattle.des_cipher.specs.Words.{key_bits, joined};

@@ -1,5 +1,5 @@
-//! The key schedule (FIPS 46-3, "Key schedule calculation") on words. A round key's bits are bits of the key, so the round keys are
-//! combined of what each byte of the key gives to them, by tables.
+//! The key schedule (FIPS 46-3, "Key schedule calculation") on words. A round key's bits are bits of the key, so the
+//! round keys are combined of what each byte of the key gives to them, by tables.
 
 ghost use Rattle.std.specs.Prelude.{◌≡◌, ℕ, ◌<◌, map, length, slice_index, nat_le, ◌+◌, ◌-◌, if◌then◌else◌, bit_xor, List, Bool};
 ghost use Rattle.std.specs.Int.{bit_at};
@@ -11,8 +11,8 @@ ghost use Rattle.des_cipher.specs.KeyPlaces.{left_place, right_place, bit_of_byt
 use crate::left_rows::LEFT_KEYS;
 use crate::right_rows::RIGHT_KEYS;
 
-/// A round key of 48 bits in groups of six, each in the upper six bits of a byte: the groups for boxes 1, 3, 5 and 7 from the highest
-/// byte on, and those for 2, 4, 6 and 8.
+/// A round key of 48 bits in groups of six, each in the upper six bits of a byte: the groups for boxes 1, 3, 5 and 7
+/// from the highest byte on, and those for 2, 4, 6 and 8.
 #[derive(Clone, Copy)]
 pub(crate) struct RoundKey {
     pub(crate) odd: u32,
@@ -63,7 +63,8 @@ fn half_words(key: &[u8; 8]) -> ([u32; 16], [u32; 16])
     (left, right)
 }
 
-/// A round key made of its half words: the left has the groups for boxes 1, 3, 2 and 4, the right those for 6, 8, 5 and 7.
+/// A round key made of its half words: the left has the groups for boxes 1, 3, 2 and 4, the right those for 6, 8, 5 and
+/// 7.
 fn merged(left: u32, right: u32) -> RoundKey
     ensures odd { (j : ℕ) → j < 32
         → bit_at result.odd j ≡ (if nat_le 16 j then bit_at left j else bit_at right j) }

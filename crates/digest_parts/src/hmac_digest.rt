@@ -50,7 +50,8 @@ impl Hmac {
     #[tactic(auto, unfolding(crate::specs::StandsFor::StandsForUnder))]
     pub fn update(&mut self, piece: &[u8])
         ensures { (key message : List ℕ) →
-            StandsForUnder self.old key message → StandsForUnder self.new key (message ++ piece.now) }
+            StandsForUnder self.old key message →
+            StandsForUnder self.new key (message ++ piece.now) }
     {
         self.inner.update(piece);
     }

@@ -95,6 +95,7 @@ target_flags = 0x0081_0000
 abbrev pub challenge_flags : ℕ → ℕ
 challenge_flags offered = bit_or (bit_and offered answered_flags) target_flags
 
--- The flags that are agreed: those that stand in two messages, the offer and the CHALLENGE or the CHALLENGE and the AUTHENTICATE.
+-- The flags that are agreed: those that stand in two messages, the offer and the CHALLENGE or the CHALLENGE and the
+-- AUTHENTICATE.
 abbrev pub agreed_flags : ℕ → ℕ → ℕ
 agreed_flags one other = bit_and one other

@@ -90,8 +90,8 @@ pub fn offers_and_answers()
     ensures target_are { ms.target_flags ≡ ms.target_type_domain + ms.negotiate_target_info }
 {}
 
-/// A flag is agreed exactly where it stands in both messages. One that says nothing of the target stands in a member's CHALLENGE exactly
-/// where it is offered and among those that are answered.
+/// A flag is agreed exactly where it stands in both messages. One that says nothing of the target stands in a member's
+/// CHALLENGE exactly where it is offered and among those that are answered.
 pub fn flags_of_two()
     ensures agreed { (one other flag : ℕ) →
         has_flag (agreed_flags one other) flag ≡ (has_flag one flag && has_flag other flag) }

@@ -1,4 +1,5 @@
--- AUTHENTICATE_MESSAGE (MS-NLMP 2.2.1.3): LM response, NT response, domain, user, workstation, session key, flags, version, message integrity code.
+-- AUTHENTICATE_MESSAGE (MS-NLMP 2.2.1.3): LM response, NT response, domain, user, workstation, session key, flags,
+-- version, message integrity code.
 use Rattle.std.specs.Prelude.{◌≡◌, ◌+◌, ◌<◌, ◌^◌, ℕ, List, [], ◌∷◌, ◌++◌, length, IsTrue, IsSome, IfSome, Result, Ok}
 use Rattle.std.specs.Int.{w32, to_le_bytes}
 use Rattle.ntlm_flags.specs.Flags.{has_flag, negotiate_version}
@@ -81,7 +82,8 @@ authenticate_shown view = record {
   mic = view.mic;
 }
 
--- What can be written: a version only with its flag, a message integrity code only with a version, texts of UTF-16LE of even length.
+-- What can be written: a version only with its flag, a message integrity code only with a version, texts of UTF-16LE of
+-- even length.
 pub record CanWriteAuthenticate (value : Authenticate) : Type 0 where
   pub version : IsSome value.version → IsTrue (has_flag value.flags negotiate_version)
   pub mic : IsSome value.mic → IsSome value.version
@@ -104,7 +106,8 @@ pub record HasWidths (value : Authenticate) : Type 0 where
 abbrev pub authenticate_start : Authenticate → ℕ
 authenticate_start value = authenticate_size + length (bytes_of value.version) + length (bytes_of value.mic)
 
--- the payload fields' places in the header, for a payload without gaps in the order domain, user, workstation, LM response, NT response, session key
+-- the payload fields' places in the header, for a payload without gaps in the order domain, user, workstation, LM
+-- response, NT response, session key
 unfoldable pub authenticate_table : Authenticate → List ℕ
 authenticate_table value =
     let domain_at = authenticate_start value in

@@ -1,4 +1,5 @@
--- CHALLENGE_MESSAGE (MS-NLMP 2.2.1.2): target, flags, server challenge, 8 reserved bytes (free, written as zeros), target information, version.
+-- CHALLENGE_MESSAGE (MS-NLMP 2.2.1.2): target, flags, server challenge, 8 reserved bytes (free, written as zeros),
+-- target information, version.
 use Rattle.std.specs.Prelude.{◌≡◌, ◌+◌, ◌<◌, ◌^◌, ℕ, List, [], ◌∷◌, ◌++◌, length, take, drop, IsTrue, IsSome, IfSome, Result, Ok}
 use Rattle.std.specs.Int.{w32, w64, to_le_bytes}
 use Rattle.ntlm_flags.specs.Flags.{has_flag, negotiate_version}

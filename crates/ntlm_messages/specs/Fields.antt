@@ -1,5 +1,6 @@
 -- What the three messages share: the header's first twelve bytes and the payload fields (MS-NLMP 2.2.1, 2.2.2.10).
--- Bytes are numbers below 256. A place is counted from the message's first byte, and the size is that of the fixed header.
+-- Bytes are numbers below 256. A place is counted from the message's first byte, and the size is that of the fixed
+-- header.
 use Rattle.std.specs.Prelude.{◌≡◌, ◌≢◌, ◌<◌, ◌≤◌, ◌+◌, ◌%◌, ◌==◌, ◌&&◌, ◌⊎◌, ℕ, Bool, List, [], ◌∷◌, ◌++◌, length, take, drop, min, Option, Some, None, unwrap_or, Result, Ok, Err, IsTrue, nat_lt, nat_le, nat_eq, codes, if◌then◌else◌}
 use Rattle.std.specs.List.{starts_with, AllByRecursion}
 use Rattle.std.specs.Int.{w16, w32, to_le_bytes}
@@ -89,7 +90,8 @@ IsText flags text = IsTrue (has_flag flags negotiate_unicode) → length text % 
 unfoldable pub text_of : Field → ℕ → List ℕ → Result (Unit {0}) MessageRefused
 text_of name flags text = if has_flag flags negotiate_unicode && length text % 2 == 1 then Err (OddText name) else Ok tt
 
--- ---- The version and the message integrity code, which are there only where the payload leaves room for them. This rule is this project's
+-- ---- The version and the message integrity code, which are there only where the payload leaves room for them. This
+-- rule is this project's
 -- ---- own choice: MS-NLMP has them in the layout, and old clients leave them out.
 
 -- The least offset of the fields at these places that aren't empty, or the message's length where there is none.
@@ -141,8 +143,8 @@ IsFirstOdd [] bytes name = ⊥
 IsFirstOdd (text ∷ texts) bytes name =
     ((length_at bytes text.1 % 2 ≡ 1) × (name ≡ text.0)) ⊎ ((length_at bytes text.1 % 2 ≡ 0) × IsFirstOdd texts bytes name)
 
--- The first refusal of a message of this type, least length, header size, flags, fields in the header's order and text fields. Want of memory
--- is none.
+-- The first refusal of a message of this type, least length, header size, flags, fields in the header's order and text
+-- fields. Want of memory is none.
 abbrev pub IsRefusal : ℕ → ℕ → ℕ → ℕ → List (Field × ℕ) → List (Field × ℕ) → List ℕ → MessageRefused → Type 0
 IsRefusal kind least size flags fields texts bytes ShortHeader = length bytes < least
 IsRefusal kind least size flags fields texts bytes BadSignature = (least ≤ length bytes) × (take 8 bytes ≢ signature)

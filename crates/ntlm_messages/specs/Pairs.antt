@@ -1,6 +1,7 @@
--- Target information: a list of AV_PAIRs (MS-NLMP 2.2.2.1). A pair is (id, value): an id of 16 bits, and bytes. The list ends with a pair of id 0
--- and no bytes, which isn't an item here. Ids: 1 NetBIOS computer name, 2 NetBIOS domain name, 3 DNS computer name, 4 DNS domain name (texts of
--- UTF-16LE), 6 flags (4 bytes), 7 timestamp (8 bytes). Other ids are carried.
+-- Target information: a list of AV_PAIRs (MS-NLMP 2.2.2.1). A pair is (id, value): an id of 16 bits, and bytes. The
+-- list ends with a pair of id 0 and no bytes, which isn't an item here. Ids: 1 NetBIOS computer name, 2 NetBIOS domain
+-- name, 3 DNS computer name, 4 DNS domain name (texts of UTF-16LE), 6 flags (4 bytes), 7 timestamp (8 bytes). Other ids
+-- are carried.
 use Rattle.std.specs.Prelude.{◌≡◌, ◌≢◌, ◌+◌, ◌<◌, ◌≤◌, ◌^◌, ◌==◌, ℕ, zero, suc, Bool, true, false, List, [], ◌∷◌, ◌++◌, length, take, drop, Option, Result, Ok, Err, nat_lt, if◌then◌else◌}
 use Rattle.std.specs.List.{flat_map, AllByRecursion}
 use Rattle.std.specs.Int.{w16, w64, to_le_bytes, from_le_bytes}
@@ -50,7 +51,8 @@ timestamp_of pairs = option_map (from_le_bytes w64) (pair_value_of 7 pairs)
 abbrev pub may_have_length : ℕ → ℕ → Bool
 may_have_length id len = if id == 0 then len == 0 else (if id == 6 then len == 4 else (if id == 7 then len == 8 else true))
 
--- The pair at the front of the bytes, with what follows it: (id, value, rest). Its first byte stands at that place of the whole list.
+-- The pair at the front of the bytes, with what follows it: (id, value, rest). Its first byte stands at that place of
+-- the whole list.
 unfoldable pub pair_of : ℕ → List ℕ → Result (ℕ × List ℕ × List ℕ) PairsRefused
 pair_of place bytes =
     if length bytes == 0 then Err NoEnd
@@ -66,7 +68,8 @@ pairs_within (suc limit) place bytes = do
   first ← pair_of place bytes
   if first.0 == 0 then Ok [] else (pairs_within limit (place + 4 + length first.1) first.2 >>= λ others. Ok ((first.0, first.1) ∷ others))
 
--- the pairs before the end, or the first refusal from the front; a pair has at least four bytes, so the bytes bound their number
+-- the pairs before the end, or the first refusal from the front; a pair has at least four bytes, so the bytes bound
+-- their number
 unfoldable pub pairs_of : List ℕ → Result (List (ℕ × List ℕ)) PairsRefused
 pairs_of bytes = pairs_within (suc (length bytes)) 0 bytes
 

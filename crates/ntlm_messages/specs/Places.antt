@@ -1,5 +1,6 @@
--- Where the parts of the three messages stand (MS-NLMP 2.2.1.1, 2.2.1.2, 2.2.1.3): places of the fixed header, counted in bytes from the
--- message's first one, and sizes of the fixed headers in bytes. A version, where there is one, stands behind the fixed header.
+-- Where the parts of the three messages stand (MS-NLMP 2.2.1.1, 2.2.1.2, 2.2.1.3): places of the fixed header, counted
+-- in bytes from the message's first one, and sizes of the fixed headers in bytes. A version, where there is one, stands
+-- behind the fixed header.
 use Rattle.std.specs.Prelude.{ℕ}
 
 -- the message's type, 32 bits, behind the signature

@@ -1,5 +1,5 @@
--- The text fields of messages (MS-NLMP 2.2): UTF-16LE where the flag is set, else the OEM character set, of which each byte stands for the unit of
--- its own number (this project's own choice, which knows no code page).
+-- The text fields of messages (MS-NLMP 2.2): UTF-16LE where the flag is set, else the OEM character set, of which each
+-- byte stands for the unit of its own number (this project's own choice, which knows no code page).
 use Rattle.std.specs.Prelude.{ℕ, List, [], Result, Ok, if◌then◌else◌}
 use Rattle.std.specs.Result.{result_unwrap_or}
 use Rattle.wire_base.specs.Units.{units_of}

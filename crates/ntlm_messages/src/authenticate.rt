@@ -73,9 +73,10 @@ fn lend_authenticate(bytes: &[u8]) -> Result<AuthenticateView<'_>, MessageRefuse
 
 /// Reads an AUTHENTICATE, and lends its fields from the bytes. It takes no memory.
 ///
-/// The first of these refusals that holds of the bytes: `ShortHeader` below 64 bytes; `BadSignature`; `BadType` where the type isn't 3;
-/// `FieldOutside` of the first field, in the order LM response, NT response, domain, user, workstation, session key, that isn't empty and begins
-/// before byte 64 or ends past the message; `OddText` of the first of domain, user and workstation of odd length where texts are UTF-16LE.
+/// The first of these refusals that holds of the bytes: `ShortHeader` below 64 bytes; `BadSignature`; `BadType` where
+/// the type isn't 3; `FieldOutside` of the first field, in the order LM response, NT response, domain, user,
+/// workstation, session key, that isn't empty and begins before byte 64 or ends past the message; `OddText` of the
+/// first of domain, user and workstation of odd length where texts are UTF-16LE.
 pub fn view_authenticate(bytes: &[u8]) -> Result<AuthenticateView<'_>, MessageRefused>
     // The value or the first refusal.
     ensures exact { Shows authenticate_shown result (authenticate_of bytes.now) }
@@ -115,8 +116,8 @@ impl AuthenticateView<'_> {
     }
 }
 
-/// Reads an AUTHENTICATE, and copies its fields: the value that `view_authenticate` shows, or its refusal, which comes before memory is looked for;
-/// `Memory` where no memory was found.
+/// Reads an AUTHENTICATE, and copies its fields: the value that `view_authenticate` shows, or its refusal, which comes
+/// before memory is looked for; `Memory` where no memory was found.
 pub fn read_authenticate(alloc: Global, bytes: &[u8]) -> Result<Authenticate, MessageRefused>
     // The value or the first refusal.
     ensures exact { UpToMemory MessageRefused.Memory result (authenticate_of bytes.now) }
@@ -207,7 +208,8 @@ fn authenticate_bytes(alloc: Global, value: &Authenticate) -> Result<Blob, NoMem
     Ok(Blob::from_vec(out))
 }
 
-/// The written form, or the first field that is too long for it; what that says in the grammar's terms follows in `write_authenticate`.
+/// The written form, or the first field that is too long for it; what that says in the grammar's terms follows in
+/// `write_authenticate`.
 fn authenticate_form(alloc: Global, value: &Authenticate) -> Result<Blob, WriteRefused>
     requires { CanWriteAuthenticate value.now }
     ensures exact { UpToMemory WriteRefused.Memory result
@@ -222,11 +224,12 @@ fn authenticate_form(alloc: Global, value: &Authenticate) -> Result<Blob, WriteR
     Ok(authenticate_bytes(alloc, value)?)
 }
 
-/// Writes an AUTHENTICATE in its one written form: the header, the version and the message integrity code where there are some, and the payload
-/// without gaps in the order domain, user, workstation, LM response, NT response, session key.
+/// Writes an AUTHENTICATE in its one written form: the header, the version and the message integrity code where there
+/// are some, and the payload without gaps in the order domain, user, workstation, LM response, NT response, session
+/// key.
 ///
-/// `TooLong` of the first field, in the order LM response, NT response, domain, user, workstation, session key, of more than 65,535 bytes.
-/// `Memory` where no memory was found.
+/// `TooLong` of the first field, in the order LM response, NT response, domain, user, workstation, session key, of more
+/// than 65,535 bytes. `Memory` where no memory was found.
 pub fn write_authenticate(alloc: Global, value: &Authenticate) -> Result<Blob, WriteRefused>
     requires { CanWriteAuthenticate value.now }
     // The written form or the first field that is too long.

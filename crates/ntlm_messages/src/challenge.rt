@@ -47,9 +47,10 @@ fn lend_challenge(bytes: &[u8]) -> Result<ChallengeView<'_>, MessageRefused>
 
 /// Reads a CHALLENGE, and lends its fields from the bytes. It takes no memory.
 ///
-/// The first of these refusals that holds of the bytes: `ShortHeader` below 48 bytes; `BadSignature`; `BadType` where the type isn't 2;
-/// `FieldOutside` of the first field, in the order target, target information, that isn't empty and begins before byte 48 or ends past the message;
-/// `OddText` of the target where texts are UTF-16LE and its length is odd.
+/// The first of these refusals that holds of the bytes: `ShortHeader` below 48 bytes; `BadSignature`; `BadType` where
+/// the type isn't 2; `FieldOutside` of the first field, in the order target, target information, that isn't empty and
+/// begins before byte 48 or ends past the message; `OddText` of the target where texts are UTF-16LE and its length is
+/// odd.
 pub fn view_challenge(bytes: &[u8]) -> Result<ChallengeView<'_>, MessageRefused>
     // The value or the first refusal.
     ensures exact { Shows challenge_shown result (challenge_of bytes.now) }
@@ -85,8 +86,8 @@ impl ChallengeView<'_> {
     }
 }
 
-/// Reads a CHALLENGE, and copies its fields: the value that `view_challenge` shows, or its refusal, which comes before memory is looked for; `Memory`
-/// where no memory was found.
+/// Reads a CHALLENGE, and copies its fields: the value that `view_challenge` shows, or its refusal, which comes before
+/// memory is looked for; `Memory` where no memory was found.
 pub fn read_challenge(alloc: Global, bytes: &[u8]) -> Result<Challenge, MessageRefused>
     // The value or the first refusal.
     ensures exact { UpToMemory MessageRefused.Memory result (challenge_of bytes.now) }
@@ -142,7 +143,8 @@ fn challenge_bytes(alloc: Global, value: &Challenge) -> Result<Blob, NoMemory>
     Ok(Blob::from_vec(out))
 }
 
-/// The written form, or the first field that is too long for it; what that says in the grammar's terms follows in `write_challenge`.
+/// The written form, or the first field that is too long for it; what that says in the grammar's terms follows in
+/// `write_challenge`.
 fn challenge_form(alloc: Global, value: &Challenge) -> Result<Blob, WriteRefused>
     requires { CanWriteChallenge value.now }
     ensures exact { UpToMemory WriteRefused.Memory result
@@ -157,10 +159,11 @@ fn challenge_form(alloc: Global, value: &Challenge) -> Result<Blob, WriteRefused
     Ok(challenge_bytes(alloc, value)?)
 }
 
-/// Writes a CHALLENGE in its one written form: the header, the version where there is one, and the payload without gaps in the order target, target
-/// information. The reserved bytes are zeros.
+/// Writes a CHALLENGE in its one written form: the header, the version where there is one, and the payload without gaps
+/// in the order target, target information. The reserved bytes are zeros.
 ///
-/// `TooLong` of the first field, in the order target, target information, of more than 65,535 bytes. `Memory` where no memory was found.
+/// `TooLong` of the first field, in the order target, target information, of more than 65,535 bytes. `Memory` where no
+/// memory was found.
 pub fn write_challenge(alloc: Global, value: &Challenge) -> Result<Blob, WriteRefused>
     requires { CanWriteChallenge value.now }
     // The written form or the first field that is too long.

@@ -50,11 +50,13 @@ pub fn check_header(bytes: &[u8], kind: u32, least: usize) -> Result<(), Message
 pub struct Part<'a> {
     /// Its bytes.
     pub bytes: &'a [u8],
-    /// The least offset of it and of the fields read before it, of those that aren't empty; the message's length where all are.
+    /// The least offset of it and of the fields read before it, of those that aren't empty; the message's length where
+    /// all are.
     pub gap: usize,
 }
 
-/// The payload field that stands at `place` of a header of `size` bytes; `gap` is the least offset of the fields read before it.
+/// The payload field that stands at `place` of a header of `size` bytes; `gap` is the least offset of the fields read
+/// before it.
 #[tactic(auto, unfolding(crate::specs::Fields::field_of, crate::specs::Fields::narrow_gap))]
 pub fn field_at(
     bytes: &[u8],
@@ -93,8 +95,8 @@ pub fn check_text(flags: u32, name: Field, text: &[u8]) -> Result<(), MessageRef
     Ok(())
 }
 
-/// The least offset of the fields at these places that aren't empty, or the message's length where there is none: the `gap` of the last of them.
-/// Its only reason is the proof, since the definition begins at the last field.
+/// The least offset of the fields at these places that aren't empty, or the message's length where there is none: the
+/// `gap` of the last of them. Its only reason is the proof, since the definition begins at the last field.
 pub fn gap_left(bytes: &[u8], places: &[usize], gap: usize) -> usize
     requires { gap ≡ narrow_gaps places.now bytes.now (length bytes.now) }
     ensures value { result ≡ gap_of places.now bytes.now }
@@ -114,7 +116,8 @@ fn bytes_at<const N: usize>(bytes: &[u8], there: bool, place: usize) -> Option<[
     bytes[place..].first_chunk::<N>().copied()
 }
 
-/// The version, which stands behind the fixed header of that size where the flag is set and the payload leaves room for it.
+/// The version, which stands behind the fixed header of that size where the flag is set and the payload leaves room for
+/// it.
 pub fn version_at(bytes: &[u8], flags: u32, size: usize, gap: usize) -> Option<[u8; 8]>
     requires size { size ≤ 64 }
     requires gap { gap ≤ length bytes.now }

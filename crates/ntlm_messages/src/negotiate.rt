@@ -101,10 +101,10 @@ fn lend_negotiate(bytes: &[u8]) -> Result<NegotiateView<'_>, MessageRefused>
 
 /// Reads a NEGOTIATE, and lends its fields from the bytes. It takes no memory.
 ///
-/// A name is read only where the message has 32 bytes or more and the name's own flag is set; else it is empty and its field is passed over.
-/// The first of these refusals that holds of the bytes: `ShortHeader` below 16 bytes; `BadSignature`; `BadType` where the type isn't 1;
-/// `FieldOutside` of the first name, domain before workstation, that is read, isn't empty and begins before byte 32 or ends past the message.
-/// The names are OEM texts, so none is odd.
+/// A name is read only where the message has 32 bytes or more and the name's own flag is set; else it is empty and its
+/// field is passed over. The first of these refusals that holds of the bytes: `ShortHeader` below 16 bytes;
+/// `BadSignature`; `BadType` where the type isn't 1; `FieldOutside` of the first name, domain before workstation, that
+/// is read, isn't empty and begins before byte 32 or ends past the message. The names are OEM texts, so none is odd.
 pub fn view_negotiate(bytes: &[u8]) -> Result<NegotiateView<'_>, MessageRefused>
     // The value or the first refusal.
     ensures exact { Shows negotiate_shown result (negotiate_of bytes.now) }
@@ -139,8 +139,8 @@ impl NegotiateView<'_> {
     }
 }
 
-/// Reads a NEGOTIATE, and copies its fields: the value that `view_negotiate` shows, or its refusal, which comes before memory is looked for; `Memory`
-/// where no memory was found.
+/// Reads a NEGOTIATE, and copies its fields: the value that `view_negotiate` shows, or its refusal, which comes before
+/// memory is looked for; `Memory` where no memory was found.
 pub fn read_negotiate(alloc: Global, bytes: &[u8]) -> Result<Negotiate, MessageRefused>
     // The value or the first refusal.
     ensures exact { UpToMemory MessageRefused.Memory result (negotiate_of bytes.now) }
@@ -194,7 +194,8 @@ fn negotiate_bytes(alloc: Global, value: &Negotiate) -> Result<Blob, NoMemory>
     Ok(Blob::from_vec(out))
 }
 
-/// The written form, or the first field that is too long for it; what that says in the grammar's terms follows in `write_negotiate`.
+/// The written form, or the first field that is too long for it; what that says in the grammar's terms follows in
+/// `write_negotiate`.
 fn negotiate_form(alloc: Global, value: &Negotiate) -> Result<Blob, WriteRefused>
     requires { CanWriteNegotiate value.now }
     ensures exact { UpToMemory WriteRefused.Memory result
@@ -209,10 +210,11 @@ fn negotiate_form(alloc: Global, value: &Negotiate) -> Result<Blob, WriteRefused
     Ok(negotiate_bytes(alloc, value)?)
 }
 
-/// Writes a NEGOTIATE in its one written form: the header, the version where there is one, and the payload without gaps in the order domain,
-/// workstation.
+/// Writes a NEGOTIATE in its one written form: the header, the version where there is one, and the payload without gaps
+/// in the order domain, workstation.
 ///
-/// `TooLong` of the first name, domain before workstation, of more than 65,535 bytes. `Memory` where no memory was found.
+/// `TooLong` of the first name, domain before workstation, of more than 65,535 bytes. `Memory` where no memory was
+/// found.
 pub fn write_negotiate(alloc: Global, value: &Negotiate) -> Result<Blob, WriteRefused>
     requires { CanWriteNegotiate value.now }
     // The written form or the first field that is too long.

@@ -119,8 +119,9 @@ fn checked_pairs(alloc: Global, bytes: &[u8]) -> Result<Pairs, PairsRefused>
 
 /// Reads pairs from the front to the end pair. What follows the end is passed over.
 ///
-/// At the first pair that isn't taken: `NoEnd` where no byte is left; `CutPair` where its head or value is cut; `BadLength` where its value has a
-/// length that its id doesn't allow. A refusal comes before memory is looked for; `Memory` where no memory was found.
+/// At the first pair that isn't taken: `NoEnd` where no byte is left; `CutPair` where its head or value is cut;
+/// `BadLength` where its value has a length that its id doesn't allow. A refusal comes before memory is looked for;
+/// `Memory` where no memory was found.
 pub fn read_pairs(alloc: Global, bytes: &[u8]) -> Result<Pairs, PairsRefused>
     // The pairs or the first refusal.
     ensures exact { UpToMemory PairsRefused.Memory result (pairs_of bytes.now) }
@@ -165,7 +166,8 @@ fn pair_list(alloc: Global, pairs: &[(u16, Blob)]) -> Result<Vec<u8>, NoMemory>
 
 /// Writes pairs and the end pair.
 ///
-/// The condition: no pair of id 0, values of at most 65,535 bytes, flags (id 6) of 4 bytes and a timestamp (id 7) of 8 bytes.
+/// The condition: no pair of id 0, values of at most 65,535 bytes, flags (id 6) of 4 bytes and a timestamp (id 7) of 8
+/// bytes.
 #[tactic(auto, unfolding(crate::specs::Pairs::written_pairs))]
 pub fn write_pairs(alloc: Global, pairs: &Pairs) -> Result<Blob, NoMemory>
     requires { ArePairs pairs.now }
@@ -193,7 +195,8 @@ pub fn pair_value(pairs: &Pairs, id: u16) -> Option<&[u8]>
     None
 }
 
-/// The time of the pair of id 7, in 100 nanoseconds since 1601-01-01 00:00 UTC. None exactly where there is none. It takes no memory.
+/// The time of the pair of id 7, in 100 nanoseconds since 1601-01-01 00:00 UTC. None exactly where there is none. It
+/// takes no memory.
 #[tactic(auto, using(crate::proofs::PairsLaws::timestamp_read))]
 pub fn timestamp(pairs: &Pairs) -> Option<u64>
     requires { ArePairs pairs.now }

@@ -1,5 +1,5 @@
-//! Where the parts of the three messages stand (MS-NLMP 2.2.1.1, 2.2.1.2, 2.2.1.3): places of the fixed header, counted in bytes from the message's
-//! first one, and sizes of the fixed headers in bytes.
+//! Where the parts of the three messages stand (MS-NLMP 2.2.1.1, 2.2.1.2, 2.2.1.3): places of the fixed header, counted
+//! in bytes from the message's first one, and sizes of the fixed headers in bytes.
 
 /// The message's type.
 pub const TYPE: usize = 8;

@@ -17,7 +17,8 @@ fn units_of_bytes(alloc: Global, text: &[u8]) -> Result<Vec<u16>, NoMemory>
     Ok(text.iter().map(|byte| u16::from(*byte)).collect(alloc)?)
 }
 
-/// The 16-bit units of a text field of a message with these flags: UTF-16LE where the flag UNICODE is set, else one unit for each byte.
+/// The 16-bit units of a text field of a message with these flags: UTF-16LE where the flag UNICODE is set, else one
+/// unit for each byte.
 ///
 /// `Odd` exactly where the flag is set and the number of bytes is odd. `Memory` where no memory was found.
 pub fn text_units(alloc: Global, flags: u32, text: &[u8]) -> Result<Units, UnitsRefused>

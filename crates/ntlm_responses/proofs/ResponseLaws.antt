@@ -1,4 +1,5 @@
--- What crates above may use of hashes, responses and keys: their lengths, that they are bytes, and that what is written verifies.
+-- What crates above may use of hashes, responses and keys: their lengths, that they are bytes, and that what is written
+-- verifies.
 use Rattle.std.proofs.Common.{sym, ap, subst, ◌∙◌, append_assoc, ◌≡◌, ◌≢◌, ◌&&◌, ℕ, ◌+◌, ◌<◌, ◌≤◌, ◌==◌, true, false, IsTrue, List, ◌∷◌, ◌++◌, length, take, drop, replicate, refl, inl, inr, arith, lit<, length-append}
 use Rattle.std.proofs.lemmas.Bool.{ne_eqb}
 use Rattle.std.proofs.Math.Bool.{and-false}

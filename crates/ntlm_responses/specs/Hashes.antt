@@ -1,5 +1,5 @@
--- The hashes of a password and the keys made of them (MS-NLMP 3.3.1, 3.3.2 and 6), as compositions of lists of bytes. A password,
--- a user's name and a domain's name are lists of 16-bit units, but the LM hash is of a password in bytes.
+-- The hashes of a password and the keys made of them (MS-NLMP 3.3.1, 3.3.2 and 6), as compositions of lists of bytes. A
+-- password, a user's name and a domain's name are lists of 16-bit units, but the LM hash is of a password in bytes.
 use Rattle.std.specs.Prelude.{ℕ, List, [], ◌∷◌, ◌++◌, take, drop, replicate}
 use Rattle.des_cipher.specs.Des.{des_of, spread_of}
 use Rattle.digest_parts.specs.Hmac.{hmac_of}
@@ -13,8 +13,8 @@ use Rattle.wire_base.specs.Units.{utf16_of}
 abbrev pub des7_of : List ℕ → List ℕ → List ℕ
 des7_of key block = des_of (spread_of key) block
 
--- DESL(K, D): a block of 8 bytes under bytes 0 to 6 of a key of 16 bytes, under bytes 7 to 13, and under bytes 14 and 15 with five
--- zeros, joined to 24 bytes
+-- DESL(K, D): a block of 8 bytes under bytes 0 to 6 of a key of 16 bytes, under bytes 7 to 13, and under bytes 14 and
+-- 15 with five zeros, joined to 24 bytes
 unfoldable pub desl_of : List ℕ → List ℕ → List ℕ
 desl_of key block =
     des7_of (take 7 key) block
@@ -42,7 +42,7 @@ lm_hash_of password =
 
 -- ---- NTOWFv2 (3.3.2)
 
--- NTOWFv2, the NTLMv2 key: HMAC-MD5, under the NT hash, of the user's name in upper case and the domain's name as it stands, in
--- UTF-16LE: 16 bytes
+-- NTOWFv2, the NTLMv2 key: HMAC-MD5, under the NT hash, of the user's name in upper case and the domain's name as it
+-- stands, in UTF-16LE: 16 bytes
 unfoldable pub key_v2_of : List ℕ → List ℕ → List ℕ → List ℕ
 key_v2_of hash user domain = hmac_of hash (utf16_of (upper_case user ++ domain))

@@ -7,7 +7,8 @@ use Rattle.ntlm_responses.specs.Responses.{client_challenge_of}
 
 -- ---- KXKEY, the key exchange key (3.4.5.1)
 
--- for NTLMv1 with extended session security, HMAC-MD5 under the base key of the server's challenge and the client's; else the base key
+-- for NTLMv1 with extended session security, HMAC-MD5 under the base key of the server's challenge and the client's;
+-- else the base key
 abbrev pub exchange_key_by : Option (List ℕ) → List ℕ → List ℕ → List ℕ
 exchange_key_by (Some client) base challenge = hmac_of base (challenge ++ client)
 exchange_key_by None base challenge = base
@@ -23,8 +24,8 @@ exported_key_by true true exchange key = Some (applied exchange 0 key)
 exported_key_by true false exchange key = None
 exported_key_by false _ exchange key = Some exchange
 
--- where keys are exchanged, the message's key field under RC4 with the exchange key, and none where the field hasn't 16 bytes; else
--- the exchange key
+-- where keys are exchanged, the message's key field under RC4 with the exchange key, and none where the field hasn't 16
+-- bytes; else the exchange key
 abbrev pub exported_key_of : List ℕ → ℕ → List ℕ → Option (List ℕ)
 exported_key_of exchange flags key =
     exported_key_by (has_flag flags negotiate_key_exch) (length key == 16) exchange key

@@ -1,5 +1,5 @@
--- The responses to a challenge (MS-NLMP 3.3.1 and 3.3.2), as compositions of lists of bytes. A challenge has 8 bytes, of the server's
--- or of the client's; a hash has 16; a time counts 100 ns from 1601 in 64 bits.
+-- The responses to a challenge (MS-NLMP 3.3.1 and 3.3.2), as compositions of lists of bytes. A challenge has 8 bytes,
+-- of the server's or of the client's; a hash has 16; a time counts 100 ns from 1601 in 64 bits.
 use Rattle.std.specs.Prelude.{ℕ, Bool, true, false, ◌&&◌, ◌==◌, List, ◌∷◌, ◌++◌, length, take, replicate, Option, Some, None}
 use Rattle.std.specs.Int.{w64, to_le_bytes}
 use Rattle.md5.specs.Md5.{md5}
@@ -13,7 +13,8 @@ use Rattle.ntlm_responses.specs.Hashes.{desl_of, key_v2_of}
 unfoldable pub response_v1_of : List ℕ → List ℕ → List ℕ
 response_v1_of hash challenge = desl_of hash challenge
 
--- the challenge that stands in the server's place under extended session security: the first 8 bytes of MD5 of both challenges
+-- the challenge that stands in the server's place under extended session security: the first 8 bytes of MD5 of both
+-- challenges
 unfoldable pub hashed_challenge_of : List ℕ → List ℕ → List ℕ
 hashed_challenge_of challenge client = take 8 (md5 (challenge ++ client))
 
@@ -52,7 +53,8 @@ client_challenge_by false lm = None
 abbrev pub client_challenge_of : ℕ → List ℕ → List ℕ → Option (List ℕ)
 client_challenge_of flags lm nt = client_challenge_by (is_ess_pair flags lm nt) lm
 
--- the challenge that the NT response answers: hashed with the client's challenge where there is one, else the server's as it stands
+-- the challenge that the NT response answers: hashed with the client's challenge where there is one, else the server's
+-- as it stands
 abbrev pub challenge_by : Option (List ℕ) → List ℕ → List ℕ
 challenge_by (Some client) challenge = hashed_challenge_of challenge client
 challenge_by None challenge = challenge

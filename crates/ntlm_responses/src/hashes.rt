@@ -25,8 +25,8 @@ pub fn nt_hash(password: &[u16]) -> [u8; 16]
     hasher.finish()
 }
 
-/// The LM hash of a password of bytes (MS-NLMP 3.3.1, `LMOWFv1`). Its first 14 bytes are used, a to z in upper case; other bytes
-/// stand as they are in the character set of the caller.
+/// The LM hash of a password of bytes (MS-NLMP 3.3.1, `LMOWFv1`). Its first 14 bytes are used, a to z in upper case;
+/// other bytes stand as they are in the character set of the caller.
 #[tactic(auto, unfolding(crate::specs::Hashes::lm_hash_of))]
 pub fn lm_hash(password: &[u8]) -> [u8; 16]
     ensures { result ≡ lm_hash_of password.now }
@@ -39,8 +39,8 @@ pub fn lm_hash(password: &[u8]) -> [u8; 16]
     join_two(des_block(first, LM_TEXT), des_block(second, LM_TEXT))
 }
 
-/// The NTLMv2 key of a user (MS-NLMP 3.3.2, `NTOWFv2`): HMAC-MD5 under the NT hash of the user's name in upper case and the
-/// domain's name as it stands, in UTF-16LE.
+/// The NTLMv2 key of a user (MS-NLMP 3.3.2, `NTOWFv2`): HMAC-MD5 under the NT hash of the user's name in upper case and
+/// the domain's name as it stands, in UTF-16LE.
 #[tactic(auto, unfolding(crate::specs::Hashes::key_v2_of))]
 pub fn nt_key_v2(hash: &[u8; 16], user: &[u16], domain: &[u16]) -> [u8; 16]
     ensures { result ≡ key_v2_of hash.now user.now domain.now }
@@ -51,8 +51,8 @@ pub fn nt_key_v2(hash: &[u8; 16], user: &[u16], domain: &[u16]) -> [u8; 16]
     hmac.finish()
 }
 
-/// DESL(K, D) (MS-NLMP 6): the block enciphered under bytes 0 to 6 of the key, under bytes 7 to 13, and under bytes 14 and 15
-/// with five zeros.
+/// DESL(K, D) (MS-NLMP 6): the block enciphered under bytes 0 to 6 of the key, under bytes 7 to 13, and under bytes 14
+/// and 15 with five zeros.
 #[tactic(auto, unfolding(crate::specs::Hashes::desl_of))]
 pub fn desl(key: &[u8; 16], block: [u8; 8]) -> [u8; 24]
     ensures { result ≡ desl_of key.now block }

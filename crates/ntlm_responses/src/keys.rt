@@ -10,9 +10,9 @@ use digest_parts::Hmac;
 use ntlm_flags::{NTLMSSP_NEGOTIATE_KEY_EXCH, has_flag};
 use rc4_stream::Rc4;
 
-/// The key exchange key (MS-NLMP 3.4.5.1, `KXKEY`), of the session base key, the flags, the server's challenge and both responses.
-/// For NTLMv1 with extended session security it is HMAC-MD5 under the base key of the server's challenge and the first 8 bytes of
-/// the LM response; else it is the base key.
+/// The key exchange key (MS-NLMP 3.4.5.1, `KXKEY`), of the session base key, the flags, the server's challenge and both
+/// responses. For NTLMv1 with extended session security it is HMAC-MD5 under the base key of the server's challenge and
+/// the first 8 bytes of the LM response; else it is the base key.
 pub fn exchange_key(
     base: [u8; 16],
     flags: u32,
@@ -28,10 +28,11 @@ pub fn exchange_key(
     }
 }
 
-/// The exported session key (MS-NLMP 3.2.5.1.2) of the exchange key, the flags and the key field of AUTHENTICATE. Where keys are
-/// exchanged it is the field under RC4 with the exchange key; else it is the exchange key. None exactly where keys are exchanged and
-/// the field hasn't 16 bytes. Where keys are exchanged this undoes itself: under the same exchange key what is given makes the field
-/// again, so by this call a client makes its key field of the key that it chose.
+/// The exported session key (MS-NLMP 3.2.5.1.2) of the exchange key, the flags and the key field of AUTHENTICATE. Where
+/// keys are exchanged it is the field under RC4 with the exchange key; else it is the exchange key. None exactly where
+/// keys are exchanged and the field hasn't 16 bytes. Where keys are exchanged this undoes itself: under the same
+/// exchange key what is given makes the field again, so by this call a client makes its key field of the key that it
+/// chose.
 #[tactic(auto, using(crate::proofs::ResponseLaws::undone))]
 pub fn exported_key(exchange: [u8; 16], flags: u32, key: &[u8]) -> Option<[u8; 16]>
     ensures value { result ≡ exported_key_of exchange flags key.now }

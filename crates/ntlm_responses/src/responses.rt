@@ -22,14 +22,15 @@ pub fn respond_v1(hash: &[u8; 16], challenge: [u8; 8]) -> [u8; 24]
     desl(hash, challenge)
 }
 
-/// Under one hash no two challenges have one NTLMv1 response: its first block is the challenge under one key. It does nothing.
+/// Under one hash no two challenges have one NTLMv1 response: its first block is the challenge under one key. It does
+/// nothing.
 pub fn one_response_answers_one_challenge()
     ensures { (hash one other : List ℕ) → IsBlock one → IsBlock other
         → response_v1_of hash one ≡ response_v1_of hash other → one ≡ other }
 {}
 
-/// The challenge that stands in the server's place under extended session security (MS-NLMP 3.3.1): the first 8 bytes of MD5 of the
-/// server's challenge and the client's.
+/// The challenge that stands in the server's place under extended session security (MS-NLMP 3.3.1): the first 8 bytes
+/// of MD5 of the server's challenge and the client's.
 #[tactic(auto, unfolding(crate::specs::Responses::hashed_challenge_of))]
 pub fn hashed_challenge(challenge: [u8; 8], client: [u8; 8]) -> [u8; 8]
     ensures { result ≡ hashed_challenge_of challenge client }
@@ -52,8 +53,8 @@ pub fn respond_v1_ess(hash: &[u8; 16], challenge: [u8; 8], client: [u8; 8]) -> [
     respond_v1(hash, hashed_challenge(challenge, client))
 }
 
-/// The NTLMv2 response to a challenge (MS-NLMP 3.3.2): the proof and what it is over, which holds the time (100 ns from 1601), the
-/// client's challenge and the pairs with their end pair.
+/// The NTLMv2 response to a challenge (MS-NLMP 3.3.2): the proof and what it is over, which holds the time (100 ns from
+/// 1601), the client's challenge and the pairs with their end pair.
 #[tactic(auto, unfolding(crate::specs::Responses::response_v2_of))]
 pub fn respond_v2(
     alloc: Global,
@@ -76,8 +77,9 @@ pub fn respond_v2(
     Ok(Blob::from_vec(response))
 }
 
-/// The challenge that the NT response of a message answers (MS-NLMP 3.3.1): the hashed challenge with the first 8 bytes of the LM
-/// response where the flag of extended session security is set and both responses have 24 bytes, else the server's challenge.
+/// The challenge that the NT response of a message answers (MS-NLMP 3.3.1): the hashed challenge with the first 8 bytes
+/// of the LM response where the flag of extended session security is set and both responses have 24 bytes, else the
+/// server's challenge.
 pub fn challenge_for(flags: u32, challenge: [u8; 8], lm: &[u8], nt: &[u8]) -> [u8; 8]
     ensures { result ≡ challenge_for_of flags challenge lm.now nt.now }
 {
@@ -87,8 +89,8 @@ pub fn challenge_for(flags: u32, challenge: [u8; 8], lm: &[u8], nt: &[u8]) -> [u
     }
 }
 
-/// The client's challenge, with which an LM response begins where the pair of responses is NTLMv1 with extended session security:
-/// the flag is set and both have 24 bytes. None for another pair.
+/// The client's challenge, with which an LM response begins where the pair of responses is NTLMv1 with extended session
+/// security: the flag is set and both have 24 bytes. None for another pair.
 #[tactic(auto, unfolding(crate::specs::Responses::is_ess_pair))]
 pub fn client_challenge(flags: u32, lm: &[u8], nt: &[u8]) -> Option<[u8; 8]>
     ensures { result ≡ client_challenge_of flags lm.now nt.now }

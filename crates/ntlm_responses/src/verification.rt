@@ -13,11 +13,11 @@ use crate::hashes::nt_key_v2;
 use crate::responses::{proof, respond_v1};
 use digest_parts::{hmac_md5, md4};
 
-/// The session base key of an NT response that verifies under the NT hash and the names, as the message has them, against the
-/// challenge that it answers (MS-NLMP 3.3.1 and 3.3.2).
+/// The session base key of an NT response that verifies under the NT hash and the names, as the message has them,
+/// against the challenge that it answers (MS-NLMP 3.3.1 and 3.3.2).
 ///
-/// A response of 24 bytes must be the NTLMv1 response; one of 44 bytes or more must begin with the proof of NTLMv2 over its rest,
-/// whatever the rest holds. None exactly where it isn't so; every other length is None.
+/// A response of 24 bytes must be the NTLMv1 response; one of 44 bytes or more must begin with the proof of NTLMv2 over
+/// its rest, whatever the rest holds. None exactly where it isn't so; every other length is None.
 #[tactic(auto, using(crate::proofs::VerificationLaws::lengths, crate::proofs::VerificationLaws::decided))]
 pub fn verify(
     hash: &[u8; 16],
@@ -63,9 +63,10 @@ fn verify_v2(key: &[u8; 16], challenge: [u8; 8], nt: &[u8]) -> Option<[u8; 16]>
     Some(hmac_md5(key, claimed))
 }
 
-/// What a client writes into a message is found right by the flags: an NTLMv1 response where extended session security isn't set, one with it
-/// where it is and the LM response is the client's challenge and 16 zeros, and an NTLMv2 response; and so is a message whose names are written in
-/// UTF-16LE, where its responses are right under their units. It does nothing.
+/// What a client writes into a message is found right by the flags: an NTLMv1 response where extended session security
+/// isn't set, one with it where it is and the LM response is the client's challenge and 16 zeros, and an NTLMv2
+/// response; and so is a message whose names are written in UTF-16LE, where its responses are right under their units.
+/// It does nothing.
 pub fn what_is_written_verifies()
     ensures v1 { (hash user domain challenge lm : List ℕ) (flags : ℕ)
         → has_flag flags negotiate_extended_sessionsecurity ≡ false

@@ -1,6 +1,6 @@
--- One direction of a session with extended session security (MS-NLMP 3.4.2 to 3.4.4): how a unit is sealed, its signature, and what
--- the direction is afterwards. A unit is a list of bytes, of which those from place `from` to before place `to` are sealed; a unit
--- that is signed alone has from = to = 0.
+-- One direction of a session with extended session security (MS-NLMP 3.4.2 to 3.4.4): how a unit is sealed, its
+-- signature, and what the direction is afterwards. A unit is a list of bytes, of which those from place `from` to
+-- before place `to` are sealed; a unit that is signed alone has from = to = 0.
 use Rattle.std.specs.Prelude.{ℕ, ◌+◌, ◌-◌, Bool, true, false, List, ◌++◌, take, drop, slice_range}
 use Rattle.std.specs.Int.{w32, from_le_bytes, to_le_bytes}
 use Rattle.digest_parts.specs.Hmac.{hmac_of}
@@ -9,8 +9,8 @@ use Rattle.ntlm_seal.specs.declared.side.Side.{Side}
 use Rattle.ntlm_flags.specs.Flags.{has_flag, negotiate_key_exch}
 use Rattle.ntlm_seal.specs.Keys.{signing_key_of, sealing_key_of}
 
--- A direction: its keys, of 16 bytes each; whether checksums pass through the key stream (NTLMSSP_NEGOTIATE_KEY_EXCH); the number of
--- the next unit, below 2 ^ 32; and how many bytes of the key stream under the sealing key are used.
+-- A direction: its keys, of 16 bytes each; whether checksums pass through the key stream (NTLMSSP_NEGOTIATE_KEY_EXCH);
+-- the number of the next unit, below 2 ^ 32; and how many bytes of the key stream under the sealing key are used.
 pub record Direction : Type 0 where
   pub signing_key : List ℕ
   pub sealing_key : List ℕ
@@ -30,20 +30,21 @@ direction_of exported flags side = record {
 
 -- ---- the sealed unit (3.4.3)
 
--- the unit with its range combined with the next bytes of the key stream; of the plain unit this is the sealed one, and of the sealed
--- unit the plain one
+-- the unit with its range combined with the next bytes of the key stream; of the plain unit this is the sealed one, and
+-- of the sealed unit the plain one
 unfoldable pub combine : Direction → List ℕ → ℕ → ℕ → List ℕ
 combine d unit from to =
     take from unit ++ applied d.sealing_key d.used (slice_range unit from to) ++ drop to unit
 
 -- ---- the signature (2.2.2.9.2 and 3.4.4.2)
 
--- the checksum of a plain unit under a signing key and a number: the first 8 bytes of HMAC-MD5 of the number and the unit
+-- the checksum of a plain unit under a signing key and a number: the first 8 bytes of HMAC-MD5 of the number and the
+-- unit
 unfoldable pub checksum_of : List ℕ → ℕ → List ℕ → List ℕ
 checksum_of signing_key number plain = take 8 (hmac_of signing_key (to_le_bytes w32 number ++ plain))
 
--- A checksum as it is sent: with a key exchange it is combined with the bytes of the key stream that follow the used ones. The
--- arguments: whether keys were exchanged, the sealing key, the bytes used, and the checksum.
+-- A checksum as it is sent: with a key exchange it is combined with the bytes of the key stream that follow the used
+-- ones. The arguments: whether keys were exchanged, the sealing key, the bytes used, and the checksum.
 abbrev pub sent_form_by : Bool → List ℕ → ℕ → List ℕ → List ℕ
 sent_form_by true sealing_key used checksum = applied sealing_key used checksum
 sent_form_by false sealing_key used checksum = checksum

@@ -1,5 +1,6 @@
--- The keys of a direction of a session with extended session security (MS-NLMP 3.4.5.2 and 3.4.5.3): 16 bytes each, made of the
--- exported session key, of 16 bytes, and the text of the direction. A direction is named by the side that sends in it.
+-- The keys of a direction of a session with extended session security (MS-NLMP 3.4.5.2 and 3.4.5.3): 16 bytes each,
+-- made of the exported session key, of 16 bytes, and the text of the direction. A direction is named by the side that
+-- sends in it.
 use Rattle.std.specs.Prelude.{ℕ, Bool, true, false, List, [], ◌∷◌, ◌++◌, take, codes}
 use Rattle.md5.specs.Md5.{md5}
 use Rattle.ntlm_seal.specs.declared.side.Side.{Side}
@@ -24,8 +25,8 @@ abbrev pub sealing_text : Side → List ℕ
 sealing_text Client = codes "session key to client-to-server sealing key magic constant" ++ 0 ∷ []
 sealing_text Server = codes "session key to server-to-client sealing key magic constant" ++ 0 ∷ []
 
--- how many bytes of the exported session key are taken: 128 bits, else 56, else 40. The arguments: whether 128 bits are agreed,
--- and whether 56 are.
+-- how many bytes of the exported session key are taken: 128 bits, else 56, else 40. The arguments: whether 128 bits are
+-- agreed, and whether 56 are.
 abbrev pub sealing_length_by : Bool → Bool → ℕ
 sealing_length_by true _ = 16
 sealing_length_by false true = 7

@@ -26,8 +26,8 @@ pub record OpenedUnit : Type 0 where
   pub answer : Result Unit SealRefused
   pub unit : List ℕ
 
--- what the sender seals next is what the receiver opens next: neither refused before, and the one sends in the direction in which the
--- other receives
+-- what the sender seals next is what the receiver opens next: neither refused before, and the one sends in the
+-- direction in which the other receives
 pub record Follows (sender receiver : SessionState) : Type 0 where
   pub sends : sender.broken ≡ false
   pub receives : receiver.broken ≡ false

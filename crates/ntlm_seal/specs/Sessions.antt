@@ -1,6 +1,7 @@
--- A session: a direction in which it sends and one in which it receives, and what each call answers and makes of it (MS-NLMP 3.4.2 to
--- 3.4.4). That a refusal breaks the session, that the last number isn't used and that a range isn't left in the clear are this
--- project's own choice. A plain unit's sealed bytes are those from place `from` to before place `to`.
+-- A session: a direction in which it sends and one in which it receives, and what each call answers and makes of it
+-- (MS-NLMP 3.4.2 to 3.4.4). That a refusal breaks the session, that the last number isn't used and that a range isn't
+-- left in the clear are this project's own choice. A plain unit's sealed bytes are those from place `from` to before
+-- place `to`.
 use Rattle.std.specs.Prelude.{ℕ, ◌-◌, ◌^◌, Bool, true, false, ◌==◌, List, ◌++◌, take, drop, replicate, bytes_eq, is_err, Result, Ok, Err}
 use Rattle.ntlm_seal.specs.declared.refusal.SealRefused.{SealRefused}
 use Rattle.ntlm_seal.specs.declared.refusal.SealRefused.TheVariants.{Broken, Spent, BadVersion, BadSequence, BadChecksum}
@@ -41,7 +42,8 @@ pub record Sealing : Type 0 where
   pub unit : List ℕ
   pub session : SessionState
 
--- the arguments: whether the session is broken, whether its sending direction is spent, the session, the plain unit and its range
+-- the arguments: whether the session is broken, whether its sending direction is spent, the session, the plain unit and
+-- its range
 abbrev pub seal_by : Bool → Bool → SessionState → List ℕ → ℕ → ℕ → Sealing
 seal_by true _ s unit from to = record { answer = Err Broken; unit = unit; session = s }
 seal_by false true s unit from to =
@@ -66,8 +68,8 @@ may_send s = may_send_by s.broken (is_spent s.sending) s
 
 -- ---- checking and opening
 
--- What a direction answers to a signature before its checksum is looked at. The arguments: whether the direction is spent, whether
--- the signature's version is 1, and whether its number is the next.
+-- What a direction answers to a signature before its checksum is looked at. The arguments: whether the direction is
+-- spent, whether the signature's version is 1, and whether its number is the next.
 abbrev pub expect_by : Bool → Bool → Bool → Direction → List ℕ → Result Unit SealRefused
 expect_by true _ _ d signature = Err Spent
 expect_by false false _ d signature = Err BadVersion
@@ -116,8 +118,8 @@ judge_by false s plain from to signature =
 abbrev pub judge_of : SessionState → List ℕ → ℕ → ℕ → List ℕ → Judgement
 judge_of s plain from to signature = judge_by s.broken s plain from to signature
 
--- the unit that opening leaves, by its answer: the plain unit, or zeros in the range after a wrong checksum, or the sealed unit as it
--- was after every other refusal
+-- the unit that opening leaves, by its answer: the plain unit, or zeros in the range after a wrong checksum, or the
+-- sealed unit as it was after every other refusal
 abbrev pub unit_left : Result Unit SealRefused → List ℕ → List ℕ → ℕ → ℕ → List ℕ
 unit_left (Ok _) unit plain from to = plain
 unit_left (Err BadChecksum) unit plain from to = take from unit ++ replicate (to - from) 0 ++ drop to unit

@@ -1,4 +1,5 @@
--- One unit at a time: what one side of a session sends, the other takes. This project's own way to say that two sessions stay in step.
+-- One unit at a time: what one side of a session sends, the other takes. This project's own way to say that two
+-- sessions stay in step.
 use Rattle.std.specs.Prelude.{◌≡◌, ℕ, List, Ok}
 use Rattle.ntlm_seal.specs.Directions.{combine, signature_of, next_of}
 use Rattle.ntlm_seal.specs.Sessions.{SessionState, Sealing, Judgement, seal_of, judge_of, open_of}
@@ -9,8 +10,8 @@ pub record Paired (one other : SessionState) : Type 0 where
   pub there : Follows one other
   pub back : Follows other one
 
--- the session that sent its next unit, and the one that took it: the other direction is as it was. A unit that is signed alone has
--- from = to = 0.
+-- the session that sent its next unit, and the one that took it: the other direction is as it was. A unit that is
+-- signed alone has from = to = 0.
 abbrev pub after_sending : SessionState → ℕ → ℕ → SessionState
 after_sending s from to = record s { sending = next_of s.sending from to }
 

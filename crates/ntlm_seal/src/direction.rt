@@ -132,7 +132,8 @@ impl OneWay {
         Ok(())
     }
 
-    /// Refuses, in this order, where the numbers are used up, and a signature whose version or number isn't the next unit's.
+    /// Refuses, in this order, where the numbers are used up, and a signature whose version or number isn't the next
+    /// unit's.
     fn expects(&self, signature: &[u8; 16]) -> Result<(), SealRefused>
         ensures answer { result ≡ expect self.now signature.now }
         ensures room { OnOk result (self.now.number < 2 ^ 32 - 1) }

@@ -14,8 +14,8 @@ use crate::refusal::SealRefused;
 use crate::side::Side;
 use std::marker::Model;
 
-/// One end of a session with extended session security (MS-NLMP 3.4): it signs and seals what its side sends, and checks and
-/// opens what comes. Clauses see both directions and whether the session refused before.
+/// One end of a session with extended session security (MS-NLMP 3.4): it signs and seals what its side sends, and
+/// checks and opens what comes. Clauses see both directions and whether the session refused before.
 #[derive(Drop)]
 pub struct Session {
     sending: OneWay,
@@ -56,8 +56,9 @@ impl Session {
         Ok(self.sending.sign(unit))
     }
 
-    /// Encrypts the bytes of a unit from place `from` to before place `to`, and gives the signature of the plain unit (MS-NLMP
-    /// 3.4.3 and 3.4.4.2). The checksum passes through the key stream after the range. The unit has at most 65,536 bytes.
+    /// Encrypts the bytes of a unit from place `from` to before place `to`, and gives the signature of the plain unit
+    /// (MS-NLMP 3.4.3 and 3.4.4.2). The checksum passes through the key stream after the range. The unit has at most
+    /// 65,536 bytes.
     ///
     /// Refuses as `sign` does, and leaves the unit as it was.
     pub fn seal(&mut self, unit: &mut [u8], from: usize, to: usize) -> Result<[u8; 16], SealRefused>
@@ -74,9 +75,9 @@ impl Session {
 
     /// Checks the signature of a unit that isn't sealed (MS-NLMP 3.4.4.2).
     ///
-    /// Refuses with the first that stands: `Broken`, exactly where the session refused before; `Spent`, where the next number is
-    /// 2^32 - 1; `BadVersion`, where the signature's version isn't 1; `BadSequence`, where its number isn't the next;
-    /// `BadChecksum`.
+    /// Refuses with the first that stands: `Broken`, exactly where the session refused before; `Spent`, where the next
+    /// number is 2^32 - 1; `BadVersion`, where the signature's version isn't 1; `BadSequence`, where its number isn't
+    /// the next; `BadChecksum`.
     pub fn check(&mut self, unit: &[u8], signature: &[u8; 16]) -> Result<(), SealRefused>
         ensures answer { result ≡ (judge_of self.old unit.now 0 0 signature.now).answer }
         ensures session { self.new ≡ (judge_of self.old unit.now 0 0 signature.now).session }
@@ -91,10 +92,11 @@ impl Session {
         answer
     }
 
-    /// Decrypts the bytes of a unit from place `from` to before place `to`, and checks the signature of the plain unit (MS-NLMP
-    /// 3.4.3 and 3.4.4.2). The unit has at most 65,536 bytes.
+    /// Decrypts the bytes of a unit from place `from` to before place `to`, and checks the signature of the plain unit
+    /// (MS-NLMP 3.4.3 and 3.4.4.2). The unit has at most 65,536 bytes.
     ///
-    /// Refuses as `check` does. After `BadChecksum` the range holds zeros, and after every other refusal the unit is as it was.
+    /// Refuses as `check` does. After `BadChecksum` the range holds zeros, and after every other refusal the unit is as
+    /// it was.
     pub fn open(
         &mut self,
         unit: &mut [u8],
@@ -140,9 +142,10 @@ impl Session {
 
 /// What one side seals the other opens to the same bytes, in order.
 ///
-/// In a session of the client and one of the server, of one exported session key and the same flags, the units that one seals and the
-/// other opens, one after another, are all opened, and to what they were: fewer than 2^32 units with a range in each. So it is
-/// of any two sessions that refused nothing, where one sends in the direction in which the other receives.
+/// In a session of the client and one of the server, of one exported session key and the same flags, the units that one
+/// seals and the other opens, one after another, are all opened, and to what they were: fewer than 2^32 units with a
+/// range in each. So it is of any two sessions that refused nothing, where one sends in the direction in which the
+/// other receives.
 pub fn what_is_sealed_opens()
     ensures to_server { (exported : List ℕ) (flags : ℕ) (units : List PlainUnit)
         → AllByRecursion HasRange units → length units < 2 ^ 32
@@ -162,10 +165,10 @@ pub fn what_is_sealed_opens()
 
 /// What one side sends the other takes, and both are in step again.
 ///
-/// Two sessions are in step where neither refused and each sends in the direction in which the other receives, as the two ends
-/// of one exported session key do before their first unit. Then a unit that one of them seals, or signs, while its number is below
-/// 2^32 - 1, is opened to the same bytes, or checked, by the other; both are in step again, and the other direction is as it was.
-/// Sealing changes the bytes of the range alone, and a signature has 16 bytes.
+/// Two sessions are in step where neither refused and each sends in the direction in which the other receives, as the
+/// two ends of one exported session key do before their first unit. Then a unit that one of them seals, or signs, while
+/// its number is below 2^32 - 1, is opened to the same bytes, or checked, by the other; both are in step again, and the
+/// other direction is as it was. Sealing changes the bytes of the range alone, and a signature has 16 bytes.
 pub fn what_is_sent_is_taken()
     ensures first { (exported : List ℕ) (flags : ℕ) (side : Side)
         → Paired (session_of exported flags side) (session_of exported flags (other_side side)) }

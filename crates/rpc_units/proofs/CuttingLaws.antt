@@ -304,7 +304,8 @@ tail_bytes count None = omega arith
 tail_bytes count (Some trailer) =
     omega (arith, length-append (zeros (pad_for count)) ((trailer.kind ∷ trailer.level ∷ pad_for count ∷ 0 ∷ []) ++ (to_le_bytes w32 trailer.context ++ trailer.value)), length_zeros (pad_for count))
 
--- a fragment has a header of 16 bytes, 8 of its body before the stub, at most 3 of padding, and 8 of a trailer before its value
+-- a fragment has a header of 16 bytes, 8 of its body before the stub, at most 3 of padding, and 8 of a trailer before
+-- its value
 fragment_bytes : (unit : RpcUnit) (first last : Bool) (stub : List ℕ) → HasStub unit.body → length (written (fragment unit first last stub)) ≤ length stub + 35 + value_len unit.trailer
 fragment_bytes unit first last stub h =
     let body = written_body (with_stub unit.body stub) in

@@ -45,7 +45,8 @@ flags_same kind.BindAck a b e = rw e refl
 flags_same kind.BindNak a b e = rw e refl
 flags_same kind.Auth3 a b e = rw e refl
 
--- bytes with the header of a unit are one, where they have its length, and the end of their body and their body are known
+-- bytes with the header of a unit are one, where they have its length, and the end of their body and their body are
+-- known
 same_header : (bytes front a b : List ℕ) (unit other : RpcUnit) (is : IsUnit bytes unit) → bytes ≡ front ++ a → 16 ≤ length front → length b ≡ length a → other.first ≡ unit.first → other.last ≡ unit.last → other.call ≡ unit.call → IsEnd other.trailer (front ++ b) is.k is.end → IsBody other.body is.k (body_bytes is.end (front ++ b)) → IsUnit (front ++ b) other
 same_header bytes front a b unit other is bytes-is long size first last call end body =
     let here : (i : ℕ) → i < length front → byte (front ++ b) i ≡ byte bytes i = λ i inside. byte_front front b a i inside ∙ ap (λ (x : List ℕ). byte x i) (sym bytes-is) in

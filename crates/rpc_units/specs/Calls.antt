@@ -11,7 +11,8 @@ use Rattle.rpc_units.specs.Writing.{written, value_len, HasValue, IsInRange}
 abbrev pub bytes_of_call : RpcUnit → ℕ → List ℕ
 bytes_of_call call limit = flat_map written (cut_of call limit)
 
--- a whole call whose fragments can be written; `limit` leaves room for a value of 16 bytes, and the unit has at most 5,840
+-- a whole call whose fragments can be written; `limit` leaves room for a value of 16 bytes, and the unit has at most
+-- 5,840
 pub record CanBeSent (call : RpcUnit) (limit : ℕ) : Type 0 where
   pub whole : IsWholeCall call
   pub range : IsInRange call

@@ -32,3 +32,21 @@ error_access_denied = 5
 -- the server is not available: here, no controller is found (this project's own use)
 abbrev pub rpc_s_server_unavailable : ℕ
 rpc_s_server_unavailable = 0x6BA
+
+-- ---- the security provider and the levels of a trailer (MS-RPCE 2.2.1.1.7 and 2.2.1.1.8)
+
+-- NTLM (RPC_C_AUTHN_WINNT)
+abbrev pub ntlm_provider : ℕ
+ntlm_provider = 10
+
+-- the bind alone proves who calls (RPC_C_AUTHN_LEVEL_CONNECT)
+abbrev pub connect_level : ℕ
+connect_level = 2
+
+-- units are signed (RPC_C_AUTHN_LEVEL_PKT_INTEGRITY)
+abbrev pub integrity_level : ℕ
+integrity_level = 5
+
+-- units are signed, and their stubs sealed (RPC_C_AUTHN_LEVEL_PKT_PRIVACY)
+abbrev pub privacy_level : ℕ
+privacy_level = 6

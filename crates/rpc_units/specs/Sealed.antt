@@ -1,5 +1,5 @@
--- What becomes of a unit whose sealed range, or whose authentication value, is replaced by as many other bytes; and what a sealed range is, in terms of the unit
--- (MS-RPCE 2.2.2.11).
+-- What becomes of a unit whose sealed range, or whose authentication value, is replaced by as many other bytes; and
+-- what a sealed range is, in terms of the unit (MS-RPCE 2.2.2.11).
 use Rattle.std.specs.Prelude.{ℕ, ◌≡◌, ◌+◌, ◌-◌, ◌≤◌, ◌++◌, List, take, drop, length, Some, option_map, Ok}
 use Rattle.rpc_units.specs.declared.unit.Unit.{Unit as RpcUnit}
 use Rattle.rpc_units.specs.declared.unit.Trailer.{Trailer}
@@ -25,7 +25,8 @@ trailer_with_value value trailer = record trailer { value = value }
 abbrev pub unit_with_value : RpcUnit → List ℕ → RpcUnit
 unit_with_value unit value = record unit { trailer = option_map (trailer_with_value value) unit.trailer }
 
--- the bytes are a request or response with a trailer; the range is from its stub to the trailer's 8 bytes, which its value follows to the end
+-- the bytes are a request or response with a trailer; the range is from its stub to the trailer's 8 bytes, which its
+-- value follows to the end
 pub record IsSealedRange (bytes : List ℕ) (from to : ℕ) : Type 0 where
   pub unit : RpcUnit
   pub trailer : Trailer

@@ -11,9 +11,10 @@ use crate::unit::{Body, Trailer, Unit, UnitList};
 use std::alloc::Global;
 use wire_base::{Blob, NoMemory};
 
-/// The call as units of `(limit - 48) / 8 * 8` stub bytes each and the rest in the last, at least one. Each has the call's hint, number, context,
-/// opnum and trailer, can be written, and is written with at most `limit - 16` bytes and those of the authentication value. Joined they are the
-/// call, and no fewer fragments of at most that many stub bytes are.
+/// The call as units of `(limit - 48) / 8 * 8` stub bytes each and the rest in the last, at least one. Each has the
+/// call's hint, number, context, opnum and trailer, can be written, and is written with at most `limit - 16` bytes and
+/// those of the authentication value. Joined they are the call, and no fewer fragments of at most that many stub bytes
+/// are.
 pub fn cut_call(alloc: Global, unit: &Unit, limit: u16) -> Result<UnitList, NoMemory>
     requires whole { IsWholeCall unit.now }
     requires least { 1432 ≤ limit }

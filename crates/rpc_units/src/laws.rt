@@ -13,8 +13,9 @@ ghost use Rattle.rpc_units.specs.Writing.{written, value_len, IsWritable, IsInRa
 
 use crate::refused::UnitRefused;
 
-/// What was read can be written and is in range; what is written is read again, and has at most 5,840 bytes where it is a fault, a bind_nak, an
-/// auth3 or the answer to so many contexts as a bind has that was read. No bytes are refused for want of memory.
+/// What was read can be written and is in range; what is written is read again, and has at most 5,840 bytes where it is
+/// a fault, a bind_nak, an auth3 or the answer to so many contexts as a bind has that was read. No bytes are refused
+/// for want of memory.
 pub fn what_is_read_is_written()
     ensures writable { (bytes : List ℕ) (unit : RpcUnit)
         → AreBytes bytes → unit_of bytes ≡ Ok unit → IsWritable unit }
@@ -28,10 +29,10 @@ pub fn what_is_read_is_written()
     ensures memory { (bytes : List ℕ) → unit_of bytes ≡ Err UnitRefused.Memory → ⊥ }
 {}
 
-/// The units of a stream, its rest and its refusal: they are the stream's by the grammar, and no others are; written units are a stream of just
-/// these; a stream that comes in two pieces has the units of the first and those of its rest with the second, and a refusal stays whatever
-/// follows; and a unit that was lent and taken out, whatever was written to it, leaves what followed it. Each unit has 16 bytes or more. No stream
-/// is refused for want of memory.
+/// The units of a stream, its rest and its refusal: they are the stream's by the grammar, and no others are; written
+/// units are a stream of just these; a stream that comes in two pieces has the units of the first and those of its rest
+/// with the second, and a refusal stays whatever follows; and a unit that was lent and taken out, whatever was written
+/// to it, leaves what followed it. Each unit has 16 bytes or more. No stream is refused for want of memory.
 pub fn streams_have_one_reading()
     ensures grammar { (stream : List ℕ)
         → IsStream stream (cut_stream stream).units (cut_stream stream).rest }
@@ -57,10 +58,10 @@ pub fn streams_have_one_reading()
     ensures memory { (stream : List ℕ) → (cut_stream stream).refused ≡ Some UnitRefused.Memory → ⊥ }
 {}
 
-/// The fragments of a whole call in range can be written, each with at most 5,840 bytes. Their bytes, one after the other, are a stream of just
-/// these units and no rest; each is read again, and a new `Joiner` to which they are added gives the call, where its stub has at most 65,536
-/// bytes. Where its trailer's value, if it has one, has at most 16 bytes, all fragments have at most nine eighths of the bytes of the stub, and 51
-/// more.
+/// The fragments of a whole call in range can be written, each with at most 5,840 bytes. Their bytes, one after the
+/// other, are a stream of just these units and no rest; each is read again, and a new `Joiner` to which they are added
+/// gives the call, where its stub has at most 65,536 bytes. Where its trailer's value, if it has one, has at most 16
+/// bytes, all fragments have at most nine eighths of the bytes of the stub, and 51 more.
 pub fn what_is_sent_is_heard()
     ensures fragments { (call : RpcUnit) (limit : ℕ)
         → CanBeSent call limit → AllByRecursion IsSendable (cut_of call limit) }

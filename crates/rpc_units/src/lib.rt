@@ -25,7 +25,8 @@ pub use inflow::Inflow;
 pub use joiner::{CALL_LIMIT, Joiner};
 pub use laws::{streams_have_one_reading, what_is_read_is_written, what_is_sent_is_heard};
 pub use numbers::{
-    ACCESS_DENIED, BAD_STUB_DATA, NDR, NO_CONTROLLER, OPERATION_OUT_OF_RANGE, PROTOCOL_ERROR,
+    ACCESS_DENIED, BAD_STUB_DATA, CONNECT_LEVEL, INTEGRITY_LEVEL, NDR, NO_CONTROLLER,
+    NTLM_PROVIDER, OPERATION_OUT_OF_RANGE, PRIVACY_LEVEL, PROTOCOL_ERROR,
     numbers_are_of_the_standards,
 };
 pub use reading::{UNIT_LIMIT, read_unit};

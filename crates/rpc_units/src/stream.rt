@@ -10,8 +10,9 @@ use crate::refused::UnitRefused;
 use std::alloc::Global;
 use wire_base::{Blob, Frames, NoMemory};
 
-/// The units of a stream that comes in these pieces, as their bytes, and the refusal of the rest behind them; None where the rest is less than
-/// a unit. All this is the same however the stream is cut, and the refusal is never want of memory.
+/// The units of a stream that comes in these pieces, as their bytes, and the refusal of the rest behind them; None
+/// where the rest is less than a unit. All this is the same however the stream is cut, and the refusal is never want of
+/// memory.
 pub fn read_stream(
     alloc: Global,
     pieces: &[Blob],

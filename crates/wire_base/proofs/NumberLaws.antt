@@ -1,5 +1,6 @@
--- Laws of little-endian numbers at a place of a byte string: what is read is what stands there, and what is written is read again.
--- They are said once, over the width; at w16, w32 and w64 the premise `IsMessageWidth` is `tt`, and `256 ^ byte_len w` is 2 ^ 16, 2 ^ 32 and 2 ^ 64.
+-- Laws of little-endian numbers at a place of a byte string: what is read is what stands there, and what is written is
+-- read again. They are said once, over the width; at w16, w32 and w64 the premise `IsMessageWidth` is `tt`, and `256 ^
+-- byte_len w` is 2 ^ 16, 2 ^ 32 and 2 ^ 64.
 use Rattle.std.proofs.Common.{◌≡◌, ℕ, zero, suc, ◌+◌, ◌-◌, ◌^◌, ◌<◌, ◌≤◌, List, [], ◌∷◌, ◌++◌, length, take, drop, Some, None, refl, sym, ap, ◌∙◌, arith, inl, inr}
 use Rattle.std.specs.Int.{Width, w8, w16, w32, w64, w128, byte_len, byte_at, bytes_low_first, from_le_bytes, to_le_bytes}
 use Rattle.std.proofs.lemmas.Bool.{cases_lt, le-leb, lt-leb}

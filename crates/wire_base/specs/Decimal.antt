@@ -1,4 +1,5 @@
--- Numbers as text: decimal digits without a sign or a leading zero (this project's own choice). `decimal n` of std is the text of n.
+-- Numbers as text: decimal digits without a sign or a leading zero (this project's own choice). `decimal n` of std is
+-- the text of n.
 use Rattle.std.specs.Prelude.{ℕ, ◌^◌, ◌&&◌, ◌==◌, Bool, true, false, not, List, [], ◌∷◌, Option, Some, None, nat_lt, if◌then◌else◌}
 use Rattle.std.specs.Char.{is_ascii_digit}
 use Rattle.std.specs.List.{list_all}

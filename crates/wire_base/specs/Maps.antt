@@ -1,5 +1,5 @@
--- Maps as lists of entries, a key and a value each (this project's own choice). `same` tells whether two keys are the same,
--- as `same_name` does of names; the first entry of a key counts.
+-- Maps as lists of entries, a key and a value each (this project's own choice). `same` tells whether two keys are the
+-- same, as `same_name` does of names; the first entry of a key counts.
 use Rattle.std.specs.Prelude.{ℕ, suc, ◌≡◌, ◌==◌, Bool, true, false, List, [], ◌∷◌, ◌++◌, Option, Some, None, slice_set, if◌then◌else◌}
 use Rattle.std.specs.Option.{option_map}
 use Rattle.std.specs.List.{AllPairs}

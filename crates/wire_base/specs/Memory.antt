@@ -1,4 +1,5 @@
--- What every call that allocates promises (this project's own choice): its answer is determined, and want of memory may come in its place.
+-- What every call that allocates promises (this project's own choice): its answer is determined, and want of memory may
+-- come in its place.
 use Rattle.std.specs.Prelude.{◌≡◌, ◌⊎◌, Result, Ok, Err}
 
 -- The result is that value, or the error `memory`, by which this type of error tells want of memory.

@@ -1,5 +1,5 @@
--- Names of accounts, computers and domains, and when two of them are the same (this project's own choice: MS-NLMP 3.3 upper-cases
--- the user's name, and here the letters a to z alone have another case).
+-- Names of accounts, computers and domains, and when two of them are the same (this project's own choice: MS-NLMP 3.3
+-- upper-cases the user's name, and here the letters a to z alone have another case).
 use Rattle.std.specs.Prelude.{ℕ, ◌-◌, ◌<◌, ◌≤◌, ◌≡◌, ◌&&◌, Bool, true, false, not, List, map, length, Option, Some, None, Result, Ok, Err, All, nat_lt, nat_le, slice_index, if◌then◌else◌}
 use Rattle.std.specs.Int.{is_in_range}
 use Rattle.std.specs.List.{position, list_all}
@@ -61,3 +61,12 @@ name_by false None text = Ok text
 
 unfoldable pub name_of : List ℕ → Result (List ℕ) NameRefused
 name_of text = name_by (nat_lt 64 (length text)) (position (λ byte. not (is_name_byte byte)) text) text
+
+-- ---- a text of units as ASCII, for lines that are put
+
+-- a printable ASCII unit, or a space, as it is; another one as a question mark
+abbrev pub printable_unit : ℕ → ℕ
+printable_unit unit = if is_in_range 0x20 0x7E unit then unit else 0x3F
+
+abbrev pub printable_text : List ℕ → List ℕ
+printable_text units = map printable_unit units

@@ -1,5 +1,5 @@
--- Security identifiers of revision 1 (MS-DTYP 2.4.2) and their text (this project's own choice of the form in MS-DTYP 2.4.2.1:
--- the authority is decimal at any size).
+-- Security identifiers of revision 1 (MS-DTYP 2.4.2) and their text (this project's own choice of the form in MS-DTYP
+-- 2.4.2.1: the authority is decimal at any size).
 use Rattle.std.specs.Prelude.{ℕ, ◌≡◌, ◌<◌, ◌≤◌, ◌^◌, ◌==◌, ◌&&◌, Bool, List, [], ◌∷◌, ◌++◌, map, length, drop, take, zero, suc, Option, Some, None, Result, Ok, Err, codes, nat_lt, nat_le, if◌then◌else◌}
 use Rattle.std.specs.Fmt.{decimal}
 use Rattle.std.specs.List.{AllByRecursion, join_with_byte, slice_split}

@@ -1,4 +1,5 @@
--- Unicode text: a list of 16-bit units, and the same in bytes as UTF-16LE, two a unit, the low byte first (MS-NLMP 2.2).
+-- Unicode text: a list of 16-bit units, and the same in bytes as UTF-16LE, two a unit, the low byte first (MS-NLMP
+-- 2.2).
 use Rattle.std.specs.Prelude.{ℕ, List, [], ◌∷◌, Result, Ok, Err, ◌%◌, ◌<◌, ◌^◌, ◌==◌, length, slice_index, if◌then◌else◌}
 use Rattle.std.specs.List.{flat_map}
 use Rattle.std.specs.Int.{w16, to_le_bytes, from_le_bytes}

@@ -9,6 +9,7 @@ mod maps;
 mod memory;
 mod names;
 mod numbers;
+mod printing;
 mod sid;
 mod units;
 
@@ -21,5 +22,6 @@ pub use names::{
     NAME_LIMIT, Name, NameRefused, same_units, sameness_is_an_equivalence, upper_unit,
 };
 pub use numbers::{u16_at, u32_at, u64_at};
+pub use printing::{printable_unit, put_printable};
 pub use sid::{Sid, SidRefused};
 pub use units::{Units, UnitsRefused, what_is_written_is_read};

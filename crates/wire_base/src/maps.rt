@@ -1,4 +1,5 @@
-//! Maps as lists of entries, a key and a value each, of which the first of a key counts. Keys are numbers, or names in any case.
+//! Maps as lists of entries, a key and a value each, of which the first of a key counts. Keys are numbers, or names in
+//! any case.
 
 ghost use Rattle.std.specs.Prelude.{◌≡◌, ◌<◌, Bool, false, length, IfOk, IfSome, MatchOption, None, Some, List as list, ◌++◌, ◌∷◌, [], slice_set, option_copied};
 ghost use Rattle.wire_base.specs.Maps.{place_of, has_key, lookup, put, put_item, take_out, same_number, IsMap, IsSameness};
@@ -141,8 +142,9 @@ fn put_in<T: Drop>(items: List<T>, place: Option<usize>, item: T) -> Result<List
     Ok(List::from_vec(all))
 }
 
-/// The laws of maps, for keys of whose sameness `IsSameness` holds: what was put is found and leaves the others, what was taken out is
-/// gone from a map of distinct keys and leaves the others, and both keep the keys distinct. It does nothing.
+/// The laws of maps, for keys of whose sameness `IsSameness` holds: what was put is found and leaves the others, what
+/// was taken out is gone from a map of distinct keys and leaves the others, and both keep the keys distinct. It does
+/// nothing.
 pub fn what_is_put_is_found<K, V>()
     ensures put_found { (same : K → K → Bool) (key : K) (value : V) (entries : list (K × V))
         → IsSameness same → lookup same key (put same key value entries) ≡ Some value }

@@ -73,7 +73,8 @@ pub fn sameness_is_an_equivalence()
     ensures numbers { IsSameness same_number }
 {}
 
-/// A name of at most 64 bytes of 0x20 to 0x7E, seen as the list of its bytes (this project's own choice). An empty one is a name.
+/// A name of at most 64 bytes of 0x20 to 0x7E, seen as the list of its bytes (this project's own choice). An empty one
+/// is a name.
 #[derive(Debug, Drop)]
 pub struct Name {
     bytes: Vec<u8>,
@@ -91,8 +92,8 @@ impl Model for Name {
 }
 
 impl Name {
-    /// The name that the bytes are. TooLong exactly above 64 bytes; else NotAscii with the place of the first byte outside 0x20 to 0x7E,
-    /// exactly where there is one. Both are judged before memory is looked for.
+    /// The name that the bytes are. TooLong exactly above 64 bytes; else NotAscii with the place of the first byte
+    /// outside 0x20 to 0x7E, exactly where there is one. Both are judged before memory is looked for.
     #[tactic(auto, using(crate::proofs::NameLaws::forms), unfolding(crate::specs::Names::name_of))]
     pub fn read(alloc: Global, text: &[u8]) -> Result<Name, NameRefused>
         ensures exact { UpToMemory NameRefused.Memory result (name_of text.now) }

@@ -35,7 +35,8 @@ impl From<NoMemory> for SidRefused {
     }
 }
 
-/// A security identifier of revision 1, seen as its authority of 48 bits and its 1 to 15 numbers of 32 bits (MS-DTYP 2.4.2).
+/// A security identifier of revision 1, seen as its authority of 48 bits and its 1 to 15 numbers of 32 bits (MS-DTYP
+/// 2.4.2).
 #[derive(Debug, Drop)]
 pub struct Sid {
     authority: u64,
@@ -54,9 +55,9 @@ impl Model for Sid {
 }
 
 impl Sid {
-    /// The identifier that a text writes: `S-1-`, then the authority and the numbers, joined by `-`, in decimal without leading zeros
-    /// (this project's own choice of MS-DTYP 2.4.2.1). NotSid exactly where the text has another form; that it begins with `S-1-` and an
-    /// authority is judged before memory is looked for.
+    /// The identifier that a text writes: `S-1-`, then the authority and the numbers, joined by `-`, in decimal without
+    /// leading zeros (this project's own choice of MS-DTYP 2.4.2.1). NotSid exactly where the text has another form;
+    /// that it begins with `S-1-` and an authority is judged before memory is looked for.
     #[tactic(auto, unfolding(crate::specs::Sid::sid_of))]
     pub fn read(alloc: Global, text: &[u8]) -> Result<Sid, SidRefused>
         ensures exact { UpToMemory SidRefused.Memory result (sid_of text.now) }

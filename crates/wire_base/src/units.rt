@@ -33,7 +33,8 @@ impl From<NoMemory> for UnitsRefused {
     }
 }
 
-/// A text of 16-bit units, seen as the list of its units (MS-NLMP 2.2). Any unit may stand in it, also half of a surrogate pair.
+/// A text of 16-bit units, seen as the list of its units (MS-NLMP 2.2). Any unit may stand in it, also half of a
+/// surrogate pair.
 #[derive(Debug, Drop)]
 pub struct Units {
     units: Vec<u16>,
@@ -109,8 +110,8 @@ impl Units {
     }
 }
 
-/// The law of UTF-16LE: what is written of units is read as the same units, and what is written of units that were read is the bytes.
-/// It does nothing.
+/// The law of UTF-16LE: what is written of units is read as the same units, and what is written of units that were read
+/// is the bytes. It does nothing.
 pub fn what_is_written_is_read()
     ensures units { (units : List ℕ) → AreUnits units → units_of (utf16_of units) ≡ Ok units }
     ensures bytes { (bytes units : List ℕ) → AreBytes bytes → units_of bytes ≡ Ok units
