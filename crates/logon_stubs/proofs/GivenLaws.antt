@@ -1,5 +1,5 @@
 -- What is read of a stub of bytes has its ranges.
-use Rattle.std.proofs.Common.{◌≡◌, ℕ, ◌^◌, ◌<◌, Bool, true, false, List, [], get_or, Ok, arith}
+use Rattle.std.proofs.Common.{◌≡◌, ℕ, ◌^◌, ◌<◌, Bool, true, false, List, [], ◌∷◌, get_or, Ok, arith}
 use Rattle.std.specs.List.{AllByRecursion}
 use Rattle.wire_base.specs.Numbers.{AreBytes}
 use Rattle.wire_base.specs.Units.{AreUnits}
@@ -15,12 +15,12 @@ use Rattle.logon_stubs.specs.Layout.{item, part}
 use Rattle.ndr_codec.specs.declared.parts.Head.{Head}
 use Rattle.ndr_codec.specs.Parts.{halves, head, units, bytes, IfThere}
 use Rattle.ndr_codec.proofs.PartLaws.{gives_unique, gives_text, gives_halves, gives_some_pointer, gives_reserved, gives_head, gives_target, gives_units, gives_bytes, gives_each, gives_times, one_of_all}
-use Rattle.logon_stubs.specs.Structures.{authenticator, network_info, sam_times, sam_heads, sam_texts, sam_numbers, groups_head, groups_pointer, group, group_array, groups_target, sam_info}
+use Rattle.logon_stubs.specs.Structures.{authenticator, network_info, sam_times, sam_heads, sam_texts, sam_numbers, entries_head, entries_pointer, array_count, group, group_array, groups_target, has_extra, extra_head, extra_entry, extra_entries, extra_sid, extra_sids, extra_array, extra_target, sam_info}
 use Rattle.logon_stubs.specs.Calls.{challenge_call, auth_call, leveled_info, request_arm, logoff_call, logon_call, challenge_reply, auth_reply, logoff_reply, reply_arm, validation_arm, logon_reply, IsCall, IsReply, call_of, reply_of}
-use Rattle.logon_stubs.specs.Ranges.{IsAuthenticator, InRangeNetworkInfo, InRangeChallengeCall, InRangeAuthCall, InRangeLogoffCall, InRangeLogonCall, InRangeCall, InRangeGroup, InRangeSamInfo, InRangeLogonReply, InRangeLogoffReply, InRangeChallengeReply, InRangeAuthReply, InRangeReply}
+use Rattle.logon_stubs.specs.Ranges.{IsAuthenticator, InRangeNetworkInfo, InRangeChallengeCall, InRangeAuthCall, InRangeLogoffCall, InRangeLogonCall, InRangeCall, InRangeGroup, InRangeExtra, InRangeSamInfo, InRangeLogonReply, InRangeLogoffReply, InRangeChallengeReply, InRangeAuthReply, InRangeReply}
 use Rattle.logon_stubs.proofs.CallLaws.{call_of-IsCall, reply_of-IsReply}
 
-gives_authenticator : Gives authenticator IsAuthenticator
+pub gives_authenticator : Gives authenticator IsAuthenticator
 unfolding authenticator
 gives_authenticator credential len are timestamp fits of = record { credential = (len, are); timestamp = fits }
 
@@ -80,9 +80,13 @@ call_of-InRange opnum stub value are e = IsCall-InRange opnum stub value are (ca
 
 -- ---- replies
 
-gives_groups_head : (So : ℕ × Bool → Type 0) → ((front : ℕ × Bool) → So front) → Gives groups_head So
-unfolding groups_head groups_pointer
-gives_groups_head So each place count a b holds place-2 there c d holds-2 = each _
+gives_entries_head : (So : ℕ × Bool → Type 0) → ((front : ℕ × Bool) → So front) → Gives entries_head So
+unfolding entries_head entries_pointer
+gives_entries_head So each place count a b holds place-2 there c d holds-2 = each _
+
+gives_array_count : (count : ℕ) (So : Unit {0} → Type 0) → So tt → Gives (array_count count) So
+unfolding array_count
+gives_array_count count So so place actual a b holds = so
 
 gives_group : Gives group InRangeGroup
 unfolding group
@@ -90,7 +94,7 @@ gives_group identifier a b attributes c d = (a, c)
 
 gives_groups_target : (front : ℕ × Bool) → Gives (groups_target front) (AllByRecursion InRangeGroup)
 unfolding groups_target group_array
-gives_groups_target front = gives_target _ front.1 (AllByRecursion InRangeGroup) tt (λ place actual a b holds. gives_times group InRangeGroup front.0 gives_group)
+gives_groups_target front = gives_target _ front.1 (AllByRecursion InRangeGroup) tt (gives_array_count front.0 _ (gives_times group InRangeGroup front.0 gives_group))
 
 gives_sam_times : Gives sam_times (AllByRecursion (λ n. n < 2 ^ 64))
 unfolding sam_times
@@ -104,17 +108,39 @@ gives_sam_texts : (heads : List Head) → Gives (sam_texts heads) (AllByRecursio
 unfolding sam_texts
 gives_sam_texts heads = gives_each (λ front. part (units front)) AreUnits heads gives_units
 
-gives_sam_info : Gives sam_info InRangeSamInfo
+gives_extra_head : (with_extra : Bool) (So : ℕ × Bool → Type 0) → ((front : ℕ × Bool) → So front) → Gives (extra_head with_extra) So
+gives_extra_head false So each = each (0, false)
+gives_extra_head true So each = gives_entries_head So each
+
+gives_extra_entry : Gives extra_entry (λ n. n < 2 ^ 32)
+unfolding extra_entry
+gives_extra_entry = gives_some_pointer _ (λ attributes fits of. fits)
+
+gives_extra_sids : (attributes : List ℕ) → AllByRecursion (λ n. n < 2 ^ 32) attributes → Gives (extra_sids attributes) (AllByRecursion InRangeExtra)
+unfolding extra_sid
+gives_extra_sids [] all = tt
+gives_extra_sids (first ∷ others) all = λ identifier is of.
+    gives_more (extra_sids others) (AllByRecursion InRangeExtra) (λ more. AllByRecursion InRangeExtra ((identifier, first) ∷ more)) (λ more so. ((is, all.0), so)) (gives_extra_sids others all.1)
+
+gives_extra_target : (front : ℕ × Bool) → Gives (extra_target front) (AllByRecursion InRangeExtra)
+unfolding extra_target extra_array
+gives_extra_target front =
+    gives_target _ front.1 (AllByRecursion InRangeExtra) tt (gives_array_count front.0 _ (
+    gives_more (extra_entries front.0) (AllByRecursion (λ n. n < 2 ^ 32)) _ gives_extra_sids (gives_times extra_entry (λ n. n < 2 ^ 32) front.0 gives_extra_entry)))
+
+gives_sam_info : (with_extra : Bool) → Gives (sam_info with_extra) InRangeSamInfo
 unfolding sam_info sam_numbers
-gives_sam_info =
+gives_sam_info with_extra =
     gives_more sam_times (AllByRecursion (λ n. n < 2 ^ 64)) _ (λ moments t.
     gives_more sam_heads (AllByRecursion (λ front. Unit {0})) _ (λ heads h. λ logon_count a ao. λ bad_count b bo. λ user_id c co. λ group_id d do-of.
-    gives_groups_head _ (λ groups_front. λ user_flags e eo. λ key len are.
+    gives_entries_head _ (λ groups_front. λ user_flags e eo. λ key len are.
     gives_head 2 _ (λ server_head. gives_head 2 _ (λ domain_head. gives_some_pointer _ (gives_reserved 10 _ (
+    gives_extra_head with_extra _ (λ extra_front.
     gives_more (sam_texts heads) (AllByRecursion AreUnits) _ (λ texts n.
     gives_more (groups_target groups_front) (AllByRecursion InRangeGroup) _ (λ groups g.
     gives_more (units server_head) AreUnits _ (λ server s.
     gives_more (units domain_head) AreUnits _ (λ domain m. λ identifier i io.
+    gives_more (extra_target extra_front) (AllByRecursion InRangeExtra) _ (λ extra x.
     let time : (place : ℕ) → get_or moments place 0 < 2 ^ 64 = one_of_all (λ n. n < 2 ^ 64) 0 (omega arith) moments t in
     let text : (place : ℕ) → AreUnits (get_or texts place []) = one_of_all AreUnits [] (λ i. omega arith) texts n in
     record {
@@ -127,12 +153,13 @@ gives_sam_info =
       server = s;
       domain = m;
       sid = i;
-    })
-    (gives_units domain_head)) (gives_units server_head)) (gives_groups_target groups_front)) (gives_sam_texts heads))))))) gives_sam_heads) gives_sam_times
+      extra = x;
+    }) (gives_extra_target extra_front))
+    (gives_units domain_head)) (gives_units server_head)) (gives_groups_target groups_front)) (gives_sam_texts heads)))))))) gives_sam_heads) gives_sam_times
 
 gives_reply_arm : (level : ℕ) (there : Bool) → Gives (reply_arm level there) (IfThere InRangeSamInfo)
 gives_reply_arm level false = tt
-gives_reply_arm level true = λ holds. gives_more sam_info InRangeSamInfo _ (λ info is. is) gives_sam_info
+gives_reply_arm level true = λ holds. gives_more (sam_info (has_extra level)) InRangeSamInfo _ (λ info is. is) (gives_sam_info (has_extra level))
 
 gives_validation_arm : (level : ℕ) → Gives (validation_arm level) (IfThere InRangeSamInfo)
 unfolding validation_arm

@@ -1,11 +1,13 @@
 -- What is put of each structure is of its layout, by its ranges alone: of bytes, and at most so many.
-use Rattle.std.proofs.Common.{◌≡◌, ℕ, ◌+◌, ◌*◌, ◌^◌, ◌<◌, ◌≤◌, eqb, not, true, false, List, [], ◌∷◌, length, map, Option, Some, None, Ok, refl, sym, ap, subst, ◌∙◌, arith}
+use Rattle.std.proofs.Common.{◌≡◌, ℕ, ◌+◌, ◌*◌, ◌^◌, ◌<◌, ◌≤◌, eqb, not, Bool, true, false, IsTrue, List, [], ◌∷◌, length, map, Option, Some, None, Ok, refl, sym, ap, subst, ◌∙◌, inl, inr, arith}
 use Rattle.wire_base.specs.Numbers.{AreBytes}
 use Rattle.wire_base.specs.Units.{AreUnits}
 use Rattle.ndr_codec.specs.Layout.{byte, short, long, raw, pointer, sid}
 use Rattle.ndr_codec.specs.Writing.{Written, nothing, put}
+use Rattle.std.specs.Prelude.{replicate}
 use Rattle.std.specs.List.{AllByRecursion}
 use Rattle.std.proofs.lemmas.Bool.{eq-eqb, le-leb}
+use Rattle.wire_base.specs.Sid.{SidParts}
 use Rattle.wire_base.specs.declared.authenticator.Authenticator.{Authenticator}
 use Rattle.logon_stubs.specs.declared.info.NetworkInfo.{NetworkInfo}
 use Rattle.logon_stubs.specs.declared.info.SamInfo.{SamInfo}
@@ -21,15 +23,15 @@ use Rattle.logon_stubs.specs.declared.calls.Call.{Call}
 use Rattle.logon_stubs.specs.declared.calls.Call.TheVariants as call
 use Rattle.logon_stubs.specs.declared.calls.Reply.{Reply}
 use Rattle.logon_stubs.specs.declared.calls.Reply.TheVariants as reply
-use Rattle.logon_stubs.specs.Layout.{item, part, WritesLayout}
+use Rattle.logon_stubs.specs.Layout.{item, part, each, WritesLayout}
 use Rattle.ndr_codec.specs.Stub.{size_of_all}
 use Rattle.ndr_codec.specs.Parts.{unique, halves, head, units, FitsText, IfThere, text_size, size_if_there, put_unique, put_halves, put_head, units_head, put_units}
 use Rattle.ndr_codec.proofs.TimesLaws.{writes_each, writes_times}
 use Rattle.ndr_codec.proofs.PartLaws.{it, of_part, then, end, where_true, from_place, within, text_law, unique_law, unique_text_law, some_pointer_law, halves_law, reserved_law, units_head_law, bytes_head_law, target_law, some, either, IsStub, stub_of, units_law, bytes_law, IsFitText, both_of_all}
-use Rattle.logon_stubs.specs.Structures.{authenticator, network_info, sam_times, sam_heads, sam_texts, sam_numbers, groups_head, groups_pointer, group, groups, group_array, groups_target, sam_info}
-use Rattle.logon_stubs.specs.Calls.{challenge_call, challenge_reply, auth_call, auth_reply, leveled_info, request_arm, logoff_call, logoff_reply, logon_call, validation_arm, logon_reply, IsCall, IsReply, call_of, reply_of, opnum_of_call, opnum_of_reply}
-use Rattle.logon_stubs.specs.Writing.{CanWriteNetworkInfo, CanWriteSamInfo, CanWriteLogoffCall, CanWriteLogonCall, CanWriteArm, CanWriteCall, CanWriteReply, put_authenticator, put_network_info, times_of, texts_of, put_times, put_text_heads, put_sam_numbers, put_groups_head, put_texts, put_group, put_groups, put_group_array, put_sam_info, put_challenge_call, put_challenge_reply, put_auth_call, put_auth_reply, put_leveled_info, put_logoff_call, put_logoff_reply, front_of, put_logon_call, put_logon_reply, put_call, put_reply, written_call, written_reply}
-use Rattle.logon_stubs.specs.Ranges.{IsBlock, IsAuthenticator, InRangeNetworkInfo, InRangeChallengeCall, InRangeAuthCall, InRangeLogoffCall, InRangeLogonCall, InRangeCall, InRangeGroup, InRangeNumbers, InRangeSamInfo, InRangeLogonReply, InRangeLogoffReply, InRangeChallengeReply, InRangeAuthReply, InRangeReply, bytes_of_text, call_content, HasShortTexts, IsShortReply}
+use Rattle.logon_stubs.specs.Structures.{authenticator, network_info, sam_times, sam_heads, sam_texts, sam_numbers, entries_head, entries_pointer, array_count, group, groups, group_array, groups_target, has_extra, extra_head, extra_entry, extra_entries, extra_sid, extra_sids, extra_array, extra_target, sam_info}
+use Rattle.logon_stubs.specs.Calls.{challenge_call, challenge_reply, auth_call, auth_reply, leveled_info, request_arm, logoff_call, logoff_reply, logon_call, is_reply_arm, validation_arm, logon_reply, IsCall, IsReply, call_of, reply_of, opnum_of_call, opnum_of_reply}
+use Rattle.logon_stubs.specs.Writing.{CanWriteNetworkInfo, CanWriteSamInfo, CanWriteLogoffCall, CanWriteLogonCall, CanWriteArm, CanWriteCall, CanWriteReply, put_authenticator, put_network_info, times_of, texts_of, put_times, put_text_heads, put_sam_numbers, put_entries_head, put_texts, put_group, put_groups, put_group_array, HasLevel, put_extra_head, put_extra_entry, put_extra_entries, put_extra_sid, put_extra_sids, put_extra_array, put_sam_info, put_challenge_call, put_challenge_reply, put_auth_call, put_auth_reply, put_leveled_info, put_logoff_call, put_logoff_reply, front_of, put_logon_call, put_logon_reply, put_call, put_reply, written_call, written_reply}
+use Rattle.logon_stubs.specs.Ranges.{IsBlock, IsAuthenticator, InRangeNetworkInfo, InRangeChallengeCall, InRangeAuthCall, InRangeLogoffCall, InRangeLogonCall, InRangeCall, InRangeGroup, InRangeExtra, InRangeNumbers, InRangeSamInfo, InRangeLogonReply, InRangeLogoffReply, InRangeChallengeReply, InRangeAuthReply, InRangeReply, bytes_of_text, call_content, HasShortTexts, IsShortReply}
 use Rattle.logon_stubs.proofs.CallLaws.{IsCall-call_of, IsReply-reply_of}
 
 -- ---- at most so many bytes
@@ -39,9 +41,9 @@ network_size info = 189 + (2 * length info.domain + 2 * length info.user + 2 * l
 
 abbrev sam_size : SamInfo → ℕ
 sam_size info =
-    560
+    581
     + 2 * length info.effective_name + 2 * length info.full_name + 2 * length info.script + 2 * length info.profile + 2 * length info.home
-    + 2 * length info.home_drive + 14 * length info.groups + 2 * length info.server + 2 * length info.domain
+    + 2 * length info.home_drive + 14 * length info.groups + 2 * length info.server + 2 * length info.domain + 89 * length info.extra
 
 abbrev logoff_size : Option (List ℕ) → Option (List ℕ) → NetworkInfo → ℕ
 logoff_size server computer info = 75 + size_if_there text_size server + size_if_there text_size computer + network_size info
@@ -60,14 +62,14 @@ reply_size (reply.Authenticate value) = 22
 
 -- ---- parts
 
-block_law : (count : ℕ) (block : List ℕ) (old : Written) → IsBlock count block → WritesLayout (item (raw count)) block count old (put (raw count) block old)
+pub block_law : (count : ℕ) (block : List ℕ) (old : Written) → IsBlock count block → WritesLayout (item (raw count)) block count old (put (raw count) block old)
 block_law count block old is = within count (omega (arith, is.0)) (it (raw count) block old is.0 is.1)
 
 authenticator_law : (value : Authenticator) (old : Written) → IsAuthenticator value → WritesLayout authenticator value 15 old (put_authenticator value old)
 unfolding authenticator put_authenticator
 authenticator_law value old is = then (block_law 8 value.credential old is.credential) (then (it long value.timestamp _ is.timestamp tt) (end _ _))
 
-unique_authenticator_law : (value : Option Authenticator) (old : Written) → IfThere IsAuthenticator value → WritesLayout (unique authenticator) value 22 old (put_unique put_authenticator value old)
+pub unique_authenticator_law : (value : Option Authenticator) (old : Written) → IfThere IsAuthenticator value → WritesLayout (unique authenticator) value 22 old (put_unique put_authenticator value old)
 unique_authenticator_law value old is =
     within 22 (most value) (unique_law authenticator put_authenticator (λ target. 15) IsAuthenticator value old authenticator_law is) where
       most : (value : Option Authenticator) → 7 + size_if_there (λ target. 15) value ≤ 22
@@ -109,9 +111,9 @@ unfolding sam_heads put_text_heads
 text_heads_law info old can =
     writes_each {A = Unit {0}} (λ _. part (head 2)) (λ _. tt) units_head (λ text. put_head (2 * length text)) (λ text. 17) FitsText (λ text written fits. of_part (units_head_law text written fits)) (texts_of info) old (texts_fit info can)
 
-groups_head_law : (count : ℕ) (old : Written) → count ≤ 256 → WritesLayout groups_head (count, not (eqb count 0)) 14 old (put_groups_head count old)
-unfolding groups_head groups_pointer put_groups_head
-groups_head_law count old few =
+entries_head_law : (count : ℕ) (old : Written) → count ≤ 256 → WritesLayout entries_head (count, not (eqb count 0)) 14 old (put_entries_head count old)
+unfolding entries_head entries_pointer put_entries_head
+entries_head_law count old few =
     from_place (then (it long count old (omega (arith, few)) tt) (where_true (le-leb count 256 few) (from_place (then (it pointer (not (eqb count 0)) _ tt tt) (where_true (either (eqb count 0)) (end _ _))))))
 
 sam_numbers_law : (info : SamInfo) (old : Written) → InRangeNumbers info → WritesLayout sam_numbers (info.logon_count, info.bad_count, info.user_id, info.group_id) 24 old (put_sam_numbers info old)
@@ -128,6 +130,10 @@ unfolding sam_texts put_texts
 texts_law info old can are =
     within _ (omega arith) (writes_each (λ front. part (units front)) units_head (λ text. text) put_units (λ text. 15 + 2 * length text) IsFitText (λ text written fits. of_part (units_law text written fits.0 fits.1)) (texts_of info) old (both_of_all FitsText AreUnits (texts_of info) (texts_fit info can) are))
 
+array_count_law : (count : ℕ) (old : Written) → count ≤ 256 → WritesLayout (array_count count) tt 7 old (put long count old)
+unfolding array_count
+array_count_law count old few = from_place (then (it long count old (omega (arith, few)) tt) (where_true (eq-eqb count count refl) (end tt _)))
+
 group_law : (value : ℕ × ℕ) (old : Written) → InRangeGroup value → WritesLayout group value 14 old (put_group value old)
 unfolding group
 group_law value old is = then (it long value.0 old is.0 tt) (then (it long value.1 _ is.1 tt) (end (value.0, value.1) _))
@@ -143,28 +149,89 @@ unfolding groups_target group_array
 group_array_law [] old few is = within _ (omega arith) (end [] old)
 group_array_law (first ∷ more) old few is =
     let count = length (first ∷ more) in
-    target_law _ (some count (omega arith)) (from_place (then (it long count old (omega (arith, few)) tt) (where_true (eq-eqb count count refl) (groups_law (first ∷ more) _ is))))
+    target_law _ (some count (omega arith)) (then (array_count_law count old few) (groups_law (first ∷ more) _ is))
 
-sam_info_law : (info : SamInfo) (old : Written) → CanWriteSamInfo info → InRangeSamInfo info → WritesLayout sam_info info (sam_size info) old (put_sam_info info old)
+-- ---- extra identifiers
+
+-- a structure without a place for them has none
+abbrev FitsExtra : Bool → List (SidParts × ℕ) → Type 0
+FitsExtra false list = list ≡ []
+FitsExtra true list = Unit {0}
+
+fits_level : (level : ℕ) (info : SamInfo) → HasLevel level info → FitsExtra (has_extra level) info.extra
+fits_level level info (inl has) = rw has.0 has.1
+fits_level level info (inr has) = rw has tt
+
+extra_head_law : (with_extra : Bool) (list : List (SidParts × ℕ)) (old : Written) → FitsExtra with_extra list → length list ≤ 256 → WritesLayout (extra_head with_extra) (length list, not (eqb (length list) 0)) 14 old (put_extra_head with_extra (length list) old)
+extra_head_law false [] old fits few = within _ (omega arith) (end (0, false) old)
+extra_head_law false (first ∷ more) old fits few = absurd (cc)
+extra_head_law true list old fits few = entries_head_law (length list) old few
+
+extra_entry_law : (value : SidParts × ℕ) (old : Written) → value.1 < 2 ^ 32 → WritesLayout extra_entry value.1 14 old (put_extra_entry value old)
+unfolding extra_entry
+extra_entry_law value old fits = then (of_part (some_pointer_law old)) (it long value.1 _ fits tt)
+
+extra_entries_law : (list : List (SidParts × ℕ)) (old : Written) → AllByRecursion InRangeExtra list → WritesLayout (extra_entries (length list)) (map (λ extra. extra.1) list) (14 * length list) old (put_extra_entries list old)
+extra_entries_law list old is =
+    within _ (omega (arith, sizes list)) (
+    subst (λ (fronts : List (Unit {0})). WritesLayout (each {A = Unit {0}} (λ _. extra_entry) fronts) (map (λ extra. extra.1) list) (size_of_all (λ (extra : SidParts × ℕ). 14) list) old (put_extra_entries list old)) (places list)
+    (writes_each {A = Unit {0}} (λ _. extra_entry) (λ _. tt) (λ extra. extra.1) put_extra_entry (λ extra. 14) InRangeExtra (λ value written fits. extra_entry_law value written fits.1) list old is))
+  where
+    sizes : (list : List (SidParts × ℕ)) → size_of_all (λ (extra : SidParts × ℕ). 14) list ≡ 14 * length list
+    sizes [] = refl
+    sizes (first ∷ more) = omega (arith, sizes more)
+
+    places : (list : List (SidParts × ℕ)) → map {B = Unit {0}} (λ _. tt) list ≡ replicate (length list) tt
+    places [] = refl
+    places (first ∷ more) = ap (λ (l : List (Unit {0})). tt ∷ l) (places more)
+
+extra_sid_law : (value : SidParts × ℕ) (old : Written) → InRangeExtra value → WritesLayout (extra_sid value.1) value 75 old (put_extra_sid value old)
+unfolding extra_sid
+extra_sid_law value old is = then (it sid value.0 old is.0 tt) (end (value.0, value.1) _)
+
+extra_sids_law : (list : List (SidParts × ℕ)) (old : Written) → AllByRecursion InRangeExtra list → WritesLayout (extra_sids (map (λ extra. extra.1) list)) list (75 * length list) old (put_extra_sids list old)
+extra_sids_law list old is =
+    within _ (omega (arith, sizes list)) (
+    subst (λ (seen : List (SidParts × ℕ)). WritesLayout (extra_sids (map (λ extra. extra.1) list)) seen (size_of_all (λ (extra : SidParts × ℕ). 75) list) old (put_extra_sids list old)) (same_list list)
+    (writes_each extra_sid (λ extra. extra.1) (λ extra. extra) put_extra_sid (λ extra. 75) InRangeExtra extra_sid_law list old is))
+  where
+    sizes : (list : List (SidParts × ℕ)) → size_of_all (λ (extra : SidParts × ℕ). 75) list ≡ 75 * length list
+    sizes [] = refl
+    sizes (first ∷ more) = omega (arith, sizes more)
+
+    same_list : (list : List (SidParts × ℕ)) → map (λ extra. extra) list ≡ list
+    same_list [] = refl
+    same_list (first ∷ more) = ap (λ (l : List (SidParts × ℕ)). first ∷ l) (same_list more)
+
+extra_array_law : (list : List (SidParts × ℕ)) (old : Written) → length list ≤ 256 → AllByRecursion InRangeExtra list → WritesLayout (extra_target (length list, not (eqb (length list) 0))) list (7 + 89 * length list) old (put_extra_array list old)
+unfolding extra_target extra_array
+extra_array_law [] old few is = within _ (omega arith) (end [] old)
+extra_array_law (first ∷ more) old few is =
+    let count = length (first ∷ more) in
+    within _ (omega arith) (target_law _ (some count (omega arith)) (then (array_count_law count old few) (then (extra_entries_law (first ∷ more) _ is) (extra_sids_law (first ∷ more) _ is))))
+
+sam_info_law : (with_extra : Bool) (info : SamInfo) (old : Written) → FitsExtra with_extra info.extra → CanWriteSamInfo info → InRangeSamInfo info → WritesLayout (sam_info with_extra) info (sam_size info) old (put_sam_info with_extra info old)
 unfolding sam_info put_sam_info
-sam_info_law info old can is =
+sam_info_law with_extra info old fits can is =
     within _ (omega arith) (
     then (times_law info old is.times) (
     then (text_heads_law info _ can) (
     then (sam_numbers_law info _ is.numbers) (
-    then (groups_head_law (length info.groups) _ can.groups) (
+    then (entries_head_law (length info.groups) _ can.groups) (
     then (it long info.user_flags _ is.user_flags tt) (
     then (block_law 16 info.key _ is.key) (
     then (of_part (units_head_law info.server _ can.server)) (
     then (of_part (units_head_law info.domain _ can.domain)) (
     then (of_part (some_pointer_law _)) (
     then (of_part (reserved_law 10 _)) (
+    then (extra_head_law with_extra info.extra _ fits can.extra) (
     then (texts_law info _ can is.texts) (
     then (group_array_law info.groups _ can.groups is.groups) (
     then (of_part (units_law info.server _ can.server is.server)) (
     then (of_part (units_law info.domain _ can.domain is.domain)) (
     then (it sid info.sid _ is.sid tt) (
-    end _ _))))))))))))))))
+    then (extra_array_law info.extra _ can.extra is.extra) (
+    end _ _))))))))))))))))))
 
 -- ---- the calls
 
@@ -230,11 +297,16 @@ logoff_reply_law : (value : LogoffReply) (old : Written) → InRangeLogoffReply 
 unfolding logoff_reply put_logoff_reply
 logoff_reply_law value old is = then (unique_authenticator_law value.returned old is.returned) (then (it long value.status _ is.status tt) (end _ _))
 
-validation_arm_law : (level : ℕ) (info : Option SamInfo) (old : Written) → CanWriteArm level info → IfThere InRangeSamInfo info → WritesLayout (validation_arm level) info (7 + size_if_there sam_size info) old (put_unique put_sam_info info old)
+-- a level that has the information is an arm
+is_arm : (level : ℕ) (info : SamInfo) → HasLevel level info → IsTrue (is_reply_arm level)
+is_arm level info (inl has) = rw has.0 refl
+is_arm level info (inr has) = rw has refl
+
+validation_arm_law : (level : ℕ) (info : Option SamInfo) (old : Written) → CanWriteArm level info → IfThere InRangeSamInfo info → WritesLayout (validation_arm level) info (7 + size_if_there sam_size info) old (put_unique (put_sam_info (has_extra level)) info old)
 unfolding validation_arm
 validation_arm_law level None old can is = then (it pointer false old tt tt) (end _ _)
 validation_arm_law level (Some info) old can is =
-    within _ (omega arith) (then (it pointer true old tt tt) (where_true (eq-eqb level 2 can.0) (then (sam_info_law info _ can.1 is) (end _ _))))
+    within _ (omega arith) (then (it pointer true old tt tt) (where_true (is_arm level info can.0) (then (sam_info_law (has_extra level) info _ (fits_level level info can.0) can.1 is) (end _ _))))
 
 logon_reply_law : (value : LogonReply) (old : Written) → CanWriteArm value.level value.info → InRangeLogonReply value → WritesLayout logon_reply value (reply_size (reply.Logon value)) old (put_logon_reply value old)
 unfolding logon_reply put_logon_reply
@@ -311,7 +383,7 @@ pub ruleset written = (written_is, written_again, reply_written_is, reply_writte
 
 -- ---- bounds
 
-text_content : (value : Option (List ℕ)) → size_if_there text_size value ≤ 17 + size_if_there bytes_of_text value
+pub text_content : (value : Option (List ℕ)) → size_if_there text_size value ≤ 17 + size_if_there bytes_of_text value
 text_content None = omega arith
 text_content (Some value) = omega arith
 
@@ -324,7 +396,7 @@ call_size-content (call.Authenticate value) = omega (arith, text_content value.p
 pub written_call-content : (value : Call) → CanWriteCall value → InRangeCall value → length (written_call value) ≤ 400 + call_content value
 written_call-content value can is = omega (arith, written_call-short value can is, call_size-content value)
 
-text_if_there : (value : Option (List ℕ)) → IfThere FitsText value → size_if_there text_size value ≤ 65551
+pub text_if_there : (value : Option (List ℕ)) → IfThere FitsText value → size_if_there text_size value ≤ 65551
 text_if_there None fits = omega arith
 text_if_there (Some value) fits = omega (arith, fits)
 
@@ -337,10 +409,10 @@ call_size-lt (call.Logoff value) can = omega (arith, text_if_there value.server 
 call_size-lt (call.Challenge value) can = omega (arith, text_if_there value.primary can.0, can.1)
 call_size-lt (call.Authenticate value) can = omega (arith, text_if_there value.primary can.0, can.1, can.2)
 
-sam_size-le : (info : SamInfo) → CanWriteSamInfo info → sam_size info ≤ 528416
-sam_size-le info can = omega (arith, can.effective_name, can.full_name, can.script, can.profile, can.home, can.home_drive, can.groups, can.server, can.domain)
+sam_size-le : (info : SamInfo) → CanWriteSamInfo info → sam_size info ≤ 551221
+sam_size-le info can = omega (arith, can.effective_name, can.full_name, can.script, can.profile, can.home, can.home_drive, can.groups, can.server, can.domain, can.extra)
 
-arm_size-le : (level : ℕ) (info : Option SamInfo) → CanWriteArm level info → size_if_there sam_size info ≤ 528416
+arm_size-le : (level : ℕ) (info : Option SamInfo) → CanWriteArm level info → size_if_there sam_size info ≤ 551221
 arm_size-le level None can = omega arith
 arm_size-le level (Some info) can = sam_size-le info can.1
 
@@ -356,15 +428,18 @@ written_call-lt value can is = omega (arith, written_call-short value can is, ca
 pub written_reply-lt : (value : Reply) → CanWriteReply value → InRangeReply value → length (written_reply value) < 2 ^ 20
 written_reply-lt value can is = omega (arith, written_reply-short value can is, reply_size-lt value can)
 
-arm_joins : (level : ℕ) (info : Option SamInfo) → CanWriteArm level info → IfThere HasShortTexts info → size_if_there sam_size info ≤ 5168
+arm_joins : (level : ℕ) (info : Option SamInfo) → CanWriteArm level info → IfThere HasShortTexts info → size_if_there sam_size info ≤ 27973
 arm_joins level None can few = omega arith
-arm_joins level (Some info) can few = omega (arith, can.1.groups, few.effective_name, few.full_name, few.script, few.profile, few.home, few.home_drive, few.server, few.domain)
+arm_joins level (Some info) can few = omega (arith, can.1.groups, few.effective_name, few.full_name, few.script, few.profile, few.home, few.home_drive, few.server, few.domain, can.1.extra)
 
-reply_joins : (value : Reply) → CanWriteReply value → IsShortReply value → reply_size value ≤ 5210
+reply_joins : (value : Reply) → CanWriteReply value → IsShortReply value → reply_size value ≤ 28015
 reply_joins (reply.Logon value) can few = omega (arith, arm_joins value.level value.info can few)
 reply_joins (reply.Logoff value) can few = omega arith
 reply_joins (reply.Challenge value) can few = omega arith
 reply_joins (reply.Authenticate value) can few = omega arith
 
+pub written_reply-few : (value : Reply) → CanWriteReply value → InRangeReply value → IsShortReply value → length (written_reply value) ≤ 28015
+written_reply-few value can is few = omega (arith, written_reply-short value can is, reply_joins value can few)
+
 pub written_reply-joins : (value : Reply) → CanWriteReply value → InRangeReply value → IsShortReply value → length (written_reply value) ≤ 65536
-written_reply-joins value can is few = omega (arith, written_reply-short value can is, reply_joins value can few)
+written_reply-joins value can is few = omega (arith, written_reply-few value can is few)

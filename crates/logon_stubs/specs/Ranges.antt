@@ -3,7 +3,7 @@ use Rattle.std.specs.Prelude.{ℕ, ◌≡◌, ◌+◌, ◌*◌, ◌^◌, ◌<◌
 use Rattle.std.specs.List.{AllByRecursion}
 use Rattle.wire_base.specs.Numbers.{AreBytes}
 use Rattle.wire_base.specs.Units.{AreUnits}
-use Rattle.wire_base.specs.Sid.{IsSid}
+use Rattle.wire_base.specs.Sid.{SidParts, IsSid}
 use Rattle.ndr_codec.specs.Parts.{IfThere, size_if_there}
 use Rattle.wire_base.specs.declared.authenticator.Authenticator.{Authenticator}
 use Rattle.logon_stubs.specs.declared.info.NetworkInfo.{NetworkInfo}
@@ -73,6 +73,14 @@ InRangeCall (call.Authenticate value) = InRangeAuthCall value
 abbrev pub InRangeGroup : ℕ × ℕ → Type 0
 InRangeGroup group = (group.0 < 2 ^ 32) × (group.1 < 2 ^ 32)
 
+-- an identifier whose numbers have 32 bits
+abbrev pub InRangeSid : SidParts → Type 0
+InRangeSid sid = IsSid sid × AllByRecursion (λ n. n < 2 ^ 32) sid.numbers
+
+-- an extra identifier and its attributes
+abbrev pub InRangeExtra : SidParts × ℕ → Type 0
+InRangeExtra extra = InRangeSid extra.0 × (extra.1 < 2 ^ 32)
+
 pub record InRangeNumbers (info : SamInfo) : Type 0 where
   pub logon_count : info.logon_count < 2 ^ 16
   pub bad_count : info.bad_count < 2 ^ 16
@@ -88,7 +96,8 @@ pub record InRangeSamInfo (info : SamInfo) : Type 0 where
   pub key : IsBlock 16 info.key
   pub server : AreUnits info.server
   pub domain : AreUnits info.domain
-  pub sid : IsSid info.sid × AllByRecursion (λ n. n < 2 ^ 32) info.sid.numbers
+  pub sid : InRangeSid info.sid
+  pub extra : AllByRecursion InRangeExtra info.extra
 
 pub record InRangeLogonReply (value : LogonReply) : Type 0 where
   pub returned : IfThere IsAuthenticator value.returned

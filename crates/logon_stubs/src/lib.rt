@@ -1,6 +1,7 @@
 //! The calls of Netlogon's secure channel and their replies, as stubs of RPC (MS-NRPC 3.5.4).
 #![tactic(auto)]
 
+mod answers;
 mod calls;
 mod info;
 mod reading;
@@ -12,12 +13,14 @@ mod writing;
 mod writing_info;
 mod writing_parts;
 
+pub use answers::answers_are_long;
 pub use calls::{
     AuthCall, AuthReply, Call, ChallengeCall, ChallengeReply, LogoffCall, LogoffReply, LogonCall,
     LogonReply, Reply,
 };
-pub use info::{NetworkInfo, SamInfo, Verdict};
+pub use info::{ExtraSids, NetworkInfo, SamInfo, Verdict};
 pub use reading::{read_call, read_reply};
+pub use reading_parts::{read_sixteen, read_unique_authenticator};
 pub use refused::StubRefused;
 pub use status::{
     NETLOGON_UUID, NETLOGON_VERSION, STATUS_ACCESS_DENIED, STATUS_ACCOUNT_DISABLED,
@@ -29,3 +32,4 @@ pub use status::{
     STATUS_WRONG_PASSWORD, what_constants_are,
 };
 pub use writing::{what_is_written_is_read, write_call, write_reply};
+pub use writing_parts::{write_sixteen, write_unique_authenticator};

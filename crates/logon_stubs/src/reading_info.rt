@@ -2,19 +2,19 @@
 
 ghost use Rattle.std.specs.Prelude.{◌≡◌, ◌≤◌};
 ghost use Rattle.logon_stubs.specs.Layout.{Reads};
-ghost use Rattle.logon_stubs.specs.Structures.{ReadsSix, network_info, list_of, sam_times, sam_heads, sam_texts, sam_numbers, groups_head, groups, group, group_array, groups_target, sam_info};
+ghost use Rattle.logon_stubs.specs.Structures.{ReadsSix, network_info, list_of, sam_times, sam_heads, sam_texts, sam_numbers, entries_head, array_count, groups, group, group_array, groups_target, extra_head, extra_entry, extra_entries, extra_sid, extra_sids, extra_array, extra_target, sam_info};
 
-use crate::info::{NetworkInfo, SamInfo};
+use crate::info::{ExtraSids, NetworkInfo, SamInfo};
 use crate::reading_parts::{long_at, pointer_at, read_eight, read_sixteen};
 use crate::refused::StubRefused;
 use ndr_codec::{
     Head, Reader, read_bytes, read_halves, read_head, read_reserved, read_some_pointer, read_units,
 };
 use std::alloc::Global;
-use wire_base::{Groups, Units};
+use wire_base::{Groups, Numbers, Sid, Units};
 
-/// The most groups of a user in a reply.
-const GROUP_LIMIT: u32 = 256;
+/// The most groups of a user in a reply, and the most extra identifiers.
+const ENTRY_LIMIT: u32 = 256;
 
 /// Six of the same.
 type Six<T> = (T, T, T, T, T, T);
@@ -112,13 +112,13 @@ fn read_sam_numbers(reader: &mut Reader<'_>) -> Result<(u16, u16, u32, u32), Stu
     ))
 }
 
-/// How many groups a user has, and whether their array is there.
-#[tactic(auto, unfolding(crate::specs::Structures::groups_head, crate::specs::Structures::groups_pointer))]
-fn read_groups_head(reader: &mut Reader<'_>) -> Result<(u32, bool), StubRefused>
-    ensures { Reads groups_head result reader.old reader.new }
+/// How many entries an array has, and whether it is there.
+#[tactic(auto, unfolding(crate::specs::Structures::entries_head, crate::specs::Structures::entries_pointer))]
+fn read_entries_head(reader: &mut Reader<'_>) -> Result<(u32, bool), StubRefused>
+    ensures { Reads entries_head result reader.old reader.new }
 {
     let (start, count) = long_at(reader)?;
-    if count > GROUP_LIMIT {
+    if count > ENTRY_LIMIT {
         return Err(StubRefused::BadStub(start));
     }
     let (start, there) = pointer_at(reader)?;
@@ -126,6 +126,18 @@ fn read_groups_head(reader: &mut Reader<'_>) -> Result<(u32, bool), StubRefused>
         return Err(StubRefused::BadStub(start));
     }
     Ok((count, there))
+}
+
+/// The count in front of an array, which is that of its head.
+#[tactic(auto, unfolding(crate::specs::Structures::array_count))]
+fn read_array_count(reader: &mut Reader<'_>, count: u32) -> Result<(), StubRefused>
+    ensures { Reads (array_count count) result reader.old reader.new }
+{
+    let (start, actual) = long_at(reader)?;
+    if actual != count {
+        return Err(StubRefused::BadStub(start));
+    }
+    Ok(())
 }
 
 /// A group.
@@ -160,28 +172,111 @@ fn read_group_array(
     if !front.1 {
         return Ok(Groups::new(alloc));
     }
-    let (start, actual) = long_at(reader)?;
-    if actual != front.0 {
-        return Err(StubRefused::BadStub(start));
-    }
+    read_array_count(reader, front.0)?;
     read_groups(alloc, reader, front.0)
 }
 
-/// A user's information.
+/// How many extra identifiers a user has, and whether their array is there; none where the structure has no place for
+/// them.
+fn read_extra_head(reader: &mut Reader<'_>, with_extra: bool) -> Result<(u32, bool), StubRefused>
+    ensures { Reads (extra_head with_extra) result reader.old reader.new }
+{
+    if !with_extra {
+        return Ok((0, false));
+    }
+    read_entries_head(reader)
+}
+
+/// The attributes of an extra identifier, behind the pointer to it.
+#[tactic(auto, unfolding(crate::specs::Structures::extra_entry))]
+fn read_extra_entry(reader: &mut Reader<'_>) -> Result<u32, StubRefused>
+    ensures { Reads extra_entry result reader.old reader.new }
+{
+    read_some_pointer(reader)?;
+    Ok(reader.long()?)
+}
+
+/// The attributes of that many.
+#[tactic(auto, using(ndr_codec::proofs::TimesLaws::stepping))]
+fn read_extra_entries(
+    alloc: Global,
+    reader: &mut Reader<'_>,
+    count: u32,
+) -> Result<Numbers, StubRefused>
+    ensures { Reads (extra_entries count) result reader.old reader.new }
+{
+    let mut attributes = Numbers::new(alloc);
+    for _ in 0..count {
+        attributes.push(read_extra_entry(reader)?)?;
+    }
+    Ok(attributes)
+}
+
+/// An extra identifier, with its attributes.
+#[tactic(auto, unfolding(crate::specs::Structures::extra_sid))]
+fn read_extra_sid(
+    alloc: Global,
+    reader: &mut Reader<'_>,
+    attributes: u32,
+) -> Result<(Sid, u32), StubRefused>
+    ensures { Reads (extra_sid attributes) result reader.old reader.new }
+{
+    Ok((reader.sid(alloc)?, attributes))
+}
+
+/// The extra identifiers with those attributes.
+#[tactic(auto, using(crate::proofs::ListLaws::reading_each))]
+fn read_extra_sids(
+    alloc: Global,
+    reader: &mut Reader<'_>,
+    attributes: &[u32],
+) -> Result<ExtraSids, StubRefused>
+    ensures { Reads (extra_sids attributes.now) result reader.old reader.new }
+{
+    let mut extra = ExtraSids::new(alloc);
+    for number in attributes {
+        extra.push(read_extra_sid(alloc, reader, *number)?)?;
+    }
+    Ok(extra)
+}
+
+/// The array of extra identifiers, with their count in front.
+#[tactic(auto, unfolding(crate::specs::Structures::extra_target, crate::specs::Structures::extra_array))]
+fn read_extra_array(
+    alloc: Global,
+    reader: &mut Reader<'_>,
+    front: (u32, bool),
+) -> Result<ExtraSids, StubRefused>
+    ensures { Reads (extra_target front) result reader.old reader.new }
+{
+    if !front.1 {
+        return Ok(ExtraSids::new(alloc));
+    }
+    read_array_count(reader, front.0)?;
+    let attributes = read_extra_entries(alloc, reader, front.0)?;
+    read_extra_sids(alloc, reader, attributes.items())
+}
+
+/// A user's information, with extra identifiers or without.
 #[tactic(auto, unfolding(crate::specs::Structures::sam_info))]
-pub(crate) fn read_sam_info(alloc: Global, reader: &mut Reader<'_>) -> Result<SamInfo, StubRefused>
-    ensures { Reads sam_info result reader.old reader.new }
+pub(crate) fn read_sam_info(
+    alloc: Global,
+    reader: &mut Reader<'_>,
+    with_extra: bool,
+) -> Result<SamInfo, StubRefused>
+    ensures { Reads (sam_info with_extra) result reader.old reader.new }
 {
     let times = read_times(reader)?;
     let heads = read_text_heads(reader)?;
     let numbers = read_sam_numbers(reader)?;
-    let groups = read_groups_head(reader)?;
+    let groups = read_entries_head(reader)?;
     let user_flags = reader.long()?;
     let key = read_sixteen(reader)?;
     let server_head = read_head(reader, 2)?;
     let domain_head = read_head(reader, 2)?;
     read_some_pointer(reader)?;
     read_reserved(reader, RESERVED)?;
+    let extra = read_extra_head(reader, with_extra)?;
     let texts = read_texts(alloc, reader, heads)?;
     Ok(SamInfo {
         logon_time: times.0,
@@ -206,5 +301,6 @@ pub(crate) fn read_sam_info(alloc: Global, reader: &mut Reader<'_>) -> Result<Sa
         server: read_units(alloc, reader, server_head)?,
         domain: read_units(alloc, reader, domain_head)?,
         sid: reader.sid(alloc)?,
+        extra: read_extra_array(alloc, reader, extra)?,
     })
 }

@@ -1,4 +1,5 @@
-//! The NTSTATUS values that replies to Netlogon's calls carry (MS-ERREF 2.3.1), and the interface that the calls belong to.
+//! The NTSTATUS values that replies to Netlogon's calls carry (MS-ERREF 2.3.1), and the interface that the calls belong
+//! to.
 
 ghost use Rattle.std.specs.Prelude.{◌≡◌, ◌∷◌, []};
 ghost use Rattle.logon_stubs.specs.Status.{statuses, netlogon_uuid, netlogon_version};
@@ -38,7 +39,8 @@ pub const STATUS_ACCOUNT_LOCKED_OUT: u32 = 0xC000_0234;
 /// The other side offers less than it has to.
 pub const STATUS_DOWNGRADE_DETECTED: u32 = 0xC000_0388;
 
-/// The UUID of Netlogon's interface, 12345678-1234-ABCD-EF00-01234567CFFB, as its bytes stand in a bind (MS-NRPC 2.1; C706 14.1).
+/// The UUID of Netlogon's interface, 12345678-1234-ABCD-EF00-01234567CFFB, as its bytes stand in a bind (MS-NRPC 2.1;
+/// C706 14.1).
 pub const NETLOGON_UUID: [u8; 16] = [
     0x78, 0x56, 0x34, 0x12, 0x34, 0x12, 0xCD, 0xAB, 0xEF, 0x00, 0x01, 0x23, 0x45, 0x67, 0xCF, 0xFB,
 ];

@@ -6,6 +6,7 @@ ghost use Rattle.ndr_codec.specs.Parts.{FitsText, IfThere, put_unique};
 ghost use Rattle.logon_stubs.specs.declared.calls.Call.{Call as Asked};
 ghost use Rattle.logon_stubs.specs.declared.calls.Reply.{Reply as Answered};
 ghost use Rattle.logon_stubs.specs.Calls.{call_of, reply_of, opnum_of_call, opnum_of_reply, IsCall, IsReply};
+ghost use Rattle.logon_stubs.specs.Structures.{has_extra};
 ghost use Rattle.logon_stubs.specs.Writing.{CanWriteNetworkInfo, CanWriteLogonCall, CanWriteLogoffCall, CanWriteArm, CanWriteCall, CanWriteReply, put_challenge_call, put_challenge_reply, put_auth_call, put_auth_reply, put_leveled_info, logoff_of, put_logoff_call, put_logoff_reply, put_logon_call, put_logon_reply, put_sam_info, put_call, put_reply, written_call, written_reply};
 ghost use Rattle.logon_stubs.specs.Ranges.{InRangeNetworkInfo, InRangeSamInfo, InRangeChallengeCall, InRangeAuthCall, InRangeLogoffCall, InRangeLogonCall, InRangeCall, InRangeChallengeReply, InRangeAuthReply, InRangeLogoffReply, InRangeLogonReply, InRangeReply, call_content, IsShortReply};
 
@@ -155,13 +156,14 @@ fn write_validation_arm(
     info: &Option<SamInfo>,
 ) -> Result<(), NoMemory>
     requires fits { CanWriteArm level info.now }
-    ensures exact { OnOk result (writer.new ≡ put_unique put_sam_info info.now writer.old) }
+    ensures exact { OnOk result
+        (writer.new ≡ put_unique (put_sam_info (has_extra level)) info.now writer.old) }
     ensures range { OnOk result (IfThere InRangeSamInfo info.now) }
 {
     match info {
         Some(info) => {
             writer.pointer(true)?;
-            write_sam_info(writer, info)
+            write_sam_info(writer, info, level == 3)
         }
         None => writer.pointer(false),
     }
@@ -238,9 +240,10 @@ pub fn write_reply(alloc: Global, reply: &Reply) -> Result<Blob, NoMemory>
     Ok(writer.finish())
 }
 
-/// What is written is read, of calls and replies whose numbers, units and bytes have their ranges; and what is read of bytes has them. A stub
-/// is bytes, fewer than 2^20. A call has at most 400 bytes more than its texts and responses. A reply whose texts have at most 64 units
-/// each has at most 65,536, the most that are joined from fragments (this project's own choice).
+/// What is written is read, of calls and replies whose numbers, units and bytes have their ranges; and what is read of
+/// bytes has them. A stub is bytes, fewer than 2^20. A call has at most 400 bytes more than its texts and responses. A
+/// reply whose texts have at most 64 units each has at most 28,015, fewer than are joined from fragments: 65,536 (this
+/// project's own choice).
 pub fn what_is_written_is_read()
     ensures calls { (value : Asked) → CanWriteCall value → InRangeCall value →
         call_of (opnum_of_call value) (written_call value) ≡ Ok value }
@@ -257,7 +260,7 @@ pub fn what_is_written_is_read()
     ensures call_short { (value : Asked) → CanWriteCall value → InRangeCall value →
         length (written_call value) ≤ 400 + call_content value }
     ensures reply_joins { (value : Answered) → CanWriteReply value → InRangeReply value →
-        IsShortReply value → length (written_reply value) ≤ 65536 }
+        IsShortReply value → length (written_reply value) ≤ 28015 }
     ensures call_ranges { (opnum : ℕ) (stub : List ℕ) (value : Asked) →
         AreBytes stub → call_of opnum stub ≡ Ok value → InRangeCall value }
     ensures reply_ranges { (opnum : ℕ) (stub : List ℕ) (value : Answered) →

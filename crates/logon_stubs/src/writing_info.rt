@@ -3,17 +3,17 @@
 ghost use Rattle.std.specs.Prelude.{◌≡◌, ◌^◌, ◌<◌, ◌≤◌, length, OnOk};
 ghost use Rattle.std.specs.List.{AllByRecursion};
 ghost use Rattle.wire_base.specs.Units.{AreUnits};
-ghost use Rattle.logon_stubs.specs.Ranges.{InRangeNetworkInfo, InRangeNumbers, InRangeGroup, InRangeSamInfo};
-ghost use Rattle.logon_stubs.specs.Writing.{CanWriteNetworkInfo, CanWriteSamInfo, times_of, texts_of, put_network_info, put_times, put_text_heads, put_sam_numbers, put_groups_head, put_texts, put_groups, put_group_array, put_sam_info};
+ghost use Rattle.logon_stubs.specs.Ranges.{InRangeNetworkInfo, InRangeNumbers, InRangeGroup, InRangeSid, InRangeExtra, InRangeSamInfo};
+ghost use Rattle.logon_stubs.specs.Writing.{CanWriteNetworkInfo, CanWriteSamInfo, times_of, texts_of, put_network_info, put_times, put_text_heads, put_sam_numbers, put_entries_head, put_texts, put_groups, put_group_array, put_extra_head, put_extra_entries, put_extra_sids, put_extra_array, put_sam_info};
 
-use crate::info::{NetworkInfo, SamInfo};
+use crate::info::{ExtraSids, NetworkInfo, SamInfo};
 use crate::reading_info::RESERVED;
 use crate::writing_parts::{write_eight, write_sixteen};
 use ndr_codec::{
     Writer, write_bytes, write_bytes_head, write_halves, write_reserved, write_units,
     write_units_head,
 };
-use wire_base::{Groups, NoMemory};
+use wire_base::{Groups, NoMemory, Sid};
 
 /// A network logon.
 #[tactic(auto, unfolding(crate::specs::Writing::put_network_info))]
@@ -65,14 +65,13 @@ fn write_text_heads(writer: &mut Writer, info: &SamInfo) -> Result<(), NoMemory>
     write_units_head(writer, &info.home_drive)
 }
 
-/// How many groups there are, and the pointer to them.
-#[tactic(auto, unfolding(crate::specs::Writing::put_groups_head))]
-fn write_groups_head(writer: &mut Writer, groups: &Groups) -> Result<(), NoMemory>
-    requires fits { length groups.now ≤ 256 }
-    ensures { OnOk result (writer.new ≡ put_groups_head (length groups.now) writer.old) }
+/// How many entries an array has, and the pointer to them.
+#[tactic(auto, unfolding(crate::specs::Writing::put_entries_head))]
+fn write_entries_head(writer: &mut Writer, count: usize) -> Result<(), NoMemory>
+    requires fits { count ≤ 256 }
+    ensures { OnOk result (writer.new ≡ put_entries_head count writer.old) }
 {
-    let count = groups.len() as u32;
-    writer.long(count)?;
+    writer.long(count as u32)?;
     writer.pointer(count != 0)
 }
 
@@ -129,26 +128,84 @@ fn write_group_array(writer: &mut Writer, list: &Groups) -> Result<(), NoMemory>
     write_groups(writer, list.items())
 }
 
-/// A user's information.
+/// How many extra identifiers there are, and the pointer to them, where the structure has a place for them.
+fn write_extra_head(writer: &mut Writer, with_extra: bool, list: &ExtraSids) -> Result<(), NoMemory>
+    requires fits { length list.now ≤ 256 }
+    ensures { OnOk result
+        (writer.new ≡ put_extra_head with_extra (length list.now) writer.old) }
+{
+    if !with_extra {
+        return Ok(());
+    }
+    write_entries_head(writer, list.len())
+}
+
+/// The pointer to each extra identifier, and its attributes.
+#[tactic(auto, using(crate::proofs::ListLaws::putting_extra))]
+fn write_extra_entries(writer: &mut Writer, list: &[(Sid, u32)]) -> Result<(), NoMemory>
+    ensures exact { OnOk result (writer.new ≡ put_extra_entries list.now writer.old) }
+    ensures range { OnOk result (AllByRecursion (λ extra. extra.1 < 2 ^ 32) list.now) }
+{
+    for (_, attributes) in list {
+        writer.pointer(true)?;
+        writer.long(*attributes)?;
+    }
+    Ok(())
+}
+
+/// Each extra identifier.
+#[tactic(auto, using(crate::proofs::ListLaws::putting_extra))]
+fn write_extra_sids(writer: &mut Writer, list: &[(Sid, u32)]) -> Result<(), NoMemory>
+    ensures exact { OnOk result (writer.new ≡ put_extra_sids list.now writer.old) }
+    ensures range { OnOk result (AllByRecursion (λ extra. InRangeSid extra.0) list.now) }
+{
+    for (identifier, _) in list {
+        writer.sid(identifier)?;
+    }
+    Ok(())
+}
+
+/// The array of extra identifiers, with their count in front; nothing where there are none.
+#[tactic(auto, using(crate::proofs::ListLaws::both_ranges))]
+fn write_extra_array(writer: &mut Writer, list: &ExtraSids) -> Result<(), NoMemory>
+    requires { length list.now ≤ 256 }
+    ensures exact { OnOk result (writer.new ≡ put_extra_array list.now writer.old) }
+    ensures range { OnOk result (AllByRecursion InRangeExtra list.now) }
+{
+    if list.is_empty() {
+        return Ok(());
+    }
+    writer.long(list.len() as u32)?;
+    write_extra_entries(writer, list.items())?;
+    write_extra_sids(writer, list.items())
+}
+
+/// A user's information, with extra identifiers or without.
 #[tactic(auto, unfolding(crate::specs::Writing::put_sam_info))]
-pub(crate) fn write_sam_info(writer: &mut Writer, info: &SamInfo) -> Result<(), NoMemory>
+pub(crate) fn write_sam_info(
+    writer: &mut Writer,
+    info: &SamInfo,
+    with_extra: bool,
+) -> Result<(), NoMemory>
     requires fits { CanWriteSamInfo info.now }
-    ensures exact { OnOk result (writer.new ≡ put_sam_info info.now writer.old) }
+    ensures exact { OnOk result (writer.new ≡ put_sam_info with_extra info.now writer.old) }
     ensures range { OnOk result (InRangeSamInfo info.now) }
 {
     write_times(writer, info)?;
     write_text_heads(writer, info)?;
     write_sam_numbers(writer, info)?;
-    write_groups_head(writer, &info.groups)?;
+    write_entries_head(writer, info.groups.len())?;
     writer.long(info.user_flags)?;
     write_sixteen(writer, info.key)?;
     write_units_head(writer, &info.server)?;
     write_units_head(writer, &info.domain)?;
     writer.pointer(true)?;
     write_reserved(writer, RESERVED)?;
+    write_extra_head(writer, with_extra, &info.extra)?;
     write_texts(writer, info)?;
     write_group_array(writer, &info.groups)?;
     write_units(writer, &info.server)?;
     write_units(writer, &info.domain)?;
-    writer.sid(&info.sid)
+    writer.sid(&info.sid)?;
+    write_extra_array(writer, &info.extra)
 }

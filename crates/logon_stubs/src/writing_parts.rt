@@ -18,8 +18,8 @@ pub(crate) fn write_eight(writer: &mut Writer, value: [u8; 8]) -> Result<(), NoM
     writer.raw(&value)
 }
 
-/// A session key.
-pub(crate) fn write_sixteen(writer: &mut Writer, value: [u8; 16]) -> Result<(), NoMemory>
+/// A session key or a hash: 16 bytes. Without memory what was put before it stays.
+pub fn write_sixteen(writer: &mut Writer, value: [u8; 16]) -> Result<(), NoMemory>
     ensures exact { OnOk result (writer.new ≡ put (raw 16) value writer.old) }
     ensures range { OnOk result (IsBlock 16 value) }
 {
@@ -36,8 +36,8 @@ fn write_authenticator(writer: &mut Writer, value: &Authenticator) -> Result<(),
     writer.long(value.timestamp)
 }
 
-/// A unique pointer to an authenticator, and the authenticator.
-pub(crate) fn write_unique_authenticator(
+/// A unique pointer to an authenticator, and the authenticator. Without memory what was put before it stays.
+pub fn write_unique_authenticator(
     writer: &mut Writer,
     value: &Option<Authenticator>,
 ) -> Result<(), NoMemory>

@@ -1,5 +1,5 @@
--- The stubs of the memo interface (this project's own interface; C706 14): the reply of WhoAmI, operation 0, whose request's stub is passed over, and the
--- request and the reply of Echo, operation 1.
+-- The stubs of the memo interface (this project's own interface; C706 14): the reply of WhoAmI, operation 0, whose
+-- request's stub is passed over, and the request and the reply of Echo, operation 1.
 use Rattle.std.specs.Prelude.{ℕ, ◌≤◌, ◌==◌, List, length, Result, nat_le}
 use Rattle.ndr_codec.specs.declared.refused.NdrRefused.{NdrRefused}
 use Rattle.ndr_codec.specs.Layout.{start_of, long, raw, text}
@@ -44,7 +44,8 @@ echo_reply = do
   ended ← status_zero
   done bytes
 
--- ---- what is read of a stub: the value, or the first item that isn't of its layout; what follows the last item is passed over
+-- ---- what is read of a stub: the value, or the first item that isn't of its layout; what follows the last item is
+-- passed over
 
 unfoldable pub who_of : List ℕ → Result (List ℕ) MemoRefused
 who_of stub = parsed_by memo_refused (λ name. name) who_reply stub

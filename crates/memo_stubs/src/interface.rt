@@ -3,7 +3,8 @@
 ghost use Rattle.std.specs.Prelude.{◌≡◌};
 ghost use Rattle.memo_stubs.specs.Interface.{memo_uuid, memo_version};
 
-/// The UUID of the memo interface, 6E744C6F-676F-4E4D-8D65-6D6F00000001, as its bytes stand in a bind (this project's own choice; C706 14.1).
+/// The UUID of the memo interface, 6E744C6F-676F-4E4D-8D65-6D6F00000001, as its bytes stand in a bind (this project's
+/// own choice; C706 14.1).
 pub const MEMO_UUID: [u8; 16] = [
     0x6F, 0x4C, 0x74, 0x6E, 0x6F, 0x67, 0x4D, 0x4E, 0x8D, 0x65, 0x6D, 0x6F, 0x00, 0x00, 0x00, 0x01,
 ];

@@ -1,4 +1,5 @@
-//! The stubs of the memo interface, by which a member tells who is logged on and sends bytes back (this project's own interface).
+//! The stubs of the memo interface, by which a member tells who is logged on and sends bytes back (this project's own
+//! interface).
 #![tactic(auto)]
 
 mod interface;

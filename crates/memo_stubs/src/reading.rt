@@ -17,7 +17,8 @@ pub(crate) const ECHO_LIMIT: u32 = 4096;
 /// A number, and the place where it begins.
 fn long_at(reader: &mut Reader<'_>) -> Result<(usize, u32), MemoRefused>
     ensures { MatchResult result
-        (λ found. (found.0 ≡ start_of 4 reader.old.place) × (reading_by memo_refused (item long) reader.old ≡ Ok (found.1, reader.new)))
+        (λ found. (found.0 ≡ start_of 4 reader.old.place)
+        × (reading_by memo_refused (item long) reader.old ≡ Ok (found.1, reader.new)))
         (λ refused. reading_by memo_refused (item long) reader.old ≡ Err refused) }
 {
     let value = reader.long()?;
@@ -80,8 +81,9 @@ fn echo_reply_in(alloc: Global, stub: &[u8]) -> Result<Blob, MemoRefused>
     Ok(bytes)
 }
 
-/// The name in the stub of a reply of WhoAmI, as units: the domain, a backslash and the name of who is logged on. What follows the status is
-/// passed over. `BadStub` at the first item that isn't of its layout: the `string`, or a status other than 0.
+/// The name in the stub of a reply of WhoAmI, as units: the domain, a backslash and the name of who is logged on. What
+/// follows the status is passed over. `BadStub` at the first item that isn't of its layout: the `string`, or a status
+/// other than 0.
 pub fn read_who_reply(alloc: Global, stub: &[u8]) -> Result<Units, MemoRefused>
     // What stands there or the first refusal.
     ensures exact { UpToMemory MemoRefused.Memory result (who_of stub.now) }
@@ -94,8 +96,8 @@ pub fn read_who_reply(alloc: Global, stub: &[u8]) -> Result<Units, MemoRefused>
     who_in(alloc, stub)
 }
 
-/// The bytes in the stub of a request of Echo. What follows them is passed over. `BadStub` at the count where it is above 4,096, else at
-/// the first item that the stub ends before.
+/// The bytes in the stub of a request of Echo. What follows them is passed over. `BadStub` at the count where it is
+/// above 4,096, else at the first item that the stub ends before.
 pub fn read_echo_request(alloc: Global, stub: &[u8]) -> Result<Blob, MemoRefused>
     // What stands there or the first refusal.
     ensures exact { UpToMemory MemoRefused.Memory result (echo_request_of stub.now) }
@@ -110,8 +112,8 @@ pub fn read_echo_request(alloc: Global, stub: &[u8]) -> Result<Blob, MemoRefused
     echo_request_in(alloc, stub)
 }
 
-/// The bytes in the stub of a reply of Echo. What follows the status is passed over. `BadStub` at the count where it is above 4,096, at a
-/// status other than 0, else at the first item that the stub ends before.
+/// The bytes in the stub of a reply of Echo. What follows the status is passed over. `BadStub` at the count where it is
+/// above 4,096, at a status other than 0, else at the first item that the stub ends before.
 pub fn read_echo_reply(alloc: Global, stub: &[u8]) -> Result<Blob, MemoRefused>
     // What stands there or the first refusal.
     ensures exact { UpToMemory MemoRefused.Memory result (echo_reply_of stub.now) }

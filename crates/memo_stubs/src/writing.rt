@@ -20,7 +20,8 @@ fn write_echo(writer: &mut Writer, bytes: &Blob) -> Result<(), NoMemory>
     writer.raw(bytes.bytes())
 }
 
-/// The stub of a reply of WhoAmI, of a name of at most 32,767 units: the domain, a backslash and the name of who is logged on. The status is
+/// The stub of a reply of WhoAmI, of a name of at most 32,767 units: the domain, a backslash and the name of who is
+/// logged on. The status is
 /// 0. `NoMemory` where no memory was found.
 #[tactic(auto, unfolding(crate::specs::Memo::written_who_reply, crate::specs::Memo::put_who_reply))]
 pub fn write_who_reply(alloc: Global, name: &Units) -> Result<Blob, NoMemory>

@@ -3,7 +3,7 @@ use Rattle.std.proofs.Common.{ℕ, ◌+◌, IsTrue, List, ◌++◌, length, refl
 use Rattle.std.proofs.lemmas.List.{drop_at, take_at}
 use Rattle.wire_base.specs.Numbers.{AreBytes}
 use Rattle.wire_base.proofs.NumberLaws.{AreBytes-drop, AreBytes-take}
-use Rattle.ndr_codec.specs.Layout.{Shape, ValueOf, IsNdr, byte, short, long, raw, pointer, text, counted, counted_bytes, sid, array_head}
+use Rattle.ndr_codec.specs.Layout.{Shape, ValueOf, IsNdr, byte, short, long, raw, gap, pointer, text, counted, counted_bytes, sid, array_head}
 use Rattle.ndr_codec.specs.Writing.{CanPut, OfBytes}
 use Rattle.ndr_codec.specs.Stub.{LayoutOf, item, part, after, done, only, placed, HasLayout, Begins}
 
@@ -18,6 +18,7 @@ item_given byte place value bytes h b = (h.0, tt)
 item_given short place value bytes h b = (h.fits, tt)
 item_given long place value bytes h b = (h.fits, tt)
 item_given (raw count) place value bytes h b = (h.0, subst AreBytes h.1 b)
+item_given gap place value bytes h b = (tt, tt)
 item_given pointer place value bytes h b = (tt, tt)
 item_given text place value bytes h b = ((h.0, omega (arith, h.1.room, h.1.fits)), tt)
 item_given (counted len) place value bytes h b = ((h.0, h.1, omega (arith, h.2.room, h.2.fits)), tt)

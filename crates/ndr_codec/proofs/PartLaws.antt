@@ -1,4 +1,5 @@
--- What is put of each part is of its layout, of bytes, and at most so many; and what a part gives of a stub of bytes has its ranges.
+-- What is put of each part is of its layout, of bytes, and at most so many; and what a part gives of a stub of bytes
+-- has its ranges.
 use Rattle.std.proofs.Common.{◌≡◌, ℕ, zero, suc, ◌+◌, ◌*◌, ◌/◌, ◌%◌, ◌^◌, ◌<◌, ◌≤◌, eqb, not, ◌||◌, Bool, true, false, IsTrue, List, [], ◌∷◌, length, get_or, Option, Some, None, refl, sym, ap, subst, ◌∙◌, arith}
 use Rattle.std.specs.Prelude.{replicate}
 use Rattle.std.specs.List.{AllByRecursion}

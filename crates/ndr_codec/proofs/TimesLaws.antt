@@ -79,7 +79,8 @@ pub ruleset reserving = (reserved_step, reserved_refused, put_reserved_step)
 
 -- ---- putting
 
--- what is put one by one is of the layout of each; of each value that is put the layout is that of `front`, and what is read is `seen`
+-- what is put one by one is of the layout of each; of each value that is put the layout is that of `front`, and what is
+-- read is `seen`
 pub writes_each : {E A S T : Type 0} (layout : A → LayoutOf E T) (front : S → A) (seen : S → T) (putting : S → Written → Written) (size : S → ℕ) (Is : S → Type 0) → ((value : S) (old : Written) → Is value → WritesBy (layout (front value)) (seen value) (size value) old (putting value old)) → (list : List S) (old : Written) → AllByRecursion Is list → WritesBy (each layout (map front list)) (map seen list) (size_of_all size list) old (put_all putting list old)
 writes_each layout front seen putting size Is law [] old all = record { writes = writes_done [] old }
 writes_each layout front seen putting size Is law (first ∷ others) old all =

@@ -10,7 +10,7 @@ use Rattle.wire_base.specs.Units.{utf16_of}
 use Rattle.wire_base.specs.Sid.{SidParts, IsSid}
 use Rattle.wire_base.proofs.NumberLaws.{AreBytes-nil, AreBytes-cons, AreBytes-append, AreBytes-to_le_bytes, length-to_le_bytes}
 use Rattle.wire_base.proofs.UnitLaws.{AreBytes-utf16_of, length-utf16_of}
-use Rattle.ndr_codec.specs.Layout.{Grammar, IsAligned, IsNumber, IsArray, array_head, sid_bytes, padding, Shape, ValueOf, byte, short, long, raw, pointer, text, counted, counted_bytes, sid, IsNdr, IsPointer, Then, Done, When}
+use Rattle.ndr_codec.specs.Layout.{Grammar, IsAligned, IsNumber, IsArray, array_head, sid_bytes, padding, Shape, ValueOf, byte, short, long, raw, gap, pointer, text, counted, counted_bytes, sid, IsNdr, IsPointer, Then, Done, When}
 use Rattle.ndr_codec.specs.Writing.{Written, aligned, put_aligned, put_number, put_pointer, put_array, referent_of, put, CanPut, OfBytes, size_of, Writes}
 
 -- ---- bytes and their number
@@ -123,6 +123,7 @@ writes_item byte value written can of = record { bytes = value ∷ []; item = (c
 writes_item short value written can of = writes_short value written can
 writes_item long value written can of = writes_long value written can
 writes_item (raw count) value written can of = record { bytes = value; item = (can, refl); appended = refl; are_bytes = of; short = omega arith }
+writes_item gap value written can of = writes_aligned (IsNdr gap) 4 0 [] value written (padding_four _) (AreBytes-nil, omega arith) (λ bytes layout. layout)
 writes_item pointer there written can of = writes_pointer there written
 writes_item text units written can of =
     let u = units_piece (units ++ 0 ∷ []) in

@@ -1,5 +1,6 @@
--- The parts that stand in many stubs, each as a layout, and how they are put. Padding, nonzero referents and maximum lengths are free; of these a part is
--- put with a maximum that is its length, and an empty counted string with a null pointer (this project's own choice).
+-- The parts that stand in many stubs, each as a layout, and how they are put. Padding, nonzero referents and maximum
+-- lengths are free; of these a part is put with a maximum that is its length, and an empty counted string with a null
+-- pointer (this project's own choice).
 use Rattle.std.specs.Prelude.{ℕ, ◌+◌, ◌*◌, ◌/◌, ◌%◌, ◌^◌, ◌≤◌, ◌==◌, ◌&&◌, ◌||◌, Bool, true, false, not, List, [], ◌∷◌, length, Option, Some, None, nat_le, replicate}
 use Rattle.ndr_codec.specs.declared.refused.NdrRefused.{NdrRefused}
 use Rattle.ndr_codec.specs.declared.refused.NdrRefused.TheVariants.{BadPart}
@@ -52,10 +53,11 @@ reserved count = do
   passed ← times count (item long)
   done tt
 
--- ---- counted strings in a structure (RPC_UNICODE_STRING, MS-DTYP 2.3.10; STRING, MS-NRPC 2.2.1.1.2): a head in the structure, and a target behind it
--- (C706 14.3.12)
+-- ---- counted strings in a structure (RPC_UNICODE_STRING, MS-DTYP 2.3.10; STRING, MS-NRPC 2.2.1.1.2): a head in the
+-- structure, and a target behind it (C706 14.3.12)
 
--- the length, in bytes, is that of whole items of `size` bytes each, at most the maximum, and 0 where nothing is pointed to
+-- the length, in bytes, is that of whole items of `size` bytes each, at most the maximum, and 0 where nothing is
+-- pointed to
 abbrev pub is_head : ℕ → ℕ → ℕ → Bool → Bool
 is_head size len maximum there = nat_le len maximum && len % size == 0 && (there || len == 0)
 

@@ -1,5 +1,6 @@
--- A layout of parameters in a stub, described once for both of its meanings: the bytes that have it, and how they are read. The parts stand one after
--- the other, and a refusal, of a type E, is told where a test of what was read fails (C706 14.4).
+-- A layout of parameters in a stub, described once for both of its meanings: the bytes that have it, and how they are
+-- read. The parts stand one after the other, and a refusal, of a type E, is told where a test of what was read fails
+-- (C706 14.4).
 use Rattle.std.specs.Prelude.{ℕ, ◌≡◌, ◌+◌, ◌⊎◌, Bool, List, [], ◌∷◌, ◌++◌, Option, Some, None, Result, Ok, Err, replicate}
 use Rattle.std.specs.Option.{option_map, unwrap_or}
 use Rattle.ndr_codec.specs.declared.refused.NdrRefused.{NdrRefused}
@@ -49,7 +50,8 @@ HasLayout (done made) place value bytes = Done made place value bytes
 HasLayout (only test refused layout) place value bytes = When test (HasLayout layout) place value bytes
 HasLayout (placed layout) place value bytes = HasLayout (layout place) place value bytes
 
--- what is read where a cursor stands: the value and the cursor behind it, or the first refusal; an item's refusal is told as one of E
+-- what is read where a cursor stands: the value and the cursor behind it, or the first refusal; an item's refusal is
+-- told as one of E
 abbrev pub reading_by : {E T : Type 0} → (NdrRefused → E) → LayoutOf E T → Reading T E
 reading_by told (item s) cursor = lifted told (read s) cursor
 reading_by told (part layout) cursor = lifted told (reading_by (λ refused. refused) layout) cursor
@@ -58,13 +60,14 @@ reading_by told (done made) cursor = Ok (made, cursor)
 reading_by told (only test refused layout) cursor = guarded test refused (reading_by told layout) cursor
 reading_by told (placed layout) cursor = reading_by told (layout cursor.place) cursor
 
--- What a reading function promises: its answer is what is read where the reader stood, or want of memory, and at Ok the reader stands behind it.
+-- What a reading function promises: its answer is what is read where the reader stood, or want of memory, and at Ok the
+-- reader stands behind it.
 abbrev pub ReadsBy : {E T : Type 0} → E → (NdrRefused → E) → LayoutOf E T → Result T E → Cursor → Cursor → Type 0
 ReadsBy memory told layout (Ok value) old new = reading_by told layout old ≡ Ok (value, new)
 ReadsBy memory told layout (Err refused) old new = (refused ≡ memory) ⊎ (reading_by told layout old ≡ Err refused)
 
--- What a function promises that reads a part, with the refusals of items: its answer is what is read where the reader stood, and at Ok the reader stands
--- behind it.
+-- What a function promises that reads a part, with the refusals of items: its answer is what is read where the reader
+-- stood, and at Ok the reader stands behind it.
 abbrev pub ReadsPart : {T : Type 0} → LayoutOf NdrRefused T → Result T NdrRefused → Cursor → Cursor → Type 0
 ReadsPart layout (Ok value) old new = reading_by (λ refused. refused) layout old ≡ Ok (value, new)
 ReadsPart layout (Err refused) old new = reading_by (λ refused. refused) layout old ≡ Err refused

@@ -1,5 +1,5 @@
-//! Parts that stand in many stubs: pointers, numbers of 64 bits and counted strings in structures, read and written. Where a part is refused,
-//! its items before the refusal are passed over.
+//! Parts that stand in many stubs: pointers, numbers of 64 bits and counted strings in structures, read and written.
+//! Where a part is refused, its items before the refusal are passed over.
 
 ghost use Rattle.std.specs.Prelude.{◌≡◌, ◌*◌, ◌^◌, ◌<◌, length, OnOk};
 ghost use Rattle.wire_base.specs.Numbers.{AreBytes};
@@ -16,7 +16,8 @@ use crate::writer::{Writer, are_bytes};
 use std::alloc::Global;
 use wire_base::{Blob, NoMemory, Units};
 
-/// The head of a counted string in a structure, as it was read: its length in bytes, and whether it has a target (C706 14.3.12).
+/// The head of a counted string in a structure, as it was read: its length in bytes, and whether it has a target (C706
+/// 14.3.12).
 #[derive(Clone, Copy, Debug, PartialEq, Eq)]
 pub struct Head {
     pub len: u16,
@@ -67,8 +68,8 @@ pub fn read_reserved(reader: &mut Reader<'_>, count: u32) -> Result<(), NdrRefus
     Ok(())
 }
 
-/// Reads the head of a counted string whose items have that many bytes each. BadPart where its length isn't that of whole items, is above
-/// its maximum, or isn't 0 where its pointer is null. It takes no memory.
+/// Reads the head of a counted string whose items have that many bytes each. BadPart where its length isn't that of
+/// whole items, is above its maximum, or isn't 0 where its pointer is null. It takes no memory.
 #[tactic(auto, unfolding(crate::specs::Parts::head))]
 pub fn read_head(reader: &mut Reader<'_>, size: u16) -> Result<Head, NdrRefused>
     requires { 0 < size }
@@ -106,7 +107,8 @@ pub fn read_bytes(alloc: Global, reader: &mut Reader<'_>, head: Head) -> Result<
     reader.counted_bytes(alloc, head.len)
 }
 
-/// Puts a unique pointer that is a parameter, and the `string` that it points to. Without memory what was put before it stays.
+/// Puts a unique pointer that is a parameter, and the `string` that it points to. Without memory what was put before it
+/// stays.
 pub fn write_unique_text(writer: &mut Writer, value: &Option<Units>) -> Result<(), NoMemory>
     requires { IfThere FitsText value.now }
     ensures exact { OnOk result (writer.new ≡ put_unique (put text) value.now writer.old) }

@@ -6,7 +6,7 @@ ghost use Rattle.std.specs.Int.{w32, to_le_bytes};
 ghost use Rattle.wire_base.specs.Numbers.{AreBytes};
 ghost use Rattle.wire_base.specs.Sid.{IsSid};
 ghost use Rattle.wire_base.specs.Units.{AreUnits, utf16_of};
-ghost use Rattle.ndr_codec.specs.Layout.{Shape, ValueOf, IsNdr, array_head, sid_bytes, byte, short, long, raw, pointer, text, counted, counted_bytes, sid as sid_shape};
+ghost use Rattle.ndr_codec.specs.Layout.{Shape, ValueOf, IsNdr, array_head, sid_bytes, byte, short, long, raw, gap, pointer, text, counted, counted_bytes, sid as sid_shape};
 ghost use Rattle.ndr_codec.specs.Writing.{Written, nothing, put, aligned, CanPut, Appends, ReadsBack};
 
 use crate::items::padding_at;
@@ -14,8 +14,9 @@ use std::alloc::{AllocError, Global};
 use std::marker::Model;
 use wire_base::{Blob, NoMemory, Sid, Units};
 
-/// A writer of a stub, seen as the bytes written and how many pointers among them point to something. It keeps the allocator that it was
-/// made with. All items but bytes are aligned from the stub's first byte, with zeros as padding. Without memory a call changes nothing.
+/// A writer of a stub, seen as the bytes written and how many pointers among them point to something. It keeps the
+/// allocator that it was made with. All items but bytes are aligned from the stub's first byte, with zeros as padding.
+/// Without memory a call changes nothing.
 #[derive(Drop)]
 pub struct Writer {
     alloc: Global,
@@ -85,8 +86,17 @@ impl Writer {
         Ok(())
     }
 
-    /// Puts a unique pointer's referent: 0 where nothing is pointed to, else 0x00020000 and 4 more for each pointer before that points to
-    /// something.
+    /// Puts the padding in front of a structure that has numbers of 32 bits in it, and no longer ones (C706 14.2.2).
+    pub fn gap(&mut self) -> Result<(), NoMemory>
+        ensures exact { OnOk result (self.new ≡ put gap tt self.old) }
+        ensures layout { OnOk result (Appends (IsNdr gap) tt self.old self.new) }
+        ensures unchanged { OnErr result (self.new ≡ self.old) }
+    {
+        append(&mut self.bytes, 4, &[])
+    }
+
+    /// Puts a unique pointer's referent: 0 where nothing is pointed to, else 0x00020000 and 4 more for each pointer
+    /// before that points to something.
     pub fn pointer(&mut self, there: bool) -> Result<(), NoMemory>
         ensures exact { OnOk result (self.new ≡ put pointer there self.old) }
         ensures layout { OnOk result (Appends (IsNdr pointer) there self.old self.new) }

@@ -1,4 +1,4 @@
-use Rattle.logon_stubs.proofs.WrittenLaws.{call_of-written_call, AreBytes-written_call, reply_of-written_reply, AreBytes-written_reply, written_call-lt, written_call-content, written_reply-lt, written_reply-joins}
+use Rattle.logon_stubs.proofs.WrittenLaws.{call_of-written_call, AreBytes-written_call, reply_of-written_reply, AreBytes-written_reply, written_call-lt, written_call-content, written_reply-lt, written_reply-few}
 use Rattle.logon_stubs.proofs.GivenLaws.{call_of-InRange, reply_of-InRange}
 use Rattle.logon_stubs.proofs.writing.what_is_written_is_read.Goals as goal
 
@@ -24,7 +24,7 @@ pub returns-clause-call_short : goal.returns-clause-call_short
 returns-clause-call_short c = written_call-content
 
 pub returns-clause-reply_joins : goal.returns-clause-reply_joins
-returns-clause-reply_joins c = written_reply-joins
+returns-clause-reply_joins c = written_reply-few
 
 pub returns-clause-call_ranges : goal.returns-clause-call_ranges
 returns-clause-call_ranges c = call_of-InRange
