@@ -1,19 +1,25 @@
 -- Laws of the account table's document.
-use Rattle.std.proofs.Common.{◌≡◌, ℕ, suc, ◌≤◌, List, [], ◌∷◌, ◌++◌, length, Option, Some, None, Result, Ok, Err, refl, inl, inr, leb, lit≤}
+use Rattle.std.proofs.Common.{◌≡◌, ℕ, suc, ◌^◌, ◌<◌, ◌≤◌, ltb, true, IsTrue, List, [], ◌∷◌, ◌++◌, length, Option, Some, None, Result, Ok, Err, refl, ap, inl, inr, leb, lit≤}
 use Rattle.std.specs.Str.{IsUtf8, is_utf8}
-use Rattle.std.proofs.lemmas.Bool.{cases_Bool, leb-true}
+use Rattle.std.specs.List.{list_all, AllByRecursion}
+use Rattle.std.specs.Option.{option_and_then}
+use Rattle.std.specs.Result.{result_ok}
+use Rattle.std.proofs.lemmas.Bool.{cases_Bool, leb-true, le-leb, lt-ltb}
 use Rattle.std.proofs.lemmas.Str.{IsUtf8-from_is_utf8, is_utf8-from_IsUtf8}
-use Rattle.toml.specs.Data.{Data, Members, as_table}
+use Rattle.toml.specs.Data.{Data, Items, no_items, item, Members, as_str, as_array, as_table}
 use Rattle.toml.specs.Parse.{parse_document}
 use Rattle.toml.specs.View.{view}
 use Rattle.toml.specs.declared.value.Value.{Value}
-use Rattle.account_table.specs.declared.account.Account.{Account}
+use Rattle.wire_base.specs.Sid.{SidParts, sid_of}
+use Rattle.wire_base.specs.declared.sid.SidRefused.{SidRefused}
+use Rattle.wire_base.proofs.SidLaws.{IsSidText-sid_of}
 use Rattle.account_table.specs.declared.refused.TableRefused.{TableRefused}
 use Rattle.account_table.specs.declared.refused.TableRefused.TheVariants.{BadToml}
 use Rattle.account_table.specs.declared.key.Key.{Key}
-use Rattle.account_table.specs.Document.{document_of, accounts_of, optional, formed, formed_or, value_at}
-use Rattle.account_table.specs.Forms.{only_if, at_most, rids, a_list, a_rid}
-use Rattle.account_table.specs.Limits.{group_limit, domain_users}
+use Rattle.account_table.specs.Document.{document_of, each_entry, optional, formed, formed_or, value_at}
+use Rattle.account_table.specs.Forms.{only_if, at_most, rids, a_list, a_rid, with_front, each, a_sid, sids}
+use Rattle.account_table.specs.Index.{has_longs, has_few_sids}
+use Rattle.account_table.specs.Limits.{group_limit, extra_sid_limit, domain_users}
 use Rattle.account_table.specs.Listing.{entries_of}
 
 -- ---- the document of a text
@@ -36,14 +42,14 @@ document_of-bytes text other =
 
 -- ---- entry by entry
 
-module _ (account_of : ℕ → List Account → Members → Result Account TableRefused) where
-  pub accounts_more : (number : ℕ) (before : List Account) (value : Value) (entry : Members) (values : List Value) (account : Account) → as_table (view value) ≡ Some entry → account_of number before entry ≡ Ok account → accounts_of account_of number before (entries_of (value ∷ values)) ≡ accounts_of account_of (suc number) (before ++ account ∷ []) (entries_of values)
+module _ {T : Type 0} (account_of : ℕ → List T → Members → Result T TableRefused) where
+  pub accounts_more : (number : ℕ) (before : List T) (value : Value) (entry : Members) (values : List Value) (account : T) → as_table (view value) ≡ Some entry → account_of number before entry ≡ Ok account → each_entry account_of number before (entries_of (value ∷ values)) ≡ each_entry account_of (suc number) (before ++ account ∷ []) (entries_of values)
   accounts_more number before value entry values account is_table read = rw (is_table, read) refl
 
-  pub accounts_bad : (number : ℕ) (before : List Account) (value : Value) (entry : Members) (values : List Value) (refused : TableRefused) → as_table (view value) ≡ Some entry → account_of number before entry ≡ Err refused → accounts_of account_of number before (entries_of (value ∷ values)) ≡ Err refused
+  pub accounts_bad : (number : ℕ) (before : List T) (value : Value) (entry : Members) (values : List Value) (refused : TableRefused) → as_table (view value) ≡ Some entry → account_of number before entry ≡ Err refused → each_entry account_of number before (entries_of (value ∷ values)) ≡ Err refused
   accounts_bad number before value entry values refused is_table read = rw (is_table, read) refl
 
-  pub accounts_other : (number : ℕ) (before : List Account) (value : Value) (values : List Value) → as_table (view value) ≡ None → accounts_of account_of number before (entries_of (value ∷ values)) ≡ accounts_of account_of number before (entries_of values)
+  pub accounts_other : (number : ℕ) (before : List T) (value : Value) (values : List Value) → as_table (view value) ≡ None → each_entry account_of number before (entries_of (value ∷ values)) ≡ each_entry account_of number before (entries_of values)
   accounts_other number before value values other = rw other refl
 
 -- ---- groups
@@ -52,19 +58,74 @@ pub formed-Ok : {T : Type 0} (key : Key) (o : Option T) (x : T) → formed key o
 formed-Ok key None x e = absurd cc
 formed-Ok key (Some y) x e = cc
 
-few_from_only_if : (o : Option (List ℕ)) (xs : List ℕ) → only_if (at_most group_limit) o ≡ Some xs → length xs ≤ group_limit
-few_from_only_if None xs e = absurd cc
-few_from_only_if (Some ys) xs e =
-    elim (cases_Bool (leb (length ys) group_limit)) [
-      | inl few ↦ let here : only_if (at_most group_limit) (Some ys) ≡ Some ys = rw few refl in let same : ys ≡ xs = cc in rw (← same) (leb-true _ _ few)
-      | inr many ↦ absurd (let none : only_if (at_most group_limit) (Some ys) ≡ None = rw many refl in cc)
+few_from_only_if : {T : Type 0} (limit : ℕ) (o : Option (List T)) (xs : List T) → only_if (at_most limit) o ≡ Some xs → (length xs ≤ limit) × (o ≡ Some xs)
+few_from_only_if limit None xs e = absurd cc
+few_from_only_if {T = T} limit (Some ys) xs e =
+    elim (cases_Bool (leb (length ys) limit)) [
+      | inl few ↦
+          let here : only_if (at_most limit) (Some ys) ≡ Some ys = rw few refl in
+          let same : ys ≡ xs = cc in
+          (rw (← same) (leb-true _ _ few), ap (λ (zs : List T). Some zs) same)
+      | inr many ↦ absurd (let none : only_if (at_most limit) (Some ys) ≡ None = rw many refl in cc)
     ]
 
 few_by : (key : Key) (found : Option Data) (xs : List ℕ) → formed_or (domain_users ∷ []) rids key found ≡ Ok xs → length xs ≤ group_limit
 few_by key None xs e = let one : domain_users ∷ [] ≡ xs = cc in rw (← one) (lit≤ tt)
-few_by key (Some value) xs e = few_from_only_if (a_list a_rid value) xs (formed-Ok key (rids value) xs e)
+few_by key (Some value) xs e = (few_from_only_if group_limit (a_list a_rid value) xs (formed-Ok key (rids value) xs e)).0
 
 -- an account that is read has at most 256 groups
 pub few_groups : (key : Key) (entry : Members) (xs : List ℕ) → optional (domain_users ∷ []) rids key entry ≡ Ok xs → length xs ≤ group_limit
 unfolding optional
 few_groups key entry xs e = few_by key (value_at key entry) xs e
+
+-- ---- identifiers
+
+longs : (numbers : List ℕ) → AllByRecursion (λ n. n < 2 ^ 32) numbers → list_all (λ n. ltb n (2 ^ 32)) numbers ≡ true
+longs [] each = refl
+longs (n ∷ numbers) each = rw (lt-ltb n (2 ^ 32) each.0, longs numbers each.1) refl
+
+ok_from : (read : Result SidParts SidRefused) (sid : SidParts) → result_ok read ≡ Some sid → read ≡ Ok sid
+ok_from (Ok found) sid e = cc
+ok_from (Err refused) sid e = absurd cc
+
+longs_by : (found : Option (List ℕ)) (sid : SidParts) → option_and_then (λ text. result_ok (sid_of text)) found ≡ Some sid → has_longs sid ≡ true
+longs_by None sid e = absurd cc
+longs_by (Some text) sid e =
+    let written = IsSidText-sid_of text sid (ok_from (sid_of text) sid e) in
+    rw (lt-ltb _ _ written.form.authority, le-leb _ _ written.form.one, le-leb _ _ written.form.at_most, longs sid.numbers written.each) refl
+
+-- the first of a list that was of its form, and the others
+record AreFront {T : Type 0} (o : Option T) (rest : Option (List T)) (xs : List T) : Type 0 where
+  first : T
+  others : List T
+  one : o ≡ Some first
+  more : rest ≡ Some others
+  whole : xs ≡ first ∷ others
+
+front_of : {T : Type 0} (o : Option T) (rest : Option (List T)) (xs : List T) → with_front o rest ≡ Some xs → AreFront o rest xs
+front_of None rest xs e = absurd cc
+front_of (Some x) None xs e = absurd cc
+front_of (Some x) (Some more) xs e = record { first = x; others = more; one = refl; more = refl; whole = cc }
+
+each_longs : (items : Items) (xs : List SidParts) → each a_sid items ≡ Some xs → list_all has_longs xs ≡ true
+each_longs no_items xs e = let nil : [] ≡ xs = cc in rw (← nil) refl
+each_longs (item value rest) xs e =
+    let front = front_of (a_sid value) (each a_sid rest) xs e in
+    let one : has_longs front.first ≡ true = longs_by (as_str value) front.first front.one in
+    let more : list_all has_longs front.others ≡ true = each_longs rest front.others front.more in
+    rw (front.whole, one, more) refl
+
+listed_longs : (found : Option Items) (xs : List SidParts) → option_and_then (each a_sid) found ≡ Some xs → list_all has_longs xs ≡ true
+listed_longs None xs e = absurd cc
+listed_longs (Some items) xs e = each_longs items xs e
+
+few_sids_by : (key : Key) (found : Option Data) (xs : List SidParts) → formed_or [] sids key found ≡ Ok xs → has_few_sids xs ≡ true
+few_sids_by key None xs e = let nil : [] ≡ xs = cc in rw (← nil) refl
+few_sids_by key (Some value) xs e =
+    let few = few_from_only_if extra_sid_limit (a_list a_sid value) xs (formed-Ok key (sids value) xs e) in
+    rw (le-leb _ _ few.0, listed_longs (as_array value) xs few.1) refl
+
+-- an account that is read has at most 16 identifiers, of numbers of 32 bits
+pub few_sids : (key : Key) (entry : Members) (xs : List SidParts) → optional [] sids key entry ≡ Ok xs → IsTrue (has_few_sids xs)
+unfolding optional
+few_sids key entry xs e = few_sids_by key (value_at key entry) xs e

@@ -1,27 +1,31 @@
 -- Laws of the index by name: what it finds is what a walk over the accounts finds.
-use Rattle.std.proofs.Common.{◌≡◌, ℕ, zero, suc, ◌+◌, ◌<◌, ◌≤◌, ◌&&◌, Bool, true, false, List, [], ◌∷◌, ◌++◌, length, Option, Some, None, option_map, is_some, Vec, IsTrue, refl, sym, ap, ◌∙◌, arith, inl, inr, zero-add, add-zero}
-use Rattle.std.specs.List.{list_all, list_any, position, position_from, slice_get}
+use Rattle.std.proofs.Common.{◌≡◌, ℕ, zero, suc, ◌+◌, ◌^◌, ◌<◌, ◌≤◌, ltb, ◌&&◌, Bool, true, false, List, [], ◌∷◌, ◌++◌, length, Option, Some, None, option_map, is_some, Vec, IsTrue, refl, sym, ap, ◌∙◌, arith, inl, inr, zero-add, add-zero}
+use Rattle.std.specs.List.{AllByRecursion, list_all, list_any, position, position_from, slice_get}
 use Rattle.std.specs.Bool.{then_some}
 use Rattle.std.specs.Map.{keys_of}
 use Rattle.std.specs.Option.{option_map_or, option_and_then}
 use Rattle.std.specs.Str.{bytes_eq}
 use Rattle.std.specs.declared.alloc.Global.{Global}
-use Rattle.std.proofs.lemmas.Bool.{cases_Bool, not-true, and_parts, or_parts, leb-true, le-leb}
+use Rattle.std.proofs.lemmas.Bool.{cases_Bool, not-true, and_parts, or_parts, leb-true, ltb-true, le-leb}
 use Rattle.std.proofs.lemmas.Iterator.Adapters.{position_from-zero}
 use Rattle.std.proofs.lemmas.List.{map-append, length-map, length-append}
 use Rattle.std.proofs.lemmas.List.Folds.{list_all-append, list_any-append}
 use Rattle.std.proofs.lemmas.Option.{slice_get-map}
 use Rattle.std.proofs.lemmas.Slice.Eq.{bytes_eq-Decides}
-use Rattle.indexmap.specs.IndexMap.{insert_entry}
+use Rattle.indexmap.specs.IndexMap.{insert_entry, set_value_at}
+use Rattle.indexmap.specs.Layout.{length-set_value_at}
 use Rattle.wire_base.specs.Maps.{place_of}
 use Rattle.wire_base.specs.Names.{upper_case, SameName, same_name}
 use Rattle.wire_base.proofs.NameLaws.{same_name-lengths, same_name-Decides}
 use Rattle.account_table.specs.declared.account.Account.{Account}
-use Rattle.account_table.specs.AccountTable.{has_distinct_names}
+use Rattle.account_table.specs.AccountTable.{has_distinct, has_distinct_names}
+use Rattle.account_table.specs.Changes.{at_place}
 use Rattle.account_table.specs.Document.{has_name}
-use Rattle.account_table.specs.Index.{Entry, is_entry, is_index, accounts_in, machine_found, computer_found}
+use Rattle.account_table.specs.Index.{Entry, has_longs, has_few_sids, is_entry, is_index, accounts_in, machine_found, computer_found}
 use Rattle.account_table.specs.Limits.{account_limit, group_limit, name_limit}
-use Rattle.account_table.specs.LookUps.{machine_name, place_in, machine_in, knows_in, is_machine, is_machine_for}
+use Rattle.account_table.specs.Ranges.{AreLongs, InRangeSid}
+use Rattle.wire_base.specs.Sid.{SidParts}
+use Rattle.account_table.specs.LookUps.{machine_name, place_in, machine_in, knows_named, knows_in, is_machine, is_machine_for, is_trust_for}
 
 -- ---- the place of the first that passes
 
@@ -44,6 +48,8 @@ from_zero (Some p) = ap (λ (n : ℕ). Some n) (zero-add p)
 pub position-place_of : {X : Type 0} (test : X → Bool) (xs : List X) → position test xs ≡ place_of test xs
 position-place_of test xs = position_from-zero test xs ∙ position_from-place_of test 0 xs ∙ from_zero (place_of test xs)
 
+pub ruleset placing = (position-place_of)
+
 is_some-later : (o : Option ℕ) → is_some (option_map suc o) ≡ is_some o
 is_some-later None = refl
 is_some-later (Some p) = refl
@@ -53,7 +59,7 @@ is_some-then_some true p = refl
 is_some-then_some false p = refl
 
 -- one passes where there is a first
-list_any-place_of : {X : Type 0} (test : X → Bool) (xs : List X) → list_any test xs ≡ is_some (place_of test xs)
+pub list_any-place_of : {X : Type 0} (test : X → Bool) (xs : List X) → list_any test xs ≡ is_some (place_of test xs)
 list_any-place_of test [] = refl
 list_any-place_of test (x ∷ xs) =
     elim (cases_Bool (test x)) [
@@ -67,15 +73,18 @@ pub record IsEntry (entry : Entry) : Type 0 where
   pub key : entry.0.items ≡ upper_case entry.1.name
   pub name : length entry.1.name ≤ 64
   pub groups : length entry.1.groups ≤ 256
+  pub sids : has_few_sids entry.1.extra_sids ≡ true
 
 pub IsEntry-from : (entry : Entry) → is_entry entry ≡ true → IsEntry entry
 IsEntry-from entry e =
-    let parts = and_parts _ _ e in
+    let whole = and_parts _ _ e in
+    let parts = and_parts _ _ whole.0 in
     let front = and_parts _ _ parts.0 in
     record {
       key = (bytes_eq-Decides entry.0.items (upper_case entry.1.name)).0 front.0;
       name = leb-true _ _ front.1;
       groups = leb-true _ _ parts.1;
+      sids = whole.1;
     }
 
 -- the keys find what the names find
@@ -114,16 +123,16 @@ IsIndex-from entries e =
     let front = and_parts _ _ parts.0 in
     record { few = leb-true _ _ front.0; each = front.1; different = parts.1 }
 
--- the groups of an account in it
-pub groups_at : (entries : List Entry) (place : ℕ) (entry : Entry) → list_all is_entry entries ≡ true → slice_get entries place ≡ Some entry → length entry.1.groups ≤ 256
-groups_at [] place entry each found = absurd cc
-groups_at (first ∷ entries) zero entry each found =
+-- an entry of it
+pub entry_at : (entries : List Entry) (place : ℕ) (entry : Entry) → list_all is_entry entries ≡ true → slice_get entries place ≡ Some entry → IsEntry entry
+entry_at [] place entry each found = absurd cc
+entry_at (first ∷ entries) zero entry each found =
     let parts = and_parts (is_entry first) (list_all is_entry entries) each in
     let same : first ≡ entry = cc in
-    (IsEntry-from entry (rw (← same) parts.0)).groups
-groups_at (first ∷ entries) (suc place) entry each found =
+    IsEntry-from entry (rw (← same) parts.0)
+entry_at (first ∷ entries) (suc place) entry each found =
     let parts = and_parts (is_entry first) (list_all is_entry entries) each in
-    groups_at entries place entry parts.1 found
+    entry_at entries place entry parts.1 found
 
 -- ---- what the calls answer
 
@@ -144,7 +153,36 @@ pub some_at : (entries : List Entry) (accounts : List Account) (place : ℕ) (en
 some_at entries accounts place entry view found = rw (← view, slice_get-map (λ (entry : Entry). entry.1) entries place, ← found) refl
 
 pub groups_found : (entries : List Entry) (place : ℕ) (entry : Entry) → is_index entries ≡ true → Some entry ≡ slice_get entries place → length entry.1.groups ≤ 256
-groups_found entries place entry whole found = groups_at entries place entry (IsIndex-from entries whole).each (sym found)
+groups_found entries place entry whole found = (entry_at entries place entry (IsIndex-from entries whole).each (sym found)).groups
+
+pub sids_found : (entries : List Entry) (place : ℕ) (entry : Entry) → is_index entries ≡ true → Some entry ≡ slice_get entries place → IsTrue (has_few_sids entry.1.extra_sids)
+sids_found entries place entry whole found = (entry_at entries place entry (IsIndex-from entries whole).each (sym found)).sids
+
+-- identifiers in it have numbers of 32 bits
+
+longs_of : (numbers : List ℕ) → list_all (λ n. ltb n (2 ^ 32)) numbers ≡ true → AreLongs numbers
+longs_of [] all = tt
+longs_of (n ∷ numbers) all =
+    let parts = and_parts (ltb n (2 ^ 32)) (list_all (λ n. ltb n (2 ^ 32)) numbers) all in
+    (ltb-true _ _ parts.0, longs_of numbers parts.1)
+
+sid_in_range : (sid : SidParts) → has_longs sid ≡ true → InRangeSid sid
+sid_in_range sid e =
+    let parts = and_parts _ _ e in
+    let form = and_parts _ _ parts.0 in
+    let front = and_parts _ _ form.0 in
+    (record { authority = ltb-true _ _ front.0; one = leb-true _ _ front.1; at_most = leb-true _ _ form.1 }, longs_of sid.numbers parts.1)
+
+each_in_range : (sids : List SidParts) → list_all has_longs sids ≡ true → AllByRecursion InRangeSid sids
+each_in_range [] all = tt
+each_in_range (sid ∷ sids) all =
+    let parts = and_parts (has_longs sid) (list_all has_longs sids) all in
+    (sid_in_range sid parts.0, each_in_range sids parts.1)
+
+pub sids_in_range : (sids : List SidParts) → IsTrue (has_few_sids sids) → (length sids ≤ 16) × AllByRecursion InRangeSid sids
+sids_in_range sids few =
+    let parts = and_parts _ _ few in
+    (leb-true _ _ parts.0, each_in_range sids parts.1)
 
 -- ---- one account more
 
@@ -172,9 +210,9 @@ pub accounts_in-inserted : (key : Vec ℕ Global) (account : Account) (entries n
 accounts_in-inserted key account entries new accounts view made =
     rw (made, ← view) (map-append (λ (entry : Entry). entry.1) entries ((key, account) ∷ []))
 
-is_entry-from : (key : Vec ℕ Global) (account : Account) → key.items ≡ upper_case account.name → length account.name ≤ 64 → length account.groups ≤ 256 → is_entry (key, account) ≡ true
-is_entry-from key account upper short groups =
-    rw ((bytes_eq-Decides key.items (upper_case account.name)).1 upper, le-leb _ _ short, le-leb _ _ groups) refl
+is_entry-from : (key : Vec ℕ Global) (account : Account) → key.items ≡ upper_case account.name → length account.name ≤ 64 → length account.groups ≤ 256 → has_few_sids account.extra_sids ≡ true → is_entry (key, account) ≡ true
+is_entry-from key account upper short groups sids =
+    rw ((bytes_eq-Decides key.items (upper_case account.name)).1 upper, le-leb _ _ short, le-leb _ _ groups, sids) refl
 
 length-accounts_in : (entries : List Entry) → length (accounts_in entries) ≡ length entries
 length-accounts_in entries = length-map entries (λ (entry : Entry). entry.1)
@@ -199,35 +237,82 @@ same_name-sym one other differ =
       | inr other_name ↦ other_name
     ]
 
-none_later : (test : Account → Bool) (account : Account) (accounts : List Account) → place_of test (account ∷ accounts) ≡ None → (test account ≡ false) × (place_of test accounts ≡ None)
+none_later : {T : Type 0} (test : T → Bool) (account : T) (accounts : List T) → place_of test (account ∷ accounts) ≡ None → (test account ≡ false) × (place_of test accounts ≡ None)
 none_later test account accounts none =
     elim (cases_Bool (test account)) [
       | inl pass ↦ absurd (let here : place_of test (account ∷ accounts) ≡ Some 0 = rw pass refl in cc)
       | inr fail ↦ (fail, none_on _ (let later : place_of test (account ∷ accounts) ≡ option_map suc (place_of test accounts) = rw fail refl in sym later ∙ none))
     ]
 
-distinct_by : (account : Account) (accounts : List Account) → has_distinct_names accounts ≡ true → place_of (has_name account.name) accounts ≡ None → has_distinct_names (accounts ++ account ∷ []) ≡ true
-distinct_by account [] distinct none = refl
-distinct_by account (first ∷ accounts) distinct none =
+pub distinct_more : {T : Type 0} (name : T → List ℕ) (item : T) (items : List T) → has_distinct name items ≡ true → place_of (λ other. same_name (name item) (name other)) items ≡ None → has_distinct name (items ++ item ∷ []) ≡ true
+distinct_more name item [] distinct none = refl
+distinct_more {T = T} name item (first ∷ items) distinct none =
     let parts = and_parts _ _ distinct in
-    let later = none_later (has_name account.name) first accounts none in
-    let differ : same_name first.name account.name ≡ false = same_name-sym first.name account.name later.0 in
-    let before : list_any (λ (other : Account). same_name first.name other.name) accounts ≡ false = not-true _ parts.0 in
-    rw (list_any-append (λ (other : Account). same_name first.name other.name) accounts (account ∷ []), before, differ, distinct_by account accounts parts.1 later.1) refl
+    let later = none_later (λ (other : T). same_name (name item) (name other)) first items none in
+    let differ : same_name (name first) (name item) ≡ false = same_name-sym (name first) (name item) later.0 in
+    let before : list_any (λ (other : T). same_name (name first) (name other)) items ≡ false = not-true _ parts.0 in
+    rw (list_any-append (λ (other : T). same_name (name first) (name other)) items (item ∷ []), before, differ, distinct_more name item items parts.1 later.1) refl
 
 -- an account of a new name leaves the names distinct
 pub has_distinct_names-more : (accounts new : List Account) (account : Account) → new ≡ accounts ++ account ∷ [] → has_distinct_names accounts ≡ true → place_in accounts account.name ≡ None → has_distinct_names new ≡ true
 unfolding place_in
-has_distinct_names-more accounts new account made distinct none = rw made (distinct_by account accounts distinct none)
+has_distinct_names-more accounts new account made distinct none = rw made (distinct_more (λ (a : Account). a.name) account accounts distinct none)
 
-pub is_index-inserted : (key : Vec ℕ Global) (account : Account) (entries new : List Entry) (accounts : List Account) → accounts_in entries ≡ accounts → is_index entries ≡ true → length accounts < account_limit → place_in accounts account.name ≡ None → key.items ≡ upper_case account.name → length account.name ≤ name_limit → length account.groups ≤ group_limit → new ≡ entries ++ (key, account) ∷ [] → is_index new ≡ true
-is_index-inserted key account entries new accounts view whole room fresh upper short groups made =
+pub is_index-inserted : (key : Vec ℕ Global) (account : Account) (entries new : List Entry) (accounts : List Account) → accounts_in entries ≡ accounts → is_index entries ≡ true → length accounts < account_limit → place_in accounts account.name ≡ None → key.items ≡ upper_case account.name → length account.name ≤ name_limit → length account.groups ≤ group_limit → IsTrue (has_few_sids account.extra_sids) → new ≡ entries ++ (key, account) ∷ [] → is_index new ≡ true
+is_index-inserted key account entries new accounts view whole room fresh upper short groups sids made =
     let index = IsIndex-from entries whole in
     let count : length new ≤ account_limit = rw made (omega (arith, length-append entries ((key, account) ∷ []), length-accounts_in entries, ap length view)) in
-    let each : list_all is_entry new ≡ true = rw (made, list_all-append is_entry entries ((key, account) ∷ []), index.each, is_entry-from key account upper short groups) refl in
+    let each : list_all is_entry new ≡ true = rw (made, list_all-append is_entry entries ((key, account) ∷ []), index.each, is_entry-from key account upper short groups sids) refl in
     let different : has_distinct_names (accounts_in new) ≡ true =
     has_distinct_names-more accounts (accounts_in new) account (accounts_in-inserted key account entries new accounts view made) (rw (← view) index.different) fresh in
     rw (le-leb _ _ count, each, different) refl
+
+-- ---- a change at a place, which leaves names, groups and identifiers
+
+module _ (change : Account → Account) (named : (account : Account) → (change account).name ≡ account.name) (entered : (key : Vec ℕ Global) (account : Account) → is_entry (key, change account) ≡ is_entry (key, account)) where
+  any-at_place : (test : Account → Bool) → ((account : Account) → test (change account) ≡ test account) → (place : ℕ) (accounts : List Account) → list_any test (at_place place change accounts) ≡ list_any test accounts
+  any-at_place test blind place [] = refl
+  any-at_place test blind zero (account ∷ accounts) = rw (blind account) refl
+  any-at_place test blind (suc place) (account ∷ accounts) = rw (any-at_place test blind place accounts) refl
+
+  distinct-at_place : (place : ℕ) (accounts : List Account) → has_distinct_names (at_place place change accounts) ≡ has_distinct_names accounts
+  distinct-at_place place [] = refl
+  distinct-at_place zero (account ∷ accounts) = rw (named account) refl
+  distinct-at_place (suc place) (account ∷ accounts) =
+      let test : Account → Bool = λ other. same_name account.name other.name in
+      rw (any-at_place test (λ other. ap (same_name account.name) (named other)) place accounts, distinct-at_place place accounts) refl
+
+  -- the entries with the changed account as the value at the place
+  accounts_in-set : (entries : List Entry) (place : ℕ) (account : Account) → slice_get (accounts_in entries) place ≡ Some account → accounts_in (set_value_at entries place (change account)) ≡ at_place place change (accounts_in entries)
+  accounts_in-set [] place account found = refl
+  accounts_in-set (entry ∷ entries) zero account found =
+      let same : entry.1 ≡ account = cc in
+      ap (λ (a : Account). change a ∷ accounts_in entries) (sym same)
+  accounts_in-set (entry ∷ entries) (suc place) account found =
+      ap (λ (xs : List Account). entry.1 ∷ xs) (accounts_in-set entries place account found)
+
+  each-set : (entries : List Entry) (place : ℕ) (account : Account) → slice_get (accounts_in entries) place ≡ Some account → list_all is_entry entries ≡ true → list_all is_entry (set_value_at entries place (change account)) ≡ true
+  each-set [] place account found each = refl
+  each-set (entry ∷ entries) zero account found each =
+      let same : entry.1 ≡ account = cc in
+      let parts = and_parts (is_entry entry) (list_all is_entry entries) each in
+      let one : is_entry (entry.0, change account) ≡ true = entered entry.0 account ∙ ap (λ (a : Account). is_entry (entry.0, a)) (sym same) ∙ parts.0 in
+      rw (one, parts.1) refl
+  each-set (entry ∷ entries) (suc place) account found each =
+      let parts = and_parts (is_entry entry) (list_all is_entry entries) each in
+      rw (parts.0, each-set entries place account found parts.1) refl
+
+  pub changed_accounts : (entries new : List Entry) (accounts : List Account) (place : ℕ) (account : Account) → accounts_in entries ≡ accounts → slice_get (accounts_in entries) place ≡ Some account → new ≡ set_value_at entries place (change account) → accounts_in new ≡ at_place place change accounts
+  changed_accounts entries new accounts place account view found made =
+      rw (made, ← view) (accounts_in-set entries place account found)
+
+  pub changed_index : (entries new : List Entry) (place : ℕ) (account : Account) → is_index entries ≡ true → slice_get (accounts_in entries) place ≡ Some account → new ≡ set_value_at entries place (change account) → is_index new ≡ true
+  changed_index entries new place account whole found made =
+      let index = IsIndex-from entries whole in
+      let count : length new ≤ account_limit = rw made (omega (arith, length-set_value_at entries place (change account), index.few)) in
+      let each : list_all is_entry new ≡ true = rw made (each-set entries place account found index.each) in
+      let different : has_distinct_names (accounts_in new) ≡ true = rw (made, accounts_in-set entries place account found, distinct-at_place place (accounts_in entries)) index.different in
+      rw (le-leb _ _ count, each, different) refl
 
 -- the accounts of an index have different names
 pub different_names : (entries : List Entry) (accounts : List Account) → accounts_in entries ≡ accounts → is_index entries ≡ true → IsTrue (has_distinct_names accounts)
@@ -296,7 +381,21 @@ unfolding machine_found machine_in place_in
 found-machine_in accounts name channel computer different =
     sym (only_hit name (is_machine_for channel computer) accounts different)
 
-pub found-knows_in : (accounts : List Account) (computer : List ℕ) → IsTrue (has_distinct_names accounts) → computer_found accounts computer ≡ knows_in accounts computer
-unfolding computer_found knows_in place_in
-found-knows_in accounts computer different =
+pub found-knows_named : (accounts : List Account) (computer : List ℕ) → IsTrue (has_distinct_names accounts) → computer_found accounts computer ≡ knows_named accounts computer
+unfolding computer_found place_in
+found-knows_named accounts computer different =
     sym (only_any (machine_name computer) (λ (account : Account). is_machine account.kind) accounts different)
+
+pub knows_in-first : (accounts : List Account) (computer : List ℕ) → IsTrue (has_distinct_names accounts) → computer_found accounts computer ≡ true → knows_in accounts computer ≡ true
+unfolding knows_in
+knows_in-first accounts computer different found =
+    let named : knows_named accounts computer ≡ true = sym (found-knows_named accounts computer different) ∙ found in
+    rw named refl
+
+pub knows_in-other : (accounts : List Account) (computer : List ℕ) → IsTrue (has_distinct_names accounts) → computer_found accounts computer ≡ false → knows_in accounts computer ≡ list_any (is_trust_for computer) accounts
+unfolding knows_in
+knows_in-other accounts computer different found =
+    let named : knows_named accounts computer ≡ false = sym (found-knows_named accounts computer different) ∙ found in
+    rw named refl
+
+pub ruleset knowing = (knows_in-first, knows_in-other)

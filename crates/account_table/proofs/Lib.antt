@@ -1,4 +1,7 @@
+pub mod ChangeLaws
 pub mod DocumentLaws
 pub mod IndexLaws
+pub mod KeptLaws
 pub mod ListLaws
+pub mod SecretLaws
 pub mod TableLaws

@@ -6,7 +6,7 @@ use Rattle.std.proofs.lemmas.List.{append_assoc, append-nil}
 use Rattle.toml.specs.Data.{Data, Members, as_table}
 use Rattle.toml.specs.View.{view, items_view}
 use Rattle.toml.specs.declared.value.Value.{Value}
-use Rattle.account_table.specs.Forms.{each, with_front, only_if, at_most}
+use Rattle.account_table.specs.Forms.{each, with_front, only_if, at_most, some_but_few}
 use Rattle.account_table.specs.Listing.{entries_of}
 
 -- the values so far, and those of the rest
@@ -64,6 +64,40 @@ only_if-each_few limit form values few = few_by limit (each form (items_view val
 pub only_if-each_many : {T : Type 0} (limit : ℕ) (form : Data → Option T) (values : List Value) → limit < length values → only_if (at_most limit) (each form (items_view values)) ≡ None
 only_if-each_many limit form values many = many_by limit (each form (items_view values)) (length values) (length-each form values) many
 
+-- ---- lists that have an item, and not too many
+
+some_by : {T : Type 0} (limit : ℕ) (o : Option (List T)) (count : ℕ) → ((xs : List T) → o ≡ Some xs → length xs ≡ count) → 1 ≤ count → count ≤ limit → only_if (some_but_few limit) o ≡ o
+some_by limit None count same one few = refl
+some_by limit (Some xs) count same one few =
+    let here = same xs refl in
+    let least : 1 ≤ length xs = omega arith in
+    let most : length xs ≤ limit = omega arith in
+    rw (le-leb _ _ least, le-leb _ _ most) refl
+
+no_one_by : {T : Type 0} (limit : ℕ) (o : Option (List T)) (count : ℕ) → ((xs : List T) → o ≡ Some xs → length xs ≡ count) → count < 1 → only_if (some_but_few limit) o ≡ None
+no_one_by limit None count same none = refl
+no_one_by limit (Some xs) count same none =
+    let here = same xs refl in
+    let lt : length xs < 1 = omega arith in
+    rw (lt-leb _ _ lt) refl
+
+too_many_by : {T : Type 0} (limit : ℕ) (o : Option (List T)) (count : ℕ) → ((xs : List T) → o ≡ Some xs → length xs ≡ count) → 1 ≤ count → limit < count → only_if (some_but_few limit) o ≡ None
+too_many_by limit None count same one many = refl
+too_many_by limit (Some xs) count same one many =
+    let here = same xs refl in
+    let least : 1 ≤ length xs = omega arith in
+    let gt : limit < length xs = omega arith in
+    rw (le-leb _ _ least, lt-leb _ _ gt) refl
+
+pub only_if-each_some : {T : Type 0} (limit : ℕ) (form : Data → Option T) (values : List Value) → 1 ≤ length values → length values ≤ limit → only_if (some_but_few limit) (each form (items_view values)) ≡ each form (items_view values)
+only_if-each_some limit form values one few = some_by limit (each form (items_view values)) (length values) (length-each form values) one few
+
+pub only_if-each_none : {T : Type 0} (limit : ℕ) (form : Data → Option T) (values : List Value) → length values < 1 → only_if (some_but_few limit) (each form (items_view values)) ≡ None
+only_if-each_none limit form values none = no_one_by limit (each form (items_view values)) (length values) (length-each form values) none
+
+pub only_if-each_more : {T : Type 0} (limit : ℕ) (form : Data → Option T) (values : List Value) → 1 ≤ length values → limit < length values → only_if (some_but_few limit) (each form (items_view values)) ≡ None
+only_if-each_more limit form values one many = too_many_by limit (each form (items_view values)) (length values) (length-each form values) one many
+
 -- ---- tables
 
 pub is_some-with_front : {T : Type 0} (o : Option T) (rest : Option (List T)) → is_some o ≡ true → is_some (with_front o rest) ≡ is_some rest
@@ -97,4 +131,4 @@ pub each-not_tables : (values : List Value) → is_some (each as_table (items_vi
 each-not_tables values e = none_from_is_some _ e
 
 -- for `grind`: the steps of the loops over values
-pub ruleset listing = (prefixed_more, prefixed_bad, prefixed_end, prefixed-nil, only_if-each_few, only_if-each_many, is_some-with_front, is_some-with_front_bad, each-entries_of, length-entries_of, each-not_tables)
+pub ruleset listing = (prefixed_more, prefixed_bad, prefixed_end, prefixed-nil, only_if-each_few, only_if-each_many, only_if-each_some, only_if-each_none, only_if-each_more, is_some-with_front, is_some-with_front_bad, each-entries_of, length-entries_of, each-not_tables)

@@ -1,24 +1,29 @@
--- The account table's document (this project's own choice): a TOML document in which each key has a form, and a default where it may be
--- missing. Other keys are passed over. Checks come in the order of the lines; the first that fails is the refusal.
+-- The account table's document (this project's own choice): a TOML document in which each key has a form, and a default
+-- where it may be missing. Other keys are passed over. Checks come in the order of the lines; the first that fails is
+-- the refusal.
 use Rattle.std.specs.Prelude.{ℕ, suc, ◌+◌, Bool, true, false, List, [], ◌∷◌, ◌++◌, length, Option, Some, None, Result, Ok, Err, nat_lt, is_some}
+use Rattle.std.specs.List.{list_any}
 use Rattle.std.specs.Str.{is_utf8}
 use Rattle.toml.specs.Data.{Data, Members, get_member}
 use Rattle.toml.specs.Parse.{parse_document}
 use Rattle.wire_base.specs.Maps.{place_of}
 use Rattle.wire_base.specs.Names.{same_name}
+use Rattle.wire_base.specs.Sid.{SidParts}
 use Rattle.account_table.specs.declared.account.Account.{Account}
 use Rattle.account_table.specs.declared.account.Kind.{Kind as KindOf}
 use Rattle.account_table.specs.declared.account.Kind.TheVariants as kind
+use Rattle.account_table.specs.declared.account.Policy.{Policy}
+use Rattle.account_table.specs.declared.account.Trust.{Trust as TrustOf}
 use Rattle.account_table.specs.declared.key.Key.{Key}
-use Rattle.account_table.specs.declared.key.Word.TheVariants.{Domain, Sid, User, Machine, Name, Rid, Hash, FullName, Group, Groups, Disabled, Locked, MustChange, Expires, PasswordSet, PasswordExpires, Workstations, Kind}
+use Rattle.account_table.specs.declared.key.Word.TheVariants.{Domain, Sid, Lockout, Ntlmv2Only, User, Machine, Trust, Name, Rid, Hash, FullName, Group, Groups, Disabled, Locked, MustChange, Expires, PasswordSet, PasswordExpires, Workstations, ExtraSids, Kind, Controllers, Address}
 use Rattle.account_table.specs.declared.refused.TableRefused.{TableRefused}
 use Rattle.account_table.specs.declared.refused.TableRefused.TheVariants.{BadToml, TooMany, Missing, BadValue, Twice}
 use Rattle.account_table.specs.declared.reading.Restrictions.{Restrictions}
 use Rattle.account_table.specs.declared.reading.Identity.{Identity}
 use Rattle.account_table.specs.declared.reading.Moments.{Moments}
 use Rattle.account_table.specs.AccountTable.{AccountTable}
-use Rattle.account_table.specs.Forms.{a_name, a_user_name, a_machine_name, a_full_name, a_rid, a_moment, a_truth, a_hash, a_domain_sid, a_kind, rids, computers, tables}
-use Rattle.account_table.specs.Keys.{word_text, top, of_user, of_machine}
+use Rattle.account_table.specs.Forms.{a_name, a_user_name, a_machine_name, a_full_name, a_rid, a_moment, a_lockout, a_truth, a_hash, a_domain_sid, a_kind, a_trusted_domain, an_address, rids, computers, controllers, sids, tables}
+use Rattle.account_table.specs.Keys.{word_text, top, of_user, of_machine, of_trust}
 use Rattle.account_table.specs.Limits.{account_limit, domain_users}
 
 -- a step after a step that wasn't refused
@@ -93,9 +98,9 @@ moments_of number entry = do
   password_expires ← optional 0 a_moment (of_user number PasswordExpires) entry
   Ok (record { expires = expires; password_set = password_set; password_expires = password_expires })
 
--- the account of a user of these parts
-abbrev pub user_account : List ℕ → Identity → Restrictions → Moments → List (List ℕ) → Account
-user_account name identity restrictions moments workstations = record {
+-- the account of a user of these parts; no password was bad yet, and the hash is that of the document
+abbrev pub user_account : List ℕ → Identity → Restrictions → Moments → List (List ℕ) → List SidParts → Account
+user_account name identity restrictions moments workstations extra_sids = record {
   name = name;
   rid = identity.rid;
   hash = identity.hash;
@@ -109,6 +114,10 @@ user_account name identity restrictions moments workstations = record {
   password_set = moments.password_set;
   password_expires = moments.password_expires;
   workstations = workstations;
+  extra_sids = extra_sids;
+  bad_count = 0;
+  controllers = [];
+  changed = false;
   kind = kind.User;
 }
 
@@ -121,11 +130,12 @@ user_of number before entry = do
   restrictions ← restrictions_of number entry
   moments ← moments_of number entry
   workstations ← optional [] computers (of_user number Workstations) entry
-  Ok (user_account name identity restrictions moments workstations)
+  extra_sids ← optional [] sids (of_user number ExtraSids) entry
+  Ok (user_account name identity restrictions moments workstations extra_sids)
 
 -- the account of a machine; what its entry doesn't say is as a user's default
-abbrev pub machine_account : List ℕ → KindOf → List ℕ → Bool → Account
-machine_account name kind hash disabled = record {
+abbrev pub machine_account : List ℕ → KindOf → List ℕ → Bool → List (List ℕ) → Account
+machine_account name kind hash disabled controllers = record {
   name = name;
   rid = 0;
   hash = hash;
@@ -139,8 +149,19 @@ machine_account name kind hash disabled = record {
   password_set = 0;
   password_expires = 0;
   workstations = [];
+  extra_sids = [];
+  bad_count = 0;
+  controllers = controllers;
+  changed = false;
   kind = kind;
 }
+
+-- the controllers of a trust's account; those of another kind have none, and the key is passed over
+abbrev pub controllers_of : KindOf → ℕ → Members → Result (List (List ℕ)) TableRefused
+controllers_of kind.User number entry = Ok []
+controllers_of kind.Workstation number entry = Ok []
+controllers_of kind.Backup number entry = Ok []
+controllers_of kind.Trust number entry = needed controllers (of_machine number Controllers) entry
 
 -- the machine of that entry, after these accounts
 unfoldable pub machine_of : ℕ → List Account → Members → Result Account TableRefused
@@ -150,32 +171,64 @@ machine_of number before entry = do
   kind ← needed a_kind (of_machine number Kind) entry
   hash ← needed a_hash (of_machine number Hash) entry
   disabled ← optional false a_truth (of_machine number Disabled) entry
-  Ok (machine_account name kind hash disabled)
+  controllers ← controllers_of kind number entry
+  Ok (machine_account name kind hash disabled controllers)
 
--- each entry in order, from that number on, after these accounts
-abbrev pub accounts_of : (ℕ → List Account → Members → Result Account TableRefused) → ℕ → List Account → List Members → Result (List Account) TableRefused
-accounts_of account_of number before [] = Ok before
-accounts_of account_of number before (entry ∷ entries) = do
-  account ← account_of number before entry
-  accounts_of account_of (suc number) (before ++ account ∷ []) entries
+-- ---- trusted domains
+
+-- the trusted domain's name is the same as this one
+abbrev pub has_trusted : List ℕ → TrustOf → Bool
+has_trusted domain trust = same_name domain trust.domain
+
+-- no trusted domain before has the name
+unfoldable pub new_trust : List ℕ → List TrustOf → Result (Unit {0}) TableRefused
+new_trust domain before = unless (list_any (has_trusted domain) before) (Twice domain)
+
+-- the trusted domain of that entry, after these, in the table of that domain
+unfoldable pub trust_of : List ℕ → ℕ → List TrustOf → Members → Result TrustOf TableRefused
+trust_of own number before entry = do
+  domain ← needed (a_trusted_domain own) (of_trust number Domain) entry
+  fresh ← new_trust domain before
+  hash ← needed a_hash (of_trust number Hash) entry
+  address ← needed an_address (of_trust number Address) entry
+  Ok (record { domain = domain; hash = hash; address = address })
+
+-- ---- lists of entries
+
+-- each entry in order, from that number on, after these
+abbrev pub each_entry : {T : Type 0} → (ℕ → List T → Members → Result T TableRefused) → ℕ → List T → List Members → Result (List T) TableRefused
+each_entry one_of number before [] = Ok before
+each_entry one_of number before (entry ∷ entries) = do
+  one ← one_of number before entry
+  each_entry one_of (suc number) (before ++ one ∷ []) entries
 
 -- ---- the document
 
--- more accounts than a table has
+-- more accounts and trusted domains than a table has
 abbrev pub too_many : ℕ → Bool
 too_many count = nat_lt account_limit count
+
+-- what holds of all accounts
+unfoldable pub policy_of : Members → Result Policy TableRefused
+policy_of document = do
+  lockout ← optional 0 a_lockout (top Lockout) document
+  ntlmv2_only ← optional false a_truth (top Ntlmv2Only) document
+  Ok (record { lockout = lockout; ntlmv2_only = ntlmv2_only })
 
 -- the table of a TOML document
 unfoldable pub table_in : Members → Result AccountTable TableRefused
 table_in document = do
   users ← optional [] tables (top User) document
   machines ← optional [] tables (top Machine) document
-  few ← unless (too_many (length users + length machines)) TooMany
+  trusted ← optional [] tables (top Trust) document
+  few ← unless (too_many (length users + length machines + length trusted)) TooMany
   domain ← needed a_name (top Domain) document
   sid ← needed a_domain_sid (top Sid) document
-  user_accounts ← accounts_of user_of 0 [] users
-  accounts ← accounts_of machine_of 0 user_accounts machines
-  Ok (record { domain = domain; sid = sid; accounts = accounts })
+  policy ← policy_of document
+  user_accounts ← each_entry user_of 0 [] users
+  accounts ← each_entry machine_of 0 user_accounts machines
+  trusts ← each_entry (trust_of domain) 0 [] trusted
+  Ok (record { domain = domain; sid = sid; policy = policy; accounts = accounts; trusts = trusts })
 
 abbrev pub document_by : Bool → Option Members → Result Members TableRefused
 document_by false document = Err BadToml

@@ -1,4 +1,5 @@
 pub mod AccountTable
+pub mod Changes
 pub mod Document
 pub mod Forms
 pub mod Index
@@ -8,6 +9,7 @@ pub mod Limits
 pub mod Listing
 pub mod LookUps
 pub mod Ranges
+pub mod Secrets
 pub use Rattle.channel_keys.specs.ChannelTypes
 pub use Rattle.wire_base.specs.Memory
 pub use Rattle.wire_base.specs.Names

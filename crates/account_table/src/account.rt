@@ -1,8 +1,21 @@
-//! An account of the domain.
+//! An account of the domain, a trusted domain, and what the table says of all accounts.
 
-use wire_base::{Name, Names, Numbers};
+use wire_base::{Blob, List, Name, Names, Numbers, Sid};
 
-/// What an account stands for (MS-NRPC 2.2.1.3.13): a user, or a computer with a secure channel to the domain controller.
+/// Security identifiers.
+pub type Sids = List<Sid>;
+
+/// What a table says of all its accounts (this project's own choice).
+#[derive(Clone, Copy, Debug, PartialEq, Eq)]
+pub struct Policy {
+    /// From how many bad passwords on an account is locked out; 0 is never.
+    pub lockout: u16,
+    /// Whether an NT response of 24 bytes, as NTLMv1's (MS-NLMP 3.3.1), is refused.
+    pub ntlmv2_only: bool,
+}
+
+/// What an account stands for (MS-NRPC 2.2.1.3.13): a user, or a computer with a secure channel to the domain
+/// controller.
 #[derive(Clone, Copy, Debug, PartialEq, Eq)]
 pub enum Kind {
     /// A person who logs on.
@@ -11,12 +24,12 @@ pub enum Kind {
     Workstation,
     /// A backup domain controller.
     Backup,
-    /// The controllers of a trusted domain. No document has one yet.
+    /// The controllers of a domain that trusts this one.
     Trust,
 }
 
-/// An account, with the fields that the account table's document gives it (this project's own choice). Moments are in units of 100 ns
-/// since 1601, and 0 is none.
+/// An account, with the fields that the account table's document gives it (this project's own choice), and the count of
+/// bad passwords. Moments are in units of 100 ns since 1601, and 0 is none.
 #[derive(Debug, Drop)]
 pub struct Account {
     pub name: Name,
@@ -39,5 +52,27 @@ pub struct Account {
     pub password_expires: u64,
     /// The computers from which the account logs on, at most 8; any where there are none.
     pub workstations: Names,
+    /// The identifiers that its user has beside the groups of the domain, at most 16.
+    pub extra_sids: Sids,
+    /// How many responses in a row didn't verify, since the document was read.
+    pub bad_count: u16,
+    /// The controllers that open a channel by the account, at most 8; of kind `Trust` alone.
+    pub controllers: Names,
+    /// Whether the hash was set since the document was read.
+    pub changed: bool,
     pub kind: Kind,
 }
+
+/// A domain that this one trusts (this project's own choice).
+#[derive(Debug, Drop)]
+pub struct Trust {
+    /// Its name.
+    pub domain: Name,
+    /// The secret of this domain's account there.
+    pub hash: [u8; 16],
+    /// Where its controller is dialled.
+    pub address: Blob,
+}
+
+/// Trusted domains, in the order of the document.
+pub type Trusts = List<Trust>;

@@ -1,23 +1,28 @@
 //! Accounts in their order, with an index by name.
 
-ghost use Rattle.std.specs.Prelude.{◌≡◌, [], ◌∷◌, ◌++◌, ◌+◌, ◌^◌, ◌<◌, ◌≤◌, None, length, is_some, option_copied, slice_get, IfSome, IsTrue, OnOk, OnErr};
+ghost use Rattle.std.specs.Prelude.{◌≡◌, [], ◌∷◌, ◌++◌, ◌+◌, ◌^◌, ◌<◌, ◌≤◌, None, length, is_some, option_copied, slice_get, All, IfOk, IfSome, IsTrue, OnOk, OnErr};
+ghost use Rattle.std.specs.List.{list_any};
 ghost use Rattle.wire_base.specs.Names.{upper_case};
 ghost use Rattle.account_table.specs.AccountTable.{has_distinct_names};
+ghost use Rattle.account_table.specs.Changes.{at_place, with_count, is_user, with_new_hash};
+ghost use Rattle.account_table.specs.Index.{has_few_sids};
 ghost use Rattle.account_table.specs.Limits.{account_limit, group_limit, name_limit};
-ghost use Rattle.account_table.specs.LookUps.{machine_name, place_in};
+ghost use Rattle.account_table.specs.LookUps.{is_trust_for, lists_controller, machine_name, place_in};
 ghost use Rattle.account_table.specs.Ranges.{AreLongs, InRangeAccount};
+ghost use Rattle.account_table.specs.Secrets.{computer_in, secret_line, secrets_of, with_settings};
 
-use crate::account::Account;
+use crate::account::{Account, Kind};
 use arrayvec::ArrayVec;
 use indexmap::IndexMap;
 use std::alloc::Global;
 use std::marker::Model;
-use wire_base::{NAME_LIMIT, Name, NoMemory, upper_unit};
+use wire_base::{Blob, NAME_LIMIT, Name, NoMemory, upper_unit};
 
 /// The most accounts of a table.
 pub(crate) const ACCOUNT_LIMIT: usize = 10_000;
 
-/// At most 10,000 accounts of different names, in their order, each under its name in upper case. A look-up by name doesn't walk them.
+/// At most 10,000 accounts of different names, in their order, each under its name in upper case. A look-up by name
+/// doesn't walk them.
 #[derive(Drop)]
 pub(crate) struct Accounts {
     index: IndexMap<Vec<u16>, Account>,
@@ -99,6 +104,34 @@ impl Accounts {
         }
     }
 
+    /// The place of the account of those bytes as a name. It takes no memory.
+    pub(crate) fn place_of_bytes(&self, name: &[u8]) -> Option<u32>
+        ensures value { result ≡ place_in self.now name.now }
+        ensures within { IfSome result (λ place. place < length self.now) }
+    {
+        let index = &self.index;
+        if NAME_LIMIT < name.len() {
+            return None;
+        }
+        match index.get_index_of(upper_bytes(name).as_slice()) {
+            Some(place) => Some(place as u32),
+            None => None,
+        }
+    }
+
+    /// The place of the computer's or trust's account of those bytes as a name. It takes no memory.
+    #[tactic(auto, unfolding(crate::specs::Secrets::computer_in))]
+    pub(crate) fn computer_place(&self, name: &[u8]) -> Option<u32>
+        ensures value { result ≡ computer_in self.now name.now }
+        ensures within { IfSome result (λ place. place < length self.now) }
+    {
+        let place = self.place_of_bytes(name)?;
+        match self.get(place as usize) {
+            Some(account) if !is_user(account.kind) => Some(place),
+            _ => None,
+        }
+    }
+
     /// Whether an account has that name. It takes no memory.
     pub(crate) fn has(&self, name: &Name) -> bool
         ensures { result ≡ is_some (place_in self.now name.now) }
@@ -113,6 +146,7 @@ impl Accounts {
         requires room { length self.old < account_limit }
         requires fresh { place_in self.old account.name ≡ None }
         requires groups { length account.groups ≤ group_limit }
+        requires sids { IsTrue (has_few_sids account.extra_sids) }
         ensures appended { OnOk result (self.new ≡ self.old ++ account ∷ []) }
         ensures unchanged { OnErr result (self.new ≡ self.old) }
     {
@@ -120,15 +154,98 @@ impl Accounts {
         self.index.insert(key, account)?;
         Ok(())
     }
+
+    /// Whether an account is a trust's that lists the computer. It takes no memory, and walks the accounts.
+    pub(crate) fn lists(&self, computer: &[u16]) -> bool
+        ensures { result ≡ list_any (is_trust_for computer.now) self.now }
+    {
+        self.index
+            .values()
+            .any(|account| is_trust_for(account, computer))
+    }
+
+    /// The lines of the changed accounts, in order.
+    pub(crate) fn secrets(&self, alloc: Global) -> Result<Blob, NoMemory>
+        ensures { IfOk result (λ text. text ≡ secrets_of self.now) }
+    {
+        let mut text = Vec::new(alloc);
+        for account in self.index.values() {
+            if account.changed {
+                put_secret(alloc, &mut text, account)?;
+            }
+        }
+        Ok(Blob::from_vec(text))
+    }
+
+    /// Sets the count of bad passwords of the account at a place.
+    pub(crate) fn set_bad_count(&mut self, place: usize, count: u16)
+        requires { place < length self.old }
+        ensures { self.new ≡ at_place place (with_count count) self.old }
+    {
+        self.index[place].bad_count = count;
+    }
+
+    /// Sets these hashes, one after the other.
+    #[tactic(auto, using(crate::proofs::SecretLaws::setting))]
+    pub(crate) fn set_hashes(&mut self, settings: &[(u32, [u8; 16])])
+        requires { All (λ setting. setting.0 < length self.old) settings.now }
+        ensures { self.new ≡ with_settings settings.now self.old }
+    {
+        for (place, hash) in settings {
+            self.set_hash(*place as usize, *hash);
+        }
+    }
+
+    /// Sets the hash of the account at a place, which is then a changed one.
+    pub(crate) fn set_hash(&mut self, place: usize, hash: [u8; 16])
+        requires { place < length self.old }
+        ensures { self.new ≡ at_place place (with_new_hash hash) self.old }
+    {
+        let account = &mut self.index[place];
+        account.hash = hash;
+        account.changed = true;
+    }
+}
+
+/// Whether the account is a trust's and lists the computer.
+fn is_trust_for(account: &Account, computer: &[u16]) -> bool
+    ensures { result ≡ is_trust_for computer.now account.now }
+{
+    matches!(account.kind, Kind::Trust) && lists_controller(account, computer)
+}
+
+/// Whether the computer is among the controllers of the account.
+pub(crate) fn lists_controller(account: &Account, computer: &[u16]) -> bool
+    ensures { result ≡ lists_controller account.now computer.now }
+{
+    account
+        .controllers
+        .items()
+        .iter()
+        .any(|controller| controller.same_units(computer))
+}
+
+/// Puts the line of an account behind the text: its name, a space, the hash in 32 hex digits, and a newline.
+#[tactic(auto, unfolding(crate::specs::Secrets::secret_line))]
+fn put_secret(alloc: Global, text: &mut Vec<u8>, account: &Account) -> Result<(), NoMemory>
+    ensures { OnOk result (text.new.items ≡ text.old.items ++ secret_line account.now) }
+{
+    text.extend_from_slice(account.name.bytes())?;
+    text.push(b' ')?;
+    text.extend_from_slice(hex::encode(alloc, account.hash.as_slice())?.as_bytes())?;
+    text.push(b'\n')?;
+    Ok(())
 }
 
 /// The account has its ranges, which callers learn so.
 fn has_ranges(account: &Account)
-    requires { length account.now.groups ≤ group_limit }
+    requires groups { length account.now.groups ≤ group_limit }
+    requires sids { IsTrue (has_few_sids account.now.extra_sids) }
     ensures { InRangeAccount account.now }
 {
     let _name = account.name.bytes();
     let _full_name = account.full_name.bytes();
+    is_short(account.bad_count);
     is_long(account.rid);
     is_long(account.group);
     are_longs(account.groups.items());
@@ -136,6 +253,11 @@ fn has_ranges(account: &Account)
     is_hyper(account.password_set);
     is_hyper(account.password_expires);
 }
+
+/// A number of 16 bits is below 2^16, which callers learn so.
+fn is_short(number: u16)
+    ensures { number < 2 ^ 16 }
+{}
 
 /// A number of 32 bits is below 2^32, which callers learn so.
 fn is_long(number: u32)
@@ -160,6 +282,25 @@ fn upper(units: &[u16]) -> ArrayVec<u16, 64>
     let mut upper = ArrayVec::new();
     for unit in units {
         upper.push(upper_unit(*unit));
+    }
+    upper
+}
+
+/// Whether an account is a user's.
+fn is_user(kind: Kind) -> bool
+    ensures { result ≡ is_user kind }
+{
+    matches!(kind, Kind::User)
+}
+
+/// The bytes in upper case.
+fn upper_bytes(bytes: &[u8]) -> ArrayVec<u16, 64>
+    requires { length bytes.now ≤ name_limit }
+    ensures { result.items ≡ upper_case bytes.now }
+{
+    let mut upper = ArrayVec::new();
+    for byte in bytes {
+        upper.push(upper_unit(u16::from(*byte)));
     }
     upper
 }

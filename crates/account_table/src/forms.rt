@@ -5,20 +5,21 @@ ghost use Rattle.std.specs.Prelude.{◌≡◌, ℕ, [], ◌∷◌, false, Ok, Er
 ghost use Rattle.wire_base.specs.Memory.{UpToMemory};
 ghost use Rattle.toml.specs.View.{view, table_view};
 ghost use Rattle.account_table.specs.Document.{value_at, formed, formed_by, formed_or, needed, optional};
-ghost use Rattle.account_table.specs.Forms.{a_name, a_user_name, a_machine_name, a_full_name, a_rid, a_moment, a_truth, a_hash, a_domain_sid, a_kind, rids, computers, tables};
+ghost use Rattle.account_table.specs.Forms.{a_name, a_user_name, a_machine_name, a_full_name, a_rid, a_moment, a_lockout, a_truth, a_hash, a_domain_sid, a_kind, a_trusted_domain, an_address, rids, computers, controllers, sids, tables};
 ghost use Rattle.account_table.specs.Limits.{domain_users};
 ghost use Rattle.account_table.specs.Listing.{IsListing};
 
-use crate::account::Kind;
+use crate::account::{Kind, Sids};
 use crate::key::Key;
-use crate::lists::{DOMAIN_USERS, computers, empty_name, rids, tables};
+use crate::lists::{DOMAIN_USERS, computers, controllers, empty_name, rids, sids, tables};
 use crate::refused::TableRefused;
 use crate::values::{
-    domain_sid, full_name, hash, kind, machine_name, moment, name, rid, truth, user_name,
+    address, domain_sid, full_name, hash, kind, lockout, machine_name, moment, name, rid,
+    trusted_domain, truth, user_name,
 };
 use std::alloc::Global;
 use toml::{Table, Value};
-use wire_base::{Name, Names, Numbers, Sid};
+use wire_base::{Blob, Name, Names, Numbers, Sid};
 
 /// What stands at the key.
 fn value_at<'a>(key: Key, entry: &'a Table) -> Option<&'a Value>
@@ -103,6 +104,38 @@ pub(crate) fn needed_kind(key: Key, entry: &Table) -> Result<Kind, TableRefused>
     formed(key, kind(present(key, entry)?))
 }
 
+/// The controllers of a trust's account.
+pub(crate) fn needed_controllers(
+    alloc: Global,
+    key: Key,
+    entry: &Table,
+) -> Result<Names, TableRefused>
+    ensures { UpToMemory TableRefused.Memory result
+        (needed controllers key (table_view entry.now)) }
+{
+    formed(key, controllers(alloc, present(key, entry)?)?)
+}
+
+/// The name of a trusted domain, which isn't the domain's own.
+pub(crate) fn needed_trusted_domain(
+    alloc: Global,
+    own: &Name,
+    key: Key,
+    entry: &Table,
+) -> Result<Name, TableRefused>
+    ensures { UpToMemory TableRefused.Memory result
+        (needed (a_trusted_domain own.now) key (table_view entry.now)) }
+{
+    formed(key, trusted_domain(alloc, own, present(key, entry)?)?)
+}
+
+/// An address.
+pub(crate) fn needed_address(alloc: Global, key: Key, entry: &Table) -> Result<Blob, TableRefused>
+    ensures { UpToMemory TableRefused.Memory result (needed an_address key (table_view entry.now)) }
+{
+    formed(key, address(alloc, present(key, entry)?)?)
+}
+
 /// A full name, which is empty where none is there.
 pub(crate) fn full_name_or_empty(
     alloc: Global,
@@ -151,6 +184,27 @@ pub(crate) fn computers_or_none(
     match value_at(key, entry) {
         Some(value) => formed(key, computers(alloc, value)?),
         None => Ok(Names::new(alloc)),
+    }
+}
+
+/// Security identifiers, or none.
+pub(crate) fn sids_or_none(alloc: Global, key: Key, entry: &Table) -> Result<Sids, TableRefused>
+    ensures { UpToMemory TableRefused.Memory result
+        (optional [] sids key (table_view entry.now)) }
+{
+    match value_at(key, entry) {
+        Some(value) => formed(key, sids(alloc, value)?),
+        None => Ok(Sids::new(alloc)),
+    }
+}
+
+/// A count of bad passwords, or 0 where none is there.
+pub(crate) fn lockout_or_none(key: Key, entry: &Table) -> Result<u16, TableRefused>
+    ensures { result ≡ optional 0 a_lockout key (table_view entry.now) }
+{
+    match value_at(key, entry) {
+        Some(value) => formed(key, lockout(value)),
+        None => Ok(0),
     }
 }
 

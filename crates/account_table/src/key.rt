@@ -1,7 +1,7 @@
 //! Where a value stands in the account table's document.
 
 ghost use Rattle.std.specs.Prelude.{◌≡◌};
-ghost use Rattle.account_table.specs.Keys.{word_text};
+ghost use Rattle.account_table.specs.Keys.{word_text, top};
 
 /// The list that an entry is of.
 #[derive(Clone, Copy, Debug, PartialEq, Eq)]
@@ -12,6 +12,8 @@ pub enum Part {
     User,
     /// The list of machines.
     Machine,
+    /// The list of trusted domains.
+    Trust,
 }
 
 /// The name of a value.
@@ -19,8 +21,11 @@ pub enum Part {
 pub enum Word {
     Domain,
     Sid,
+    Lockout,
+    Ntlmv2Only,
     User,
     Machine,
+    Trust,
     Name,
     Rid,
     Hash,
@@ -34,15 +39,30 @@ pub enum Word {
     PasswordSet,
     PasswordExpires,
     Workstations,
+    ExtraSids,
     Kind,
+    Controllers,
+    Address,
 }
 
-/// The place of a value: the list, the entry in it from 0, and the name of the value. The document itself is entry 0 of `Top`.
+/// The place of a value: the list, the entry in it from 0, and the name of the value. The document itself is entry 0 of
+/// `Top`.
 #[derive(Clone, Copy, Debug, PartialEq, Eq)]
 pub struct Key {
     pub list: Part,
     pub entry: u32,
     pub word: Word,
+}
+
+/// The key of the document itself.
+pub(crate) fn top_key(word: Word) -> Key
+    ensures { result ≡ top word }
+{
+    Key {
+        list: Part::Top,
+        entry: 0,
+        word,
+    }
 }
 
 impl Word {
@@ -53,8 +73,11 @@ impl Word {
         match self {
             Word::Domain => "domain",
             Word::Sid => "sid",
+            Word::Lockout => "lockout",
+            Word::Ntlmv2Only => "ntlmv2_only",
             Word::User => "user",
             Word::Machine => "machine",
+            Word::Trust => "trust",
             Word::Name => "name",
             Word::Rid => "rid",
             Word::Hash => "hash",
@@ -68,7 +91,10 @@ impl Word {
             Word::PasswordSet => "password_set",
             Word::PasswordExpires => "password_expires",
             Word::Workstations => "workstations",
+            Word::ExtraSids => "extra_sids",
             Word::Kind => "kind",
+            Word::Controllers => "controllers",
+            Word::Address => "address",
         }
     }
 }

@@ -1,17 +1,23 @@
-//! The account table of a domain: its document, its accounts in order, and look-ups by name.
+//! The account table of a domain: its document, its accounts in order, the trusted domains, look-ups by name, and what
+//! changes after it was read.
 #![tactic(auto)]
 
 mod account;
 mod accounts;
+mod changes;
 mod forms;
 mod key;
+mod laws;
 mod lists;
 mod reading;
 mod refused;
+mod secrets;
 mod table;
 mod values;
 
-pub use account::{Account, Kind};
+pub use account::{Account, Kind, Policy, Sids, Trust, Trusts};
+pub use changes::{Change, TableChange, TableChanges};
 pub use key::{Key, Part, Word};
-pub use refused::TableRefused;
+pub use laws::{what_changes_leave, what_counts_leave, what_secrets_keep};
+pub use refused::{ApplyRefused, TableRefused};
 pub use table::{Route, Table};

@@ -3,10 +3,11 @@
 ghost use Rattle.std.specs.Prelude.{◌≡◌, [], ◌≤◌, length, IfOk, IfSome, Ok, Err, MatchResult, MatchOption, None, Some, is_some};
 ghost use Rattle.toml.specs.View.{view, items_view};
 ghost use Rattle.toml.specs.Data.{as_table};
-ghost use Rattle.account_table.specs.Forms.{each, a_rid, a_name, rids, computers, tables};
+ghost use Rattle.account_table.specs.Forms.{each, a_rid, a_name, a_sid, rids, computers, controllers, sids, tables};
 ghost use Rattle.account_table.specs.Listing.{entries_of};
 
-use crate::values::{name, rid};
+use crate::account::Sids;
+use crate::values::{name, rid, sid};
 use std::alloc::Global;
 use toml::Value;
 use wire_base::{Name, Names, NoMemory, Numbers};
@@ -19,6 +20,12 @@ const GROUP_LIMIT: usize = 256;
 
 /// The most workstations of an account.
 const WORKSTATION_LIMIT: usize = 8;
+
+/// The most identifiers of an account beside its groups.
+const EXTRA_SID_LIMIT: usize = 16;
+
+/// The most controllers of a trust's account.
+const CONTROLLER_LIMIT: usize = 8;
 
 /// A name of no bytes.
 pub(crate) fn empty_name(alloc: Global) -> Result<Name, NoMemory>
@@ -69,6 +76,19 @@ pub(crate) fn computers(alloc: Global, value: &Value) -> Result<Option<Names>, N
     }
 }
 
+/// 1 to 8 names of controllers.
+#[tactic(auto, using(crate::proofs::ListLaws::listing))]
+pub(crate) fn controllers(alloc: Global, value: &Value) -> Result<Option<Names>, NoMemory>
+    ensures { IfOk result (λ names. names ≡ controllers (view value.now)) }
+{
+    match value.as_array() {
+        Some(values) if 1 <= values.len() && values.len() <= CONTROLLER_LIMIT => {
+            each_name(alloc, values.as_slice())
+        }
+        _ => Ok(None),
+    }
+}
+
 /// The names, where each value is one.
 #[tactic(auto, using(crate::proofs::ListLaws::listing))]
 fn each_name(alloc: Global, values: &[Value]) -> Result<Option<Names>, NoMemory>
@@ -84,6 +104,34 @@ fn each_name(alloc: Global, values: &[Value]) -> Result<Option<Names>, NoMemory>
         rest = after;
     }
     Ok(Some(names))
+}
+
+/// At most 16 security identifiers.
+#[tactic(auto, using(crate::proofs::ListLaws::listing))]
+pub(crate) fn sids(alloc: Global, value: &Value) -> Result<Option<Sids>, NoMemory>
+    ensures { IfOk result (λ found. found ≡ sids (view value.now)) }
+{
+    match value.as_array() {
+        Some(values) if values.len() <= EXTRA_SID_LIMIT => each_sid(alloc, values.as_slice()),
+        _ => Ok(None),
+    }
+}
+
+/// The security identifiers, where each value is one.
+#[tactic(auto, using(crate::proofs::ListLaws::listing))]
+fn each_sid(alloc: Global, values: &[Value]) -> Result<Option<Sids>, NoMemory>
+    ensures { IfOk result (λ found. found ≡ each a_sid (items_view values.now)) }
+{
+    let mut sids = Sids::new(alloc);
+    let mut rest = values;
+    while let [value, after @ ..] = rest {
+        match sid(alloc, value)? {
+            Some(sid) => sids.push(sid)?,
+            None => return Ok(None),
+        }
+        rest = after;
+    }
+    Ok(Some(sids))
 }
 
 /// The values of a list of tables.

@@ -3,10 +3,13 @@ pub mod MayLogOn
 pub mod Rules
 pub mod Verdict
 pub use Rattle.account_table.specs.AccountTable
+pub use Rattle.account_table.specs.Changes
 pub use Rattle.account_table.specs.Limits
 pub use Rattle.account_table.specs.LookUps
 pub use Rattle.logon_stubs.specs.Parts
 pub use Rattle.logon_stubs.specs.Ranges
 pub use Rattle.logon_stubs.specs.Status
+pub use Rattle.logon_stubs.specs.Structures
 pub use Rattle.logon_stubs.specs.Writing
 pub use Rattle.ntlm_responses.specs.Verification
+pub use Rattle.digest_parts.specs.Md4

@@ -1,13 +1,13 @@
 -- The accounts so far and those of the rest are the users of all entries.
 use Rattle.std.proofs.Common.{◌≡◌, ◌+◌, ◌≤◌, true, [], length}
 use Rattle.account_table.specs.AccountTable.{has_distinct_names}
-use Rattle.account_table.specs.Document.{accounts_of, user_of}
+use Rattle.account_table.specs.Document.{each_entry, user_of}
 use Rattle.account_table.specs.Listing.{entries_of}
 use Rattle.account_table.proofs.reading.read_users.Given as goal
 
 abbrev pub invariant-loop-rest : goal.invariant-loop-rest
 invariant-loop-rest l = record {
-  so_far : accounts_of user_of l.number l.accounts (entries_of l.rest) ≡ accounts_of user_of 0 [] (entries_of l.entries);
+  so_far : each_entry user_of l.number l.accounts (entries_of l.rest) ≡ each_entry user_of 0 [] (entries_of l.entries);
   count : length l.accounts + length l.rest ≤ length l.entries;
   different : has_distinct_names l.accounts ≡ true;
   numbers : l.number + length l.rest ≤ length l.entries;

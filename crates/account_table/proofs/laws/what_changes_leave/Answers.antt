@@ -1,0 +1,15 @@
+-- Each clause is a law of `proofs/ChangeLaws`.
+use Rattle.account_table.proofs.ChangeLaws.{with_changes-none, with_changes-append, with_changes-differs, with_changes-counts}
+use Rattle.account_table.proofs.laws.what_changes_leave.Goals as goal
+
+pub returns-clause-none : goal.returns-clause-none
+returns-clause-none c = with_changes-none
+
+pub returns-clause-joined : goal.returns-clause-joined
+returns-clause-joined c = with_changes-append
+
+pub returns-clause-differ : goal.returns-clause-differ
+returns-clause-differ c = with_changes-differs
+
+pub returns-clause-counts : goal.returns-clause-counts
+returns-clause-counts c = with_changes-counts

@@ -1,0 +1,8 @@
+use Rattle.sam_logon.proofs.CountLaws.{judgement-differs}
+use Rattle.sam_logon.proofs.judging.judge_logon.Goals as goal
+
+pub returns-clause-counts : goal.returns-clause-counts
+returns-clause-counts c = judgement-differs _ _ _ _
+
+pub returns-in-Err-clause-counts : goal.returns-in-Err-clause-counts
+returns-in-Err-clause-counts c = judgement-differs _ _ _ _

@@ -1,0 +1,5 @@
+use Rattle.sam_logon.proofs.CountLaws.{interactive_judgement-differs}
+use Rattle.sam_logon.proofs.judging.weigh_interactive.Goals as goal
+
+pub returns-clause-counts : goal.returns-clause-counts
+returns-clause-counts c = interactive_judgement-differs _ _ _ _ _ _ _
