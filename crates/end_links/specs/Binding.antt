@@ -1,5 +1,5 @@
--- The binding of a link: which contexts are accepted, and the answer to a bind (C706 12.6.3.1, 12.6.4.3 to 12.6.4.5). Which limit a fragment has,
--- which group and which address are told, is this project's own choice.
+-- The binding of a link: which contexts are accepted, and the answer to a bind (C706 12.6.3.1, 12.6.4.3 to 12.6.4.5).
+-- Which limit a fragment has, which group and which address are told, is this project's own choice.
 use Rattle.std.specs.Prelude.{ℕ, ◌≡◌, ◌==◌, ◌&&◌, Bool, true, false, List, [], ◌∷◌, map, replicate, min, max, None, bytes_eq}
 use Rattle.std.specs.List.{list_any}
 use Rattle.rpc_units.specs.declared.unit.Syntax.{Syntax}
@@ -20,8 +20,8 @@ offers_ndr syntaxes = list_any (λ syntax. same_syntax syntax ndr_syntax) syntax
 abbrev pub no_syntax : Syntax
 no_syntax = record { uuid = replicate 16 0; version = 0 }
 
--- whether the abstract syntax is the one that is served, and whether NDR is among the transfer syntaxes: acceptance 0, or
--- provider_rejection 2 for the reason abstract_syntax_not_supported 1 or proposed_transfer_syntaxes_not_supported 2
+-- whether the abstract syntax is the one that is served, and whether NDR is among the transfer syntaxes: acceptance 0,
+-- or provider_rejection 2 for the reason abstract_syntax_not_supported 1 or proposed_transfer_syntaxes_not_supported 2
 abbrev pub answer_by : Bool → Bool → ℕ × ℕ × Syntax
 answer_by false ndr = (2, 1, no_syntax)
 answer_by true false = (2, 2, no_syntax)
@@ -53,8 +53,8 @@ binding_of served receive contexts = record { contexts = accepted_ids served con
 
 -- ---- the units
 
--- the answer to a bind: this end sends fragments of at most that limit, receives 5,840 bytes, is of group 1, and answers each context in its
--- place
+-- the answer to a bind: this end sends fragments of at most that limit, receives 5,840 bytes, is of group 1, and
+-- answers each context in its place
 abbrev pub ack_of : Syntax → ℕ → ℕ → List (ℕ × Syntax × List Syntax) → RpcUnit
 ack_of served call receive contexts = record {
   first = true;
@@ -80,8 +80,8 @@ bind_of interface call = record {
 
 -- ---- laws
 
--- The answers to contexts and what is accepted of them agree: a context is accepted where its answer's result is 0, and an id where a context of
--- it is; a context is accepted only for the syntax that is served.
+-- The answers to contexts and what is accepted of them agree: a context is accepted where its answer's result is 0, and
+-- an id where a context of it is; a context is accepted only for the syntax that is served.
 pub record ContextsAnswered : Type 0 where
   pub result : (served : Syntax) (context : ℕ × Syntax × List Syntax) → is_accepted served context ≡ ((answer_to served context).0 == 0)
   pub ids : (served : Syntax) (receive : ℕ) (contexts : List (ℕ × Syntax × List Syntax)) (id : ℕ) →

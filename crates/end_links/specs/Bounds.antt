@@ -2,7 +2,7 @@
 use Rattle.std.specs.Prelude.{ℕ, ◌+◌, ◌/◌, ◌≤◌, List, length, Option, Some, None, Result, Ok, Err}
 use Rattle.std.specs.List.{AllByRecursion}
 use Rattle.outside.specs.declared.action.Action.{Action}
-use Rattle.outside.specs.declared.action.Action.TheVariants.{Send, Dial, Close, Told, Judged}
+use Rattle.outside.specs.declared.action.Action.TheVariants.{Keep, Send, Dial, Close, Told, Judged}
 use Rattle.outside.specs.declared.action.StepRefused.{StepRefused}
 use Rattle.outside.specs.declared.event.Event.{Event}
 use Rattle.outside.specs.declared.event.Event.TheVariants.{Bytes}
@@ -19,6 +19,7 @@ abbrev pub send_limit : ℕ
 send_limit = 589824
 
 abbrev pub IsShortSend : Action → Type 0
+IsShortSend (Keep bytes) = Unit {0}
 IsShortSend (Send link bytes) = length bytes ≤ send_limit
 IsShortSend (Dial peer) = Unit {0}
 IsShortSend (Close link cause) = Unit {0}
@@ -41,8 +42,9 @@ abbrev pub extra_after : {W T : Type 0} → (T → ℕ) → ServedPart W T → �
 extra_after extra (Err why) = 0
 extra_after extra (Ok part) = extra_on extra part.value.1
 
--- An end that draws at most one challenge for a unit, and `extra` more on a link, by what is said on it: so many before, and what is left of them
--- after the unit. None is drawn where the rest of a stream is refused. Where the challenges weren't enough, there were no more than that.
+-- An end that draws at most one challenge for a unit, and `extra` more on a link, by what is said on it: so many
+-- before, and what is left of them after the unit. None is drawn where the rest of a stream is refused. Where the
+-- challenges weren't enough, there were no more than that.
 pub record ServerDrawsFew {W T : Type 0} (server : Server W T) (extra : T → ℕ) : Type 0 where
   pub unit : (bytes : List ℕ) (work : W) (talk : T) (left : List (List ℕ)) →
       length left + extra_after extra (server.unit bytes work talk left) ≤ length (left_by (server.unit bytes work talk left)) + 1 + extra talk

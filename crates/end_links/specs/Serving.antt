@@ -1,5 +1,5 @@
--- The units of a stream, served one after the other by any end (this project's own choice). `W` is the end at work, and `T` what is said on the
--- link.
+-- The units of a stream, served one after the other by any end (this project's own choice). `W` is the end at work, and
+-- `T` what is said on the link.
 use Rattle.std.specs.Prelude.{ℕ, ◌≡◌, ◌++◌, ◌≤◌, Bool, List, [], ◌∷◌, length, Option, Some, None, Result, Ok, Err}
 use Rattle.outside.specs.declared.action.StepRefused.{StepRefused}
 use Rattle.outside.specs.Drawing.{IsRest}
@@ -12,7 +12,8 @@ use Rattle.rpc_units.specs.Reading.{unit_of}
 use Rattle.rpc_units.specs.Stream.{Cut, cut_stream}
 use Rattle.end_links.specs.Links.{LinkState}
 
--- what serving comes to, where the challenges are enough: the end afterwards, and what is said then, or None where the link is closed
+-- what serving comes to, where the challenges are enough: the end afterwards, and what is said then, or None where the
+-- link is closed
 abbrev pub ServedPart : Type 0 → Type 0 → Type 0
 ServedPart W T = Result (Part (W × Option T)) StepRefused
 
@@ -59,7 +60,8 @@ abbrev pub HasRest : {T : Type 0} → Option (LinkState T) → List ℕ → Type
 HasRest None rest = Unit {0}
 HasRest (Some link) rest = link.rest ≡ rest
 
--- the end and the link, where the machine's part is that, that is the rest of the stream, and these challenges are left after the call
+-- the end and the link, where the machine's part is that, that is the rest of the stream, and these challenges are left
+-- after the call
 abbrev pub StreamsBy : {W T : Type 0} →
     Result (W × Option (LinkState T)) StepRefused → ServedPart W T → List ℕ → List (List ℕ) → Type 0
 StreamsBy (Ok done) part rest left =
@@ -80,7 +82,8 @@ pub record IsFragmentOf (call unit : RpcUnit) : Type 0 where
   pub stub : List ℕ
   pub is : unit ≡ fragment call first last stub
 
--- An end that joins the fragments of that call. `saying` is what is said on the link by what is open, and `serve` what the whole call comes to.
+-- An end that joins the fragments of that call. `saying` is what is said on the link by what is open, and `serve` what
+-- the whole call comes to.
 pub record JoinsCall {W T : Type 0} (server : Server W T) (call : RpcUnit) (saying : Option RpcUnit → T)
     (serve : W → List (List ℕ) → ServedPart W T) : Type 0 where
   -- a fragment before the last changes nothing but what is open
@@ -94,8 +97,8 @@ pub record JoinsCall {W T : Type 0} (server : Server W T) (call : RpcUnit) (sayi
 
 -- What holds of the units of a stream, whatever end serves them.
 pub record UnitsServed (W T : Type 0) : Type 0 where
-  -- a stream that comes in two pieces is served as what its pieces give joined: first the units of the first piece, and then, where the link
-  -- stays open, those of its rest with the second
+  -- a stream that comes in two pieces is served as what its pieces give joined: first the units of the first piece, and
+  -- then, where the link stays open, those of its rest with the second
   pub pieces : (server : Server W T) (stream more : List ℕ) (work : W) (talk : T) (left : List (List ℕ)) →
       (cut_stream stream).refused ≡ None →
       served_cut server (cut_stream (stream ++ more)) work talk left

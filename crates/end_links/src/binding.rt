@@ -10,8 +10,8 @@ use std::alloc::Global;
 use std::marker::Model;
 use wire_base::{List, NoMemory};
 
-/// What a bind agreed on: the ids of the accepted contexts, and the most bytes of a fragment, 1,432 to 5,840 (C706 12.6.3.1; the limits are this
-/// project's own choice).
+/// What a bind agreed on: the ids of the accepted contexts, and the most bytes of a fragment, 1,432 to 5,840 (C706
+/// 12.6.3.1; the limits are this project's own choice).
 #[derive(Debug, Drop)]
 pub struct Binding {
     contexts: List<u16>,
@@ -30,8 +30,8 @@ impl Model for Binding {
 }
 
 impl Binding {
-    /// What a bind agrees on with the interface that is served: its contexts whose abstract syntax that is, with NDR among their transfer
-    /// syntaxes, and the limit by the size that the peer receives.
+    /// What a bind agrees on with the interface that is served: its contexts whose abstract syntax that is, with NDR
+    /// among their transfer syntaxes, and the limit by the size that the peer receives.
     pub fn new(
         alloc: Global,
         served: &Syntax,
@@ -63,8 +63,9 @@ impl Binding {
     }
 }
 
-/// The most bytes of a fragment for a peer that receives so many: 5,840 or as many as the peer receives, and at least 1,432. The side that bound
-/// takes the peer's size from the bind_ack (C706 12.6.4.4; the limits are this project's own choice).
+/// The most bytes of a fragment for a peer that receives so many: 5,840 or as many as the peer receives, and at least
+/// 1,432. The side that bound takes the peer's size from the bind_ack (C706 12.6.4.4; the limits are this project's own
+/// choice).
 pub fn fragment_limit(receive: u16) -> u16
     ensures value { result ≡ limit_of receive }
     ensures least { 1432 ≤ result }

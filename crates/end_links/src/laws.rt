@@ -9,8 +9,8 @@ pub fn contexts_are_answered()
     ensures { ContextsAnswered }
 {}
 
-/// The units of a stream are served in order, however it comes in pieces; a call that is sent in fragments is heard once; challenges are drawn
-/// from the front. `W` is the end at work, `T` what is said on the link.
+/// The units of a stream are served in order, however it comes in pieces; a call that is sent in fragments is heard
+/// once; challenges are drawn from the front. `W` is the end at work, `T` what is said on the link.
 pub fn units_are_served_in_order<W, T>()
     ensures { UnitsServed W T }
 {}

@@ -1,4 +1,5 @@
-//! What links have in common at every end: the stream of a link, its binding, what is sent on it, and the units of it served in order.
+//! What links have in common at every end: the stream of a link, its binding, what is sent on it, and the units of it
+//! served in order.
 #![tactic(auto)]
 
 mod binding;

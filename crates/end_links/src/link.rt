@@ -7,8 +7,9 @@ use std::alloc::Global;
 use std::marker::Model;
 use wire_base::NoMemory;
 
-/// A link that isn't closed, seen as the bytes that came and are no whole unit yet, at most 5,839, and what is said on it so far (this
-/// project's own choice). It is taken apart and made again, so that no link stands whose stream a refusal has ended.
+/// A link that isn't closed, seen as the bytes that came and are no whole unit yet, at most 5,839, and what is said on
+/// it so far (this project's own choice). It is taken apart and made again, so that no link stands whose stream a
+/// refusal has ended.
 #[derive(Drop)]
 pub struct Link<T> {
     flow: Inflow,

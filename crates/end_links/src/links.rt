@@ -35,7 +35,8 @@ pub trait SaysHeld {
 
     ghost most_held: { ℕ };
 
-    /// The bytes that it holds, as stub bytes of an open call and as requests that wait, each at most 65,536. It takes no memory.
+    /// The bytes that it holds, as stub bytes of an open call and as requests that wait, each at most 65,536. It takes
+    /// no memory.
     fn held(&self) -> usize
         ensures count { result ≡ bytes_held self.now }
         ensures most { result ≤ most_held }
@@ -108,8 +109,8 @@ impl<T> Links<T> {
         })
     }
 
-    /// The bytes that all links hold: the rests of their streams, and what is held by what is said on each. They are at most what 256 links hold,
-    /// and less than 40 MB. It takes no memory.
+    /// The bytes that all links hold: the rests of their streams, and what is held by what is said on each. They are at
+    /// most what 256 links hold, and less than 40 MB. It takes no memory.
     pub fn held(&self) -> u64
     where
         T: SaysHeld,

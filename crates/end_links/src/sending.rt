@@ -11,8 +11,8 @@ use rpc_units::{Body, Unit, UnitWriteRefused, cut_call, write_unit};
 use std::alloc::Global;
 use wire_base::{Blob, Frames, NoMemory};
 
-/// The bytes of a call or reply without a trailer, cut into fragments of at most `limit` bytes: what is one send (C706 12.6.2). They are at most
-/// nine eighths of the bytes of the stub, and 51 more.
+/// The bytes of a call or reply without a trailer, cut into fragments of at most `limit` bytes: what is one send (C706
+/// 12.6.2). They are at most nine eighths of the bytes of the stub, and 51 more.
 pub fn call_bytes(alloc: Global, unit: &Unit, limit: u16) -> Result<Blob, NoMemory>
     requires whole { IsWholeCall unit.now }
     requires plain { unit.now.trailer ≡ None }
@@ -96,7 +96,8 @@ pub fn unit_bytes(alloc: Global, unit: &Unit) -> Result<Blob, NoMemory>
     }
 }
 
-/// The bytes of a unit without a trailer that is never too long: a fault, a bind_nak, an auth3, or a bind_ack of at most 242 results.
+/// The bytes of a unit without a trailer that is never too long: a fault, a bind_nak, an auth3, or a bind_ack of at
+/// most 242 results.
 #[tactic(auto, using(rpc_units::proofs::ShortLaws::written_short))]
 pub fn short_unit_bytes(alloc: Global, unit: &Unit) -> Result<Blob, NoMemory>
     requires writable { IsWritable unit.now }

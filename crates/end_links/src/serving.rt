@@ -12,15 +12,15 @@ use outside::{Chances, StepRefused};
 use rpc_units::{Came, Incoming, UnitRefused};
 use std::alloc::Global;
 
-/// An end at work, on a link on which `T` is said (this project's own choice). It draws at most one challenge for a unit, and `extra` more on a link,
-/// by what is said on it.
+/// An end at work, on a link on which `T` is said (this project's own choice). It draws at most one challenge for a
+/// unit, and `extra` more on a link, by what is said on it.
 pub trait ServesUnits<T>: Sized {
     ghost server: { Server Self T };
 
     ghost extra: { T → ℕ };
 
-    /// Serves the bytes of a unit, which it may open in their place: the end afterwards, and what is said then, or None where the link is
-    /// closed.
+    /// Serves the bytes of a unit, which it may open in their place: the end afterwards, and what is said then, or None
+    /// where the link is closed.
     fn serve<Q: Chances>(
         self,
         alloc: Global,
@@ -52,9 +52,9 @@ pub trait ServesUnits<T>: Sized {
     ghost few: { ServerDrawsFew server extra };
 }
 
-/// The units of the link with the piece that comes on it, one after the other, until the link is closed: the end afterwards, and the link, or
-/// None where it is closed. Whatever the result, at most one challenge is drawn for each 16 bytes of the piece and of the 5,839 that the link can
-/// hold, and those more that were still allowed.
+/// The units of the link with the piece that comes on it, one after the other, until the link is closed: the end
+/// afterwards, and the link, or None where it is closed. Whatever the result, at most one challenge is drawn for each
+/// 16 bytes of the piece and of the 5,839 that the link can hold, and those more that were still allowed.
 pub fn serve_piece<W: ServesUnits<T>, T, Q: Chances>(
     alloc: Global,
     work: W,

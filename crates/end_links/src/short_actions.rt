@@ -8,7 +8,8 @@ use std::alloc::Global;
 use std::marker::Model;
 use wire_base::NoMemory;
 
-/// Actions, in order, of which each send has at most 589,824 bytes (this project's own choice), seen as the list of them.
+/// Actions, in order, of which each send has at most 589,824 bytes (this project's own choice), seen as the list of
+/// them.
 #[derive(Drop)]
 pub struct ShortActions {
     actions: Actions,

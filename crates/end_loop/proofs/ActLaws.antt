@@ -19,7 +19,7 @@ use Rattle.outside.specs.declared.event.Happening.TheVariants as happening
 use Rattle.outside.specs.Machine.{Machine}
 use Rattle.outside.specs.declared.action.CloseCause.{CloseCause}
 use Rattle.outside.specs.declared.action.Action.{Action}
-use Rattle.outside.specs.declared.action.Action.TheVariants.{Send, Dial, Close, Told, Judged}
+use Rattle.outside.specs.declared.action.Action.TheVariants.{Keep, Send, Dial, Close, Told, Judged}
 use Rattle.end_loop.specs.Acts.{Did, puts, dial_event, Does, SendsOn, Performs, Desk, Performed, CutShort, failed_link, made_event, made_events, has_link, most_made, most_made_by, is_made, are_made, next_line}
 
 -- ---- failures at links
@@ -136,6 +136,7 @@ CutShort-more line xs ys a b q = let next = next_front line q.rest ys q.part q.m
 -- ---- what waits afterwards
 
 does_makes : (failed : List ℕ) (x : Action) (now : List Happening) → Does failed x now → length (made_events now) ≤ most_made x
+does_makes failed (Keep bytes) now d = rw d (omega arith)
 does_makes failed (Send link bytes) now d = sends_makes (has_link failed link) link bytes now d
   where
     sends_makes : (known : Bool) (link : ℕ) (bytes : List ℕ) (now : List Happening) → SendsOn known link bytes now → length (made_events now) ≤ 1
@@ -232,6 +233,14 @@ closed_ok line x link cause failed queue story story2 faults faults2 taken e non
     let did : Did (Close link cause) failed failed queue queue story story2 faults faults2 true = record { happened = happening.Shut link ∷ []; does = refl; told = told; faulted = rises; links = λ _. sym (append-nil failed); events = λ _. sym (append-nil queue) } in
     did_ok {T = ℕ} {E = ℕ} line x (Close link cause) failed failed queue queue story story2 faults faults2 taken (Ok 0) e none did
 
+-- a text that is kept is passed over
+pub kept_ok : (line : Action → List ℕ) (x : Action) (bytes : List ℕ) (failed : List ℕ) (queue : List Event) (story : Option (List Happening)) (faults : ℕ) (taken : Option (List ℕ)) →
+    x ≡ Keep bytes → line (Keep bytes) ≡ [] →
+    Performed line (x ∷ []) (record { failed = failed; queue = queue; story = story; link_faults = faults; taken = taken }) (record { failed = failed; queue = queue; story = story; link_faults = faults; taken = taken })
+kept_ok line x bytes failed queue story faults taken e none =
+    let did : Did (Keep bytes) failed failed queue queue story story faults faults true = record { happened = []; does = refl; told = Appends-nothing story; faulted = RisesWhere-none faults; links = λ _. sym (append-nil failed); events = λ _. sym (append-nil queue) } in
+    did_ok {T = ℕ} {E = ℕ} line x (Keep bytes) failed failed queue queue story story faults faults taken (Ok 0) e none did
+
 -- whether an action puts a line
 abbrev pub says : Action → Bool
 says (Told link outcome) = true
@@ -240,6 +249,7 @@ says _ = false
 
 -- an action that puts its line
 said_does : (x : Action) (failed : List ℕ) → says x ≡ true → Does failed x []
+said_does (Keep bytes) failed e = absurd (cc)
 said_does (Send link bytes) failed e = absurd (cc)
 said_does (Dial peer) failed e = absurd (cc)
 said_does (Close link cause) failed e = absurd (cc)
@@ -247,6 +257,7 @@ said_does (Told link outcome) failed e = refl
 said_does (Judged judged) failed e = refl
 
 said_line : {S : Type 0} (machine : Machine S) (x : Action) → says x ≡ true → puts machine x ≡ machine.line x
+said_line machine (Keep bytes) e = absurd (cc)
 said_line machine (Send link bytes) e = absurd (cc)
 said_line machine (Dial peer) e = absurd (cc)
 said_line machine (Close link cause) e = absurd (cc)

@@ -6,7 +6,7 @@ use Rattle.std.proofs.lemmas.List.Folds.{list_any-append}
 use Rattle.outside.specs.declared.event.Event.{Event}
 use Rattle.outside.specs.declared.event.Happening.{Happening}
 use Rattle.outside.specs.declared.action.Action.{Action}
-use Rattle.outside.specs.declared.action.Action.TheVariants.{Send, Dial, Close, Told, Judged}
+use Rattle.outside.specs.declared.action.Action.TheVariants.{Keep, Send, Dial, Close, Told, Judged}
 use Rattle.outside.specs.Machine.{Machine}
 use Rattle.outside.specs.Stories.{event_of, events_in}
 use Rattle.end_loop.specs.Acts.{Does, SendsOn, Performs, failed_link, has_link}
@@ -18,6 +18,7 @@ sends_silent true link bytes now does = ap events_in does
 sends_silent false link bytes now does = ap events_in does.1
 
 does_silent : (failed : List ℕ) (x : Action) (now : List Happening) → Does failed x now → events_in now ≡ []
+does_silent failed (Keep bytes) now does = ap events_in does
 does_silent failed (Send link bytes) now does = sends_silent (has_link failed link) link bytes now does
 does_silent failed (Dial peer) now does = ap events_in does.1
 does_silent failed (Close link cause) now does = ap events_in does

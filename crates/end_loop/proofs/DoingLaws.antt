@@ -7,7 +7,7 @@ use Rattle.outside.specs.declared.event.Event.{Event}
 use Rattle.outside.specs.declared.event.Happening.{Happening}
 use Rattle.outside.specs.declared.event.Happening.TheVariants as happening
 use Rattle.outside.specs.declared.action.Action.{Action}
-use Rattle.outside.specs.declared.action.Action.TheVariants.{Send, Dial, Close, Told, Judged}
+use Rattle.outside.specs.declared.action.Action.TheVariants.{Keep, Send, Dial, Close, Told, Judged}
 use Rattle.outside.specs.Machine.{Machine}
 use Rattle.outside.specs.Stories.{dial_of, dials_in, close_of}
 use Rattle.end_loop.specs.Acts.{Does, SendsOn, Performs, failed_link, has_link}
@@ -67,6 +67,7 @@ sends_no_peer true link bytes now does = ap (flat_map peer_of) does
 sends_no_peer false link bytes now does = ap (flat_map peer_of) does.1
 
 does_dial : Views peer_of peer_one
+does_dial failed (Keep bytes) now does = ap (flat_map peer_of) does
 does_dial failed (Send link bytes) now does = sends_no_peer (has_link failed link) link bytes now does
 does_dial failed (Dial peer) now does = ap (flat_map peer_of) does.1
 does_dial failed (Close link cause) now does = ap (flat_map peer_of) does
@@ -78,6 +79,7 @@ sends_no_close true link bytes now does = ap (flat_map close_of) does
 sends_no_close false link bytes now does = ap (flat_map close_of) does.1
 
 does_close : Views close_of close_one
+does_close failed (Keep bytes) now does = ap (flat_map close_of) does
 does_close failed (Send link bytes) now does = sends_no_close (has_link failed link) link bytes now does
 does_close failed (Dial peer) now does = ap (flat_map close_of) does.1
 does_close failed (Close link cause) now does = ap (flat_map close_of) does

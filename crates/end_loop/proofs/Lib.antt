@@ -3,6 +3,7 @@ pub mod AskingLaws
 pub mod BegunLaws
 pub mod DoingLaws
 pub mod FaultLaws
+pub mod KeepingLaws
 pub mod Putting
 pub mod RunLaws
 pub mod SendingLaws

@@ -9,7 +9,7 @@ use Rattle.outside.specs.declared.event.Event.{Event}
 use Rattle.outside.specs.declared.event.Happening.{Happening}
 use Rattle.outside.specs.declared.event.Happening.TheVariants as happening
 use Rattle.outside.specs.declared.action.Action.{Action}
-use Rattle.outside.specs.declared.action.Action.TheVariants.{Send, Dial, Close, Told, Judged}
+use Rattle.outside.specs.declared.action.Action.TheVariants.{Keep, Send, Dial, Close, Told, Judged}
 use Rattle.outside.specs.Machine.{Machine}
 use Rattle.outside.specs.Stories.{send_on, sends_on, before_failure, strings_on, fails_on, has_failed}
 use Rattle.end_loop.specs.Acts.{Does, SendsOn, Performs, failed_link, has_link}
@@ -128,6 +128,7 @@ sends_front failed link other bytes now true known clear does = silent link now 
 sends_front failed link other bytes now false known clear does = one_send link other bytes does.0 now does.1
 
 does_front : (failed : List ℕ) (link : ℕ) (x : Action) (now : List Happening) → has_link failed link ≡ false → Does failed x now → IsFront (fails_on link now) (strings_on link now) (asked_one link x)
+does_front failed link (Keep bytes) now clear does = silent link now [] (ap (sends_on link) does) refl
 does_front failed link (Send other bytes) now clear does = sends_front failed link other bytes now (has_link failed other) refl clear does
 does_front failed link (Dial peer) now clear does = silent link now [] (ap (sends_on link) does.1) refl
 does_front failed link (Close other cause) now clear does = silent link now [] (ap (sends_on link) does) refl

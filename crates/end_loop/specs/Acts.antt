@@ -12,7 +12,7 @@ use Rattle.outside.specs.Machine.{Machine}
 use Rattle.end_loop.specs.declared.halt.Halt.{Halt}
 use Rattle.end_loop.specs.declared.halt.Halt.TheVariants.{PortFault, SinkFault, NoMemory, Spent}
 use Rattle.outside.specs.declared.action.Action.{Action}
-use Rattle.outside.specs.declared.action.Action.TheVariants.{Send, Dial, Close, Told, Judged}
+use Rattle.outside.specs.declared.action.Action.TheVariants.{Keep, Send, Dial, Close, Told, Judged}
 
 -- whether the link is among these
 abbrev pub has_link : List ℕ → ℕ → Bool
@@ -45,6 +45,7 @@ SendsOn false link bytes happened = (fails : Bool) × (happened ≡ happening.Se
 
 -- What happens at the port for one action, where sends on these links failed before among the actions of its step.
 abbrev pub Does : List ℕ → Action → List Happening → Type 0
+Does failed (Keep bytes) happened = happened ≡ []
 Does failed (Send link bytes) happened = SendsOn (has_link failed link) link bytes happened
 Does failed (Dial peer) happened = (link : Option ℕ) × (happened ≡ happening.Dialled peer link ∷ [])
 Does failed (Close link cause) happened = happened ≡ happening.Shut link ∷ []
@@ -57,7 +58,8 @@ Performs failed [] happened = happened ≡ []
 Performs failed (action ∷ actions) happened =
     (now later : List Happening) × Does failed action now × (happened ≡ now ++ later) × Performs (failed ++ flat_map failed_link now) actions later
 
--- One action was performed at the port. Where that went well to its end, the failed link and the event that it made are kept.
+-- One action was performed at the port. Where that went well to its end, the failed link and the event that it made are
+-- kept.
 pub record Did (action : Action) (failed failed_after : List ℕ) (queue queue_after : List Event)
     (story story_after : Option (List Happening)) (faults faults_after : ℕ) (whole : Bool) : Type 0 where
   pub happened : List Happening
@@ -67,7 +69,7 @@ pub record Did (action : Action) (failed failed_after : List ℕ) (queue queue_a
   pub links : IsTrue whole → failed_after ≡ failed ++ flat_map failed_link happened
   pub events : IsTrue whole → queue_after ≡ queue ++ made_events happened
 
--- the line that is put for an action: none for what is done at the port
+-- the line that is put for an action: none for what is kept, and for what is done at the port
 abbrev pub puts : {S : Type 0} → Machine S → Action → List ℕ
 puts machine (Told link outcome) = machine.line (Told link outcome)
 puts machine (Judged judged) = machine.line (Judged judged)

@@ -10,8 +10,8 @@ use Rattle.end_loop.specs.Runs.{Standing, Step, AreSteps, story_of, asked_by, is
 abbrev pub gives_stop : Event × Option ℕ → Bool
 gives_stop event = is_stop event.0
 
--- The events that the port gave, each with the link that the end waited for, are those that the steps asked for; so they are as many as
--- the run asked for, and none of them is `Stop`.
+-- The events that the port gave, each with the link that the end waited for, are those that the steps asked for; so
+-- they are as many as the run asked for, and none of them is `Stop`.
 pub record Asks (steps : List Step) : Type 0 where
   pub events : events_in (story_of steps) ≡ flat_map (λ (step : Step). events_in step.asked) steps
   pub count : length (events_in (story_of steps)) ≡ asked_by steps

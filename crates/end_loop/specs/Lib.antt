@@ -3,6 +3,7 @@ pub mod Asking
 pub mod Begun
 pub mod Doing
 pub mod Faults
+pub mod Keeping
 pub mod Runs
 pub mod Seen
 pub mod Sending

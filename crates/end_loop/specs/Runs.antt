@@ -64,8 +64,8 @@ abbrev pub IsOfSteps : Halt → Type 0
 IsOfSteps PortFault = ⊥
 IsOfSteps _ = Unit {0}
 
--- Which event is stepped: the first that waits; where none waits and the end has no outcome, the one that `next` gave while the end
--- waited for its link, which isn't `Stop`. The last argument is the events that wait then.
+-- Which event is stepped: the first that waits; where none waits and the end has no outcome, the one that `next` gave
+-- while the end waited for its link, which isn't `Stop`. The last argument is the events that wait then.
 abbrev pub Chooses : {S : Type 0} → Machine S → S → List Event → Step → List Event → Type 0
 Chooses machine state [] step waiting =
     (machine.is_over state ≡ false) × (step.asked ≡ happening.Given step.event (machine.want state) ∷ [])
@@ -128,16 +128,16 @@ pub record Ran {S : Type 0} (machine : Machine S) (start last : Standing S) (ask
   pub count : asked ≡ asked_by steps
   pub shows : Shows before after (story_of steps) (moments_of steps) (drawn_of steps) (lines_of (puts machine) steps)
 
--- Why a step wasn't finished: the machine draws more challenges than were left, and they were all drawn; the sink failed, after the
--- step drew all that it draws; or no memory was found.
+-- Why a step wasn't finished: the machine draws more challenges than were left, and they were all drawn; the sink
+-- failed, after the step drew all that it draws; or no memory was found.
 abbrev pub Breaks : {S : Type 0} → Halt → Stepped S → List (List ℕ) → Type 0
 Breaks Spent stepped undrawn = (stepped.answer ≡ Err refusals.Spent) × (undrawn ≡ [])
 Breaks SinkFault stepped undrawn = IsOk stepped.answer × (undrawn ≡ [])
 Breaks NoMemory stepped undrawn = Unit {0}
 Breaks PortFault stepped undrawn = ⊥
 
--- A step that was begun and not finished: what it drew is a front of what the machine draws, and the actions performed are a front
--- of the machine's; of the line of the next action a front was put.
+-- A step that was begun and not finished: what it drew is a front of what the machine draws, and the actions performed
+-- are a front of the machine's; of the line of the next action a front was put.
 pub record Begins {S : Type 0} (machine : Machine S) (old : Standing S) (step : Step) (part : List ℕ) (halt : Halt) : Type 0 where
   pub waiting : List Event
   pub chooses : Chooses machine old.state old.queue step waiting

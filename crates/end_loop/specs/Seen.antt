@@ -14,7 +14,8 @@ pub record Sight : Type 0 where
   pub moments : Option (List ℕ)
   pub drawing : Drawing
   pub taken : Option (List ℕ)
-  -- the files written: the name, the bytes, and whether it failed. No end writes any yet, and nothing is told of them
+  -- the files written: the name, the bytes, and whether it failed. The loop passes over what is to be kept: nothing is
+  -- told of them
   pub written : Option (List (List ℕ × (List ℕ × Bool)))
 
 -- what they tell, by the meanings of their traits
@@ -36,8 +37,8 @@ Between story link_faults moments drawing taken port clock chances out port_afte
     relation (sight_of story link_faults moments drawing taken port clock chances out)
     (sight_of story link_faults moments drawing taken port_after clock_after chances_after out_after)
 
--- Between two moments these things happened at the port, these moments were given, these challenges drawn and these bytes put; the
--- count of link faults rose where a dial or a send failed.
+-- Between two moments these things happened at the port, these moments were given, these challenges drawn and these
+-- bytes put; the count of link faults rose where a dial or a send failed.
 pub record Shows (before after : Sight) (happened : List Happening) (given : List ℕ) (drawn : List (List ℕ)) (put : List ℕ) : Type 0 where
   pub story : Appends before.story after.story happened
   pub links : RisesWhere (fails_at_links happened) before.link_faults after.link_faults

@@ -23,8 +23,8 @@ pub record IsFront (failed : Bool) (sent asked : List (List ℕ)) : Type 0 where
   pub is : sent ++ rest ≡ asked
   pub whole : failed ≡ false → rest ≡ []
 
--- What was sent on a link up to the first send on it that failed is a front of what the machine's actions send on it, in order; where no
--- send on it failed, it is all of it.
+-- What was sent on a link up to the first send on it that failed is a front of what the machine's actions send on it,
+-- in order; where no send on it failed, it is all of it.
 abbrev pub SendsFront : {S : Type 0} → Machine S → Type 0
 SendsFront {S} machine = (start last : Standing S) (steps : List Step) (link : ℕ) → AreSteps machine start steps last →
     IsFront (fails_on link (story_of steps)) (strings_on link (story_of steps)) (asked_on link (actions_in steps))

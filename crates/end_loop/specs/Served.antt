@@ -1,4 +1,5 @@
--- A command that serves: the challenges are started, the port listens, and the end's machine runs (this project's own choice).
+-- A command that serves: the challenges are started, the port listens, and the end's machine runs (this project's own
+-- choice).
 use Rattle.std.specs.Prelude.{◌≡◌, ◌⊎◌, ℕ, List, [], ◌∷◌}
 use Rattle.outside.specs.Telling.{Appends}
 use Rattle.outside.specs.declared.event.Happening.{Happening}

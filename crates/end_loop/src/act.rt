@@ -14,7 +14,8 @@ use std::alloc::Global;
 use std::collections::VecDeque;
 use wire_base::NoMemory;
 
-/// Performs one action. `failed` are the links on which a send failed among the actions of this step.
+/// Performs one action; a text that is to be kept is passed over. `failed` are the links on which a send failed among
+/// the actions of this step.
 pub(crate) fn act<E: End, P: Port, S: Sink>(
     alloc: Global,
     end: &E,
@@ -37,6 +38,8 @@ pub(crate) fn act<E: End, P: Port, S: Sink>(
     ensures links { P.link_faults port.old ≤ P.link_faults port.new }
 {
     match action {
+        // No option names a file of secrets, so that none is written.
+        Action::Keep(_) => Ok(()),
         Action::Send(link, bytes) => send_on(*link, bytes.bytes(), failed, queue, port),
         Action::Dial(peer) => dial_peer(peer.bytes(), queue, port),
         Action::Close(link, _) => {

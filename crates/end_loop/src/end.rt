@@ -8,8 +8,9 @@ use outside::{Action, Actions, Chances, Event, StepRefused};
 use std::alloc::Global;
 use wire_base::{Blob, NoMemory};
 
-/// An end, as the loop sees it (this project's own choice). `machine` is its machine over its own state, `is_stopped` tells that a step was
-/// given up, and `pending` bounds how many more events its steps for closed and dialled links may make.
+/// An end, as the loop sees it (this project's own choice). `machine` is its machine over its own state, `is_stopped`
+/// tells that a step was given up, and `pending` bounds how many more events its steps for closed and dialled links may
+/// make.
 pub trait End {
     ghost machine: { Machine Self };
 
@@ -17,8 +18,8 @@ pub trait End {
 
     ghost pending: { Self → ℕ };
 
-    /// The step for the event at this moment, in units of 100 ns since 1601-01-01. `Stopped` comes only of an end that is stopped, and
-    /// a step that is taken leaves none stopped.
+    /// The step for the event at this moment, in units of 100 ns since 1601-01-01. `Stopped` comes only of an end that
+    /// is stopped, and a step that is taken leaves none stopped.
     fn step<Q: Chances>(
         &mut self,
         alloc: Global,

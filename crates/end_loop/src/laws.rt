@@ -3,13 +3,14 @@
 ghost use Rattle.end_loop.specs.Asking.{AsksFor};
 ghost use Rattle.end_loop.specs.Doing.{DialsAndCloses};
 ghost use Rattle.end_loop.specs.Faults.{RunsCountFaults};
+ghost use Rattle.end_loop.specs.Keeping.{PassesOverKeeps};
 ghost use Rattle.end_loop.specs.Sending.{SendsFront};
 ghost use Rattle.end_loop.specs.Unique.{IsDetermined};
 
 use crate::end::End;
 
-/// What was sent on a link up to the first send on it that failed is a front of what the end's machine sends on it, in order; where no send
-/// on it failed, it is all of it.
+/// What was sent on a link up to the first send on it that failed is a front of what the end's machine sends on it, in
+/// order; where no send on it failed, it is all of it.
 pub fn sends_what_the_machine_sends<E: End>(_end: &E)
     ensures { SendsFront E.machine }
 {}
@@ -24,8 +25,8 @@ pub fn story_determines_the_run<E: End>(_end: &E)
     ensures { IsDetermined E.machine }
 {}
 
-/// The events that the port gave in a run, each with the link that the end waited for, are those that its steps asked for, as many as the
-/// run asked for, and none is `Stop`.
+/// The events that the port gave in a run, each with the link that the end waited for, are those that its steps asked
+/// for, as many as the run asked for, and none is `Stop`.
 pub fn asks_for_its_events<E: End>(_end: &E)
     ensures { AsksFor E.machine }
 {}
@@ -33,4 +34,9 @@ pub fn asks_for_its_events<E: End>(_end: &E)
 /// Over a run, to its end or to a halt, the count of link faults rose where a dial or a send failed.
 pub fn counts_its_link_faults<E: End>(_end: &E)
     ensures { RunsCountFaults E.machine }
+{}
+
+/// A text that the end asks to keep is passed over: what happens at the port and what is put are the same without it.
+pub fn passes_over_what_is_kept<E: End>(_end: &E)
+    ensures { PassesOverKeeps E.machine }
 {}

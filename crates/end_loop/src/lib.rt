@@ -1,8 +1,10 @@
-//! What a serving program does with its outside, once for every end: events are given one at a time, the end steps each, its actions are
-//! performed in order, and what they make (a dial's answer, a link whose send failed) is stepped before the next event is asked for.
+//! What a serving program does with its outside, once for every end: events are given one at a time, the end steps
+//! each, its actions are performed in order, and what they make (a dial's answer, a link whose send failed) is stepped
+//! before the next event is asked for.
 //!
-//! `serve` is the loop, `serve_at` starts the challenges and listens before it, `begin_with` performs first actions of the end's own. Their
-//! contracts tie what the port, the clock, the maker of challenges and the sink tell to a run of the end's machine, step by step.
+//! `serve` is the loop, `serve_at` starts the challenges and listens before it, `begin_with` performs first actions of
+//! the end's own. Their contracts tie what the port, the clock, the maker of challenges and the sink tell to a run of
+//! the end's machine, step by step.
 #![tactic(auto)]
 
 mod act;
@@ -20,7 +22,7 @@ pub use end::End;
 pub use halt::Halt;
 pub use laws::{
     asks_for_its_events, counts_its_link_faults, dials_and_closes_as_the_machine_asks,
-    sends_what_the_machine_sends, story_determines_the_run,
+    passes_over_what_is_kept, sends_what_the_machine_sends, story_determines_the_run,
 };
 pub use put::put_all;
 pub use serving::serve;

@@ -6,8 +6,8 @@ ghost use Rattle.outside.specs.Telling.{Appends, AppendsFront};
 
 use outside::{Failed, Sink};
 
-/// Puts all the bytes, in as many pieces as the sink takes them. `Failed` where it failed, and then a front of them was taken. It takes no
-/// memory.
+/// Puts all the bytes, in as many pieces as the sink takes them. `Failed` where it failed, and then a front of them was
+/// taken. It takes no memory.
 pub fn put_all<S: Sink>(out: &mut S, bytes: &[u8]) -> Result<(), Failed>
     ensures all { OnOk result (Appends (S.taken out.old) (S.taken out.new) bytes.now) }
     ensures front { OnErr result (AppendsFront (S.taken out.old) (S.taken out.new) bytes.now) }

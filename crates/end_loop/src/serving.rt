@@ -15,12 +15,12 @@ use outside::{Chances, Clock, Event, Port, PortRefused, Sink};
 use std::alloc::Global;
 use std::collections::VecDeque;
 
-/// Serves the end (this project's own choice): steps the events that wait, and then each event that the port gives, with all that its
-/// steps make, before the next is asked for. It ends where the end has its outcome, at `Stop`, and after `most` answers of the port, and
-/// then no event waits.
+/// Serves the end (this project's own choice): steps the events that wait, and then each event that the port gives,
+/// with all that its steps make, before the next is asked for. It ends where the end has its outcome, at `Stop`, and
+/// after `most` answers of the port, and then no event waits.
 ///
-/// `PortFault` where the port failed to give an event, `SinkFault` where the sink failed, `Spent` where a step draws more challenges than
-/// are left, `NoMemory` where no memory was found. What was done until then is done.
+/// `PortFault` where the port failed to give an event, `SinkFault` where the sink failed, `Spent` where a step draws
+/// more challenges than are left, `NoMemory` where no memory was found. What was done until then is done.
 pub fn serve<E: End, P: Port, S: Sink, C: Clock, Q: Chances>(
     alloc: Global,
     end: &mut E,

@@ -12,8 +12,9 @@ use outside::{Chances, Clock, Port, Sink};
 use std::alloc::Global;
 use std::collections::VecDeque;
 
-/// Starts the challenges, listens at the address and serves the end (this project's own choice). Refuses as `serve` does, and with
-/// `PortFault` also where the port failed to listen; then the challenges stand as started, no moment was taken and nothing was put.
+/// Starts the challenges, listens at the address and serves the end (this project's own choice). Refuses as `serve`
+/// does, and with `PortFault` also where the port failed to listen; then the challenges stand as started, no moment was
+/// taken and nothing was put.
 pub fn serve_at<E: End, P: Port, S: Sink, C: Clock, Q: Chances>(
     alloc: Global,
     end: &mut E,

@@ -1,4 +1,5 @@
--- Laws of the maker of challenges that counts: what is drawn and left at each count, and that no two challenges are alike.
+-- Laws of the maker of challenges that counts: what is drawn and left at each count, and that no two challenges are
+-- alike.
 use Rattle.std.proofs.Common.{◌≡◌, ◌≢◌, ℕ, zero, suc, ◌+◌, ◌-◌, ◌*◌, ◌^◌, ◌<◌, List, [], ◌∷◌, ◌++◌, length, get_or, All, AllPairs, refl, ap, sym, ◌∙◌, arith}
 use Rattle.std.proofs.lemmas.List.Elements.{All-from_recursion, All-cons, All-nil}
 use Rattle.std.proofs.lemmas.Nat.{from_le_bytes-to_le_bytes_8}

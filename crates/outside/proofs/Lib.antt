@@ -1,3 +1,4 @@
+pub mod FileLaws
 pub mod CauseLaws
 pub mod CounterLaws
 pub mod DrawLaws

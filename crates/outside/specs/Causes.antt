@@ -1,5 +1,5 @@
--- Why a call of the outside failed (this project's own choice): each implementation counts its failures in a u64, and a call
--- answers `Failed` only where that count rose in the call.
+-- Why a call of the outside failed (this project's own choice): each implementation counts its failures in a u64, and a
+-- call answers `Failed` only where that count rose in the call.
 use Rattle.std.specs.Prelude.{ℕ, ◌+◌, ◌-◌, ◌^◌, ◌≤◌, min, Bool, false, ◌||◌, IsTrue}
 
 -- a count of 64 bits after one more, which stands still at the end of its type

@@ -1,8 +1,9 @@
 -- The contents of named files, where they are told: an association list, of which the first entry of a name counts.
-use Rattle.std.specs.Prelude.{◌≡◌, ℕ, Bool, true, false, ◌<◌, ◌≤◌, length, List, [], ◌∷◌, Option, Some, Result, Ok, Err, IsSomeAnd}
+use Rattle.std.specs.Prelude.{◌≡◌, ◌⊎◌, ℕ, Bool, true, false, ◌<◌, ◌≤◌, length, List, [], ◌∷◌, Option, Some, Result, Ok, Err, IsSomeAnd}
 use Rattle.std.specs.Str.{bytes_eq}
 use Rattle.wire_base.specs.Maps.{lookup}
 use Rattle.outside.specs.declared.files.FileRefused.{FileRefused}
+use Rattle.outside.specs.declared.port.Failed.{Failed as failure}
 use Rattle.outside.specs.declared.files.FileRefused.TheVariants.{Failed, TooLong, Memory}
 
 -- the most bytes of a file: 16 MiB
@@ -31,3 +32,19 @@ reading name (Ok content) = (name, false) ∷ []
 reading name (Err TooLong) = (name, false) ∷ []
 reading name (Err Failed) = (name, true) ∷ []
 reading name (Err Memory) = []
+
+-- ---- writes
+
+-- the file of that name has these bytes, and every other file is as it was
+pub record Writes (files now : List (List ℕ × List ℕ)) (name bytes : List ℕ) : Type 0 where
+  pub written : content_of now name ≡ Some bytes
+  pub others : (other : List ℕ) → bytes_eq name other ≡ false → content_of now other ≡ content_of files other
+
+-- every file is as it was
+abbrev pub Stay : List (List ℕ × List ℕ) → List (List ℕ × List ℕ) → Type 0
+Stay files now = (name : List ℕ) → content_of now name ≡ content_of files name
+
+-- what a write leaves: after a failure the file has the old bytes or the new ones
+abbrev pub LeavesFiles : Result Unit failure → List ℕ → List ℕ → List (List ℕ × List ℕ) → List (List ℕ × List ℕ) → Type 0
+LeavesFiles (Ok _) name bytes files now = Writes files now name bytes
+LeavesFiles (Err _) name bytes files now = Stay files now ⊎ Writes files now name bytes

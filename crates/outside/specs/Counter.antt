@@ -1,5 +1,5 @@
--- The maker of challenges that counts (this project's own choice). A seed has 32 bytes, a key 16 and a challenge 8; the number of a boot
--- and a count are below 2^32.
+-- The maker of challenges that counts (this project's own choice). A seed has 32 bytes, a key 16 and a challenge 8; the
+-- number of a boot and a count are below 2^32.
 use Rattle.std.specs.Prelude.{ℕ, zero, suc, ◌+◌, ◌-◌, ◌*◌, ◌^◌, List, [], ◌∷◌, ◌++◌}
 use Rattle.std.specs.Int.{w32, w64, to_le_bytes}
 use Rattle.rand_chacha.specs.ChaCha.{word_at, key_of}
@@ -14,8 +14,8 @@ seed_word seed place = to_le_bytes w32 (word_at 10 (key_of seed) 0 place)
 unfoldable pub maker_key_of : List ℕ → List ℕ
 maker_key_of seed = seed_word seed 0 ++ seed_word seed 1 ++ seed_word seed 2 ++ seed_word seed 3
 
--- the challenge with a count: the credential, under the seed's key, of the boot's number and the count as one number of 64 bits, low
--- byte first
+-- the challenge with a count: the credential, under the seed's key, of the boot's number and the count as one number of
+-- 64 bits, low byte first
 unfoldable pub challenge_of : List ℕ → ℕ → ℕ → List ℕ
 challenge_of seed boot count = cred_of (maker_key_of seed) (to_le_bytes w64 (boot * 2 ^ 32 + count))
 

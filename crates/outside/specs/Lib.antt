@@ -10,3 +10,4 @@ pub mod Machine
 pub mod Moments
 pub mod Scripts
 pub mod PortScript
+pub mod Reads

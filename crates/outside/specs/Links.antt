@@ -1,5 +1,5 @@
 -- Events and links of a port (this project's own choice).
-use Rattle.std.specs.Prelude.{ℕ, Bool, true, false, not, ◌&&◌, ◌||◌, ◌==◌, nat_le, List, [], ◌∷◌, length, Option, Some, Result, Ok, Err, IsTrue}
+use Rattle.std.specs.Prelude.{ℕ, Bool, true, false, not, ◌&&◌, ◌||◌, ◌==◌, nat_le, List, [], ◌∷◌, length, Option, Some, None, Result, Ok, Err, IsTrue}
 use Rattle.outside.specs.declared.event.Event.{Event}
 use Rattle.outside.specs.declared.event.Event.TheVariants as event
 use Rattle.outside.specs.declared.event.Happening.{Happening}
@@ -49,3 +49,8 @@ linked_from before (happened ∷ later) link = linked_from (linked_after happene
 -- whether the link is open after the story of a port, which begins with no link
 abbrev pub is_linked : List Happening → ℕ → Bool
 is_linked story link = linked_from false story link
+
+-- where there is an event, it is one that a port may give
+abbrev pub MayBeGiven : Option Event → Type 0
+MayBeGiven (Some what) = IsGiven what
+MayBeGiven None = Unit {0}

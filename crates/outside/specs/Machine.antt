@@ -1,5 +1,5 @@
--- Ends as machines, whatever their state (this project's own choice): what a step comes to, and how an end's call stands to it. A moment
--- is in units of 100 ns since 1601-01-01, and a challenge is a list of 8 bytes.
+-- Ends as machines, whatever their state (this project's own choice): what a step comes to, and how an end's call
+-- stands to it. A moment is in units of 100 ns since 1601-01-01, and a challenge is a list of 8 bytes.
 use Rattle.std.specs.Prelude.{◌≡◌, ℕ, Bool, List, [], ◌++◌, Option, Result, Ok, Err}
 use Rattle.outside.specs.Drawing.{Drawing, DrawsAll, DrawsSome, IsRest, draws_between}
 use Rattle.outside.specs.declared.event.Event.{Event}
@@ -9,11 +9,13 @@ use Rattle.outside.specs.declared.action.StepRefused.TheVariants as refused
 
 -- What a step comes to.
 pub record Stepped (S : Type 0) : Type 0 where
-  -- the actions in order; or `Spent`, where the step draws more challenges than are left; or `Stopped`, where the end had stopped
+  -- the actions in order; or `Spent`, where the step draws more challenges than are left; or `Stopped`, where the end
+  -- had stopped
   pub answer : Result (List Action) StepRefused
   -- the state that the step leaves
   pub state : S
-  -- the challenges that it draws, in order, and those left after it. Where they aren't enough, all that were left are drawn
+  -- the challenges that it draws, in order, and those left after it. Where they aren't enough, all that were left are
+  -- drawn
   pub drawn : List (List ℕ)
   pub left : List (List ℕ)
 
@@ -60,8 +62,8 @@ pub record GivesUp {S : Type 0} (stepped : Stepped S) (before after : Drawing) :
   pub front : drawn ++ more ≡ stepped.drawn
   pub draws : DrawsAll before after drawn
 
--- How a call that steps an end answers, where its machine's step is that. `halted` is the state of the end that gave the step up for
--- want of memory, `now` the state after the call.
+-- How a call that steps an end answers, where its machine's step is that. `halted` is the state of the end that gave
+-- the step up for want of memory, `now` the state after the call.
 abbrev pub StepsBy : {S : Type 0} → Result (List Action) StepRefused → Stepped S → S → S → Drawing → Drawing → Type 0
 StepsBy (Ok actions) stepped halted now before after = Takes stepped now before after actions
 StepsBy (Err refused.Spent) stepped halted now before after = Spends stepped now before after
@@ -80,8 +82,8 @@ abbrev pub then_part : {T U : Type 0} → Result (Part T) StepRefused → (T →
 then_part (Err why) next = Err why
 then_part (Ok part) next = next part.value part.left
 
--- the step of an end that runs, by the part that its event comes to: from that part's value come the actions and the state, and the
--- end is halted where the challenges weren't enough
+-- the step of an end that runs, by the part that its event comes to: from that part's value come the actions and the
+-- state, and the end is halted where the challenges weren't enough
 abbrev pub step_by : {S T : Type 0} → (T → List Action) → (T → S) → S → List (List ℕ) → Result (Part T) StepRefused → Stepped S
 step_by actions state halted before (Err why) = spent_step before halted
 step_by actions state halted before (Ok part) = whole_step before part.left (actions part.value) (state part.value)
@@ -91,8 +93,8 @@ abbrev pub left_by : {T : Type 0} → Result (Part T) StepRefused → List (List
 left_by (Ok part) = part.left
 left_by (Err refused) = []
 
--- How a call that makes a part of a step answers, where the machine's part is that and these challenges are left after the call. After
--- want of memory the machine's part leaves no more than these.
+-- How a call that makes a part of a step answers, where the machine's part is that and these challenges are left after
+-- the call. After want of memory the machine's part leaves no more than these.
 abbrev pub AnswersBy : {T : Type 0} → Result T StepRefused → Result (Part T) StepRefused → List (List ℕ) → Type 0
 AnswersBy (Ok value) part left = part ≡ Ok (record { value = value; left = left })
 AnswersBy (Err refused.Spent) part left = (part ≡ Err refused.Spent) × (left ≡ [])
@@ -105,8 +107,8 @@ AnswersBy (Err refused.Stopped) part left = ⊥
 abbrev pub LeavesRest : {T U : Type 0} → (T → List (List ℕ) → Result (Part U) StepRefused) → Type 0
 LeavesRest next = (value : _) (left : List (List ℕ)) → IsRest (left_by (next value left)) left
 
--- A call that makes two parts, the second from the value of the first, and a call that steps by a part, answer as said where the first
--- part is refused; two parts leave a rest, as each does.
+-- A call that makes two parts, the second from the value of the first, and a call that steps by a part, answer as said
+-- where the first part is refused; two parts leave a rest, as each does.
 pub record RefusalsPass (S T U : Type 0) : Type 0 where
   pub parts : (why : StepRefused) (part : Result (Part T) StepRefused) (next : T → List (List ℕ) → Result (Part U) StepRefused)
       (left : List (List ℕ)) → LeavesRest next → AnswersBy (Err why) part left → AnswersBy (Err why) (then_part part next) left

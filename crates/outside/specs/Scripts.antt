@@ -1,9 +1,13 @@
--- The scripted implementations in memory, as their callers see them (this project's own choice). `calls` counts the calls made.
-use Rattle.std.specs.Prelude.{◌≡◌, ℕ, Bool, ◌==◌, nat_lt, List, [], ◌∷◌, length, Option, Some, None, Result, Ok, Err, if◌then◌else◌}
+-- The scripted implementations in memory, as their callers see them (this project's own choice). `calls` counts the
+-- calls made.
+use Rattle.std.specs.Prelude.{◌≡◌, ℕ, Bool, false, ◌==◌, nat_lt, List, [], ◌∷◌, length, Option, Some, None, Result, Ok, Err, if◌then◌else◌}
 use Rattle.std.specs.List.{list_any}
+use Rattle.std.specs.Str.{bytes_eq}
+use Rattle.wire_base.specs.Maps.{put}
 use Rattle.outside.specs.Causes.{next_count}
 use Rattle.outside.specs.Contents.{content_of, most_file_bytes}
 use Rattle.outside.specs.declared.files.FileRefused.{FileRefused}
+use Rattle.outside.specs.declared.port.Failed.{Failed as failure}
 use Rattle.outside.specs.declared.files.FileRefused.TheVariants.{Failed, TooLong, Memory}
 
 -- whether the call of that number is among those that are to fail
@@ -60,11 +64,17 @@ pub record FilesScript : Type 0 where
   pub faults : ℕ
   -- the names read, each with whether that failed
   pub reads : List (List ℕ × Bool)
+  -- the names and bytes written, each with whether that failed
+  pub writes : List (List ℕ × List ℕ × Bool)
   pub tells : Bool
 
 -- the reads that it tells
 abbrev pub file_reads : FilesScript → Option (List (List ℕ × Bool))
 file_reads script = if script.tells then Some script.reads else None
+
+-- the writes that it tells
+abbrev pub file_writes : FilesScript → Option (List (List ℕ × List ℕ × Bool))
+file_writes script = if script.tells then Some script.writes else None
 
 -- what is answered for a content, or where there is none
 abbrev pub copy_answer : Option (List ℕ) → Result (List ℕ) FileRefused
@@ -81,3 +91,12 @@ abbrev pub ReadsFile : FilesScript → FilesScript → Result (List ℕ) FileRef
 ReadsFile old new (Err Memory) = new ≡ old
 ReadsFile old new (Err Failed) = new ≡ record old { calls = next_count old.calls; faults = next_count old.faults; reads = new.reads; tells = new.tells }
 ReadsFile old new _ = new ≡ record old { calls = next_count old.calls; reads = new.reads; tells = new.tells }
+
+-- What a write leaves: its call is counted. At Ok its call isn't a listed one, and the entry stands in place of the
+-- first of its name, or at the end; a failure is counted, and no file has changed.
+abbrev pub WritesFile : List ℕ → List ℕ → FilesScript → FilesScript → Result Unit failure → Type 0
+WritesFile name bytes old new (Ok _) =
+    (call_fails old.failing old.calls ≡ false)
+    × (new ≡ record old { files = put bytes_eq name bytes old.files; calls = next_count old.calls; writes = new.writes; tells = new.tells })
+WritesFile name bytes old new (Err _) =
+    new ≡ record old { calls = next_count old.calls; faults = next_count old.faults; writes = new.writes; tells = new.tells }

@@ -1,5 +1,5 @@
--- What a port's story says of each kind of its calls (this project's own choice). A story is what happened at the port, in order; a link
--- is a number below 2^32, an address or a peer a list of bytes.
+-- What a port's story says of each kind of its calls (this project's own choice). A story is what happened at the port,
+-- in order; a link is a number below 2^32, an address or a peer a list of bytes.
 use Rattle.std.specs.Prelude.{◌≡◌, ℕ, Bool, true, false, ◌||◌, ◌==◌, List, [], ◌∷◌, ◌++◌, Option, Some, None, if◌then◌else◌}
 use Rattle.std.specs.List.{flat_map, list_any}
 use Rattle.std.specs.Option.{is_none}

@@ -1,5 +1,5 @@
--- What an implementation of the outside tells of what happened in it (this project's own choice). It may leave it untold, and may
--- stop telling at any call; once it has stopped it never tells again.
+-- What an implementation of the outside tells of what happened in it (this project's own choice). It may leave it
+-- untold, and may stop telling at any call; once it has stopped it never tells again.
 use Rattle.std.specs.Prelude.{◌≡◌, ◌≤◌, ℕ, List, ◌++◌, length, take, Option, Some, None}
 
 -- Where the meaning is told before and after a call, the step leads from the one to the other.

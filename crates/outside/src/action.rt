@@ -7,6 +7,8 @@ use wire_base::{Blob, List, NoMemory, Units};
 /// What an end asks for, or tells. The number is a link.
 #[derive(Debug, Drop)]
 pub enum Action {
+    /// Write the bytes to the file of secrets, before all that follows.
+    Keep(Blob),
     /// Send the bytes on the link.
     Send(u32, Blob),
     /// Dial the peer of this address.
@@ -42,7 +44,8 @@ pub enum CloseCause {
 /// How the logon on a link ended.
 #[derive(Debug, Drop)]
 pub enum Outcome {
-    /// The domain granted it: the domain and the user as UTF-16 units, and the exported session key (MS-NLMP 3.2.5.1.2).
+    /// The domain granted it: the domain and the user as UTF-16 units, and the exported session key (MS-NLMP
+    /// 3.2.5.1.2).
     In {
         domain: Units,
         user: Units,
@@ -73,6 +76,8 @@ pub enum DropCause {
     NotNext,
     /// The answer isn't one to the call.
     BadReply,
+    /// What came on a sealed link doesn't open, or nothing more can be sealed on it.
+    BadSeal,
 }
 
 /// How a controller judged the authenticator of a logon call (MS-NRPC 3.1.4.5).
@@ -80,6 +85,10 @@ pub enum DropCause {
 pub enum Judged {
     /// It passed, and the reply has this NTSTATUS.
     Passed(u32),
+    /// It passed, and the logon is asked of a controller of another domain.
+    Forwarded,
+    /// A logon that was asked of a controller of another domain has come to this NTSTATUS.
+    Answered(u32),
     /// It isn't the next one of its channel.
     Barred,
     /// There is no channel, or the call names none.

@@ -14,8 +14,9 @@ use rand_core::{Rng, SeedableRng};
 use std::marker::Model;
 
 /// Challenges that are the credentials of a count (this project's own choice): challenge n is the credential of
-/// n = boot * 2^32 + count, as 8 bytes low byte first, under a key made of the seed. No two draws between two starts are alike, nor
-/// are two draws of one seed under different numbers of the boot. Nothing is claimed of how hard they are to guess.
+/// n = boot * 2^32 + count, as 8 bytes low byte first, under a key made of the seed. No two draws between two starts
+/// are alike, nor are two draws of one seed under different numbers of the boot. Nothing is claimed of how hard they
+/// are to guess.
 #[derive(Drop)]
 pub struct CounterChances {
     seed: [u8; 32],

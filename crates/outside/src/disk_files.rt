@@ -1,20 +1,21 @@
 //! The files of the system.
 
-ghost use Rattle.std.specs.Prelude.{◌≡◌, ◌≤◌, ℕ, IfOk, Err, is_err, length, if◌then◌else◌};
+ghost use Rattle.std.specs.Prelude.{◌≡◌, ◌≤◌, ℕ, IfOk, OnErr, Err, is_err, length, if◌then◌else◌};
 ghost use Rattle.outside.specs.Causes.{Rose, next_count};
 ghost use Rattle.outside.specs.Contents.{most_file_bytes, is_failed};
 ghost use Rattle.outside.specs.declared.files.FileRefused.{FileRefused};
 
 use crate::files::{FileRefused, Files, MOST_FILE_BYTES};
+use crate::port::Failed;
 use std::alloc::Global;
 use std::fs;
-use std::fs::File;
-use std::io::{ErrorKind, Read};
+use std::fs::{File, OpenFile};
+use std::io::{ErrorKind, Read, Write};
 use std::marker::Model;
 use wire_base::Blob;
 
-/// The system's files by their paths, in UTF-8, seen as the count of failures. They tell nothing of names or contents. What isn't
-/// there, may not be read or is a folder fails; of what is longer than a file may be, one byte more is read.
+/// The system's files by their paths, in UTF-8, seen as the count of failures. They tell nothing of names or contents.
+/// What isn't there, may not be read or is a folder fails; of what is longer than a file may be, one byte more is read.
 #[derive(Drop)]
 pub struct DiskFiles<'a, R: fs::Files> {
     files: &'a R,
@@ -47,6 +48,8 @@ impl<R: fs::Files> Files for DiskFiles<'_, R> {
 
     ghost reads = { λ f. None };
 
+    ghost writes = { λ f. None };
+
     fn read(&mut self, alloc: Global, name: &[u8]) -> Result<Blob, FileRefused>
         ensures cause { result ≡ Err FileRefused.Failed → Rose self.old self.new }
         ensures faults { self.old ≤ self.new }
@@ -61,6 +64,60 @@ impl<R: fs::Files> Files for DiskFiles<'_, R> {
             read => read,
         }
     }
+
+    fn write(&mut self, name: &[u8], bytes: &[u8]) -> Result<(), Failed>
+        ensures cause { OnErr result (Rose self.old self.new) }
+        ensures faults { self.old ≤ self.new }
+        ensures counts { self.new ≡ (if is_err result then next_count self.old else self.old) }
+    {
+        if replaces(self.files, name, bytes) {
+            return Ok(());
+        }
+        self.faults = self.faults.saturating_add(1);
+        Err(Failed)
+    }
+}
+
+/// The most bytes of a path that is written.
+const MOST_PATH_BYTES: usize = 4096;
+
+/// What is appended to a path for the file that is written beside it.
+const BESIDE: [u8; 4] = *b".new";
+
+/// Whether the file was replaced: the bytes are written beside it, and that file is then renamed, so that a stop in
+/// between leaves the old one.
+fn replaces<R: fs::Files>(files: &R, name: &[u8], bytes: &[u8]) -> bool {
+    if name.len() > MOST_PATH_BYTES {
+        return false;
+    }
+    let mut beside = [0; MOST_PATH_BYTES + BESIDE.len()];
+    beside[..name.len()].copy_from_slice(name);
+    beside[name.len()..name.len() + BESIDE.len()].copy_from_slice(&BESIDE);
+    let Ok(beside) = str::from_utf8(&beside[..name.len() + BESIDE.len()]) else {
+        return false;
+    };
+    let Ok(path) = str::from_utf8(name) else {
+        return false;
+    };
+    if writes(files, path, beside, bytes) && fs::rename(files, beside, path).is_ok() {
+        return true;
+    }
+    let _removed = fs::remove_file(files, beside);
+    false
+}
+
+/// Whether the file beside was written, with the permissions of the old one where there is one, and the system told to
+/// keep it.
+fn writes<R: fs::Files>(files: &R, path: &str, beside: &str, bytes: &[u8]) -> bool {
+    let Ok(mut file) = File::create(files, beside) else {
+        return false;
+    };
+    if let Ok(known) = fs::metadata(files, path) {
+        if file.set_permissions(known.permissions()).is_err() {
+            return false;
+        }
+    }
+    file.write_all(bytes).is_ok() && file.sync_all().is_ok()
 }
 
 /// The whole content of the file.

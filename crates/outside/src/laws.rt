@@ -31,8 +31,8 @@ pub fn fronts_are_parts()
     ensures { FrontsAreParts }
 {}
 
-/// Where a part of an end's step is refused, so is the step, and what was drawn is a front of what the step draws. `S` are the end's
-/// states, `T` and `U` what its parts give.
+/// Where a part of an end's step is refused, so is the step, and what was drawn is a front of what the step draws. `S`
+/// are the end's states, `T` and `U` what its parts give.
 pub fn refusals_pass<S, T, U>()
     ensures { RefusalsPass S T U }
 {}

@@ -1,8 +1,9 @@
-//! What an end meets outside itself: a port, files, a sink, a clock and a maker of challenges, as traits whose contracts say
-//! what each call may answer, scripted implementations in memory, and the maker of challenges that counts.
+//! What an end meets outside itself: a port, files, a sink, a clock and a maker of challenges, as traits whose
+//! contracts say what each call may answer, scripted implementations in memory, and the maker of challenges that
+//! counts.
 //!
-//! A port, files and a sink count their failures, and answer `Failed` only where a count rose. What an implementation tells of
-//! its content is optional: the real ones tell nothing.
+//! A port, files and a sink count their failures, and answer `Failed` only where a count rose. What an implementation
+//! tells of its content is optional: the real ones tell nothing.
 #![tactic(auto)]
 
 mod action;
@@ -24,6 +25,8 @@ mod script_port;
 mod sink;
 mod socket_link;
 mod socket_port;
+mod socket_watch;
+mod sockets;
 mod sure_port;
 mod sure_sink;
 mod system_clock;

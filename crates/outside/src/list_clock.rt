@@ -9,8 +9,8 @@ use std::alloc::Global;
 use std::marker::Model;
 use std::vec::IntoIter;
 
-/// A clock that gives the listed moments, of which the last repeats. Where it finds no memory to keep the moment, it gives it all the
-/// same and tells it no longer.
+/// A clock that gives the listed moments, of which the last repeats. Where it finds no memory to keep the moment, it
+/// gives it all the same and tells it no longer.
 #[derive(Drop)]
 pub struct ListClock {
     next: u64,

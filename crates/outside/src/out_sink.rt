@@ -7,7 +7,8 @@ use crate::port::Failed;
 use crate::sink::Sink;
 use std::marker::Model;
 
-/// Standard output, or whatever the handle prints to, seen as its count of failures. It tells nothing of what was taken.
+/// Standard output, or whatever the handle prints to, seen as its count of failures. It tells nothing of what was
+/// taken.
 #[derive(Drop)]
 pub struct OutSink<'a, P: Print> {
     out: &'a P,

@@ -41,8 +41,8 @@ impl From<NoMemory> for PortRefused {
     }
 }
 
-/// Links to peers (this project's own choice). `faults` counts the failures of `listen` and `next`, `link_faults` those of
-/// `dial` and `send`; neither ever falls. `story` is, where it is told, what happened at the port, in order.
+/// Links to peers (this project's own choice). `faults` counts the failures of `listen` and `next`, `link_faults` those
+/// of `dial` and `send`; neither ever falls. `story` is, where it is told, what happened at the port, in order.
 pub trait Port {
     ghost faults: { Self → ℕ };
 

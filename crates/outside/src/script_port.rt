@@ -22,10 +22,10 @@ use wire_base::{Blob, Calls, List, NoMemory};
 /// The first link that a dial gives.
 pub const FIRST_DIALLED: u32 = 1000;
 
-/// A port that gives listed events and then `Stop`. Its calls of `listen`, `next`, `dial` and `send` are counted together from 0, and
-/// those that are listed fail and raise the count that the trait names for them. Dials are answered with links 1000, 1001 and so
-/// on; a dial also fails where no number of 32 bits is left. Where it finds no memory to keep what a call was given, it does the call
-/// all the same and tells its story no longer.
+/// A port that gives listed events and then `Stop`. Its calls of `listen`, `next`, `dial` and `send` are counted
+/// together from 0, and those that are listed fail and raise the count that the trait names for them. Dials are
+/// answered with links 1000, 1001 and so on; a dial also fails where no number of 32 bits is left. Where it finds no
+/// memory to keep what a call was given, it does the call all the same and tells its story no longer.
 #[derive(Drop)]
 pub struct ScriptPort {
     alloc: Global,
@@ -94,7 +94,8 @@ impl ScriptPort {
         }
     }
 
-    /// Whether it may list the events: each is `Opened` of a link below 1000, `Bytes` of at most 65,536 bytes, `Closed` or `Stop`.
+    /// Whether it may list the events: each is `Opened` of a link below 1000, `Bytes` of at most 65,536 bytes, `Closed`
+    /// or `Stop`.
     pub fn may_list(events: &[Event]) -> bool
         ensures { result ≡ list_all is_scripted events.now }
     {

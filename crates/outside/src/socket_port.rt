@@ -8,28 +8,25 @@ ghost use Rattle.outside.specs.declared.port.PortRefused.{PortRefused};
 
 use crate::event::Event;
 use crate::port::{Failed, Port, PortRefused};
-use crate::socket_link::{Link, close_at, is_at, is_of_the_peer, next_at, send_at};
+use crate::sockets::Sockets;
 use std::alloc::Global;
 use std::marker::Model;
-use std::net::{Net, OpenListener, TcpListener, TcpStream};
+use std::net::Net;
+use std::time::Clock;
 
-/// The first number of a link that was dialled. Those that were accepted have lower ones, so no two open links have one number.
-const FIRST_DIALLED: u32 = 1 << 31;
-
-/// Links over TCP (this project's own choice): one that was accepted, one at a time, and beside it one that was dialled. An address is a
-/// host and a port. It is seen as its counts of failures, and tells nothing of what happens.
+/// Links over TCP (this project's own choice): any number that were accepted, with numbers from 1 on, and any that
+/// were dialled, from 2^31 on. An address is a host and a port. The port is seen as its counts of failures, and tells
+/// nothing of what happens.
 ///
-/// Where the caller waits for the dialled link its events are given, else those of the accepted link until it is closed, else the next
-/// peer's link is accepted. Without a listening place and without links comes `Stop`. Each call waits for the peer as long as it takes.
+/// The events of all links come as their sockets are ready, each link in its turn and the listening place in its own.
+/// What a peer doesn't read waits, up to 256 KiB; a send beyond that fails and closes the link. A link that was
+/// accepted is closed after 15 minutes of silence. One that was dialled is closed after 30 seconds in which the
+/// caller waits for it, 15 where the port listens too. A dial fails after 3 seconds. Without a listening place and
+/// without links comes `Stop`.
 #[derive(Drop)]
 pub struct SocketPort<'a, N: Net> {
-    alloc: Global,
     net: &'a N,
-    listener: Option<N::Listener>,
-    accepted: Option<Link<N::Stream>>,
-    dialled: Option<Link<N::Stream>>,
-    next_accepted: u32,
-    next_dialled: u32,
+    sockets: Sockets<N>,
     faults: u64,
     link_faults: u64,
 }
@@ -42,69 +39,21 @@ impl<'a, N: Net> Model for SocketPort<'a, N> {
     ghost view = { λ p. record { faults = p.faults; link_faults = p.link_faults } };
 }
 
-impl<'a, N: Net> SocketPort<'a, N> {
+impl<'a, N: Net + Clock> SocketPort<'a, N> {
     /// Nothing is open yet, and nothing has failed.
     pub fn new(alloc: Global, net: &'a N) -> Self
         ensures { result ≡ record { faults = 0; link_faults = 0 } }
     {
         SocketPort {
-            alloc,
             net,
-            listener: None,
-            accepted: None,
-            dialled: None,
-            next_accepted: 1,
-            next_dialled: FIRST_DIALLED,
+            sockets: Sockets::new(alloc),
             faults: 0,
             link_faults: 0,
         }
     }
-
-    /// A number for the next link that is accepted.
-    fn number_accepted(&mut self) -> u32
-        ensures { self.new ≡ self.old }
-    {
-        let number = self.next_accepted;
-        self.next_accepted = number.wrapping_add(1) % FIRST_DIALLED;
-        number
-    }
-
-    /// A number for the next link that is dialled.
-    fn number_dialled(&mut self) -> u32
-        ensures { self.new ≡ self.old }
-    {
-        let number = self.next_dialled;
-        self.next_dialled = number.wrapping_add(1) | FIRST_DIALLED;
-        number
-    }
-
-    /// The next link of a peer, or that it was closed before it was accepted.
-    fn accept(&mut self) -> Result<Event, PortRefused>
-        ensures kind { IfOk result IsGiven }
-        ensures faults { self.old.faults ≤ self.new.faults }
-        ensures counts { self.new ≡ record self.old {
-          faults = (if is_failed_next result then next_count self.old.faults else self.old.faults);
-        } }
-    {
-        let number = self.number_accepted();
-        let Some(listener) = &self.listener else {
-            return Ok(Event::Stop);
-        };
-        match listener.accept() {
-            Ok((stream, _)) => {
-                self.accepted = Some(Link { number, stream });
-                Ok(Event::Opened(number))
-            }
-            Err(error) if is_of_the_peer(error.kind()) => Ok(Event::Closed(number)),
-            Err(_) => {
-                self.faults = self.faults.saturating_add(1);
-                Err(PortRefused::Failed)
-            }
-        }
-    }
 }
 
-impl<N: Net> Port for SocketPort<'_, N> {
+impl<N: Net + Clock> Port for SocketPort<'_, N> {
     ghost use Rattle.std.specs.Prelude.{None};
 
     ghost faults = { λ p. p.faults };
@@ -121,9 +70,8 @@ impl<N: Net> Port for SocketPort<'_, N> {
         } }
     {
         if let Ok(text) = str::from_utf8(address)
-            && let Ok(listener) = TcpListener::bind(self.net, text)
+            && self.sockets.listen(self.net, text).is_ok()
         {
-            self.listener = Some(listener);
             return Ok(());
         }
         self.faults = self.faults.saturating_add(1);
@@ -138,18 +86,13 @@ impl<N: Net> Port for SocketPort<'_, N> {
           faults = (if is_failed_next result then next_count self.old.faults else self.old.faults);
         } }
     {
-        if let Some(link) = want
-            && is_at(&self.dialled, link)
-        {
-            return Ok(next_at(self.alloc, &mut self.dialled)?);
+        match self.sockets.next(self.net, want) {
+            Err(PortRefused::Failed) => {
+                self.faults = self.faults.saturating_add(1);
+                Err(PortRefused::Failed)
+            }
+            given => given,
         }
-        if self.accepted.is_some() {
-            return Ok(next_at(self.alloc, &mut self.accepted)?);
-        }
-        if self.listener.is_some() {
-            return self.accept();
-        }
-        Ok(next_at(self.alloc, &mut self.dialled)?)
     }
 
     fn dial(&mut self, peer: &[u8]) -> Result<u32, Failed>
@@ -160,12 +103,9 @@ impl<N: Net> Port for SocketPort<'_, N> {
               (if is_err result then next_count self.old.link_faults else self.old.link_faults);
         } }
     {
-        if self.dialled.is_none()
-            && let Ok(text) = str::from_utf8(peer)
-            && let Ok(stream) = TcpStream::connect(self.net, text)
+        if let Ok(text) = str::from_utf8(peer)
+            && let Some(number) = self.sockets.dial(self.net, text)
         {
-            let number = self.number_dialled();
-            self.dialled = Some(Link { number, stream });
             return Ok(number);
         }
         self.link_faults = self.link_faults.saturating_add(1);
@@ -180,7 +120,7 @@ impl<N: Net> Port for SocketPort<'_, N> {
               (if is_err result then next_count self.old.link_faults else self.old.link_faults);
         } }
     {
-        if send_at(&mut self.accepted, link, bytes) || send_at(&mut self.dialled, link, bytes) {
+        if self.sockets.send(link, bytes) {
             return Ok(());
         }
         self.link_faults = self.link_faults.saturating_add(1);
@@ -190,7 +130,6 @@ impl<N: Net> Port for SocketPort<'_, N> {
     fn close(&mut self, link: u32)
         ensures counts { self.new ≡ self.old }
     {
-        close_at(&mut self.accepted, link);
-        close_at(&mut self.dialled, link);
+        self.sockets.close(link);
     }
 }

@@ -15,8 +15,8 @@ use std::alloc::Global;
 use std::marker::Model;
 use wire_base::Calls;
 
-/// A sink that keeps what it takes. Its calls are counted from 0, and those that are listed fail and raise its count of faults.
-/// Where it finds no memory to keep the bytes, it takes them all the same and tells them no longer.
+/// A sink that keeps what it takes. Its calls are counted from 0, and those that are listed fail and raise its count of
+/// faults. Where it finds no memory to keep the bytes, it takes them all the same and tells them no longer.
 #[derive(Drop)]
 pub struct VecSink {
     bytes: Vec<u8>,

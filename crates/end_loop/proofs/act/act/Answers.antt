@@ -1,8 +1,11 @@
 use Rattle.std.proofs.Common.{refl, sym, ap, ◌∙◌, ◌≡◌}
 use Rattle.outside.specs.declared.action.Action.{Action}
 use Rattle.outside.specs.declared.action.Action.TheVariants.{Send, Dial}
-use Rattle.end_loop.proofs.ActLaws.{did_ok, did_err, closed_ok, said_ok, said_err, says}
+use Rattle.end_loop.proofs.ActLaws.{did_ok, did_err, closed_ok, kept_ok, said_ok, said_err, says}
 use Rattle.end_loop.proofs.act.act.Goals as goal
+
+pub returns-in-Keep-clause-ok : goal.returns-in-Keep-clause-ok
+returns-in-Keep-clause-ok g c = kept_ok _ _ _ _ _ _ _ _ c.in-Keep.is refl
 
 pub returns-in-Send-clause-ok : goal.returns-in-Send-clause-ok
 returns-in-Send-clause-ok g c =
