@@ -224,7 +224,8 @@ settled_coherent (judgement.Answer o v) s c =
 settled_coherent (judgement.Drop cause) s c =
     record { matches = tt; first = tt; places = places_later s.waiting s.next_place c.places; few = few_later s.waiting c.few }
 
--- ---- what a unit says fits the turn: a request goes only for the call that waits, and a reply is judged only for what was asked
+-- ---- what a unit says fits the turn: a request goes only for the call that waits, and a reply is judged only for what
+-- was asked
 
 abbrev pub HeardFits : Hearing → Option Step → Type 0
 HeardFits hearing.Skip turn = Unit {0}

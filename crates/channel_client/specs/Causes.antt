@@ -1,4 +1,5 @@
--- The order of causes by which a turn ends without an answer (this project's own choice): the first test that holds tells the cause.
+-- The order of causes by which a turn ends without an answer (this project's own choice): the first test that holds
+-- tells the cause.
 use Rattle.std.specs.Prelude.{ℕ, ◌≡◌, ◌==◌, ◌&&◌, Bool, true, false, not, List, [], ◌∷◌, Option, Some, None, is_some, Result, Ok, Err, bytes_eq}
 use Rattle.ntlm_flags.specs.Flags.{has_flag}
 use Rattle.channel_keys.specs.Flags.{rc4_flag}
@@ -137,8 +138,8 @@ abbrev pub is_numbered : Option Pending → ℕ → Bool
 is_numbered None number = false
 is_numbered (Some p) number = number == p.number
 
--- A unit of the number that the turn waits for ends it by the first cause that holds, and by none where none holds; a unit of another number changes
--- nothing.
+-- A unit of the number that the turn waits for ends it by the first cause that holds, and by none where none holds; a
+-- unit of another number changes nothing.
 pub record CausesInOrder : Type 0 where
   pub due : (s : Requester) (p : Pending) (unit : RpcUnit) → s.turn ≡ Some p → (unit.call == p.number) ≡ true →
       cause_in (take_of s unit).taken ≡ cause_of s p.step unit.body

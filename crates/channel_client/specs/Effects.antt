@@ -1,5 +1,5 @@
--- What each step of the end that asks does to its channel, seen from outside. Nothing else of the steps has to be known to reason about the channel, the
--- calls on it and the numbers of its units.
+-- What each step of the end that asks does to its channel, seen from outside. Nothing else of the steps has to be known
+-- to reason about the channel, the calls on it and the numbers of its units.
 use Rattle.std.specs.Prelude.{ℕ, ◌≡◌, ◌≢◌, ◌≤◌, List, [], ◌∷◌, length, Option, Some, None}
 use Rattle.std.specs.List.{AllByRecursion}
 use Rattle.channel_keys.specs.Credentials.{cred_of}
@@ -255,7 +255,8 @@ effect_of_take controller s unit = effect_heard controller (hear s.turn unit s.n
 abbrev pub HasEffect : ℕ → Effect → Requester → Requester → Type 0
 HasEffect controller effect s t = Changes effect (view_of controller s) (view_of controller t) × IsCoherent t
 
--- Each step has an effect, whatever controller the channel is with, and keeps what holds at every moment; so no two logons that wait have one place.
+-- Each step has an effect, whatever controller the channel is with, and keeps what holds at every moment; so no two
+-- logons that wait have one place.
 pub record StepsHaveEffects : Type 0 where
   pub fresh : (caller : Caller) → IsCoherent (fresh_requester caller)
   pub ask : (controller : ℕ) (s : Requester) (info : NetworkInfo) → IsCoherent s →

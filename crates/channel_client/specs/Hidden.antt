@@ -1,5 +1,6 @@
--- The key of a logon, hidden in a reply under the session key of the channel (MS-NRPC 3.5.4.5.3, UserSessionKey of the validation): RC4, unless it is all
--- zeros, which then stay (this project's own choice). Both keys have 16 bytes. What hides it also shows it.
+-- The key of a logon, hidden in a reply under the session key of the channel (MS-NRPC 3.5.4.5.3, UserSessionKey of the
+-- validation): RC4, unless it is all zeros, which then stay (this project's own choice). Both keys have 16 bytes. What
+-- hides it also shows it.
 use Rattle.std.specs.Prelude.{ℕ, Bool, true, false, List, replicate, bytes_eq}
 use Rattle.rc4_stream.specs.Rc4.{applied}
 

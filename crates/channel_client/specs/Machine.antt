@@ -1,5 +1,6 @@
--- The end that asks on a secure channel, step by step (MS-NRPC 3.1.4.1 to 3.1.4.5, 3.5.4.4, 3.5.4.5; C706 12.6.3 for binds and calls). The queue of logons, the
--- turns and the order of causes are this project's own choice. Places and numbers of calls are counted modulo 2^32.
+-- The end that asks on a secure channel, step by step (MS-NRPC 3.1.4.1 to 3.1.4.5, 3.5.4.4, 3.5.4.5; C706 12.6.3 for
+-- binds and calls). The queue of logons, the turns and the order of causes are this project's own choice. Places and
+-- numbers of calls are counted modulo 2^32.
 use Rattle.std.specs.Prelude.{ℕ, ◌≡◌, ◌+◌, ◌%◌, ◌^◌, ◌==◌, ◌&&◌, Bool, true, false, List, [], ◌∷◌, ◌++◌, length, nat_le, replicate, Option, Some, None, Result, Ok, Err, bytes_eq}
 use Rattle.std.specs.List.{AllByRecursion}
 use Rattle.channel_keys.specs.Credentials.{cred_of}
@@ -63,7 +64,7 @@ abbrev pub offered_flags : ℕ
 offered_flags = supported_flags
 
 abbrev pub level_asked : ℕ
-level_asked = 2
+level_asked = 3
 
 -- the interface that is bound
 abbrev pub netlogon_syntax : Syntax
@@ -210,7 +211,8 @@ abbrev pub is_accepting : List (ℕ × ℕ × Syntax) → Bool
 is_accepting [] = false
 is_accepting (result ∷ results) = result.0 == 0
 
--- a bind_ack, by whether it accepts and by the size that the peer receives: the request goes out on context 0, in fragments of at most that limit
+-- a bind_ack, by whether it accepts and by the size that the peer receives: the request goes out on context 0, in
+-- fragments of at most that limit
 abbrev pub hear_ack : Bool → Step → ℕ → ℕ → Hearing
 hear_ack false s receive next = hearing.Drop drop_cause.Bind
 hear_ack true (step.Bind c) receive next =

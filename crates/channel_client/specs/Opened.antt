@@ -1,5 +1,5 @@
--- A secure channel that is open, as the end that asks keeps it (MS-NRPC 3.1.1, 3.1.4.1 to 3.1.4.5). A secret and a key have 16 bytes; a challenge, a seed
--- and a credential have 8.
+-- A secure channel that is open, as the end that asks keeps it (MS-NRPC 3.1.1, 3.1.4.1 to 3.1.4.5). A secret and a key
+-- have 16 bytes; a challenge, a seed and a credential have 8.
 use Rattle.std.specs.Prelude.{ℕ, Bool, true, false, List, Option, Some, None, bytes_eq}
 use Rattle.channel_keys.specs.Credentials.{cred_of}
 use Rattle.channel_keys.specs.SessionKeys.{key_of}

@@ -21,8 +21,8 @@ gives_right taken.Opened = false
 gives_right (taken.Answer place verdict) = false
 gives_right (taken.Dropped place cause) = false
 
--- A right is in the caller's hands exactly where a turn is out: none at first; one more where a turn starts, which none is out for; one that is taken
--- comes back exactly where its turn is still out; and none is left of one that is lost.
+-- A right is in the caller's hands exactly where a turn is out: none at first; one more where a turn starts, which none
+-- is out for; one that is taken comes back exactly where its turn is still out; and none is left of one that is lost.
 pub record OneTurn : Type 0 where
   pub fresh : (caller : Caller) → is_out (fresh_requester caller) ≡ false
   pub ask : (s : Requester) (info : NetworkInfo) → is_out (ask_of s info).state ≡ is_out s

@@ -5,8 +5,8 @@ ghost use Rattle.std.specs.Prelude.{◌≡◌, IfOk};
 use std::alloc::Global;
 use wire_base::{NoMemory, Units};
 
-/// Who asks: the account's secret, which is its NT hash, the names of the computer and of its account, and the type of the channel
-/// (MS-NRPC 2.2.1.3.13).
+/// Who asks: the account's secret, which is its NT hash, the names of the computer and of its account, and the type of
+/// the channel (MS-NRPC 2.2.1.3.13).
 #[derive(Debug, Drop)]
 pub struct Caller {
     pub secret: [u8; 16],

@@ -23,7 +23,8 @@ use wire_base::{Name, NoMemory, Units};
 /// The most logons that wait for one channel (this project's own choice).
 pub const WAITING_LIMIT: usize = 64;
 
-/// One end of a secure channel, the one that asks, and the logons that wait for it. Clauses see it as the record of what it keeps.
+/// One end of a secure channel, the one that asks, and the logons that wait for it. Clauses see it as the record of
+/// what it keeps.
 pub struct Channel {
     caller: Caller,
     standing: Standing,
@@ -34,7 +35,8 @@ pub struct Channel {
 }
 
 impl Drop for Channel {
-    // As it would be derived. Written out, it is one call wherever a value that holds one is let go, which keeps the proofs of those places short.
+    // As it would be derived. Written out, it is one call wherever a value that holds one is let go, which keeps the
+    // proofs of those places short.
     fn drop(self) {
         let Channel {
             caller: _caller,
@@ -60,8 +62,9 @@ impl Model for Channel {
 }
 
 impl Channel {
-    /// A channel that is none, for which nobody waits: of the account with this secret, which is its NT hash, and this name of at most 65 units; of
-    /// this computer; and of this type (MS-NRPC 2.2.1.3.13). `NoMemory` where no memory was found.
+    /// A channel that is none, for which nobody waits: of the account with this secret, which is its NT hash, and this
+    /// name of at most 65 units; of this computer; and of this type (MS-NRPC 2.2.1.3.13). `NoMemory` where no memory
+    /// was found.
     pub fn new(
         alloc: Global,
         secret: [u8; 16],
@@ -91,8 +94,8 @@ impl Channel {
         })
     }
 
-    /// Lets a logon wait behind those that wait, and gives its place, counted from 0 modulo 2^32, which becomes the logon's id. A logon in a turn
-    /// waits too.
+    /// Lets a logon wait behind those that wait, and gives its place, counted from 0 modulo 2^32, which becomes the
+    /// logon's id. A logon in a turn waits too.
     ///
     /// `QueueFull` exactly where 64 wait. It and `Memory` change nothing.
     pub fn ask(&mut self, logon: NetworkInfo) -> Result<u32, AskRefused>
@@ -129,9 +132,10 @@ impl Channel {
         self.turn.is_none() && !self.waiting.is_empty()
     }
 
-    /// Starts the turn of the first logon that waits: gives the right to it, and the frames of its bind. Its call is NetrServerReqChallenge with the
-    /// challenge where the channel is none, NetrServerAuthenticate2 where both challenges are known, and where it is open NetrLogonSamLogon of the
-    /// logon, with the timestamp. Else the challenge isn't looked at, nor is the timestamp.
+    /// Starts the turn of the first logon that waits: gives the right to it, and the frames of its bind. Its call is
+    /// NetrServerReqChallenge with the challenge where the channel is none, NetrServerAuthenticate2 where both
+    /// challenges are known, and where it is open NetrLogonSamLogon of the logon, with the timestamp. Else the
+    /// challenge isn't looked at, nor is the timestamp.
     ///
     /// None exactly where nobody waits or a turn is out. `NoMemory` where no memory was found; then nothing changes.
     pub fn start_turn(
@@ -162,8 +166,9 @@ impl Channel {
         Ok(Some((Turn::new(), frames)))
     }
 
-    /// Takes a whole unit that came on the turn's link. `Skip` exactly where its call number isn't the one that the turn waits for; the right comes back
-    /// with it, and with `Next`. `Dropped` has the first cause, in the order of docs/FORMATS.md.
+    /// Takes a whole unit that came on the turn's link. `Skip` exactly where its call number isn't the one that the
+    /// turn waits for; the right comes back with it, and with `Next`. `Dropped` has the first cause, in the order of
+    /// docs/FORMATS.md.
     ///
     /// `Memory` where no memory was found; the right comes back, and nothing changes.
     pub fn take(&mut self, alloc: Global, turn: Turn, unit: &Unit) -> Result<Taken, TakeRefused>
@@ -177,8 +182,8 @@ impl Channel {
         }
     }
 
-    /// Gives the turn up, for a cause outside of the channel: the first logon waits no more, and the channel is none. Gives the logon's place. It
-    /// takes no memory.
+    /// Gives the turn up, for a cause outside of the channel: the first logon waits no more, and the channel is none.
+    /// Gives the logon's place. It takes no memory.
     pub fn lose(&mut self, _turn: Turn, _cause: DropCause) -> u32
         ensures place { result ≡ (lose_of self.old).place }
         ensures state { self.new ≡ (lose_of self.old).state }

@@ -29,7 +29,8 @@ pub enum Hearing {
     Drop(DropCause),
 }
 
-/// What the body of a unit comes to for a turn that waits for its number. A request would go out with the number `next`.
+/// What the body of a unit comes to for a turn that waits for its number. A request would go out with the number
+/// `next`.
 pub(crate) fn hear_body(
     alloc: Global,
     body: &Body,

@@ -139,7 +139,7 @@ fn judge_status(status: u32, level: u16, info: Option<SamInfo>, opened: Opened) 
         return Judgement::Answer(opened, Verdict::Status(status));
     }
     match info {
-        Some(info) if level == 2 => {
+        Some(info) if level == 3 => {
             let key = crypt_key(opened.key(), info.key);
             Judgement::Answer(opened, Verdict::Granted(SamInfo { key, ..info }))
         }

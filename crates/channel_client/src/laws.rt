@@ -4,21 +4,23 @@ ghost use Rattle.channel_client.specs.Causes.{CausesInOrder};
 ghost use Rattle.channel_client.specs.Effects.{StepsHaveEffects};
 ghost use Rattle.channel_client.specs.Turns.{OneTurn};
 
-/// One turn is out at a time: a right to it is given where none is out, and is given back exactly where its turn is still out.
+/// One turn is out at a time: a right to it is given where none is out, and is given back exactly where its turn is
+/// still out.
 #[tactic(auto, using(crate::proofs::TurnLaws::one_turn))]
 pub fn one_turn_is_out()
     ensures { OneTurn }
 {}
 
-/// A turn ends by the first cause that holds, in one order: `Bind`, `Fault`, `BadReply`, `Denied`, `NotNext`, and `BadReply` for what a right
-/// credential came with.
+/// A turn ends by the first cause that holds, in one order: `Bind`, `Fault`, `BadReply`, `Denied`, `NotNext`, and
+/// `BadReply` for what a right credential came with.
 #[tactic(auto, using(crate::proofs::CauseLaws::causes_in_order))]
 pub fn causes_come_in_order()
     ensures { CausesInOrder }
 {}
 
-/// Each step has an effect on the channel, the calls on it and the numbers of its units, and keeps what holds of them: that the turn is for the
-/// first logon that waits, and asks what the channel needs next, that places follow one another, and that at most 64 logons wait.
+/// Each step has an effect on the channel, the calls on it and the numbers of its units, and keeps what holds of them:
+/// that the turn is for the first logon that waits, and asks what the channel needs next, that places follow one
+/// another, and that at most 64 logons wait.
 #[tactic(auto, using(crate::proofs::EffectLaws::steps_have_effects))]
 pub fn each_step_has_its_effect()
     ensures { StepsHaveEffects }

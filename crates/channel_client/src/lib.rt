@@ -1,5 +1,5 @@
-//! The end of Netlogon's secure channel that asks (MS-NRPC 3.1.4 and 3.5.4): one channel that all logons of the end share, each in a turn of its
-//! own. It sends and hears units of RPC as values, and knows no links.
+//! The end of Netlogon's secure channel that asks (MS-NRPC 3.1.4 and 3.5.4): one channel that all logons of the end
+//! share, each in a turn of its own. It sends and hears units of RPC as values, and knows no links.
 #![tactic(auto)]
 
 mod answers;

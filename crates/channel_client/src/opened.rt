@@ -9,8 +9,9 @@ use channel_keys::{cred, session_key};
 use std::marker::Model;
 use wire_base::Authenticator;
 
-/// A channel that is open (MS-NRPC 3.1.1): the secret, both challenges and the flags that it was made with, and the sequence of its authenticators.
-/// Clauses see its seed and the return credential that is awaited, and the key as what the rest gives.
+/// A channel that is open (MS-NRPC 3.1.1): the secret, both challenges and the flags that it was made with, and the
+/// sequence of its authenticators. Clauses see its seed and the return credential that is awaited, and the key as what
+/// the rest gives.
 #[derive(Drop)]
 pub struct Opened {
     secret: [u8; 16],

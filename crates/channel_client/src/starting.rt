@@ -115,7 +115,7 @@ fn logon_call(caller: Caller, opened: Opened, timestamp: u32, info: NetworkInfo)
             timestamp: 0,
         }),
         info,
-        validation: 2,
+        validation: 3,
     });
     (opened, call)
 }

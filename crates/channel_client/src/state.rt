@@ -34,8 +34,8 @@ pub enum Step {
     Reply(Question),
 }
 
-/// The turn that is out: the number of the bind or request whose answer it waits for, the place of the logon that it is for, and what it waits
-/// for.
+/// The turn that is out: the number of the bind or request whose answer it waits for, the place of the logon that it is
+/// for, and what it waits for.
 #[derive(Drop)]
 pub struct Pending {
     pub number: u32,
@@ -43,7 +43,8 @@ pub struct Pending {
     pub step: Step,
 }
 
-/// A logon that waits, and its place: the number, counted from 0 modulo 2^32, of the logons that were let wait before it.
+/// A logon that waits, and its place: the number, counted from 0 modulo 2^32, of the logons that were let wait before
+/// it.
 #[derive(Debug, Drop)]
 pub struct Waiting {
     pub place: u32,

@@ -1,3 +1,7 @@
+pub mod AlikeLaws
+pub mod ChangeLaws
+pub mod CountLaws
+pub mod LevelLaws
 pub mod OtherLaws
 pub mod PassLaws
 pub mod QuietLaws

@@ -1,5 +1,5 @@
--- The secure channel of a computer, as its controller keeps it (MS-NRPC 3.1.1, 3.1.4.1 to 3.1.4.5). A secret and a session key have 16 bytes; a
--- challenge, a seed and a credential have 8.
+-- The secure channel of a computer, as its controller keeps it (MS-NRPC 3.1.1, 3.1.4.1 to 3.1.4.5). A secret and a
+-- session key have 16 bytes; a challenge, a seed and a credential have 8.
 use Rattle.std.specs.Prelude.{ℕ, Bool, true, false, List, Option, Some, None}
 use Rattle.channel_keys.specs.SessionKeys.{key_of}
 use Rattle.authenticators.specs.Sequences.{next_seed, passes, return_of}

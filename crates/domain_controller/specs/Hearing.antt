@@ -1,5 +1,6 @@
--- What a unit on a link comes to at a controller, by what was said on the link before (C706 12.6.3, 12.6.4; which unit closes a link, and which is
--- answered by a fault, is this project's own choice). Neither accounts nor channels are looked at.
+-- What a unit on a link comes to at a controller, by what was said on the link before (C706 12.6.3, 12.6.4; which unit
+-- closes a link, and which is answered by a fault, is this project's own choice). Neither accounts nor channels are
+-- looked at.
 use Rattle.std.specs.Prelude.{ℕ, ◌==◌, ◌≤◌, Bool, true, false, List, [], ◌∷◌, length, Option, Some, None, Result, Ok, Err}
 use Rattle.std.specs.List.{list_any}
 use Rattle.outside.specs.declared.action.CloseCause.{CloseCause}
@@ -58,7 +59,8 @@ hear_fresh _ trailer call joiner = heard.Close close.OutOfPlace
 
 -- ---- a whole call
 
--- the calls that are served: NetrLogonSamLogon 2, NetrServerReqChallenge 4 and NetrServerAuthenticate2 15 (MS-NRPC 3.5.4)
+-- the calls that are served: NetrLogonSamLogon 2, NetrServerReqChallenge 4 and NetrServerAuthenticate2 15 (MS-NRPC
+-- 3.5.4)
 abbrev pub is_served : ℕ → Bool
 is_served opnum = list_any (λ number. number == opnum) (2 ∷ 4 ∷ 15 ∷ [])
 

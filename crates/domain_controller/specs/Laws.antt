@@ -1,5 +1,6 @@
--- What holds of a controller's steps, whatever comes, from whomever (this project's own choice, but for when an authenticator passes: MS-NRPC 3.1.4.5).
-use Rattle.std.specs.Prelude.{ℕ, ◌≡◌, ◌⊎◌, ◌↔◌, Bool, true, false, List, [], ◌∷◌, ◌++◌, length, nat_le, Option, Some, None, Ok}
+-- What holds of a controller's steps, whatever comes, from whomever (this project's own choice, but for when an
+-- authenticator passes: MS-NRPC 3.1.4.5).
+use Rattle.std.specs.Prelude.{ℕ, ◌≡◌, ◌⊎◌, ◌↔◌, Bool, true, false, List, [], ◌∷◌, ◌++◌, length, nat_le, Option, Some, None, Ok, Err}
 use Rattle.std.specs.List.{AllByRecursion, Any}
 use Rattle.wire_base.specs.Maps.{lookup, take_out, same_number}
 use Rattle.wire_base.specs.Names.{same_name}
@@ -10,6 +11,7 @@ use Rattle.outside.specs.declared.action.Action.TheVariants as action
 use Rattle.outside.specs.declared.action.CloseCause.TheVariants as close
 use Rattle.outside.specs.declared.action.Judged.{Judged}
 use Rattle.outside.specs.declared.action.Judged.TheVariants as judged
+use Rattle.outside.specs.declared.action.StepRefused.{StepRefused}
 use Rattle.outside.specs.declared.event.Event.{Event}
 use Rattle.outside.specs.declared.event.Event.TheVariants as event
 use Rattle.rpc_units.specs.declared.unit.Unit.{Unit as RpcUnit}
@@ -24,6 +26,7 @@ use Rattle.logon_stubs.specs.declared.calls.Call.TheVariants as call
 use Rattle.logon_stubs.specs.declared.calls.LogonCall.{LogonCall}
 use Rattle.logon_stubs.specs.declared.calls.Reply.{Reply}
 use Rattle.logon_stubs.specs.Writing.{written_reply}
+use Rattle.account_table.specs.Changes.{DifferInCounts}
 use Rattle.end_links.specs.Binding.{ack_of, nak_of}
 use Rattle.end_links.specs.Links.{LinkState}
 use Rattle.end_links.specs.Sending.{fault_of, response_of}
@@ -32,7 +35,7 @@ use Rattle.end_loop.specs.Runs.{actions_of}
 use Rattle.channel_client.specs.Machine.{netlogon_syntax}
 use Rattle.domain_controller.specs.Channels.{ChannelState, key_of_channel}
 use Rattle.domain_controller.specs.Hearing.{hear}
-use Rattle.domain_controller.specs.Machine.{Desk, answer_logon}
+use Rattle.domain_controller.specs.Machine.{Desk, answer_logon, judge_info}
 use Rattle.domain_controller.specs.State.{State}
 use Rattle.domain_controller.specs.Step.{LinkMap, step_of}
 use Rattle.domain_controller.specs.declared.line.Line.{Line}
@@ -75,6 +78,7 @@ AnswersOne units bytes = Any (λ (read : List ℕ). (unit : RpcUnit) × (unit_of
 
 -- what may be done on a link on which these units were read
 abbrev pub IsActionOn : ℕ → List (List ℕ) → Action → Type 0
+IsActionOn link units (action.Keep bytes) = ⊥
 IsActionOn link units (action.Send to bytes) = (to ≡ link) × AnswersOne units bytes
 IsActionOn link units (action.Close to cause) = to ≡ link
 IsActionOn link units (action.Judged how) = Unit {0}
@@ -169,7 +173,8 @@ pub record KeepsOthers : Type 0 where
 
 -- ---- which authenticator passes
 
--- the call names a computer and has an authenticator, the computer has a channel, and the authenticator is the next one of its sequence
+-- the call names a computer and has an authenticator, the computer has a channel, and the authenticator is the next one
+-- of its sequence
 pub record IsNext (computers : Computers) (c : LogonCall) : Type 0 where
   pub computer : List ℕ
   pub given : Authenticator
@@ -179,16 +184,42 @@ pub record IsNext (computers : Computers) (c : LogonCall) : Type 0 where
   pub stands : lookup same_name computer computers.channels ≡ Some channel
   pub passes : Passes (key_of_channel channel) channel.seed given
 
+-- whether it judges a call that was heard: what a logon that was asked of another controller came to later doesn't
+abbrev pub judges_call : Judged → Bool
+judges_call (judged.Passed status) = true
+judges_call judged.Forwarded = true
+judges_call (judged.Answered status) = false
+judges_call judged.Barred = true
+judges_call judged.NoChannel = true
+
+-- whether an authenticator passed, also where the logon is then asked of another controller
 abbrev pub is_passed : Judged → Bool
 is_passed (judged.Passed status) = true
+is_passed judged.Forwarded = true
+is_passed (judged.Answered status) = false
 is_passed judged.Barred = false
 is_passed judged.NoChannel = false
 
--- A logon call is judged once, and answered once. It passes exactly where its authenticator is the next one of the channel of the computer that it
--- names.
+-- A logon call is judged once, and answered once. It passes exactly where its authenticator is the next one of the
+-- channel of the computer that it names.
 pub record PassesTheNext : Type 0 where
   pub logon : (c : LogonCall) (name : List ℕ) (now : ℕ) (line : Line) (d : Desk) →
       (how : Judged) × (answer : List ℕ)
       × ((answer_logon c.computer c.authenticator name now line c.info c.validation d).work.actions
       ≡ d.work.actions ++ action.Judged how ∷ action.Send line.link answer ∷ [])
       × ((is_passed how ≡ true) ↔ IsNext d.work.computers c)
+
+-- ---- which counts of bad passwords change
+
+-- Of the accounts a step changes counts of bad passwords alone, and nothing where it isn't taken. A logon call whose
+-- authenticator is the next one is judged by the accounts as they stand, and leaves what the judgement does; another
+-- logon call leaves them.
+pub record CountsByVerdict : Type 0 where
+  pub counts : (s : State) (what : Event) (now : ℕ) (left : List (List ℕ)) → DifferInCounts s.table (step_of s what now left).state.table
+  pub given_up : (s : State) (what : Event) (now : ℕ) (left : List (List ℕ)) (why : StepRefused) →
+      (step_of s what now left).answer ≡ Err why → (step_of s what now left).state.table ≡ s.table
+  pub next : (c : LogonCall) (name : List ℕ) (now : ℕ) (line : Line) (d : Desk) → IsNext d.work.computers c →
+      (answer_logon c.computer c.authenticator name now line c.info c.validation d).table
+      ≡ (judge_info d.table name now c.info c.validation).table
+  pub other : (c : LogonCall) (name : List ℕ) (now : ℕ) (line : Line) (d : Desk) → (IsNext d.work.computers c → ⊥) →
+      (answer_logon c.computer c.authenticator name now line c.info c.validation d).table ≡ d.table

@@ -1,7 +1,7 @@
--- The controller at work: what calls come to (MS-NRPC 3.5.4.4.1, 3.5.4.4.3, 3.5.4.5.3; the order of checks is this project's own choice), and the
--- units of a link. A moment is in units of 100 ns since 1601; a challenge and a credential have 8 bytes, a key and a secret 16. Names of computers are
--- compared without case.
-use Rattle.std.specs.Prelude.{ℕ, ◌==◌, Bool, true, false, List, [], ◌∷◌, ◌++◌, replicate, bytes_eq, Option, Some, None, Result, Ok, Err, slice_get}
+-- The controller at work: what calls come to (MS-NRPC 3.5.4.4.1, 3.5.4.4.3, 3.5.4.5.3; the order of checks is this
+-- project's own choice), and the units of a link. A moment is in units of 100 ns since 1601; a challenge and a
+-- credential have 8 bytes, a key and a secret 16. Names of computers are compared without case.
+use Rattle.std.specs.Prelude.{ℕ, ◌≡◌, ◌⊎◌, ◌==◌, ◌||◌, Bool, true, false, List, [], ◌∷◌, ◌++◌, replicate, bytes_eq, Option, Some, None, Result, Ok, Err, slice_get}
 use Rattle.std.specs.Option.{option_and_then}
 use Rattle.wire_base.specs.Maps.{lookup, put, take_out}
 use Rattle.wire_base.specs.Names.{same_name}
@@ -34,6 +34,7 @@ use Rattle.logon_stubs.specs.Writing.{written_reply}
 use Rattle.account_table.specs.declared.account.Account.{Account}
 use Rattle.account_table.specs.AccountTable.{AccountTable}
 use Rattle.account_table.specs.LookUps.{knows_in, machine_in}
+use Rattle.sam_logon.specs.Granted.{at_level}
 use Rattle.sam_logon.specs.Verdict.{Judgement, judgement_of}
 use Rattle.end_links.specs.Sending.{fault_of, response_of}
 use Rattle.end_links.specs.Serving.{Server, ServedPart}
@@ -174,10 +175,13 @@ abbrev pub status_of : Verdict → ℕ
 status_of (Granted info) = 0
 status_of (Status status) = status
 
--- what is granted, with its key hidden under the session key
-abbrev pub info_of : List ℕ → Verdict → Option SamInfo
-info_of key (Granted info) = Some (record info { key = crypt_key key info.key })
-info_of key (Status status) = None
+-- what a reply at a validation level carries of what is granted, with its key hidden under the session key
+abbrev pub reply_info : ℕ → List ℕ → SamInfo → SamInfo
+reply_info validation key info = record (at_level validation info) { key = crypt_key key info.key }
+
+abbrev pub info_of : ℕ → List ℕ → Verdict → Option SamInfo
+info_of validation key (Granted info) = Some (reply_info validation key info)
+info_of validation key (Status status) = None
 
 -- the authenticator that is returned has a timestamp of 0
 abbrev pub pass_logon : Verdict → Line → ℕ → List ℕ → List ℕ → Work → Work
@@ -185,18 +189,26 @@ pass_logon verdict line validation key credential work =
     send_reply (tell work (action.Judged (judged.Passed (status_of verdict)))) line (reply.Logon (record {
       returned = Some (record { credential = credential; timestamp = 0 });
       level = validation;
-      info = info_of key verdict;
+      info = info_of validation key verdict;
       authoritative = 1;
       status = status_of verdict;
     }))
 
--- the argument: whether the validation level is 2, the one that is served
+-- the validation levels that are served: NETLOGON_VALIDATION_SAM_INFO, 2, and with identifiers beside the groups
+-- NETLOGON_VALIDATION_SAM_INFO2, 3 (MS-NRPC 2.2.1.4.14)
+abbrev pub IsServedLevel : ℕ → Type 0
+IsServedLevel validation = (validation ≡ 2) ⊎ (validation ≡ 3)
+
+abbrev pub serves_level : ℕ → Bool
+serves_level validation = (validation == 2) || (validation == 3)
+
+-- the argument: whether the validation level is served
 abbrev pub judge_level : Bool → AccountTable → List ℕ → NetworkInfo → ℕ → Judgement
 judge_level false table name info now = record { verdict = Status invalid_info_class; table = table }
 judge_level true table name info now = judgement_of table name info now
 
 abbrev pub judge_info : AccountTable → List ℕ → ℕ → NetworkInfo → ℕ → Judgement
-judge_info table name now info validation = judge_level (validation == 2) table name info now
+judge_info table name now info validation = judge_level (serves_level validation) table name info now
 
 abbrev pub with_judgement : Judgement → Line → ℕ → List ℕ → List ℕ → Work → Desk
 with_judgement j line validation key credential work = desk j.table (pass_logon j.verdict line validation key credential work)

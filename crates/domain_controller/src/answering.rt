@@ -4,7 +4,8 @@ ghost use Rattle.std.specs.Prelude.{◌≡◌};
 ghost use Rattle.outside.specs.Drawing.{DrawsSome};
 ghost use Rattle.outside.specs.Machine.{AnswersBy};
 ghost use Rattle.domain_controller.specs.Hearing.{IsLine, CanAnswer};
-ghost use Rattle.domain_controller.specs.Machine.{desk, at_desk, draw_challenge, by_call, by_heard};
+ghost use Rattle.account_table.specs.Changes.{with_changes};
+ghost use Rattle.domain_controller.specs.Machine.{desk, at_desk, by_call, by_heard};
 
 use crate::authenticating::answer_authenticate;
 use crate::challenging::answer_challenge;
@@ -13,17 +14,19 @@ use crate::line::Line;
 use crate::logon::answer_logon;
 use crate::replying::{send_fault, tell};
 use crate::state::{Talk, Work};
-use account_table::Table;
-use logon_stubs::{Call, ChallengeCall};
+use account_table::{Table, TableChanges};
+use logon_stubs::Call;
 use outside::{Action, Chances, StepRefused};
 use rpc_units::OPERATION_OUT_OF_RANGE;
 use std::alloc::Global;
 use wire_base::Name;
 
-/// Answers what is heard on the link: what the controller has then, and what is said on the link, or None where it is closed.
+/// Answers what is heard on the link: what the controller has then, and what is said on the link, or None where it is
+/// closed. What a call changes of the accounts stands in `changes`, behind what stood there.
 pub(crate) fn answer_heard<Q: Chances>(
     alloc: Global,
-    table: &mut Table,
+    table: &Table,
+    changes: &mut TableChanges,
     name: &Name,
     now: u64,
     link: u32,
@@ -33,25 +36,29 @@ pub(crate) fn answer_heard<Q: Chances>(
 ) -> Result<(Work, Option<Talk>), StepRefused>
     requires { CanAnswer heard }
     ensures draws { DrawsSome (Q.drawing chances.old) (Q.drawing chances.new) }
-    ensures answer { AnswersBy (at_desk table.new result)
-        (by_heard heard link name.now now (desk table.old work) (Q.drawing chances.old).left)
+    ensures answer { AnswersBy (at_desk (with_changes changes.new table.now) result)
+        (by_heard heard link name.now now (desk (with_changes changes.old table.now) work)
+        (Q.drawing chances.old).left)
         (Q.drawing chances.new).left }
-    ensures stays { table.new ≡ table.old }
 {
     match heard {
         Heard::Close(cause) => Ok((tell(work, Action::Close(link, cause))?, None)),
         Heard::Answer(bytes, talk) => Ok((tell(work, Action::Send(link, bytes))?, Some(talk))),
         Heard::Waits(talk) => Ok((work, Some(talk))),
         Heard::Asked(line, call, talk) => {
-            answer_call(alloc, table, name, now, line, call, talk, work, chances)
+            answer_call(
+                alloc, table, changes, name, now, line, call, talk, work, chances,
+            )
         }
     }
 }
 
 /// Answers a call.
+#[tactic(auto, using(crate::proofs::AlikeLaws::answering_alike))]
 fn answer_call<Q: Chances>(
     alloc: Global,
-    table: &mut Table,
+    table: &Table,
+    changes: &mut TableChanges,
     name: &Name,
     now: u64,
     line: Line,
@@ -62,19 +69,26 @@ fn answer_call<Q: Chances>(
 ) -> Result<(Work, Option<Talk>), StepRefused>
     requires { IsLine line }
     ensures draws { DrawsSome (Q.drawing chances.old) (Q.drawing chances.new) }
-    ensures answer { AnswersBy (at_desk table.new result)
-        (by_call call line talk name.now now (desk table.old work) (Q.drawing chances.old).left)
+    ensures answer { AnswersBy (at_desk (with_changes changes.new table.now) result)
+        (by_call call line talk name.now now (desk (with_changes changes.old table.now) work)
+        (Q.drawing chances.old).left)
         (Q.drawing chances.new).left }
-    ensures stays { table.new ≡ table.old }
 {
     match call {
-        Call::Challenge(call) => draw_challenge(alloc, table, line, call, talk, work, chances),
+        Call::Challenge(call) => {
+            let server = match chances.next() {
+                Ok(server) => server,
+                Err(why) => return Err(why.into()),
+            };
+            let work = answer_challenge(alloc, table, line, call, server, work)?;
+            Ok((work, Some(talk)))
+        }
         Call::Authenticate(call) => {
             let work = answer_authenticate(alloc, table, line, call, work)?;
             Ok((work, Some(talk)))
         }
         Call::Logon(call) => {
-            let work = answer_logon(alloc, table, name, now, line, call, work)?;
+            let work = answer_logon(alloc, table, changes, name, now, line, call, work)?;
             Ok((work, Some(talk)))
         }
         Call::Logoff(_) => {
@@ -82,25 +96,4 @@ fn answer_call<Q: Chances>(
             Ok((work, Some(talk)))
         }
     }
-}
-
-/// Draws the server challenge of NetrServerReqChallenge, and answers the call.
-fn draw_challenge<Q: Chances>(
-    alloc: Global,
-    table: &Table,
-    line: Line,
-    call: ChallengeCall,
-    talk: Talk,
-    work: Work,
-    chances: &mut Q,
-) -> Result<(Work, Option<Talk>), StepRefused>
-    requires { IsLine line }
-    ensures draws { DrawsSome (Q.drawing chances.old) (Q.drawing chances.new) }
-    ensures answer { AnswersBy (at_desk table.now result)
-        (draw_challenge (Q.drawing chances.old).left line call talk (desk table.now work))
-        (Q.drawing chances.new).left }
-{
-    let server = chances.next()?;
-    let work = answer_challenge(alloc, table, line, call, server, work)?;
-    Ok((work, Some(talk)))
 }

@@ -8,8 +8,8 @@ use channel_keys::session_key;
 use std::marker::Model;
 use wire_base::Authenticator;
 
-/// The secure channel of a computer at its controller (MS-NRPC 3.1.1): the secret, both challenges and the flags that it was made with, and the sequence
-/// of its authenticators. Clauses see its seed, and the key as what the rest gives.
+/// The secure channel of a computer at its controller (MS-NRPC 3.1.1): the secret, both challenges and the flags that
+/// it was made with, and the sequence of its authenticators. Clauses see its seed, and the key as what the rest gives.
 #[derive(Drop)]
 pub struct Channel {
     secret: [u8; 16],
@@ -65,7 +65,8 @@ impl Channel {
         self.sequence.key()
     }
 
-    /// Judges an authenticator: the credential that is returned, where it passes. Then the seed moves on; else nothing changes.
+    /// Judges an authenticator: the credential that is returned, where it passes. Then the seed moves on; else nothing
+    /// changes.
     pub(crate) fn judge(&mut self, given: &Authenticator) -> Option<[u8; 8]>
         ensures answer { result ≡ return_by (passes_on self.old given.now) self.old given.now }
         ensures channel { self.new

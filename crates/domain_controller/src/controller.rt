@@ -1,6 +1,7 @@
 //! The controller.
 
 ghost use Rattle.std.specs.Prelude.{◌≡◌, ◌≤◌, ◌+◌, ◌↔◌, OnErr, ◌++◌, [], length, IfOk, OnOk, Err, IsTrue, false, true};
+ghost use Rattle.account_table.specs.Changes.{DifferInCounts};
 ghost use Rattle.outside.specs.Machine.{StepsBy};
 ghost use Rattle.end_links.specs.Bounds.{AreShortSends, units_at};
 ghost use Rattle.end_loop.specs.Acts.{is_made};
@@ -9,7 +10,7 @@ ghost use Rattle.domain_controller.specs.Step.{first_state, halted, is_stopped, 
 use crate::lines::line_of;
 use crate::links::answer_event;
 use crate::state::{Computers, Running, Work};
-use account_table::Table;
+use account_table::{Table, TableChanges};
 use end_links::{Links, ShortActions};
 use end_loop::End;
 use outside::{Action, Actions, Chances, Event, StepRefused};
@@ -54,9 +55,9 @@ impl Controller {
 
     /// The step for the event at this moment, in units of 100 ns since 1601-01-01.
     ///
-    /// `Spent` where the step draws more challenges than were left, and `Memory` where no memory was found: after both the controller has stopped, and
-    /// answers `Stopped` for ever.
-    #[tactic(auto, using(crate::proofs::StepLaws::stepping))]
+    /// `Spent` where the step draws more challenges than were left, and `Memory` where no memory was found: after both
+    /// the controller has stopped, and answers `Stopped` for ever.
+    #[tactic(auto, using(crate::proofs::StepLaws::stepping, crate::proofs::ChangeLaws::differing))]
     pub fn step<Q: Chances>(
         &mut self,
         alloc: Global,
@@ -72,6 +73,8 @@ impl Controller {
         ensures stopped { (result ≡ Err StepRefused.Stopped) ↔ IsTrue (is_stopped self.old) }
         ensures stops { OnErr result (self.new ≡ halted self.old) }
         ensures goes_on { OnOk result (is_stopped self.new ≡ false) }
+        // Of the accounts it changes counts of bad passwords alone.
+        ensures counts { DifferInCounts self.old.table self.new.table }
         // Nothing is done where a link was closed.
         ensures quiet { IfOk result (λ actions. is_made event.now ≡ true → actions ≡ []) }
         // At most one challenge is drawn for each unit that the event can end, whatever the result; no send is long.
@@ -87,9 +90,11 @@ impl Controller {
             computers,
             actions: ShortActions::new(alloc),
         };
+        let mut changes = TableChanges::new(alloc);
         match answer_event(
             alloc,
-            &mut self.table,
+            &self.table,
+            &mut changes,
             &self.name,
             now,
             event,
@@ -99,6 +104,7 @@ impl Controller {
         ) {
             Ok((work, links)) => {
                 let Work { computers, actions } = work;
+                self.table.commit(&changes);
                 self.running = Some(Running { computers, links });
                 Ok(actions.into_actions())
             }
@@ -115,8 +121,8 @@ impl Controller {
         (table, name)
     }
 
-    /// The bytes that it holds for its links: the rests of their streams, and the stub bytes of open calls. None once it has stopped. They are at most
-    /// what 256 links hold. It takes no memory.
+    /// The bytes that it holds for its links: the rests of their streams, and the stub bytes of open calls. None once
+    /// it has stopped. They are at most what 256 links hold. It takes no memory.
     pub fn held(&self) -> u64
         ensures count { result ≡ held_of self.now }
         ensures most { result ≤ 18272000 }

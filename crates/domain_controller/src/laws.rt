@@ -1,6 +1,6 @@
 //! Laws of the steps of a controller, over their definitions. Each function does nothing, and its clauses are the laws.
 
-ghost use Rattle.domain_controller.specs.Laws.{ClosesNothing, AnswersUnits, KeepsOthers, PassesTheNext};
+ghost use Rattle.domain_controller.specs.Laws.{ClosesNothing, AnswersUnits, KeepsOthers, PassesTheNext, CountsByVerdict};
 
 /// A step for a link that was closed, or for a dial's answer, has no actions.
 #[tactic(auto, using(crate::proofs::QuietLaws::closes_nothing))]
@@ -8,8 +8,8 @@ pub fn what_is_closed_closes_nothing()
     ensures { ClosesNothing }
 {}
 
-/// What bytes on a link make is done on that link, and each send is a bind_ack, a bind_nak, a fault or a response to a unit that was read on it, with its
-/// call number and context.
+/// What bytes on a link make is done on that link, and each send is a bind_ack, a bind_nak, a fault or a response to a
+/// unit that was read on it, with its call number and context.
 #[tactic(auto, using(crate::proofs::SendLaws::answers_units))]
 pub fn each_send_answers_a_unit()
     ensures { AnswersUnits }
@@ -21,8 +21,17 @@ pub fn other_channels_stay()
     ensures { KeepsOthers }
 {}
 
-/// A logon's authenticator passes exactly where it is the next one of the channel of the computer that the call names, whoever sent it.
+/// A logon's authenticator passes exactly where it is the next one of the channel of the computer that the call names,
+/// whoever sent it.
 #[tactic(auto, using(crate::proofs::PassLaws::passes_the_next))]
 pub fn the_next_authenticator_passes()
     ensures { PassesTheNext }
+{}
+
+/// Of the accounts a step changes counts of bad passwords alone, and nothing where it isn't taken. A logon whose
+/// authenticator passes is judged by the accounts as they stand, and leaves what the judgement does; another one leaves
+/// them.
+#[tactic(auto, using(crate::proofs::CountLaws::counts_by_verdict))]
+pub fn counts_change_by_verdicts()
+    ensures { CountsByVerdict }
 {}

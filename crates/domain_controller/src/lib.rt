@@ -1,5 +1,5 @@
-//! A domain controller as a machine over plain values (MS-NRPC 3.5): events of links come in, and what it sends, closes and tells goes out. It answers
-//! the calls that set up a secure channel, and judges the logons that come on one.
+//! A domain controller as a machine over plain values (MS-NRPC 3.5): events of links come in, and what it sends, closes
+//! and tells goes out. It answers the calls that set up a secure channel, and judges the logons that come on one.
 #![tactic(auto)]
 
 mod answering;

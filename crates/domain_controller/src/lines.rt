@@ -1,6 +1,8 @@
 //! The lines that a controller puts.
 
-ghost use Rattle.std.specs.Prelude.{◌≡◌, IfOk};
+ghost use Rattle.std.specs.Prelude.{◌≡◌, ◌++◌, IfOk, codes};
+ghost use Rattle.std.specs.Int.{w32, to_be_bytes};
+ghost use Rattle.hex.specs.Hex.{encode_lower};
 ghost use Rattle.domain_controller.specs.Lines.{judged_line, line_of};
 
 use outside::{Action, Judged};
@@ -13,9 +15,11 @@ pub(crate) fn line_of(alloc: Global, action: &Action) -> Result<Blob, NoMemory>
 {
     match action {
         Action::Judged(how) => judged_line(alloc, *how),
-        Action::Send(..) | Action::Dial(_) | Action::Close(..) | Action::Told(..) => {
-            Ok(Blob::from_vec(Vec::new(alloc)))
-        }
+        Action::Keep(_)
+        | Action::Send(..)
+        | Action::Dial(_)
+        | Action::Close(..)
+        | Action::Told(..) => { Ok(Blob::from_vec(Vec::new(alloc))) }
     }
 }
 
@@ -25,19 +29,20 @@ fn judged_line(alloc: Global, how: Judged) -> Result<Blob, NoMemory>
     ensures { IfOk result (λ line. line ≡ judged_line how) }
 {
     match how {
-        Judged::Passed(status) => passed_line(alloc, status),
+        Judged::Passed(status) => status_line(alloc, b"passed ", status),
+        Judged::Forwarded => Blob::copy(alloc, b"forwarded\n"),
+        Judged::Answered(status) => status_line(alloc, b"answered ", status),
         Judged::Barred => Blob::copy(alloc, b"barred\n"),
         Judged::NoChannel => Blob::copy(alloc, b"no channel\n"),
     }
 }
 
-/// The line of one that passed, with the NTSTATUS of the reply.
-#[tactic(auto, unfolding(crate::specs::Lines::judged_line))]
-fn passed_line(alloc: Global, status: u32) -> Result<Blob, NoMemory>
-    ensures { IfOk result (λ line. line ≡ judged_line (Judged.Passed status)) }
+/// A line of a word and an NTSTATUS.
+fn status_line(alloc: Global, word: &[u8], status: u32) -> Result<Blob, NoMemory>
+    ensures { IfOk result (λ line. line ≡
+        word.now ++ encode_lower (to_be_bytes w32 status) ++ codes "\n") }
 {
-    let mut line = Vec::new(alloc);
-    line.extend_from_slice(b"passed ")?;
+    let mut line = Vec::from_slice(alloc, word)?;
     let digits = hex::encode(alloc, &status.to_be_bytes())?;
     line.extend_from_slice(digits.as_bytes())?;
     line.push(b'\n')?;

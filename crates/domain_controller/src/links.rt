@@ -2,6 +2,7 @@
 
 ghost use Rattle.std.specs.Prelude.{◌≡◌, ◌<◌, ◌≤◌, ◌+◌, length, IfOk, None};
 ghost use Rattle.wire_base.specs.Maps.{take_out, same_number};
+ghost use Rattle.account_table.specs.Changes.{with_changes};
 ghost use Rattle.outside.specs.Drawing.{DrawsSome};
 ghost use Rattle.outside.specs.Machine.{AnswersBy};
 ghost use Rattle.end_links.specs.Bounds.{units_at, units_in_piece};
@@ -12,17 +13,19 @@ ghost use Rattle.domain_controller.specs.Step.{open_link, serve_bytes, by_event}
 use crate::replying::tell;
 use crate::serving::serve_piece;
 use crate::state::{Talk, Work};
-use account_table::Table;
+use account_table::{Table, TableChanges};
 use end_links::{Link, Links};
 use outside::{Action, Chances, CloseCause, Event, StepRefused};
 use rpc_units::Joiner;
 use std::alloc::Global;
 use wire_base::{Name, NoMemory};
 
-/// What an event comes to: what the controller has then, and its links.
+/// What an event comes to: what the controller has then, and its links. What it changes of the accounts stands in
+/// `changes`, behind what stood there.
 pub(crate) fn answer_event<Q: Chances>(
     alloc: Global,
-    table: &mut Table,
+    table: &Table,
+    changes: &mut TableChanges,
     name: &Name,
     now: u64,
     event: &Event,
@@ -31,10 +34,10 @@ pub(crate) fn answer_event<Q: Chances>(
     chances: &mut Q,
 ) -> Result<(Work, Links<Talk>), StepRefused>
     ensures draws { DrawsSome (Q.drawing chances.old) (Q.drawing chances.new) }
-    ensures answer { AnswersBy (at_desk table.new result)
-        (by_event event.now name.now now (desk table.old work) links (Q.drawing chances.old).left)
+    ensures answer { AnswersBy (at_desk (with_changes changes.new table.now) result)
+        (by_event event.now name.now now (desk (with_changes changes.old table.now) work) links
+        (Q.drawing chances.old).left)
         (Q.drawing chances.new).left }
-    ensures stays { table.new ≡ table.old }
     ensures few { length (Q.drawing chances.old).left
         ≤ length (Q.drawing chances.new).left + units_at event.now }
 {
@@ -43,6 +46,7 @@ pub(crate) fn answer_event<Q: Chances>(
         Event::Bytes(link, bytes) => serve_bytes(
             alloc,
             table,
+            changes,
             name,
             now,
             *link,
@@ -91,10 +95,12 @@ fn first_talk() -> Talk
     }
 }
 
-/// The units of the bytes that come on the link of that number are served, if one is open, and the link is kept, where it stays open.
+/// The units of the bytes that come on the link of that number are served, if one is open, and the link is kept, where
+/// it stays open.
 fn serve_bytes<Q: Chances>(
     alloc: Global,
-    table: &mut Table,
+    table: &Table,
+    changes: &mut TableChanges,
     name: &Name,
     now: u64,
     number: u32,
@@ -104,11 +110,10 @@ fn serve_bytes<Q: Chances>(
     chances: &mut Q,
 ) -> Result<(Work, Links<Talk>), StepRefused>
     ensures draws { DrawsSome (Q.drawing chances.old) (Q.drawing chances.new) }
-    ensures answer { AnswersBy (at_desk table.new result)
-        (serve_bytes number piece.now name.now now (desk table.old work) links
-        (Q.drawing chances.old).left)
+    ensures answer { AnswersBy (at_desk (with_changes changes.new table.now) result)
+        (serve_bytes number piece.now name.now now (desk (with_changes changes.old table.now) work)
+        links (Q.drawing chances.old).left)
         (Q.drawing chances.new).left }
-    ensures stays { table.new ≡ table.old }
     ensures few { length (Q.drawing chances.old).left
         ≤ length (Q.drawing chances.new).left + units_in_piece (length piece.now) }
 {
@@ -116,7 +121,9 @@ fn serve_bytes<Q: Chances>(
     let Some(link) = found else {
         return Ok((work, links));
     };
-    let (work, open) = serve_piece(alloc, table, name, now, number, link, piece, work, chances)?;
+    let (work, open) = serve_piece(
+        alloc, table, changes, name, now, number, link, piece, work, chances,
+    )?;
     match open {
         Some(link) => Ok((work, links.put(number, link)?)),
         None => Ok((work, links)),

@@ -1,6 +1,7 @@
 //! The units of a link, served in order.
 
 ghost use Rattle.std.specs.Prelude.{◌≡◌, ◌≤◌, ◌+◌, ◌++◌, length};
+ghost use Rattle.account_table.specs.Changes.{with_changes};
 ghost use Rattle.outside.specs.Drawing.{DrawsSome};
 ghost use Rattle.outside.specs.Machine.{AnswersBy};
 ghost use Rattle.rpc_units.specs.Stream.{cut_stream};
@@ -13,19 +14,21 @@ use crate::answering::answer_heard;
 use crate::hearing::hear;
 use crate::replying::tell;
 use crate::state::{Talk, Work};
-use account_table::Table;
+use account_table::{Table, TableChanges};
 use end_links::Link;
 use outside::{Action, Chances, CloseCause, StepRefused};
 use rpc_units::{Came, Incoming};
 use std::alloc::Global;
 use wire_base::{Name, NoMemory};
 
-/// The units of the link with the piece that comes on it, one after the other, until the link is closed: what the controller has then, and the link, or
-/// None where it is closed. The table outlasts a step that is given up, so it is lent. Whatever the result, at most one challenge is drawn for each 16
-/// bytes of the piece and of the 5,839 that the link can hold.
+/// The units of the link with the piece that comes on it, one after the other, until the link is closed: what the
+/// controller has then, and the link, or None where it is closed. What the calls change of the accounts stands in
+/// `changes`, behind what stood there: the table stays. Whatever the result, at most one challenge is drawn for each
+/// 16 bytes of the piece and of the 5,839 that the link can hold.
 pub(crate) fn serve_piece<Q: Chances>(
     alloc: Global,
-    table: &mut Table,
+    table: &Table,
+    changes: &mut TableChanges,
     name: &Name,
     now: u64,
     number: u32,
@@ -35,24 +38,26 @@ pub(crate) fn serve_piece<Q: Chances>(
     chances: &mut Q,
 ) -> Result<(Work, Option<Link<Talk>>), StepRefused>
     ensures draws { DrawsSome (Q.drawing chances.old) (Q.drawing chances.new) }
-    ensures answer { StreamsBy (at_desk table.new result)
+    ensures answer { StreamsBy (at_desk (with_changes changes.new table.now) result)
         (served_cut (controller_server name.now now number) (cut_stream (link.rest ++ piece.now))
-        (desk table.old work) link.talk (Q.drawing chances.old).left)
+        (desk (with_changes changes.old table.now) work) link.talk (Q.drawing chances.old).left)
         (cut_stream (link.rest ++ piece.now)).rest (Q.drawing chances.new).left }
-    ensures stays { table.new ≡ table.old }
     ensures few { length (Q.drawing chances.old).left
         ≤ length (Q.drawing chances.new).left + units_in_piece (length piece.now) }
 {
     // so that it is known that the link holds at most 5,839 bytes
     let _held = link.rest_len();
-    serve_units(alloc, table, name, now, number, link, piece, work, chances)
+    serve_units(
+        alloc, table, changes, name, now, number, link, piece, work, chances,
+    )
 }
 
 /// The units of the link with the piece that comes on it.
 #[tactic(auto, using(end_links::proofs::ServingLaws::serving, rpc_units::proofs::ComingLaws::front_done))]
 fn serve_units<Q: Chances>(
     alloc: Global,
-    table: &mut Table,
+    table: &Table,
+    changes: &mut TableChanges,
     name: &Name,
     now: u64,
     number: u32,
@@ -62,11 +67,10 @@ fn serve_units<Q: Chances>(
     chances: &mut Q,
 ) -> Result<(Work, Option<Link<Talk>>), StepRefused>
     ensures draws { DrawsSome (Q.drawing chances.old) (Q.drawing chances.new) }
-    ensures answer { StreamsBy (at_desk table.new result)
+    ensures answer { StreamsBy (at_desk (with_changes changes.new table.now) result)
         (served_cut (controller_server name.now now number) (cut_stream (link.rest ++ piece.now))
-        (desk table.old work) link.talk (Q.drawing chances.old).left)
+        (desk (with_changes changes.old table.now) work) link.talk (Q.drawing chances.old).left)
         (cut_stream (link.rest ++ piece.now)).rest (Q.drawing chances.new).left }
-    ensures stays { table.new ≡ table.old }
 {
     let (flow, said) = link.parts();
     let mut coming = Incoming::new(flow, piece);
@@ -78,6 +82,7 @@ fn serve_units<Q: Chances>(
                 let (after, open) = serve_unit(
                     alloc,
                     table,
+                    changes,
                     name,
                     now,
                     number,
@@ -105,7 +110,8 @@ fn serve_units<Q: Chances>(
 /// Serves the bytes of a unit, which stay as they are.
 fn serve_unit<Q: Chances>(
     alloc: Global,
-    table: &mut Table,
+    table: &Table,
+    changes: &mut TableChanges,
     name: &Name,
     now: u64,
     link: u32,
@@ -116,14 +122,13 @@ fn serve_unit<Q: Chances>(
 ) -> Result<(Work, Option<Talk>), StepRefused>
     ensures len { length bytes.new ≡ length bytes.old }
     ensures draws { DrawsSome (Q.drawing chances.old) (Q.drawing chances.new) }
-    ensures answer { AnswersBy (at_desk table.new result)
-        (by_heard (hear link bytes.old talk) link name.now now (desk table.old work)
-        (Q.drawing chances.old).left)
+    ensures answer { AnswersBy (at_desk (with_changes changes.new table.now) result)
+        (by_heard (hear link bytes.old talk) link name.now now
+        (desk (with_changes changes.old table.now) work) (Q.drawing chances.old).left)
         (Q.drawing chances.new).left }
-    ensures stays { table.new ≡ table.old }
 {
     match hear(alloc, link, bytes, talk) {
-        Ok(heard) => answer_heard(alloc, table, name, now, link, heard, work, chances),
+        Ok(heard) => answer_heard(alloc, table, changes, name, now, link, heard, work, chances),
         Err(NoMemory) => Err(StepRefused::Memory),
     }
 }

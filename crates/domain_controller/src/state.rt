@@ -5,7 +5,8 @@ use end_links::{Binding, Links, SaysHeld, ShortActions};
 use rpc_units::Joiner;
 use wire_base::{List, Units};
 
-/// The challenges of a NetrServerReqChallenge, which wait for a NetrServerAuthenticate2: the client's and the server's (MS-NRPC 3.1.4.1).
+/// The challenges of a NetrServerReqChallenge, which wait for a NetrServerAuthenticate2: the client's and the server's
+/// (MS-NRPC 3.1.4.1).
 #[derive(Clone, Copy, Debug, PartialEq, Eq)]
 pub struct Pending {
     pub client: [u8; 8],
