@@ -53,13 +53,15 @@ use Rattle.logon_client.specs.State.{State}
 
 closes-append : (actions : List Action) (what : Action) → closes_in (actions ++ what ∷ []) ≡ closes_in actions ++ closes_in (what ∷ [])
 closes-append [] what = refl
+closes-append (action.Keep bytes ∷ actions) what = closes-append actions what
 closes-append (action.Send link bytes ∷ actions) what = closes-append actions what
 closes-append (action.Dial peer ∷ actions) what = closes-append actions what
 closes-append (action.Close link cause ∷ actions) what = ap (λ (more : List Action). action.Close link cause ∷ more) (closes-append actions what)
 closes-append (action.Told link outcome ∷ actions) what = closes-append actions what
 closes-append (action.Judged judged ∷ actions) what = closes-append actions what
 
--- ---- the work and the link after a unit: the link is open and nothing was closed, or it was closed once, with the outcome
+-- ---- the work and the link after a unit: the link is open and nothing was closed, or it was closed once, with the
+-- outcome
 
 record IsOpen (work : Work) : Type 0 where
   closes : closes_in work.actions ≡ []

@@ -1,5 +1,5 @@
--- The NEGOTIATE of a client and its answer to a CHALLENGE (MS-NLMP 3.1.5.1.1, 3.1.5.1.2). Which LM response stands beside an NT response, and that each
--- trailer is of context 1, is this project's own choice.
+-- The NEGOTIATE of a client and its answer to a CHALLENGE (MS-NLMP 3.1.5.1.1, 3.1.5.1.2). Which LM response stands
+-- beside an NT response, and that each trailer is of context 1, is this project's own choice.
 use Rattle.std.specs.Prelude.{ℕ, ◌==◌, ◌&&◌, ◌||◌, not, Bool, true, false, List, [], ◌∷◌, ◌++◌, length, replicate, nat_le, Option, Some, None, unwrap_or, Result, Ok, Err}
 use Rattle.wire_base.specs.Units.{utf16_of}
 use Rattle.rc4_stream.specs.Rc4.{applied}
@@ -65,7 +65,8 @@ is_enough level auth flags =
 abbrev pub time_by : List (ℕ × List ℕ) → ℕ → ℕ
 time_by pairs now = unwrap_or (timestamp_of pairs) now
 
--- ---- the challenges that are drawn: the client's, and where keys are exchanged two more, which joined are the exported key
+-- ---- the challenges that are drawn: the client's, and where keys are exchanged two more, which joined are the
+-- exported key
 
 abbrev pub drawn_for : Bool → List (List ℕ) → Result (Part Drawn) StepRefused
 drawn_for false [] = Err refused.Spent

@@ -1,5 +1,5 @@
--- Laws of a client's answer to a CHALLENGE: that it verifies under the hash, and that whoever has the session base key finds the client's key in it (this
--- project's own choice).
+-- Laws of a client's answer to a CHALLENGE: that it verifies under the hash, and that whoever has the session base key
+-- finds the client's key in it (this project's own choice).
 use Rattle.std.specs.Prelude.{ℕ, ◌≡◌, ◌≤◌, Bool, true, false, List, length, Option, Some, None, Ok}
 use Rattle.std.specs.List.{AllByRecursion}
 use Rattle.wire_base.specs.Units.{AreUnits}

@@ -29,7 +29,8 @@ close_due None what = []
 close_due (Some outcome) (event.Bytes link piece) = action.Close link CallDone ∷ []
 close_due (Some outcome) _ = []
 
--- A step of a client that has no outcome closes the link where it brings an outcome while the link is open, for its work done, and nothing else.
+-- A step of a client that has no outcome closes the link where it brings an outcome while the link is open, for its
+-- work done, and nothing else.
 abbrev pub ClosesOnce : Type 0
 ClosesOnce = (s : State) (what : Event) (now : ℕ) (left : List (List ℕ)) → s.outcome ≡ None →
     closes_by (step_of s what now left).answer ≡ close_due (step_of s what now left).state.outcome what

@@ -29,14 +29,15 @@ abbrev pub is_dialling : Option Running → Bool
 is_dialling None = false
 is_dialling (Some running) = is_waiting running.standing
 
--- The event shows that the link is gone that the client waits for: it was closed, or another was opened under its number.
+-- The event shows that the link is gone that the client waits for: it was closed, or another was opened under its
+-- number.
 abbrev pub LinkGoes : Event → Option ℕ → Type 0
 LinkGoes (event.Closed link) want = want ≡ Some link
 LinkGoes (event.Opened link) want = want ≡ Some link
 LinkGoes _ want = ⊥
 
--- A step brings that the dial failed only at `DialFailed` while the dial waits, and that the link was closed only where the event shows that it is
--- gone; and a dial that was answered doesn't wait again.
+-- A step brings that the dial failed only at `DialFailed` while the dial waits, and that the link was closed only where
+-- the event shows that it is gone; and a dial that was answered doesn't wait again.
 pub record LossesComeOfEvents : Type 0 where
   pub failed : (s : State) (what : Event) (now : ℕ) (left : List (List ℕ)) → is_dial_failed s.outcome ≡ false →
       is_dial_failed (step_of s what now left).state.outcome ≡ true → (what ≡ event.DialFailed) × (is_dialling s.running ≡ true)

@@ -1,5 +1,6 @@
--- The client of a logon, step by step (MS-NLMP 3.1.5.1; C706 12.6.3 for binds and calls). Which outcome an answer has, the numbers of calls and the memo
--- interface are this project's own choice. A moment is in units of 100 ns since 1601-01-01, and a challenge is a list of 8 bytes.
+-- The client of a logon, step by step (MS-NLMP 3.1.5.1; C706 12.6.3 for binds and calls). Which outcome an answer has,
+-- the numbers of calls and the memo interface are this project's own choice. A moment is in units of 100 ns since
+-- 1601-01-01, and a challenge is a list of 8 bytes.
 use Rattle.std.specs.Prelude.{ℕ, ◌==◌, ◌%◌, ◌++◌, Bool, true, false, List, [], ◌∷◌, length, map, Option, Some, None, Result, Ok, Err, bytes_eq}
 use Rattle.std.specs.List.{range_with_len}
 use Rattle.ntlm_flags.specs.Flags.{has_flag, agreed_flags, negotiate_key_exch}
@@ -354,7 +355,8 @@ abbrev pub by_close : Bool → LinkState Talk → Work → List (List ℕ) → R
 by_close false link work left = stays (On link) work left
 by_close true link work left = stays Idle (concluded (NoAnswer no_answer.LinkClosed) work) left
 
--- A link that is opened under the number of the client's own shows that the client's was closed. The client accepts no links.
+-- A link that is opened under the number of the client's own shows that the client's was closed. The client accepts no
+-- links.
 abbrev pub by_event : Event → Standing → Work → List (List ℕ) → Result (Part After) StepRefused
 by_event (event.Dialled link) Dialling work left = stays (On (fresh_link link)) (binds link work) left
 by_event event.DialFailed Dialling work left = stays Idle (concluded (NoAnswer no_answer.DialFailed) work) left
@@ -442,7 +444,8 @@ client_machine = record {
   line = λ what. [];
 }
 
--- how many more events the client's steps for links closed and dialled may make: its bind may fail to be sent, while its dial waits
+-- how many more events the client's steps for links closed and dialled may make: its bind may fail to be sent, while
+-- its dial waits
 abbrev pub pending_on : Standing → ℕ
 pending_on Idle = 0
 pending_on Dialling = 1

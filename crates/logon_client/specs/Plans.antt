@@ -1,28 +1,29 @@
 -- What a client can be told to do, and what it offers (this project's own choice). Names are lists of 16-bit units.
 use Rattle.std.specs.Prelude.{ℕ, ◌≡◌, ◌≤◌, ◌==◌, ◌||◌, Bool, true, false, length, IsTrue}
+use Rattle.rpc_units.specs.Numbers.{connect_level, integrity_level, privacy_level}
 use Rattle.ntlm_flags.specs.Flags.{offered_flags, offered_flags_v1}
 use Rattle.logon_client.specs.declared.plan.AuthKind.{AuthKind}
 use Rattle.logon_client.specs.declared.plan.AuthKind.TheVariants.{V1, V1Ess, V2}
 use Rattle.logon_client.specs.declared.plan.ClientPlan.{ClientPlan}
 
--- ---- levels of authentication (MS-RPCE 2.2.1.1.8): connect 2, integrity 5 and privacy 6
+-- ---- levels of authentication (MS-RPCE 2.2.1.1.8)
 
 -- units are signed
 abbrev pub is_signed : ℕ → Bool
-is_signed level = level == 5 || level == 6
+is_signed level = level == integrity_level || level == privacy_level
 
 -- their stubs are sealed too
 abbrev pub is_sealed : ℕ → Bool
-is_sealed level = level == 6
+is_sealed level = level == privacy_level
 
 abbrev pub is_level : ℕ → Bool
-is_level level = level == 2 || is_signed level
+is_level level = level == connect_level || is_signed level
 
 -- A plan that a client can follow.
 pub record CanLogOn (plan : ClientPlan) : Type 0 where
   pub level : IsTrue (is_level plan.level)
   -- without extended session security nothing is signed
-  pub plain : plan.auth ≡ V1 → plan.level ≡ 2
+  pub plain : plan.auth ≡ V1 → plan.level ≡ connect_level
   pub echo : plan.echo ≤ 4096
   pub domain : length plan.domain ≤ 64
   pub user : length plan.user ≤ 64

@@ -1,5 +1,6 @@
--- Units that a session signs or seals in their place (MS-RPCE 2.2.2.11, MS-NLMP 3.4.2 to 3.4.4). A unit has a trailer with a value of 16 bytes,
--- which is the signature of all bytes before it. Where units are sealed, the stub and its padding are encrypted.
+-- Units that a session signs or seals in their place (MS-RPCE 2.2.2.11, MS-NLMP 3.4.2 to 3.4.4). A unit has a trailer
+-- with a value of 16 bytes, which is the signature of all bytes before it. Where units are sealed, the stub and its
+-- padding are encrypted.
 use Rattle.std.specs.Prelude.{ℕ, ◌+◌, ◌==◌, ◌&&◌, Bool, true, false, List, [], ◌∷◌, ◌++◌, length, take, drop, replicate, Option, Some, None, Result, Ok, Err}
 use Rattle.ntlm_seal.specs.declared.refusal.SealRefused.{SealRefused}
 use Rattle.ntlm_seal.specs.Directions.{combine}
@@ -8,6 +9,7 @@ use Rattle.rpc_units.specs.declared.unit.Unit.{Unit as RpcUnit}
 use Rattle.rpc_units.specs.declared.unit.Trailer.{Trailer}
 use Rattle.rpc_units.specs.Calls.{bytes_of_call}
 use Rattle.rpc_units.specs.Joining.{cut_of}
+use Rattle.rpc_units.specs.Numbers.{ntlm_provider}
 use Rattle.rpc_units.specs.Sealing.{sealed_of}
 use Rattle.rpc_units.specs.Writing.{written}
 use Rattle.ntlm_seal.specs.declared.side.Side.TheVariants.{Client}
@@ -16,10 +18,6 @@ use Rattle.ntlm_flags.specs.Flags.{has_flag, negotiate_extended_sessionsecurity}
 use Rattle.logon_client.specs.Plans.{is_signed, is_sealed}
 
 -- ---- trailers
-
--- NTLM as the security provider (RPC_C_AUTHN_WINNT, MS-RPCE 2.2.1.1.7)
-abbrev pub ntlm_provider : ℕ
-ntlm_provider = 10
 
 -- the security context of all trailers that a client writes
 abbrev pub trailer_context : ℕ
@@ -39,7 +37,8 @@ has_level level (Some trailer) = trailer.level == level
 
 -- ---- the parts of a unit
 
--- the stub and its padding, from the first place to before the second, where the trailer's 8 bytes and a value of 16 follow to the end
+-- the stub and its padding, from the first place to before the second, where the trailer's 8 bytes and a value of 16
+-- follow to the end
 abbrev pub range_if : Bool → ℕ × ℕ → Option (ℕ × ℕ)
 range_if false range = None
 range_if true range = Some range
@@ -115,8 +114,8 @@ abbrev pub session_if : Bool → List ℕ → ℕ → Option SessionState
 session_if false key flags = None
 session_if true key flags = Some (session_of key flags Client)
 
--- the client's session of an exported key and the flags that are agreed, where units are signed. Where they are, extended session security is
--- agreed
+-- the client's session of an exported key and the flags that are agreed, where units are signed. Where they are,
+-- extended session security is agreed
 abbrev pub session_for : ℕ → List ℕ → ℕ → Option SessionState
 session_for level key flags = session_if (is_signed level && has_flag flags negotiate_extended_sessionsecurity) key flags
 

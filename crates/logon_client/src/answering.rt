@@ -32,8 +32,8 @@ const MEMO: Syntax = Syntax {
     version: MEMO_VERSION,
 };
 
-/// What a server's CHALLENGE offers: the flags that are agreed, its challenge, its target information, the time of an NTLMv2 response, and the bytes that
-/// the server receives in a unit.
+/// What a server's CHALLENGE offers: the flags that are agreed, its challenge, its target information, the time of an
+/// NTLMv2 response, and the bytes that the server receives in a unit.
 #[derive(Debug, Drop)]
 pub struct ServerOffer {
     pub flags: u32,

@@ -1,6 +1,6 @@
 //! The client.
 
-ghost use Rattle.std.specs.Prelude.{◌≡◌, ◌==◌, ◌≤◌, ◌+◌, ℕ, List, Err, Ok, None, IfOk, OnOk, OnErr, IsSome, length, option_copied};
+ghost use Rattle.std.specs.Prelude.{◌≡◌, ◌==◌, ◌≤◌, ◌+◌, ◌↔◌, ℕ, List, Err, Ok, None, IfOk, OnOk, OnErr, IsSome, length, option_copied};
 ghost use Rattle.outside.specs.Drawing.{DrawsSome};
 ghost use Rattle.outside.specs.Machine.{AnswersBy, StepsBy};
 ghost use Rattle.end_links.specs.Bounds.{AreShortSends, units_in_piece, units_at};
@@ -27,7 +27,8 @@ pub struct Client {
 }
 
 impl Drop for Client {
-    // As it would be derived. Written out, it is one call wherever a value that holds one is let go, which keeps the proofs of those places short.
+    // As it would be derived. Written out, it is one call wherever a value that holds one is let go, which keeps the
+    // proofs of those places short.
     fn drop(self) {
         let Client {
             running: _running,
@@ -84,9 +85,9 @@ impl Client {
 
     /// The step for the event at this moment, in units of 100 ns since 1601-01-01: its actions in order.
     ///
-    /// `Spent` where it draws more challenges than were left, `Memory` where no memory was found. After either the client is stopped, and answers
-    /// `Stopped` for ever. Whatever the result, it draws at most one challenge for each unit that the event can end, and three more. Each send has at
-    /// most 589,824 bytes.
+    /// `Spent` where it draws more challenges than were left, `Memory` where no memory was found. After either the
+    /// client is stopped, and answers `Stopped` for ever. Whatever the result, it draws at most one challenge for each
+    /// unit that the event can end, and three more. Each send has at most 589,824 bytes.
     pub fn step<Q: Chances>(
         &mut self,
         alloc: Global,
@@ -99,8 +100,9 @@ impl Client {
             (halted self.old) self.new (Q.drawing chances.old) (Q.drawing chances.new) }
         // An outcome stays, whatever comes.
         ensures stays { IsSome self.old.outcome → self.new.outcome ≡ self.old.outcome }
-        // `Stopped` comes only of a client that is stopped, and a step that is taken leaves none stopped.
-        ensures stopped { result ≡ Err StepRefused.Stopped → self.old.running ≡ None }
+        // It answers `Stopped` exactly where it had stopped, and a step that isn't taken stops it.
+        ensures stopped { (result ≡ Err StepRefused.Stopped) ↔ (self.old.running ≡ None) }
+        ensures stops { OnErr result (self.new ≡ halted self.old) }
         ensures goes_on { OnOk result (IsSome self.new.running) }
         ensures few { length (Q.drawing chances.old).left
             ≤ length (Q.drawing chances.new).left + units_at event.now + 3 }

@@ -4,16 +4,17 @@ ghost use Rattle.logon_client.specs.Answers.{OffersAgreed, DrawsKeys, AnswersVer
 ghost use Rattle.logon_client.specs.Laws.{ClosesOnce, OutcomeStays};
 ghost use Rattle.logon_client.specs.Losses.{LossesComeOfEvents};
 
-/// An outcome that comes while the link is open closes it, once, for its work done; one that comes otherwise closes nothing, nor does another step. A client
-/// that has its outcome does nothing more, and keeps it.
+/// An outcome that comes while the link is open closes it, once, for its work done; one that comes otherwise closes
+/// nothing, nor does another step. A client that has its outcome does nothing more, and keeps it.
 pub fn an_outcome_closes_the_link()
     ensures closes { ClosesOnce }
     ensures stays { OutcomeStays }
 {}
 
-/// An offer that is answered has the flags of both sides, and they are enough. What is drawn for it are the client's challenge, and a key exactly where keys are
-/// exchanged. The message verifies under the plan's hash, and whoever has the session base key of its NT response finds the client's key in it. It fits into a unit, where
-/// the server's target information has at most 4,096 bytes.
+/// An offer that is answered has the flags of both sides, and they are enough. What is drawn for it are the client's
+/// challenge, and a key exactly where keys are exchanged. The message verifies under the plan's hash, and whoever has
+/// the session base key of its NT response finds the client's key in it. It fits into a unit, where the server's target
+/// information has at most 4,096 bytes.
 pub fn what_is_answered_verifies()
     ensures agreed { OffersAgreed }
     ensures drawn { DrawsKeys }
@@ -22,8 +23,8 @@ pub fn what_is_answered_verifies()
     ensures fits { AnswersFit }
 {}
 
-/// A step brings that the dial failed only at the event that says so, while the dial waits; and that the link was closed only at an event that
-/// shows that it is gone. A dial that was answered doesn't wait again.
+/// A step brings that the dial failed only at the event that says so, while the dial waits; and that the link was
+/// closed only at an event that shows that it is gone. A dial that was answered doesn't wait again.
 pub fn a_loss_comes_of_its_event()
     ensures { LossesComeOfEvents }
 {}

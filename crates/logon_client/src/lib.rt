@@ -1,4 +1,5 @@
-//! The client of a logon: it binds to a member server with NTLM, answers its CHALLENGE, asks who is logged on, and has bytes echoed.
+//! The client of a logon: it binds to a member server with NTLM, answers its CHALLENGE, asks who is logged on, and has
+//! bytes echoed.
 #![tactic(auto)]
 
 mod answering;

@@ -4,6 +4,7 @@ ghost use Rattle.std.specs.Prelude.{◌≡◌, ◌≤◌, IfOk};
 ghost use Rattle.logon_client.specs.Plans.{CanLogOn, is_sealed, offer_of};
 
 use ntlm_flags::{OFFERED_FLAGS, OFFERED_FLAGS_V1};
+use rpc_units::PRIVACY_LEVEL;
 use std::alloc::Global;
 use std::marker::Model;
 use wire_base::{Blob, NoMemory, Units};
@@ -77,7 +78,8 @@ pub struct Task {
 }
 
 impl Drop for Task {
-    // As it would be derived. Written out, it is one call wherever a value that holds one is let go, which keeps the proofs of those places short.
+    // As it would be derived. Written out, it is one call wherever a value that holds one is let go, which keeps the
+    // proofs of those places short.
     fn drop(self) {
         let Task { plan: _plan } = self;
     }
@@ -122,7 +124,7 @@ impl Task {
     pub fn seals(&self) -> bool
         ensures { result ≡ is_sealed self.now.level }
     {
-        self.plan.level == 6
+        self.plan.level == PRIVACY_LEVEL
     }
 
     /// How many bytes are echoed.

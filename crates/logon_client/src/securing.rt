@@ -11,12 +11,12 @@ ghost use Rattle.logon_client.specs.Securing.{trailer_of, with_room, range_of, s
 use end_links::call_bytes;
 use ntlm_flags::{NTLMSSP_NEGOTIATE_EXTENDED_SESSIONSECURITY, has_flag};
 use ntlm_seal::{Session, Side};
-use rpc_units::{Trailer, Unit, UnitWriteRefused, cut_call, sealed_range, set_value, write_unit};
+use rpc_units::{
+    INTEGRITY_LEVEL, NTLM_PROVIDER, PRIVACY_LEVEL, Trailer, Unit, UnitWriteRefused, cut_call,
+    sealed_range, set_value, write_unit,
+};
 use std::alloc::Global;
 use wire_base::{Blob, NoMemory};
-
-/// NTLM as the security provider of a trailer (RPC_C_AUTHN_WINNT, MS-RPCE 2.2.1.1.7).
-const NTLM_PROVIDER: u8 = 10;
 
 /// The trailer of a level with that value.
 pub(crate) fn trailer(level: u8, value: Blob) -> Trailer
@@ -34,7 +34,7 @@ pub(crate) fn trailer(level: u8, value: Blob) -> Trailer
 pub(crate) fn is_signed(level: u8) -> bool
     ensures { result ≡ is_signed level }
 {
-    level == 5 || level == 6
+    level == INTEGRITY_LEVEL || level == PRIVACY_LEVEL
 }
 
 /// The stub of a unit and its padding, where a trailer and a value of 16 bytes follow to the end.
@@ -74,7 +74,8 @@ pub(crate) fn secure_unit(session: &mut Session, seals: bool, bytes: &mut [u8]) 
     }
 }
 
-/// Takes the signature of a unit that came, and opens the unit in its place where units are sealed. Whether it is taken.
+/// Takes the signature of a unit that came, and opens the unit in its place where units are sealed. Whether it is
+/// taken.
 pub(crate) fn open_unit(session: &mut Session, seals: bool, bytes: &mut [u8]) -> bool
     ensures answer { open_unit seals session.old bytes.old
         ≡ secured_if result bytes.new session.new }
@@ -117,8 +118,8 @@ fn with_room(alloc: Global, level: u8, call: Unit) -> Result<Unit, NoMemory>
     })
 }
 
-/// The bytes of all fragments of a call, signed, and sealed where units are; None where the session refuses. They are at most twice the bytes of the stub,
-/// and 51 more.
+/// The bytes of all fragments of a call, signed, and sealed where units are; None where the session refuses. They are
+/// at most twice the bytes of the stub, and 51 more.
 fn secure_call(
     alloc: Global,
     session: &mut Session,
@@ -164,8 +165,8 @@ pub struct Sending {
     pub session: Option<Session>,
 }
 
-/// A call at a level, as it is sent to a peer that receives so many bytes; None where the session refuses. What is sent has at most twice the bytes of the
-/// stub, and 51 more.
+/// A call at a level, as it is sent to a peer that receives so many bytes; None where the session refuses. What is sent
+/// has at most twice the bytes of the stub, and 51 more.
 pub(crate) fn send_call(
     alloc: Global,
     session: Option<Session>,
@@ -189,7 +190,7 @@ pub(crate) fn send_call(
     };
     let mut session = session;
     let call = with_room(alloc, level, call)?;
-    match secure_call(alloc, &mut session, level == 6, &call, limit)? {
+    match secure_call(alloc, &mut session, level == PRIVACY_LEVEL, &call, limit)? {
         Some(bytes) => Ok(Some(Sending {
             bytes,
             session: Some(session),

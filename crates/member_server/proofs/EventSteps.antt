@@ -1,4 +1,5 @@
--- What a step leaves, of what holds by the rules, and what is held then. P is a premise: that what was held before were requests.
+-- What a step leaves, of what holds by the rules, and what is held then. P is a premise: that what was held before were
+-- requests.
 use Rattle.std.proofs.Common.{◌≡◌, ℕ, ◌==◌, Bool, true, false, List, [], ◌∷◌, ◌++◌, replicate, Option, Some, None, Result, Ok, Err, refl, nat_le, length, if◌then◌else◌}
 use Rattle.wire_base.specs.Maps.{lookup, put, take_out, has_key, same_number}
 use Rattle.outside.specs.declared.action.Action.TheVariants as action
@@ -52,7 +53,7 @@ use Rattle.member_server.specs.Turns.{Desk, break_turn, dial_by, dial_for, do_ta
 use Rattle.member_server.specs.Units.{first_unit, is_fresh, link_server, serve_held, unit_by}
 use Rattle.member_server.specs.Work.{Served}
 use Rattle.member_server.proofs.QuietLaws.{there}
-use Rattle.member_server.proofs.StepRules.{AfterStart, AfterTaken, Ends, Holds, LinkRules, StepRules, TurnRules}
+use Rattle.member_server.proofs.StepRules.{AfterStart, AfterTaken, Ends, EventRules, Holds, LinkRules, StepRules, TurnRules, events_of}
 use Rattle.member_server.proofs.UnitSteps.{Fine, bound_fine, held_fine, put_fine, shut_fine}
 
 -- ---- the links
@@ -158,7 +159,7 @@ module _ (P : Type 0) (K : Holds) (rules : LinkRules K) where
       let after : Work = without_logon place w in
       reach_fine (lookup same_number logon.link after.links) place how logon (tell_outcome how logon after) (ends.told logon e) all
 
-  end_fine : (place : ℕ) (how : Ending) (w : Work) → Ends K place how w.logons w.actions → (P → HoldRequests w.links) → WorkFine P K (end_logon place how w)
+  pub end_fine : (place : ℕ) (how : Ending) (w : Work) → Ends K place how w.logons w.actions → (P → HoldRequests w.links) → WorkFine P K (end_logon place how w)
   end_fine place how w ends all = end_by (lookup same_number place w.logons.asked) place how w refl ends all
 
   -- ---- an accepted link
@@ -293,7 +294,7 @@ module _ (P : Type 0) (T : List RpcUnit → Holds) (K : Holds) (link_rules : Lin
 abbrev pub TurnOut : (List RpcUnit → Holds) → List RpcUnit → Dialling → Work → Type 0
 TurnOut T units how w = is_dialled how ≡ true → T units w.logons w.actions
 
-module _ (P : Type 0) (T : List RpcUnit → Holds) (G : Bool → Holds) (rules : StepRules T G) where
+module _ (P : Type 0) (T : List RpcUnit → Holds) (G : Bool → Holds) (rules : EventRules T G) where
   -- ---- bytes
 
   after_fine : (part : ServedPart AtLink Talk) (rest : List ℕ) (number : ℕ) (how : Dialling) (w : Work) → LinkPart P (G (is_dialled how)) part →
@@ -376,7 +377,7 @@ module _ (P : Type 0) (T : List RpcUnit → Holds) (G : Bool → Holds) (rules :
   fail_fine (dialling.On number said) w good out all = record { good = good; holds = all }
   fail_fine (dialling.Waits turn frames) w good out all = lost_fine drop_cause.DialFailed w (out refl) all
 
-  event_fine : (what : Event) (how : Dialling) (w : Work) (left : List (List ℕ)) → G (is_dialled how) w.logons w.actions → TurnOut T (heard_in what how) how w →
+  pub event_fine : (what : Event) (how : Dialling) (w : Work) (left : List (List ℕ)) → G (is_dialled how) w.logons w.actions → TurnOut T (heard_in what how) how w →
       (P → HoldRequests w.links) → DeskPart P G (by_event what how w left)
   event_fine (event.Opened link) how w left good out all =
       let closed : Desk = close_link how link w in
@@ -388,8 +389,9 @@ module _ (P : Type 0) (T : List RpcUnit → Holds) (G : Bool → Holds) (rules :
   event_fine event.DialFailed how w left good out all = fail_fine how w good out all
   event_fine event.Stop how w left good out all = record { good = good; holds = all }
 
-  -- ---- the next turn
+-- ---- the next turn
 
+module _ (P : Type 0) (T : List RpcUnit → Holds) (G : Bool → Holds) (rules : StepRules T G) where
   dial_fine : (start : Option (Unit {0} × List (List ℕ))) (w : Work) (how : Dialling) → AfterStart G (is_dialled how) start w.logons w.actions → (P → HoldRequests w.links) →
       DeskFine P G (dial_for start w how)
   dial_fine None w how good all = record { good = good; holds = all }
@@ -418,4 +420,4 @@ module _ (P : Type 0) (T : List RpcUnit → Holds) (G : Bool → Holds) (rules :
   pub step_fine : (running : Running) (what : Event) (now : ℕ) (left : List (List ℕ)) → G (is_dialled running.dialling) running.logons [] →
       TurnOut T (heard_in what running.dialling) running.dialling (work_of running) → (P → HoldRequests running.links) → DeskPart P G (event_part running what now left)
   step_fine running what now left good out all =
-      next_fine (by_event what running.dialling (work_of running) left) now (event_fine what running.dialling (work_of running) left good out all)
+      next_fine (by_event what running.dialling (work_of running) left) now (event_fine P T G (events_of T G rules) what running.dialling (work_of running) left good out all)

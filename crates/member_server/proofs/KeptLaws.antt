@@ -140,7 +140,8 @@ took_more (first ∷ units) unit c = took_more units unit (take_of c first).stat
 abbrev pub AreTold : Running → Event → Logons → List Action → Type 0
 AreTold running what l a = AllByRecursion (IsTold running what) a
 
--- besides, these units are still to come on the link of the turn, the channel took those before them, and the same logons are kept as at first
+-- besides, these units are still to come on the link of the turn, the channel took those before them, and the same
+-- logons are kept as at first
 pub record SoFar (running : Running) (what : Event) (units : List RpcUnit) (l : Logons) (a : List Action) : Type 0 where
   pub told : AreTold running what l a
   pub earlier : List RpcUnit
@@ -160,6 +161,7 @@ module _ (running : Running) (what : Event) where
   outcome_told link (outcome.NoController cause) nobody = tt
 
   action_told : (more : Action) → LetsNobodyIn more → IsTold running what more
+  action_told (action.Keep bytes) nobody = tt
   action_told (action.Send link bytes) nobody = tt
   action_told (action.Dial peer) nobody = tt
   action_told (action.Close link cause) nobody = tt

@@ -1,5 +1,6 @@
 mod AskedLaws
 mod BindLaws
+mod ChannelStepLaws
 mod EventSteps
 mod KeptLaws
 mod LinkLaws

@@ -23,7 +23,7 @@ use Rattle.member_server.specs.declared.state.Logons.{Logons}
 use Rattle.member_server.specs.declared.state.Talk.{Talk}
 use Rattle.member_server.specs.declared.state.Work.{Work}
 use Rattle.member_server.specs.Laws.{IsPast, ReachesItsLink, ServesOneMessage}
-use Rattle.member_server.specs.Levels.{ntlm_kind}
+use Rattle.rpc_units.specs.Numbers.{ntlm_provider}
 use Rattle.member_server.specs.Messages.{ask_by, info_of, is_fit, take_auth3, take_message, take_trailer, wait_by, with_channel}
 use Rattle.member_server.specs.Outcomes.{end_found, reach_link, tell_outcome, turn_link, waiting_on, without_logon}
 use Rattle.member_server.specs.Units.{body_challenged, unit_challenged}
@@ -56,7 +56,7 @@ trailer_past true trailer bound challenge flags joiner at = message_past (authen
 auth3_past : (trailer : Option Trailer) (bound : Bound) (challenge : List ℕ) (flags : ℕ) (joiner : Option RpcUnit) (at : AtLink) →
     IsPast (take_auth3 trailer bound challenge flags joiner at).1
 auth3_past None bound challenge flags joiner at = tt
-auth3_past (Some trailer) bound challenge flags joiner at = trailer_past (trailer.kind == ntlm_kind) trailer bound challenge flags joiner at
+auth3_past (Some trailer) bound challenge flags joiner at = trailer_past (trailer.kind == ntlm_provider) trailer bound challenge flags joiner at
 
 body_past : (body : Body) (trailer : Option Trailer) (bound : Bound) (challenge : List ℕ) (flags : ℕ) (joiner : Option RpcUnit) (at : AtLink) →
     IsPast (body_challenged body trailer bound challenge flags joiner at).1

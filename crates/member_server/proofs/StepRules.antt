@@ -1,4 +1,5 @@
--- What a step may do to what logons need and to the actions so far: whatever holds by these rules holds after each step.
+-- What a step may do to what logons need and to the actions so far: whatever holds by these rules holds after each
+-- step.
 use Rattle.std.proofs.Common.{◌≡◌, ℕ, Bool, true, false, List, [], ◌∷◌, ◌++◌, Option, Some, None, Ok, Err}
 use Rattle.outside.specs.declared.action.Action.{Action}
 use Rattle.outside.specs.declared.action.Action.TheVariants as action
@@ -71,9 +72,18 @@ abbrev pub AfterStart : (Bool → Holds) → Bool → Option (Unit {0} × List (
 AfterStart G dialled None l a = G dialled l a
 AfterStart G dialled (Some start) l a = G true l a
 
+-- what an event does, before the next turn starts
+pub record EventRules (T : List RpcUnit → Holds) (G : Bool → Holds) : Type 0 where
+  pub link : (dialled : Bool) → LinkRules (G dialled)
+  pub turn : TurnRules T (G false)
+  pub returns : (units : List RpcUnit) (l : Logons) (a : List Action) → T units l a → G true l a
+
 pub record StepRules (T : List RpcUnit → Holds) (G : Bool → Holds) : Type 0 where
   pub link : (dialled : Bool) → LinkRules (G dialled)
   pub turn : TurnRules T (G false)
   pub returns : (units : List RpcUnit) (l : Logons) (a : List Action) → T units l a → G true l a
   pub starts : (dialled : Bool) (l : Logons) (a : List Action) (timestamp : ℕ) (challenge : List ℕ) → G dialled l a →
       AfterStart G dialled (start_of l.channel timestamp challenge).answer (with_channel l (start_of l.channel timestamp challenge).state) a
+
+pub events_of : (T : List RpcUnit → Holds) (G : Bool → Holds) → StepRules T G → EventRules T G
+events_of T G rules = record { link = rules.link; turn = rules.turn; returns = rules.returns }

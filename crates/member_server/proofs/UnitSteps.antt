@@ -1,4 +1,5 @@
--- What a unit on an accepted link leaves, of what holds by the rules, and what is held then. P is a premise: that what was held before were requests.
+-- What a unit on an accepted link leaves, of what holds by the rules, and what is held then. P is a premise: that what
+-- was held before were requests.
 use Rattle.std.proofs.Common.{◌≡◌, ℕ, ◌+◌, ◌==◌, Bool, true, false, List, [], ◌∷◌, ◌++◌, Option, Some, None, Result, Ok, Err, refl, sym, subst, nat_le, length}
 use Rattle.ntlm_messages.specs.declared.messages.Authenticate.{Authenticate}
 use Rattle.ntlm_messages.specs.declared.refused.MessageRefused.{MessageRefused}
@@ -38,7 +39,8 @@ use Rattle.member_server.specs.declared.state.Phase.TheVariants as phase
 use Rattle.member_server.specs.declared.state.Talk.{Talk}
 use Rattle.member_server.specs.Held.{held_limit, held_size}
 use Rattle.member_server.specs.Laws.{AreRequests, HoldsAfter, HoldsRequests, IsRequestBody, IsRequestUnit}
-use Rattle.member_server.specs.Levels.{is_plain, ntlm_kind}
+use Rattle.member_server.specs.Levels.{is_plain}
+use Rattle.rpc_units.specs.Numbers.{ntlm_provider}
 use Rattle.member_server.specs.Memo.{call_answer}
 use Rattle.member_server.specs.Messages.{ask_by, info_of, is_fit, take_auth3, take_message, take_trailer, wait_by, with_channel}
 use Rattle.member_server.specs.Requests.{answer_call, body_asked, body_out, hold_by, join_by, join_if, join_request, join_unit, open_unit, reply, seal_reply, send_reply, send_sealed, signed_cause, signed_unit, talk_in, unit_asked, unit_in, unit_out, with_session}
@@ -103,7 +105,7 @@ module _ (P : Type 0) (K : Holds) (rules : LinkRules K) where
   auth3_fine : (trailer : Option Trailer) (bound : Bound) (challenge : List ℕ) (flags : ℕ) (joiner : Option RpcUnit) (at : AtLink) → K at.logons at.actions →
       Fine P K (take_auth3 trailer bound challenge flags joiner at)
   auth3_fine None bound challenge flags joiner at good = shut_fine close.OutOfPlace at good
-  auth3_fine (Some trailer) bound challenge flags joiner at good = trailer_fine (trailer.kind == ntlm_kind) trailer bound challenge flags joiner at good
+  auth3_fine (Some trailer) bound challenge flags joiner at good = trailer_fine (trailer.kind == ntlm_provider) trailer bound challenge flags joiner at good
 
   challenged_body : (b : Body) (trailer : Option Trailer) (bound : Bound) (challenge : List ℕ) (flags : ℕ) (joiner : Option RpcUnit) (at : AtLink) → K at.logons at.actions →
       Fine P K (body_challenged b trailer bound challenge flags joiner at)

@@ -25,7 +25,8 @@ use Rattle.member_server.specs.declared.plan.MemberPlan.{MemberPlan}
 use Rattle.member_server.specs.declared.state.AtLink.{AtLink}
 use Rattle.member_server.specs.declared.state.Bound.{Bound}
 use Rattle.member_server.specs.declared.state.Phase.TheVariants as phase
-use Rattle.member_server.specs.Levels.{ntlm_kind, is_plain, is_served}
+use Rattle.member_server.specs.Levels.{is_plain, is_served}
+use Rattle.rpc_units.specs.Numbers.{ntlm_provider}
 use Rattle.member_server.specs.Work.{Served, ServedPart, send_unit, stay, shut, drawless}
 
 -- the interface that is served
@@ -40,8 +41,8 @@ is_enough level flags =
     has_flag flags negotiate_unicode && has_flag flags negotiate_ntlm
     && (is_plain level || has_flag flags negotiate_extended_sessionsecurity)
 
--- the level and the security context of the trailer, and the flags of the CHALLENGE that answers the NEGOTIATE; the argument: whether the flags
--- offered are enough
+-- the level and the security context of the trailer, and the flags of the CHALLENGE that answers the NEGOTIATE; the
+-- argument: whether the flags offered are enough
 abbrev pub offer_if : Bool → Trailer → ℕ → Option Offer
 offer_if false trailer flags = None
 offer_if true trailer flags = Some (record { level = trailer.level; context = trailer.context; flags = challenge_flags flags })
@@ -57,7 +58,7 @@ offer_at true trailer = offer_by (negotiate_of trailer.value) trailer
 
 abbrev pub offer_in : Option Trailer → Option Offer
 offer_in None = None
-offer_in (Some trailer) = offer_at ((trailer.kind == ntlm_kind) && is_served trailer.level) trailer
+offer_in (Some trailer) = offer_at ((trailer.kind == ntlm_provider) && is_served trailer.level) trailer
 
 -- ---- the CHALLENGE (MS-NLMP 2.2.1.2): its target is the domain, and its pairs are the domain (2) and the computer (1)
 
@@ -74,7 +75,7 @@ challenge_message flags plan challenge = record {
 
 abbrev pub challenge_trailer : Offer → MemberPlan → List ℕ → Trailer
 challenge_trailer offer plan challenge = record {
-  kind = ntlm_kind;
+  kind = ntlm_provider;
   level = offer.level;
   context = offer.context;
   value = written_challenge (challenge_message offer.flags plan challenge);

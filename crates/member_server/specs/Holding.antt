@@ -1,5 +1,5 @@
--- The bytes that a member holds, between its steps (this project's own choice): the rests of the streams of its links, the stub bytes of open calls, and
--- the requests that wait.
+-- The bytes that a member holds, between its steps (this project's own choice): the rests of the streams of its links,
+-- the stub bytes of open calls, and the requests that wait.
 use Rattle.std.specs.Prelude.{ℕ, ◌+◌, length, Option, Some, None}
 use Rattle.rpc_units.specs.Joining.{open_len}
 use Rattle.end_links.specs.Links.{held_by}

@@ -1,4 +1,5 @@
--- What holds of a member's links, whatever comes (MS-NLMP 3.2.5.1.2; how outcomes are told is this project's own choice).
+-- What holds of a member's links, whatever comes (MS-NLMP 3.2.5.1.2; how outcomes are told is this project's own
+-- choice).
 use Rattle.std.specs.Prelude.{ℕ, ◌≡◌, ◌==◌, Bool, true, false, IsTrue, List, [], ◌∷◌, ◌++◌, map, Option, Some, None, Result, Ok, Err}
 use Rattle.std.specs.List.{AllByRecursion}
 use Rattle.outside.specs.declared.action.Action.{Action}
@@ -73,8 +74,8 @@ pub record ReachesItsLink : Type 0 where
   -- where no logon of that place is kept, nothing is told
   pub unknown : (place : ℕ) (how : Ending) (work : Work) → lookup same_number place work.logons.asked ≡ None →
       end_logon place how work ≡ without_logon place work
-  -- one that is kept is told, to the number that it came on. Where no link of that number waits for this place, that is all: a link that was
-  -- opened later stays as it is
+  -- one that is kept is told, to the number that it came on. Where no link of that number waits for this place, that is
+  -- all: a link that was opened later stays as it is
   pub stays : (place : ℕ) (how : Ending) (logon : Logon) (work : Work) → lookup same_number place work.logons.asked ≡ Some logon →
       waiting_on place (lookup same_number logon.link work.links) ≡ None →
       end_logon place how work ≡ tell_outcome how logon (without_logon place work)
@@ -225,8 +226,8 @@ abbrev pub heard_in : Event → Dialling → List RpcUnit
 heard_in (event.Bytes link piece) how = heard_from link piece how
 heard_in _ how = []
 
--- A controller granted the logon of a place, in a unit that came on the link of the turn and that the channel took behind those before it, and the logon
--- of that place was kept when the step began.
+-- A controller granted the logon of a place, in a unit that came on the link of the turn and that the channel took
+-- behind those before it, and the logon of that place was kept when the step began.
 pub record IsGranted (running : Running) (what : Event) (link : ℕ) (told : Outcome) : Type 0 where
   pub earlier : List RpcUnit
   pub unit : RpcUnit

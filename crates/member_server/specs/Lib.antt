@@ -1,4 +1,5 @@
 pub mod Binds
+pub mod ChannelSteps
 pub mod Held
 pub mod Holding
 pub mod Laws
@@ -16,3 +17,4 @@ pub mod State
 pub mod Turns
 pub mod Units
 pub mod Work
+pub use Rattle.authenticators.specs.Timestamps

@@ -1,4 +1,5 @@
--- The operations that a member serves to those who are logged on, those of the memo interface (this project's own interface).
+-- The operations that a member serves to those who are logged on, those of the memo interface (this project's own
+-- interface).
 use Rattle.std.specs.Prelude.{ℕ, ◌≤◌, ◌==◌, Bool, true, false, nat_le, List, length, Result, Ok, Err}
 use Rattle.memo_stubs.specs.declared.refused.MemoRefused.{MemoRefused}
 use Rattle.memo_stubs.specs.Memo.{echo_request_of, written_who_reply, written_echo_reply}
@@ -28,7 +29,8 @@ abbrev pub call_answer : Bool → ℕ → List ℕ → List ℕ → Answer
 call_answer false opnum name stub = answer.Fault nca_proto_error
 call_answer true opnum name stub = memo_answer (opnum == 0) (opnum == 1) name stub
 
--- a stub is short enough for the hint of a reply, and for one send: that of a name of 32,767 units has at most 65,558 bytes
+-- a stub is short enough for the hint of a reply, and for one send: that of a name of 32,767 units has at most 65,558
+-- bytes
 abbrev pub IsShortAnswer : Answer → Type 0
 IsShortAnswer (answer.Stub stub) = length stub ≤ 65558
 IsShortAnswer (answer.Fault status) = Unit {0}

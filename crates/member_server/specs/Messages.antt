@@ -24,7 +24,8 @@ use Rattle.member_server.specs.declared.state.Bound.{Bound}
 use Rattle.member_server.specs.declared.state.Logon.{Logon}
 use Rattle.member_server.specs.declared.state.Logons.{Logons}
 use Rattle.member_server.specs.declared.state.Phase.TheVariants as phase
-use Rattle.member_server.specs.Levels.{ntlm_kind, is_plain}
+use Rattle.member_server.specs.Levels.{is_plain}
+use Rattle.rpc_units.specs.Numbers.{ntlm_provider}
 use Rattle.member_server.specs.Work.{Served, tell, stay, shut, with_logons}
 
 -- ---- what is agreed
@@ -93,4 +94,4 @@ take_trailer true trailer bound challenge flags joiner at =
 abbrev pub take_auth3 : Option Trailer → Bound → List ℕ → ℕ → Option RpcUnit → AtLink → Served
 take_auth3 None bound challenge flags joiner at = shut close.OutOfPlace at
 take_auth3 (Some trailer) bound challenge flags joiner at =
-    take_trailer (trailer.kind == ntlm_kind) trailer bound challenge flags joiner at
+    take_trailer (trailer.kind == ntlm_provider) trailer bound challenge flags joiner at

@@ -133,7 +133,8 @@ abbrev pub reach_link : Option (LinkState Talk) → ℕ → Ending → Logon →
 reach_link None place how logon work = work
 reach_link (Some link) place how logon work = turn_link (waiting_at place link.talk.phase) link how logon work
 
--- ---- the outcome of the logon of a place: it is told, also where its link has closed, and reaches the link where that still waits for this place
+-- ---- the outcome of the logon of a place: it is told, also where its link has closed, and reaches the link where that
+-- still waits for this place
 
 abbrev pub without_logon : ℕ → Work → Work
 without_logon place work =

@@ -1,4 +1,5 @@
--- How many more events the steps for closed and dialled links may make (this project's own choice): a failed send and a dial make one each.
+-- How many more events the steps for closed and dialled links may make (this project's own choice): a failed send and a
+-- dial make one each.
 use Rattle.std.specs.Prelude.{ℕ, ◌≡◌, ◌≤◌, ◌+◌, ◌*◌, Bool, true, false, List, [], ◌∷◌, length, Option, Some, None, Result, Ok, Err}
 use Rattle.outside.specs.declared.event.Event.{Event}
 use Rattle.outside.specs.declared.action.StepRefused.{StepRefused}

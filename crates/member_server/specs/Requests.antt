@@ -1,5 +1,5 @@
--- Requests on links that are bound (C706 12.6.4.9, 12.6.4.10, 12.6.4.7): held while the logon is asked, served once a user is logged on, and else answered
--- with a fault.
+-- Requests on links that are bound (C706 12.6.4.9, 12.6.4.10, 12.6.4.7): held while the logon is asked, served once a
+-- user is logged on, and else answered with a fault.
 use Rattle.std.specs.Prelude.{ℕ, ◌+◌, Bool, true, false, nat_le, List, [], ◌∷◌, ◌++◌, length, Option, Some, None, Result, Ok, Err}
 use Rattle.outside.specs.declared.action.CloseCause.{CloseCause}
 use Rattle.outside.specs.declared.action.CloseCause.TheVariants as close

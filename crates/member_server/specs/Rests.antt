@@ -1,4 +1,5 @@
--- Which challenges are left once a unit of a link is served: a rest of those that were left before, and at most one fewer.
+-- Which challenges are left once a unit of a link is served: a rest of those that were left before, and at most one
+-- fewer.
 use Rattle.std.specs.Prelude.{ℕ, ◌≡◌, ◌+◌, ◌≤◌, Bool, true, false, List, [], ◌∷◌, length, Option, Some, None, Result, Ok, Err, refl}
 use Rattle.std.proofs.Common.{◌∙◌, subst, sym}
 use Rattle.std.proofs.lemmas.List.{length-append}

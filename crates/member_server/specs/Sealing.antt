@@ -1,9 +1,11 @@
--- Units of a session with extended session security (MS-NLMP 3.4, MS-RPCE 2.2.2.11, 3.3.1.5.2.2). The authentication value of such a unit has 16 bytes and
--- ends it; it is the signature of all bytes before it. At the level that seals, the stub and its padding are encrypted.
+-- Units of a session with extended session security (MS-NLMP 3.4, MS-RPCE 2.2.2.11, 3.3.1.5.2.2). The authentication
+-- value of such a unit has 16 bytes and ends it; it is the signature of all bytes before it. At the level that seals,
+-- the stub and its padding are encrypted.
 use Rattle.std.specs.Prelude.{ℕ, ◌≡◌, ◌≤◌, ◌-◌, ◌==◌, ◌&&◌, Bool, true, false, List, [], ◌∷◌, ◌++◌, take, drop, length, replicate, Option, Some, None, Result, Ok, Err, is_ok}
 use Rattle.ntlm_seal.specs.declared.refusal.SealRefused.{SealRefused}
 use Rattle.ntlm_seal.specs.Directions.{combine}
 use Rattle.ntlm_seal.specs.Sessions.{SessionState, Judgement, seal_of, judge_of, open_of, unit_left}
+use Rattle.rpc_units.specs.Numbers.{ntlm_provider}
 use Rattle.rpc_units.specs.declared.unit.Trailer.{Trailer}
 use Rattle.rpc_units.specs.declared.unit.Unit.{Unit as RpcUnit}
 use Rattle.rpc_units.specs.Reading.{unit_of}
@@ -116,7 +118,7 @@ IsShortFrames (Some sent) = length sent.0 ≤ send_limit
 
 -- the trailer of a unit that isn't signed yet
 abbrev pub blank_trailer : ℕ → ℕ → Trailer
-blank_trailer level context = record { kind = 10; level = level; context = context; value = replicate 16 0 }
+blank_trailer level context = record { kind = ntlm_provider; level = level; context = context; value = replicate 16 0 }
 
 -- what can be signed: a unit that can be written, is short, and has such a trailer
 pub record IsReady (unit : RpcUnit) : Type 0 where

@@ -1,5 +1,5 @@
 -- The turn that is out, and its link (MS-NRPC 3.1.4, 3.5.4; how turns follow one another is this project's own choice).
-use Rattle.std.specs.Prelude.{ℕ, ◌+◌, ◌/◌, ◌%◌, ◌^◌, Bool, true, false, List, [], ◌∷◌, replicate, Option, Some, None, Result, Ok, Err}
+use Rattle.std.specs.Prelude.{ℕ, Bool, true, false, List, [], ◌∷◌, replicate, Option, Some, None, Result, Ok, Err}
 use Rattle.outside.specs.declared.action.Action.TheVariants as action
 use Rattle.outside.specs.declared.action.CloseCause.{CloseCause}
 use Rattle.outside.specs.declared.action.CloseCause.TheVariants as close
@@ -18,6 +18,7 @@ use Rattle.rpc_units.specs.Joining.{answer_of, open_after}
 use Rattle.rpc_units.specs.Reading.{unit_of}
 use Rattle.end_links.specs.Sending.{joined_frames}
 use Rattle.end_links.specs.Serving.{Server, ServedPart}
+pub use Rattle.authenticators.specs.Timestamps.{timestamp_of}
 use Rattle.channel_client.specs.declared.answers.Taken.{Taken}
 use Rattle.channel_client.specs.declared.answers.Taken.TheVariants as taken
 use Rattle.channel_client.specs.Machine.{Losing, Starting, Taking, can_start, lose_of, needs_challenge, start_of, take_of}
@@ -105,11 +106,6 @@ abbrev pub turn_server : Server AtTurn TurnTalk
 turn_server = record { unit = serve_turn; refusal = refuse_turn }
 
 -- ---- the next turn, which starts after each event where one can
-
--- seconds since 1970, modulo 2^32, of a moment in units of 100 ns since 1601: 5,535,395,584 is 2^34 less the seconds between both years, so that it
--- is right also before 1970
-abbrev pub timestamp_of : ℕ → ℕ
-timestamp_of now = (now / 10000000 + 5535395584) % 2 ^ 32
 
 abbrev pub Desk : Type 0
 Desk = Work × Dialling

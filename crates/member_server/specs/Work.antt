@@ -1,4 +1,5 @@
--- What a member at work on an accepted link does: its actions, and what becomes of the link (this project's own choice).
+-- What a member at work on an accepted link does: its actions, and what becomes of the link (this project's own
+-- choice).
 use Rattle.std.specs.Prelude.{ℕ, List, [], ◌∷◌, ◌++◌, Option, Some, None, Result, Ok}
 use Rattle.outside.specs.declared.action.Action.{Action}
 use Rattle.outside.specs.declared.action.Action.TheVariants as action

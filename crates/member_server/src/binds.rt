@@ -9,6 +9,7 @@ ghost use Rattle.outside.specs.Drawing.{DrawsSome};
 ghost use Rattle.outside.specs.Machine.{AnswersBy};
 ghost use Rattle.rpc_units.specs.Reading.{unit_of};
 ghost use Rattle.rpc_units.specs.Writing.{written, ContextsFit, IsWritable};
+ghost use Rattle.rpc_units.specs.Numbers.{ntlm_provider};
 ghost use Rattle.member_server.specs.Binds.{is_enough, offer_by, offer_at, offer_in, challenge_message, challenge_trailer, challenge_ack, ack_fits, bound_by, refusal_of_bind, answer_of_bind, answer_bind, bind_by, fresh_unit, memo_syntax, ClosesBy};
 ghost use Rattle.member_server.specs.Levels.{is_plain, is_served};
 ghost use Rattle.member_server.specs.Units.{first_unit};
@@ -30,8 +31,8 @@ use ntlm_flags::{
 use ntlm_messages::{Challenge, Pairs, WriteRefused, view_negotiate, write_challenge, write_pairs};
 use outside::{Chances, CloseCause, Spent, StepRefused};
 use rpc_units::{
-    Body, Contexts, Joiner, Syntax, Trailer, Unit, UnitRefused, UnitWriteRefused, read_unit,
-    write_unit,
+    Body, Contexts, Joiner, NTLM_PROVIDER, Syntax, Trailer, Unit, UnitRefused, UnitWriteRefused,
+    read_unit, write_unit,
 };
 use std::alloc::Global;
 use wire_base::{Blob, Name, NoMemory};
@@ -42,7 +43,8 @@ const MEMO: Syntax = Syntax {
     version: MEMO_VERSION,
 };
 
-/// What a bind offers: the level and the security context of its trailer, and the flags of the CHALLENGE that answers it.
+/// What a bind offers: the level and the security context of its trailer, and the flags of the CHALLENGE that answers
+/// it.
 #[derive(Clone, Copy, Debug, PartialEq, Eq)]
 pub struct Offer {
     pub level: u8,
@@ -72,9 +74,9 @@ pub(crate) fn offer_in(trailer: &Option<Trailer>) -> Option<Offer>
 /// The same of a trailer that is there.
 fn offer_at(trailer: &Trailer) -> Option<Offer>
     ensures { result ≡
-        offer_at ((trailer.now.kind == 10) && is_served trailer.now.level) trailer.now }
+        offer_at ((trailer.now.kind == ntlm_provider) && is_served trailer.now.level) trailer.now }
 {
-    if trailer.kind != 10 || !is_served(trailer.level) {
+    if trailer.kind != NTLM_PROVIDER || !is_served(trailer.level) {
         return None;
     }
     let Ok(message) = view_negotiate(trailer.value.bytes()) else {
@@ -173,7 +175,7 @@ fn challenge_ack(
     ensures writable { IfOk result IsWritable }
 {
     let trailer = Trailer {
-        kind: 10,
+        kind: NTLM_PROVIDER,
         level: offer.level,
         context: offer.context,
         value: challenge_bytes(alloc, offer.flags, plan, challenge)?,
@@ -393,7 +395,8 @@ fn take_bind<Q: Chances>(
     requires { length contexts.now ≤ 242 }
     ensures draws { DrawsSome (Q.drawing chances.old) (Q.drawing chances.new) }
     ensures answer { AnswersBy result
-        (bind_by (offer_in trailer.now) call receive contexts.now joiner at (Q.drawing chances.old).left)
+        (bind_by (offer_in trailer.now) call receive contexts.now joiner at
+        (Q.drawing chances.old).left)
         (Q.drawing chances.new).left }
 {
     match offer_in(trailer) {
@@ -451,7 +454,8 @@ fn take_unit<Q: Chances>(
     requires { ContextsFit unit.now.body }
     ensures draws { DrawsSome (Q.drawing chances.old) (Q.drawing chances.new) }
     ensures answer { AnswersBy result
-        (fresh_unit unit.now.body unit.now.trailer unit.now.call joiner at (Q.drawing chances.old).left)
+        (fresh_unit unit.now.body unit.now.trailer unit.now.call joiner at
+        (Q.drawing chances.old).left)
         (Q.drawing chances.new).left }
 {
     match &unit.body {

@@ -10,8 +10,8 @@ use wire_base::{Blob, List, NoMemory};
 /// The most bytes of requests that wait on a link (this project's own choice).
 pub const HELD_LIMIT: usize = 65536;
 
-/// Requests that wait on a link, each as the bytes of its unit, in the order in which they came. Clauses see the list of them. They are at
-/// most `HELD_LIMIT` bytes in all.
+/// Requests that wait on a link, each as the bytes of its unit, in the order in which they came. Clauses see the list
+/// of them. They are at most `HELD_LIMIT` bytes in all.
 #[derive(Drop)]
 pub struct Held {
     units: List<Blob>,

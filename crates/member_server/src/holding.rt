@@ -53,8 +53,9 @@ fn bytes_of(running: &Running) -> u64
 }
 
 impl Member {
-    /// The bytes that the member holds: the rests of its links' streams, the stub bytes of open calls, and the requests that wait. A member that was
-    /// stopped holds none. They are at most what 256 links and the link of the turn hold. It takes no memory.
+    /// The bytes that the member holds: the rests of its links' streams, the stub bytes of open calls, and the requests
+    /// that wait. A member that was stopped holds none. They are at most what 256 links and the link of the turn hold.
+    /// It takes no memory.
     pub fn held(&self) -> u64
         ensures count { result ≡ held_of self.now }
         ensures most { result ≤ 35120591 }

@@ -2,21 +2,25 @@
 
 ghost use Rattle.member_server.specs.Laws.{AsksWhatWaits, ClosesNothing, KeepsRequests, LeavesOtherLinks, LetsInTheGranted, ReachesItsLink, ServesOneMessage, StepsTheChannel};
 ghost use Rattle.member_server.specs.Pending.{Settles};
+ghost use Rattle.member_server.specs.ChannelSteps.{ChannelStepsKnown};
 
-/// The events that the step for a closed or dialled link makes, with those that may come of it, are no more than before: two for each logon
-/// that waits, two where a turn can start, one for a dial that waits, and one for each request that is held.
+/// The events that the step for a closed or dialled link makes, with those that may come of it, are no more than
+/// before: two for each logon that waits, two where a turn can start, one for a dial that waits, and one for each
+/// request that is held.
 #[tactic(auto, using(crate::proofs::PendingLaws::settles))]
 pub fn made_events_end()
     ensures { Settles }
 {}
 
-/// After any unit on a link that was sent a CHALLENGE, the link is closed or its challenge is past: so a challenge serves one AUTHENTICATE at most.
+/// After any unit on a link that was sent a CHALLENGE, the link is closed or its challenge is past: so a challenge
+/// serves one AUTHENTICATE at most.
 #[tactic(auto, using(crate::proofs::LinkLaws::serves_one_message))]
 pub fn a_challenge_serves_one_message()
     ensures { ServesOneMessage }
 {}
 
-/// The outcome of a place is told where its logon is kept, and changes no link but the one of that number that waits for this place.
+/// The outcome of a place is told where its logon is kept, and changes no link but the one of that number that waits
+/// for this place.
 #[tactic(auto, using(crate::proofs::LinkLaws::reaches_its_link))]
 pub fn an_outcome_reaches_its_link()
     ensures { ReachesItsLink }
@@ -34,8 +38,8 @@ pub fn what_is_held_are_requests()
     ensures { KeepsRequests }
 {}
 
-/// A step does to the shared channel what channel_client's own steps do, in some order, and nothing else: a logon is asked, a turn starts, a unit is
-/// taken, the turn is lost.
+/// A step does to the shared channel what channel_client's own steps do, in some order, and nothing else: a logon is
+/// asked, a turn starts, a unit is taken, the turn is lost.
 #[tactic(auto, using(crate::proofs::KeptLaws::steps_the_channel))]
 pub fn the_channel_steps_by_its_own()
     ensures { StepsTheChannel }
@@ -47,16 +51,24 @@ pub fn bytes_leave_other_links()
     ensures { LeavesOtherLinks }
 {}
 
-/// In is told only where the channel took a granted answer for the place of that logon, in a unit that came on the link of the turn in that very step;
-/// the logon was kept when the step began.
+/// In is told only where the channel took a granted answer for the place of that logon, in a unit that came on the link
+/// of the turn in that very step; the logon was kept when the step began.
 #[tactic(auto, using(crate::proofs::KeptLaws::lets_in_the_granted))]
 pub fn in_is_told_of_a_granted_logon()
     ensures { LetsInTheGranted }
 {}
 
-/// The places of the logons that are kept are those of the logons that wait, in their order, and a turn is out exactly where it is dialled: at first, and
-/// after each step.
+/// The places of the logons that are kept are those of the logons that wait, in their order, and a turn is out exactly
+/// where it is dialled: at first, and after each step.
 #[tactic(auto, using(crate::proofs::AskedLaws::asks_what_waits))]
 pub fn what_is_kept_waits()
     ensures { AsksWhatWaits }
+{}
+
+/// What each step does to the shared channel, part by part: where no whole unit comes on the link of the turn, logons
+/// are asked and the turn is lost, if anything; where one does, and nothing is open there, it is taken first; and then
+/// the next turn starts, where one can, with the next challenge that is left where it needs one.
+#[tactic(auto, using(crate::proofs::ChannelStepLaws::channel_steps))]
+pub fn channel_steps_are_known()
+    ensures { ChannelStepsKnown }
 {}

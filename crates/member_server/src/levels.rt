@@ -3,23 +3,25 @@
 ghost use Rattle.std.specs.Prelude.{◌≡◌};
 ghost use Rattle.member_server.specs.Levels.{is_plain, is_sealing, is_served};
 
-/// Whether requests and replies of a level have no signature: connect, 2 (MS-RPCE 2.2.1.1.8).
+use rpc_units::{CONNECT_LEVEL, INTEGRITY_LEVEL, PRIVACY_LEVEL};
+
+/// Whether requests and replies of a level have no signature (MS-RPCE 2.2.1.1.8).
 pub(crate) fn is_plain(level: u8) -> bool
     ensures { result ≡ is_plain level }
 {
-    level == 2
+    level == CONNECT_LEVEL
 }
 
-/// Whether they are sealed: privacy, 6.
+/// Whether they are sealed.
 pub(crate) fn is_sealing(level: u8) -> bool
     ensures { result ≡ is_sealing level }
 {
-    level == 6
+    level == PRIVACY_LEVEL
 }
 
-/// Whether a level is served: these, and integrity, 5.
+/// Whether a level is served: these, and the one at which they are signed.
 pub(crate) fn is_served(level: u8) -> bool
     ensures { result ≡ is_served level }
 {
-    is_plain(level) || level == 5 || is_sealing(level)
+    is_plain(level) || level == INTEGRITY_LEVEL || is_sealing(level)
 }

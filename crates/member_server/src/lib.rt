@@ -1,5 +1,5 @@
-//! The member server as a machine over plain values: it lets users in whose logons its controller grants, one shared secure channel judging
-//! them all, and serves them the memo interface.
+//! The member server as a machine over plain values: it lets users in whose logons its controller grants, one shared
+//! secure channel judging them all, and serves them the memo interface.
 #![tactic(auto)]
 
 mod binds;
@@ -24,8 +24,9 @@ mod work;
 pub use held::HELD_LIMIT;
 pub use laws::{
     a_challenge_serves_one_message, an_outcome_reaches_its_link, bytes_leave_other_links,
-    in_is_told_of_a_granted_logon, made_events_end, the_channel_steps_by_its_own,
-    what_is_closed_closes_nothing, what_is_held_are_requests, what_is_kept_waits,
+    channel_steps_are_known, in_is_told_of_a_granted_logon, made_events_end,
+    the_channel_steps_by_its_own, what_is_closed_closes_nothing, what_is_held_are_requests,
+    what_is_kept_waits,
 };
 pub use member::Member;
 pub use plan::MemberPlan;

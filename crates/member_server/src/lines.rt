@@ -4,31 +4,11 @@ ghost use Rattle.std.specs.Prelude.{◌≡◌, ◌++◌, map, IfOk, OnOk, codes}
 ghost use Rattle.std.specs.Fmt.{decimal};
 ghost use Rattle.std.specs.Int.{w32, to_be_bytes};
 ghost use Rattle.hex.specs.Hex.{encode_lower};
-ghost use Rattle.member_server.specs.Lines.{ascii_of, ascii_text, outcome_text, told_line, line_of};
+ghost use Rattle.member_server.specs.Lines.{outcome_text, told_line, line_of};
 
 use outside::{Action, Outcome};
 use std::alloc::Global;
-use wire_base::{Blob, NoMemory, Units};
-
-/// A unit as printable ASCII.
-fn ascii_of(unit: u16) -> u8
-    ensures { result ≡ ascii_of unit }
-{
-    match unit {
-        0x20..=0x7E => unit as u8,
-        _ => b'?',
-    }
-}
-
-/// Appends a text as printable ASCII.
-fn put_text(line: &mut Vec<u8>, text: &Units) -> Result<(), NoMemory>
-    ensures { OnOk result (line.new.items ≡ line.old.items ++ ascii_text text.now) }
-{
-    for unit in text.units() {
-        line.push(ascii_of(*unit))?;
-    }
-    Ok(())
-}
+use wire_base::{Blob, NoMemory, put_printable};
 
 /// Appends how the logon of a link ended.
 fn put_outcome(line: &mut Vec<u8>, outcome: &Outcome) -> Result<(), NoMemory>
@@ -37,9 +17,9 @@ fn put_outcome(line: &mut Vec<u8>, outcome: &Outcome) -> Result<(), NoMemory>
     match outcome {
         Outcome::In { domain, user, .. } => {
             line.extend_from_slice(b"in ")?;
-            put_text(line, domain)?;
+            put_printable(line, domain.units())?;
             line.push(b'\\')?;
-            put_text(line, user)
+            put_printable(line, user.units())
         }
         Outcome::Out(status) => {
             line.extend_from_slice(b"out ")?;
@@ -66,14 +46,16 @@ fn told_line(alloc: Global, link: u32, outcome: &Outcome) -> Result<Blob, NoMemo
     Ok(Blob::from_vec(line))
 }
 
-/// The line that is put for an action, empty for what is done at the port.
+/// The line that is put for an action, empty for what is kept and for what is done at the port.
 pub(crate) fn line_of(alloc: Global, action: &Action) -> Result<Blob, NoMemory>
     ensures { IfOk result (λ line. line ≡ line_of action.now) }
 {
     match action {
         Action::Told(link, outcome) => told_line(alloc, *link, outcome),
-        Action::Send(_, _) | Action::Dial(_) | Action::Close(_, _) | Action::Judged(_) => {
-            Blob::copy(alloc, &[])
-        }
+        Action::Keep(_)
+        | Action::Send(_, _)
+        | Action::Dial(_)
+        | Action::Close(_, _)
+        | Action::Judged(_) => Blob::copy(alloc, &[]),
     }
 }

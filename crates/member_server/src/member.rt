@@ -60,11 +60,11 @@ impl Member {
         })
     }
 
-    /// The step for an event at this moment, in units of 100 ns since 1601: its actions in order. A challenge is drawn where a bind is answered
-    /// with a CHALLENGE, and where a turn starts whose channel needs one.
+    /// The step for an event at this moment, in units of 100 ns since 1601: its actions in order. A challenge is drawn
+    /// where a bind is answered with a CHALLENGE, and where a turn starts whose channel needs one.
     ///
-    /// `Spent` exactly where the step draws more challenges than are left, `Memory` where no memory was found; after either of them the member is
-    /// stopped and keeps nothing. `Stopped` exactly where it was stopped before.
+    /// `Spent` exactly where the step draws more challenges than are left, `Memory` where no memory was found; after
+    /// either of them the member is stopped and keeps nothing. `Stopped` exactly where it was stopped before.
     #[tactic(auto, using(crate::proofs::StepLaws::stepping))]
     pub fn step<Q: Chances>(
         &mut self,
@@ -84,7 +84,8 @@ impl Member {
         // Events that a failed send or a dial makes come to an end.
         ensures settles { IfOk result (λ actions. IsTrue (is_made event.now) →
             most_made_by actions + pending_in self.new ≤ pending_in self.old) }
-        // At most one challenge is drawn for each unit that the event can end, and one more for the turn that starts, whatever the result.
+        // At most one challenge is drawn for each unit that the event can end, and one more for the turn that starts,
+        // whatever the result.
         ensures few { length (Q.drawing chances.old).left
             ≤ length (Q.drawing chances.new).left + units_at event.now + 1 }
         // No send has more than 589,824 bytes.
@@ -309,7 +310,8 @@ fn serve_link<Q: Chances>(
     requires { length work.links < 256 }
     ensures draws { DrawsSome (Q.drawing chances.old) (Q.drawing chances.new) }
     ensures answer { AnswersBy result
-        (serve_alone (cut_stream (link.rest ++ piece.now)) number link.talk how work (Q.drawing chances.old).left)
+        (serve_alone (cut_stream (link.rest ++ piece.now)) number link.talk how work
+        (Q.drawing chances.old).left)
         (Q.drawing chances.new).left }
     ensures few { length (Q.drawing chances.old).left
         ≤ length (Q.drawing chances.new).left + units_in_piece (length piece.now) }
@@ -356,7 +358,8 @@ fn bytes_on_link<Q: Chances>(
 ) -> Result<(Work, Dialling), StepRefused>
     ensures draws { DrawsSome (Q.drawing chances.old) (Q.drawing chances.new) }
     ensures answer { AnswersBy result
-        (bytes_on_link (lookup same_number number work.links) number piece.now how work (Q.drawing chances.old).left)
+        (bytes_on_link (lookup same_number number work.links) number piece.now how work
+        (Q.drawing chances.old).left)
         (Q.drawing chances.new).left }
     ensures few { length (Q.drawing chances.old).left
         ≤ length (Q.drawing chances.new).left + units_in_piece (length piece.now) }
@@ -393,7 +396,8 @@ fn serve_dialled<Q: Chances>(
 ) -> Result<(Work, Dialling), StepRefused>
     ensures draws { DrawsSome (Q.drawing chances.old) (Q.drawing chances.new) }
     ensures answer { AnswersBy result
-        (serve_dialled (cut_stream (said.rest ++ piece.now)) number said.talk work (Q.drawing chances.old).left)
+        (serve_dialled (cut_stream (said.rest ++ piece.now)) number said.talk work
+        (Q.drawing chances.old).left)
         (Q.drawing chances.new).left }
     ensures few { length (Q.drawing chances.old).left
         ≤ length (Q.drawing chances.new).left + units_in_piece (length piece.now) }

@@ -31,7 +31,7 @@ use ntlm_flags::{
 use ntlm_messages::{Authenticate, MessageRefused, read_authenticate, units_of_text};
 use ntlm_responses::challenge_for;
 use outside::{Action, CloseCause, DropCause, Outcome};
-use rpc_units::{Joiner, NO_CONTROLLER, TrailerView};
+use rpc_units::{Joiner, NO_CONTROLLER, NTLM_PROVIDER, TrailerView};
 use std::alloc::Global;
 use std::mem;
 use wire_base::{Blob, List, NoMemory, Units, put_number};
@@ -262,7 +262,7 @@ pub(crate) fn take_auth3(
     let Some(trailer) = trailer else {
         return shut_call(joiner, at, CloseCause::OutOfPlace);
     };
-    if trailer.kind != 10 {
+    if trailer.kind != NTLM_PROVIDER {
         return shut_call(joiner, at, CloseCause::OutOfPlace);
     }
     match read_authenticate(alloc, trailer.value) {

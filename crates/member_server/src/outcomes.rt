@@ -202,7 +202,8 @@ fn turn_talk(
     requires waits { length flow.held ≤ 5839 }
     requires room { length work.links < 256 }
     ensures { IfOk result (λ turned. turned
-        ≡ turn_alone (waiting_at place talk.phase) (record { rest = flow.held; talk = talk }) how.now logon.now work) }
+        ≡ turn_alone (waiting_at place talk.phase)
+        (record { rest = flow.held; talk = talk }) how.now logon.now work) }
 {
     let Talk { joiner, phase } = talk;
     match phase {

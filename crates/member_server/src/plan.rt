@@ -5,8 +5,8 @@ ghost use Rattle.std.specs.Prelude.{◌≡◌, IfOk};
 use std::alloc::Global;
 use wire_base::{Blob, Name, NoMemory};
 
-/// A member server of a domain: the name of its computer, its domain, the secret of its machine account, which is that account's NT hash
-/// (MS-NRPC 3.1.1), and the address of the controller that judges its logons.
+/// A member server of a domain: the name of its computer, its domain, the secret of its machine account, which is that
+/// account's NT hash (MS-NRPC 3.1.1), and the address of the controller that judges its logons.
 #[derive(Debug, Drop)]
 pub struct MemberPlan {
     pub computer: Name,

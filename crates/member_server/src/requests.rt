@@ -29,7 +29,8 @@ use end_links::{call_bytes, fault, response};
 use ntlm_seal::Session;
 use outside::CloseCause;
 use rpc_units::{
-    Body, BodyView, JoinRefused, Joiner, Trailer, Unit, UnitList, UnitView, cut_call, view_unit,
+    Body, BodyView, JoinRefused, Joiner, NTLM_PROVIDER, Trailer, Unit, UnitList, UnitView,
+    cut_call, view_unit,
 };
 use std::alloc::Global;
 use wire_base::{Blob, NoMemory};
@@ -128,7 +129,8 @@ fn hold(
     at: AtLink,
 ) -> Result<(AtLink, Option<Talk>), NoMemory>
     ensures { IfOk result (λ served. served
-        ≡ hold_by (nat_le (held_size held + length bytes.now) held_limit) bytes.now bound place held joiner at) }
+        ≡ hold_by (nat_le (held_size held + length bytes.now) held_limit)
+        bytes.now bound place held joiner at) }
 {
     if !held.has_room(bytes.len()) {
         return shut_call(joiner, at, CloseCause::TooMuchHeld);
@@ -272,7 +274,8 @@ fn seal_reply(
     }
 }
 
-/// The bytes of a reply that is signed or sealed, and the session afterwards. None where the session refuses a fragment.
+/// The bytes of a reply that is signed or sealed, and the session afterwards. None where the session refuses a
+/// fragment.
 fn sealed_reply(
     alloc: Global,
     stub: Blob,
@@ -310,7 +313,7 @@ fn reply_units(
     ensures short { IfOk result (λ units. length (flat_map written units) ≤ send_limit) }
 {
     let trailer = Trailer {
-        kind: 10,
+        kind: NTLM_PROVIDER,
         level: bound.level,
         context: bound.context,
         value: Blob::copy(alloc, &[0; 16])?,
@@ -394,7 +397,8 @@ fn join(
 ) -> Result<(AtLink, Option<Talk>), NoMemory>
     requires { HasStub (body_shown unit.now.body) }
     ensures { IfOk result (λ served. served
-        ≡ join_by (answer_of joiner (unit_shown unit.now)) (open_after joiner (unit_shown unit.now)) on at) }
+        ≡ join_by (answer_of joiner (unit_shown unit.now))
+        (open_after joiner (unit_shown unit.now)) on at) }
 {
     let mut joiner = joiner;
     match joiner.add_view(alloc, unit) {

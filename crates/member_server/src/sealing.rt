@@ -32,7 +32,8 @@ fn value(bytes: &[u8]) -> [u8; 16]
     *bytes.last_chunk::<16>().unwrap()
 }
 
-/// Whether the session takes the signature of a unit that came, and the session afterwards. A unit that is sealed is opened in its place.
+/// Whether the session takes the signature of a unit that came, and the session afterwards. A unit that is sealed is
+/// opened in its place.
 pub(crate) fn take(sealing: bool, session: Session, bytes: &mut [u8]) -> (bool, Session)
     requires least { 16 ≤ length bytes.old }
     requires most { length bytes.old ≤ 65536 }
@@ -82,7 +83,8 @@ fn open(session: Session, bytes: &mut [u8]) -> (bool, Session)
     (answer.is_ok(), session)
 }
 
-/// The bytes of a unit whose value of 16 bytes isn't there yet, as they are sent, and the session afterwards. None where the session refuses.
+/// The bytes of a unit whose value of 16 bytes isn't there yet, as they are sent, and the session afterwards. None
+/// where the session refuses.
 pub(crate) fn send_unit(
     alloc: Global,
     sealing: bool,

@@ -9,8 +9,8 @@ use ntlm_seal::Session;
 use rpc_units::Joiner;
 use wire_base::{List, Units};
 
-/// What a link is bound to: the accepted contexts with the limit of a fragment, and the level and the security context of the bind's trailer
-/// (C706 12.6.3.1, MS-RPCE 2.2.2.11).
+/// What a link is bound to: the accepted contexts with the limit of a fragment, and the level and the security context
+/// of the bind's trailer (C706 12.6.3.1, MS-RPCE 2.2.2.11).
 #[derive(Drop)]
 pub struct Bound {
     pub binding: Binding,
@@ -18,8 +18,8 @@ pub struct Bound {
     pub context: u32,
 }
 
-/// Who is logged on on a link: what it is bound to, the domain and the user as one name, the exported session key, and the session that signs
-/// and seals, where extended session security is agreed (MS-NLMP 3.2.5.1.2, 3.4).
+/// Who is logged on on a link: what it is bound to, the domain and the user as one name, the exported session key, and
+/// the session that signs and seals, where extended session security is agreed (MS-NLMP 3.2.5.1.2, 3.4).
 #[derive(Drop)]
 pub struct LoggedOn {
     pub bound: Bound,
@@ -61,8 +61,8 @@ pub struct Talk {
     pub phase: Phase,
 }
 
-/// A logon that is asked: the link that it came on, the challenge of that link, the AUTHENTICATE and the agreed flags. It is kept until its
-/// outcome is told, also where the link is closed by then.
+/// A logon that is asked: the link that it came on, the challenge of that link, the AUTHENTICATE and the agreed flags.
+/// It is kept until its outcome is told, also where the link is closed by then.
 #[derive(Drop)]
 pub struct Logon {
     pub link: u32,
@@ -79,7 +79,8 @@ pub struct Logons {
 }
 
 impl Drop for Logons {
-    // As it would be derived. Written out, it is one call wherever a value that holds one is let go, which keeps the proofs of those places short.
+    // As it would be derived. Written out, it is one call wherever a value that holds one is let go, which keeps the
+    // proofs of those places short.
     fn drop(self) {
         let Logons {
             plan: _plan,
@@ -115,7 +116,8 @@ pub struct Running {
     pub dialling: Dialling,
 }
 
-/// A member at work on an accepted link, which is out of its map then: its number, what logons need, and the actions so far.
+/// A member at work on an accepted link, which is out of its map then: its number, what logons need, and the actions so
+/// far.
 #[derive(Drop)]
 pub struct AtLink {
     pub link: u32,

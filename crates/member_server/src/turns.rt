@@ -1,6 +1,6 @@
 //! The turn that is out, and its link.
 
-ghost use Rattle.std.specs.Prelude.{◌≡◌, ◌≤◌, ◌%◌, ◌/◌, ◌+◌, length, replicate, IfOk, Ok};
+ghost use Rattle.std.specs.Prelude.{◌≡◌, ◌≤◌, ◌+◌, length, replicate, IfOk, Ok};
 ghost use Rattle.outside.specs.Drawing.{DrawsSome};
 ghost use Rattle.outside.specs.Machine.{AnswersBy};
 ghost use Rattle.rpc_units.specs.Joining.{answer_of, open_after};
@@ -11,11 +11,12 @@ ghost use Rattle.outside.specs.declared.action.Action.TheVariants as action;
 ghost use Rattle.end_links.specs.Sending.{joined_frames};
 ghost use Rattle.member_server.specs.declared.state.Dialling.TheVariants as dialling;
 ghost use Rattle.member_server.specs.Outcomes.{tell_at};
-ghost use Rattle.member_server.specs.Turns.{lose_turn, tell_turn_closed, finish_turn, finish_logon, ending_of, do_taken, take_by, break_turn, turn_by_join, turn_unit, timestamp_of, dial_by, next_turn};
+ghost use Rattle.member_server.specs.Turns.{lose_turn, tell_turn_closed, finish_turn, finish_logon, ending_of, do_taken, take_by, break_turn, turn_by_join, turn_unit, dial_by, next_turn};
 
 use crate::outcomes::{Ending, end_logon, tell_at};
 use crate::state::{AtTurn, Dialling, TurnTalk, Work};
 use crate::work::let_go;
+use authenticators::timestamp_at;
 use channel_client::{ShortFrames, TakeRefused, Taken, Turn};
 use end_links::ServesUnits;
 use logon_stubs::Verdict;
@@ -311,13 +312,6 @@ impl ServesUnits<TurnTalk> for AtTurn {
 
 // ---- the next turn
 
-/// Seconds since 1970, modulo 2^32, of a moment in units of 100 ns since 1601.
-fn timestamp_of(now: u64) -> u32
-    ensures { result ≡ timestamp_of now }
-{
-    ((now / 10_000_000 + 5_535_395_584) % 4_294_967_296) as u32
-}
-
 /// A turn starts, where one can: its controller is dialled.
 fn dial(
     alloc: Global,
@@ -379,7 +373,8 @@ fn send_dial(
     }
 }
 
-/// The next turn starts, where one can. A challenge is drawn where the channel needs one: one at most, whatever the result.
+/// The next turn starts, where one can. A challenge is drawn where the channel needs one: one at most, whatever the
+/// result.
 #[tactic(auto, using(crate::proofs::TurnLaws::drawing))]
 pub(crate) fn next_turn<Q: Chances>(
     alloc: Global,
@@ -397,7 +392,7 @@ pub(crate) fn next_turn<Q: Chances>(
         return Ok((work, how));
     }
     if !work.logons.channel.needs_challenge() {
-        return match dial(alloc, timestamp_of(now), [0; 8], work, how) {
+        return match dial(alloc, timestamp_at(now), [0; 8], work, how) {
             Ok(desk) => Ok(desk),
             Err(NoMemory) => Err(StepRefused::Memory),
         };
@@ -409,7 +404,7 @@ pub(crate) fn next_turn<Q: Chances>(
             return Err(StepRefused::Spent);
         }
     };
-    match dial(alloc, timestamp_of(now), challenge, work, how) {
+    match dial(alloc, timestamp_at(now), challenge, work, how) {
         Ok(desk) => Ok(desk),
         Err(NoMemory) => Err(StepRefused::Memory),
     }

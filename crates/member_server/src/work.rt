@@ -63,7 +63,8 @@ pub(crate) fn shut_call(
     shut(at, cause)
 }
 
-/// No memory was found, and the fragments of an open call are let go: here alone, which keeps the callers' proofs short.
+/// No memory was found, and the fragments of an open call are let go: here alone, which keeps the callers' proofs
+/// short.
 pub(crate) fn let_go(joiner: Joiner) -> NoMemory {
     drop(joiner);
     NoMemory

@@ -1,4 +1,5 @@
--- The bytes so far, with those of the rest, are all, and as many as are written; each unit of the rest can be written, and is short.
+-- The bytes so far, with those of the rest, are all, and as many as are written; each unit of the rest can be written,
+-- and is short.
 use Rattle.std.proofs.Common.{◌≡◌, ◌≤◌, ◌+◌, drop, length}
 use Rattle.std.specs.List.{flat_map, AllByRecursion}
 use Rattle.rpc_units.specs.Writing.{written, value_len, IsWritable}
