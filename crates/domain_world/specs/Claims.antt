@@ -1,53 +1,48 @@
--- What is claimed of every run of a world: of a logon through a member server and its domain controller (MS-NLMP 3.2.5.1.2, MS-NRPC 3.1.4.5,
--- 3.5.4.5.3). What a claim says is this project's own choice, in the standards' terms.
+-- What is claimed of every run of a world: of a logon through a member server and its domain controller (MS-NLMP
+-- 3.2.5.1.2, MS-NRPC 3.1.4.5, 3.5.4.5.3). What a claim says is this project's own choice, in the standards' terms.
 --
--- A member server accepts an AUTHENTICATE exactly where it took its controller's answer, the account may log on, and the response is the written
--- function of the account's stored hash and of that link's unused challenge; client and member then hold one session key; and the controller passes an
--- authenticator exactly where it is the channel's next one.
-use Rattle.std.specs.Prelude.{ℕ, ◌≡◌, ◌≢◌, ◌+◌, ◌%◌, ◌^◌, ◌==◌, ◌&&◌, ◌↔◌, Bool, true, false, List, [], ◌∷◌, ◌++◌, length, replicate, count_by, find, Option, Some, None, slice_get, AllPairs}
+-- A member server accepts an AUTHENTICATE exactly where it took its controller's answer, the account may log on, and
+-- the response is the written function of the account's stored hash and of that link's unused challenge; client and
+-- member then hold one session key; and the controller passes an authenticator exactly where it is the channel's next
+-- one.
+pub mod AskedFor
+pub mod Completeness
+pub mod Counts
+pub mod Grants
+pub mod LetIn
+pub mod MarkedUnits
+pub mod NamedLinks
+pub mod OwnChallenges
+pub mod Replies
+pub mod SharedSequences
+use Rattle.std.specs.Prelude.{ℕ, ◌≡◌, ◌≢◌, ◌+◌, ◌%◌, ◌^◌, ◌==◌, ◌&&◌, ◌↔◌, Bool, true, false, List, [], ◌∷◌, ◌++◌, length, replicate, count_by, filter, find, Option, Some, None, slice_get, AllPairs}
 use Rattle.std.specs.List.{AllByRecursion}
-use Rattle.wire_base.specs.Maps.{lookup}
-use Rattle.wire_base.specs.Names.{same_name}
-use Rattle.wire_base.specs.declared.authenticator.Authenticator.{Authenticator}
 use Rattle.rc4_stream.specs.Rc4.{applied}
 use Rattle.authenticators.specs.Channels.{Channel, channel_key}
-use Rattle.authenticators.specs.Sequences.{Passes}
-use Rattle.outside.specs.declared.action.Judged.{Judged}
 use Rattle.outside.specs.declared.action.Judged.TheVariants as judged
 use Rattle.outside.specs.declared.action.Outcome.{Outcome}
 use Rattle.outside.specs.declared.action.Outcome.TheVariants as outcome
 use Rattle.ntlm_responses.specs.Responses.{challenge_for_of}
-use Rattle.ntlm_responses.specs.Verification.{base_key_of}
-use Rattle.logon_stubs.specs.declared.calls.LogonCall.{LogonCall}
 use Rattle.logon_stubs.specs.declared.info.NetworkInfo.{NetworkInfo}
-use Rattle.account_table.specs.declared.account.Account.{Account}
-use Rattle.account_table.specs.LookUps.{account_in}
 use Rattle.sam_logon.specs.MayLogOn.{MayLogOn, ResponseVerifies}
-use Rattle.domain_controller.specs.Channels.{ChannelState, key_of_channel}
-use Rattle.domain_controller.specs.Laws.{IsNext}
-use Rattle.domain_controller.specs.declared.state.Computers.{Computers}
+use Rattle.domain_controller.specs.Laws.{judges_call}
 use Rattle.member_server.specs.Messages.{info_of}
 use Rattle.member_server.specs.declared.plan.MemberPlan.{MemberPlan}
-use Rattle.domain_world.specs.declared.links.EndId.TheVariants.{Controller, Member}
-use Rattle.domain_world.specs.declared.links.Route.{Route}
-use Rattle.domain_world.specs.ControllerNotes.{channel_in, has_passed}
-use Rattle.domain_world.specs.Counting.{is_in}
-use Rattle.domain_world.specs.Ends.{EndStates}
-use Rattle.domain_world.specs.History.{Book, ChallengeSent, Judging, JudgementTold, MessageMade, MessageTaken, OneOf, OutcomeTold, timestamp_in}
-use Rattle.domain_world.specs.Links.{acceptor_of}
-use Rattle.domain_world.specs.Moving.{end_of_peer}
-use Rattle.domain_world.specs.Past.{Past, is_channel}
-use Rattle.domain_world.specs.World.{World}
+use Rattle.channel_events.specs.Marks.{OneOf}
+use Rattle.step_notes.specs.ControllerNotes.{channel_in, has_passed}
+use Rattle.step_notes.specs.Judged.{IsJudgedRight, base_key_asked, passed_channel, stored_hash}
+use Rattle.step_notes.specs.Marking.{is_channel}
+use Rattle.step_notes.specs.Records.{Book, ChallengeSent, Judging, JudgementTold, MessageMade, MessageTaken, OutcomeTold, timestamp_in}
+use Rattle.world_moves.specs.declared.links.EndId.TheVariants.{Controller, Member}
+use Rattle.world_moves.specs.declared.links.Route.{Route}
+use Rattle.world_moves.specs.Counting.{is_in}
+use Rattle.world_moves.specs.Draws.{DrawsDiffer}
+use Rattle.world_moves.specs.Ends.{EndStates}
+use Rattle.world_moves.specs.Links.{acceptor_of}
+use Rattle.world_moves.specs.Moving.{end_of_peer}
+use Rattle.domain_world.specs.Past.{Past}
 
 -- ---- authenticators that pass
-
--- the channel on which the authenticator of a call passed: none where it didn't pass
-abbrev pub channel_if : Bool → Judging → Option Channel
-channel_if false j = None
-channel_if true j = channel_in j.controller j.logon.computer j.computers
-
-abbrev pub passed_channel : Judging → Option Channel
-passed_channel j = channel_if (has_passed j.how) j
 
 abbrev pub passed_on : Channel → Judging → Bool
 passed_on channel j = is_channel (passed_channel j) channel
@@ -64,8 +59,8 @@ abbrev pub moved_on : Channel → List Judging → ℕ
 moved_on channel [] = 0
 moved_on channel (j ∷ js) = moved_if (passed_on channel j) (timestamp_of j) (moved_on channel js)
 
--- Wrap: two authenticators passed on one channel at its controller, and the timestamps from the first up to but without the second move the seed by a
--- multiple of 2^32, so that the second met the seed that the first had met.
+-- Wrap: two authenticators passed on one channel at its controller, and the timestamps from the first up to but without
+-- the second move the seed by a multiple of 2^32, so that the second met the seed that the first had met.
 pub record Wraps (judgings : List Judging) : Type 0 where
   pub channel : Channel
   pub later : List Judging
@@ -78,7 +73,8 @@ pub record Wraps (judgings : List Judging) : Type 0 where
   pub second_passed : passed_on channel second ≡ true
   pub around : moved_on channel (between ++ first ∷ []) % 2 ^ 32 ≡ 0
 
--- the run is one of which the claims on answers speak: no credential passed on a unit that was made for another channel, and no seed came round
+-- the run is one of which the claims on answers speak: no credential passed on a unit that was made for another
+-- channel, and no seed came round
 pub record IsClear (book : Book) : Type 0 where
   pub apart : book.clash ≡ false
   pub onward : Wraps book.judged → ⊥
@@ -90,8 +86,8 @@ same_unit None other = false
 same_unit (Some one) None = false
 same_unit (Some one) (Some other) = one == other
 
--- The call passed at this step, came in the unit that carries the Logon call which the member made for the place of the message, and was answered by
--- the unit that the member took in the turn of that place.
+-- The call passed at this step, came in the unit that carries the Logon call which the member made for the place of the
+-- message, and was answered by the unit that the member took in the turn of that place.
 abbrev pub answers : MessageTaken → Judging → Bool
 answers message j = has_passed j.how && same_unit message.call j.unit && same_unit message.reply j.reply
 
@@ -126,19 +122,22 @@ abbrev pub PassesOnce : Judging → List Judging → Type 0
 PassesOnce j judgings =
     AllByRecursion (λ (other : Judging). has_passed other.how && same_unit other.unit j.unit ≡ true → other.at ≡ j.at) judgings
 
--- Its controller's answer: the member took an answer for the message, of the controller of its plan, and the call passed at this step and at no other.
+-- Its controller's answer: the member took an answer for the message, of the controller of its plan, and the call
+-- passed at this step and at no other.
 pub record IsItsControllersAnswer (past : Past) (message : MessageTaken) (j : Judging) : Type 0 where
   pub taken : taken_answer message past.book.judged ≡ Some j
   pub controller : HasController (slice_get past.plan.members message.member) past.world.state.ends j.controller
   pub once : PassesOnce j past.book.judged
 
--- The account may log on, and the response is the written function of its stored hash: by the accounts and at the moment of that step, of what the
--- member asked. The names, the responses and the challenge are those of the message as it was sent.
+-- The account may log on, and the response is the written function of its stored hash: by the accounts and at the
+-- moment of that step, of what the member asked. The names, the responses and the challenge are those of the message as
+-- it was sent.
 pub record IsGrantedBy (message : MessageTaken) (j : Judging) : Type 0 where
   pub may : MayLogOn j.table (info_asked message) j.moment
   pub verifies : ResponseVerifies j.table (info_asked message)
 
--- That link's unused challenge: it was drawn for the CHALLENGE of this link, no other draw gave it, and the link took no other message.
+-- That link's unused challenge: it was drawn for the CHALLENGE of this link, no other draw gave it, and the link took
+-- no other message.
 pub record IsUnusedChallenge (past : Past) (message : MessageTaken) (sent : ChallengeSent) : Type 0 where
   pub link : sent.link ≡ message.link
   pub challenge : sent.challenge ≡ message.logon.challenge
@@ -147,10 +146,6 @@ pub record IsUnusedChallenge (past : Past) (message : MessageTaken) (sent : Chal
   pub first : count_by (λ (link : ℕ). link == message.link) past.book.taken ≡ 1
 
 -- ---- the claims
-
--- no two challenges that were drawn are alike
-abbrev pub DrawsDiffer : World → Type 0
-DrawsDiffer w = AllPairs (λ one other. one ≢ other) w.state.chances.drawn
 
 -- Challenges: those drawn differ from each other, and a link takes at most one AUTHENTICATE.
 pub record ChallengesServeOnce (past : Past) : Type 0 where
@@ -171,9 +166,9 @@ pub record IsAccepted (past : Past) (message : MessageTaken) : Type 0 where
   pub granted : IsGrantedBy message judging
   pub unused : OneOf (IsUnusedChallenge past message) past.book.challenges
 
--- Only so: a member lets somebody in on a link only where it took its controller's answer to the link's message, the account may log on, and the
--- response is the written function of its stored hash and of the link's unused challenge. The link is one that this member accepted. It may do so for a
--- link that has closed.
+-- Only so: a member lets somebody in on a link only where it took its controller's answer to the link's message, the
+-- account may log on, and the response is the written function of its stored hash and of the link's unused challenge.
+-- The link is one that this member accepted. It may do so for a link that has closed.
 abbrev pub AcceptsOnlyGranted : Past → Type 0
 AcceptsOnlyGranted past =
     AllByRecursion (λ (told : OutcomeTold). is_in told.outcome ≡ true →
@@ -184,22 +179,12 @@ AcceptsOnlyGranted past =
 abbrev pub IsToldIn : MessageTaken → OutcomeTold → Type 0
 IsToldIn message told = (told.link ≡ message.link) × (told.member ≡ message.member) × (is_in told.outcome ≡ true)
 
--- Then always: where it took its controller's answer, the account may log on, and the response is that function, it lets him in.
+-- Then always: where it took its controller's answer, the account may log on, and the response is that function, it
+-- lets him in.
 abbrev pub AcceptsAllGranted : Past → Type 0
 AcceptsAllGranted past =
     AllByRecursion (λ (message : MessageTaken). (j : Judging) → IsItsControllersAnswer past message j → IsGrantedBy message j →
     OneOf (IsToldIn message) past.book.told) past.book.messages
-
--- the hash that is stored for the user of what is asked
-abbrev pub hash_in : Option Account → List ℕ
-hash_in None = []
-hash_in (Some account) = account.hash
-
-abbrev pub stored_hash : Judging → NetworkInfo → List ℕ
-stored_hash j info = hash_in (account_in j.table.accounts info.user)
-
-abbrev pub base_key_asked : Judging → NetworkInfo → List ℕ
-base_key_asked j info = base_key_of (stored_hash j info) info.user info.domain info.nt
 
 -- the first 16 key bytes of RC4 under the session key of the channel: a key that is these travels as zeros
 abbrev pub key_bytes : Option Channel → List ℕ
@@ -209,7 +194,8 @@ key_bytes (Some channel) = applied (channel_key channel) 0 (replicate 16 0)
 abbrev pub TravelsAsZeros : Judging → NetworkInfo → Type 0
 TravelsAsZeros j info = base_key_asked j info ≡ key_bytes (passed_channel j)
 
--- the client made the bytes of the message for the bytes of the CHALLENGE that the member sent on the link, and its hash is the one stored
+-- the client made the bytes of the message for the bytes of the CHALLENGE that the member sent on the link, and its
+-- hash is the one stored
 pub record IsMadeFor (message : MessageTaken) (sent : ChallengeSent) (j : Judging) (made : MessageMade) : Type 0 where
   pub link : sent.link ≡ message.link
   pub challenge : made.challenge ≡ sent.bytes
@@ -229,27 +215,6 @@ KeysAgree past =
     AllByRecursion (λ (sent : ChallengeSent). AllByRecursion (λ (made : MessageMade). IsMadeFor message sent j made → HasKey told.outcome made.key)
     past.book.made) past.book.challenges) past.book.messages) past.book.told
 
--- the call names a computer that has a channel and has an authenticator, which isn't the next one of its sequence
-pub record IsBarredBy (computers : Computers) (c : LogonCall) : Type 0 where
-  pub computer : List ℕ
-  pub given : Authenticator
-  pub channel : ChannelState
-  pub named : c.computer ≡ Some computer
-  pub there : c.authenticator ≡ Some given
-  pub stands : lookup same_name computer computers.channels ≡ Some channel
-  pub fails : Passes (key_of_channel channel) channel.seed given → ⊥
-
--- Next credential: a controller tells that a Logon call passed, with whatever status, exactly where its authenticator is the next one of the channel
--- of the computer that it names; that it was barred exactly where there is a channel and an authenticator, which isn't the next one; else that there
--- is no channel.
-pub record IsRightOf (how : Option Judged) (computers : Computers) (c : LogonCall) : Type 0 where
-  pub passed : (has_passed how ≡ true) ↔ IsNext computers c
-  pub barred : (how ≡ Some judged.Barred) ↔ IsBarredBy computers c
-  pub other : (how ≡ Some judged.NoChannel) ↔ ((IsNext computers c → ⊥) × (IsBarredBy computers c → ⊥))
-
-abbrev pub IsJudgedRight : Judging → Type 0
-IsJudgedRight j = IsRightOf j.how j.computers j.logon
-
 -- what the controller told is the judgement of this call, and it is right
 pub record IsRightlyTold (told : JudgementTold) (j : Judging) : Type 0 where
   pub at : told.at ≡ j.at
@@ -258,20 +223,28 @@ pub record IsRightlyTold (told : JudgementTold) (j : Judging) : Type 0 where
   pub right : IsJudgedRight j
 
 -- each of them is, of the call in its place
-abbrev pub AreRightlyTold : List JudgementTold → List Judging → Type 0
-AreRightlyTold [] [] = Unit {0}
-AreRightlyTold (told ∷ more) (j ∷ judgings) = IsRightlyTold told j × AreRightlyTold more judgings
-AreRightlyTold _ _ = ⊥
+abbrev pub AreTheirJudgements : List JudgementTold → List Judging → Type 0
+AreTheirJudgements [] [] = Unit {0}
+AreTheirJudgements (told ∷ more) (j ∷ judgings) = IsRightlyTold told j × AreTheirJudgements more judgings
+AreTheirJudgements _ _ = ⊥
 
--- So every judgement that a controller told in the run is that of one Logon call which it heard at that move, each such call has one, in their order,
--- and it is right.
+-- what was told of calls that were heard
+abbrev pub judgements_of_calls : List JudgementTold → List JudgementTold
+judgements_of_calls told = filter (λ (one : JudgementTold). judges_call one.how) told
+
+-- each judgement of a call is, of the call in its place
+abbrev pub AreRightlyTold : List JudgementTold → List Judging → Type 0
+AreRightlyTold told judgings = AreTheirJudgements (judgements_of_calls told) judgings
+
+-- So every judgement of a call that a controller told in the run is that of one Logon call which it heard at that move,
+-- each such call has one, in their order, and it is right.
 abbrev pub PassesTheNextCredential : Past → Type 0
 PassesTheNextCredential past = AreRightlyTold past.book.judgements past.book.judged
 
 -- ---- further claims
 
--- Replay: where an authenticator passed, and the same bytes come again on the same channel, they pass again exactly where the timestamps that passed
--- since, the first one's included, move the seed by a multiple of 2^32.
+-- Replay: where an authenticator passed, and the same bytes come again on the same channel, they pass again exactly
+-- where the timestamps that passed since, the first one's included, move the seed by a multiple of 2^32.
 abbrev pub ReplaysBySum : Past → Type 0
 ReplaysBySum past =
     (channel : Channel) (later between earlier : List Judging) (second first : Judging) →
@@ -281,7 +254,8 @@ ReplaysBySum past =
     second.logon.authenticator ≡ first.logon.authenticator →
     (has_passed second.how ≡ true) ↔ (moved_on channel (between ++ first ∷ []) % 2 ^ 32 ≡ 0)
 
--- Plain NTLMv1: no NT response of 24 bytes is accepted on two links over one stored hash where it answers the link's own challenge on both.
+-- Plain NTLMv1: no NT response of 24 bytes is accepted on two links over one stored hash where it answers the link's
+-- own challenge on both.
 pub record IsPlainlyAccepted (past : Past) (message : MessageTaken) (hash : List ℕ) : Type 0 where
   pub accepted : IsAccepted past message
   pub told : OneOf (IsToldIn message) past.book.told

@@ -1,33 +1,69 @@
--- The whole claim of a run, with what each part of it rests on (this project's own choice).
-use Rattle.std.specs.Prelude.{List}
-use Rattle.domain_world.specs.declared.moves.Move.{Move}
-use Rattle.domain_world.specs.declared.plan.Plan.{Plan}
+-- The whole claim of a run, in two records (this project's own choice): what is proved of every run, and what is stated
+-- and not proved yet. A claim that gets proved moves from the one to the other, and nothing else changes.
+use Rattle.std.specs.Prelude.{◌≡◌, List, ◌++◌}
+use Rattle.world_moves.specs.declared.moves.Move.{Move}
+use Rattle.world_moves.specs.declared.plan.Plan.{Plan}
+use Rattle.world_moves.specs.Forms.{IsSchedule}
+use Rattle.world_moves.specs.World.{World, first_world, run}
+use Rattle.domain_world.specs.Accepting.Answered.{MarksHaveTheirWay, MessagesAreApart, PassesAreUnclashed}
 use Rattle.domain_world.specs.Claims.{AcceptsAllGranted, AcceptsOnlyGranted, ChallengesServeOnce, IsClear, KeysAgree, PassesTheNextCredential, ReplaysBySum, ShortResponsesServeOnce}
-use Rattle.domain_world.specs.Completeness.{EachSucceeds}
-use Rattle.domain_world.specs.Forms.{IsSchedule}
-use Rattle.domain_world.specs.Past.{Past, past}
-use Rattle.domain_world.specs.SharedSequences.{SequencesAreShared}
+use Rattle.domain_world.specs.Claims.AskedFor.{MembersAskForKept, MembersAskForMessages, SendsAskForMessages}
+use Rattle.domain_world.specs.Claims.Completeness.{EachSucceeds}
+use Rattle.domain_world.specs.Claims.Counts.{EachCallRaisesOnce}
+use Rattle.domain_world.specs.Claims.Grants.{GrantsWhoMayLogOn}
+use Rattle.domain_world.specs.Claims.LetIn.{LetsInWhoAsked}
+use Rattle.domain_world.specs.Claims.MarkedUnits.{EachUnitIsMarked}
+use Rattle.domain_world.specs.Claims.OwnChallenges.{MessagesHaveOwnChallenges}
+use Rattle.domain_world.specs.Claims.Replies.{RepliesCarryTheirJudgement}
+use Rattle.domain_world.specs.Claims.SharedSequences.{SequencesAreShared}
+use Rattle.domain_world.specs.Past.{past}
 
--- Of any run: challenges serve once, a controller passes the next credential alone, and replays pass by the sum of timestamps. Of a run that is clear,
--- in which no credential passed on a unit made for another channel and no seed came round: a member accepts exactly what is granted, keys agree, the
--- ends of a channel share its sequence, and a short response is accepted once.
-pub record Headline (run : Past) : Type 0 where
-  pub challenges : ChallengesServeOnce run
-  pub credentials : PassesTheNextCredential run
-  pub replays : ReplaysBySum run
-  pub only : IsClear run.book → AcceptsOnlyGranted run
-  pub all : IsClear run.book → AcceptsAllGranted run
-  pub keys : IsClear run.book → KeysAgree run
-  pub sequences : IsClear run.book → SequencesAreShared run
-  pub responses : IsClear run.book → ShortResponsesServeOnce run
+-- What holds of the run of every list of moves from any plan, where no two challenges that were drawn are alike and
+-- each has 8 bytes, as in every world that was made: `claims_hold_of_runs`, and the clause of `drive`. Whether the run
+-- is clear doesn't matter.
+pub record Proved (plan : Plan) (moves : List Move) : Type 0 where
+  -- challenges, and the messages that are made for them
+  pub challenges : ChallengesServeOnce (past plan moves)
+  pub messages : MessagesHaveOwnChallenges (past plan moves)
+  pub responses : ShortResponsesServeOnce (past plan moves)
+  pub apart : MessagesAreApart (past plan moves)
+  -- what controllers judge, grant and answer
+  pub credentials : PassesTheNextCredential (past plan moves)
+  pub replays : ReplaysBySum (past plan moves)
+  pub unclashed : PassesAreUnclashed (past plan moves)
+  pub grants : GrantsWhoMayLogOn (past plan moves)
+  pub replies : RepliesCarryTheirJudgement (past plan moves)
+  -- what members ask, and whom they let in
+  pub kept : MembersAskForKept (past plan moves)
+  pub asked : MembersAskForMessages (past plan moves)
+  pub sends : SendsAskForMessages (past plan moves)
+  pub let_in : LetsInWhoAsked (past plan moves)
+  -- the units of the bag, and which way they go
+  pub marked : EachUnitIsMarked (past plan moves)
+  pub ways : MarksHaveTheirWay (past plan moves)
+
+-- What is stated of a run and not proved yet: no call rests on it. Of a run that is clear, in which no credential
+-- passed on a unit made for another channel and no seed came round: a member accepts exactly what is granted, keys
+-- agree, a call raises a count of bad passwords at most once, and the ends of a channel share its sequence. Of any run:
+-- logons that come one at a time succeed.
+pub record Stated (plan : Plan) (moves : List Move) : Type 0 where
+  pub only : IsClear (past plan moves).book → AcceptsOnlyGranted (past plan moves)
+  pub all : IsClear (past plan moves).book → AcceptsAllGranted (past plan moves)
+  pub keys : IsClear (past plan moves).book → KeysAgree (past plan moves)
+  pub counts : IsClear (past plan moves).book → EachCallRaisesOnce (past plan moves)
+  pub sequences : IsClear (past plan moves).book → SequencesAreShared (past plan moves)
+  pub complete : EachSucceeds (past plan moves) moves
 
 -- all that is claimed of a run
 pub record AreClaimed (plan : Plan) (moves : List Move) : Type 0 where
-  pub headline : Headline (past plan moves)
-  pub complete : EachSucceeds (past plan moves) moves
+  pub proved : Proved plan moves
+  pub stated : Stated plan moves
 
--- What is claimed of each schedule: a plan of which a world can be made, with the forms of its types, and at most 100,000 moves that it can make. Of it
--- `PassesTheNextCredential` and `ReplaysBySum` are promised of every list of moves from any plan, by `controllers_pass_the_next`, `replays_pass_by_sum` and
--- on `drive`, and `ChallengesServeOnce` of every run that `drive` made; the rest is stated and not proved yet, and no call rests on it.
+-- What is claimed of each schedule: a plan of which a world can be made, with the forms of its types, and at most
+-- 100,000 moves that it can make.
 abbrev pub IsClaimed : Plan → List Move → Type 0
 IsClaimed plan moves = IsSchedule plan moves → AreClaimed plan moves
+
+-- It holds of the run that made a world from a plan, whatever the moves before, with these moves behind them.
+abbrev pub OfItsRun : World → List Move → (Plan → List Move → Type 0) → Type 0
+OfItsRun old moves Holds = (plan : Plan) (earlier : List Move) → old ≡ run earlier (first_world plan) → Holds plan (earlier ++ moves)

@@ -1,8 +1,7 @@
--- What is written down of a move, and of a run (this project's own choice). Bytes come at an end only where a unit of the bag is delivered or bytes are
--- handed in; what members tell and dial is read off the actions that ends give.
+-- What is written down of a move, and of a run (this project's own choice). Bytes come at an end only where a unit of
+-- the bag is delivered or bytes are handed in; what members tell and dial is read off the actions that ends give.
 use Rattle.std.specs.Prelude.{ℕ, ◌-◌, ◌==◌, ◌&&◌, ◌||◌, Bool, true, false, not, List, [], ◌∷◌, ◌++◌, length, drop, map, flat_map, replicate, Option, Some, None, slice_get}
 use Rattle.wire_base.specs.Maps.{lookup, same_number}
-use Rattle.authenticators.specs.Channels.{Channel, same_channel}
 use Rattle.outside.specs.declared.action.Action.{Action}
 use Rattle.outside.specs.declared.action.Action.TheVariants as action
 use Rattle.domain_controller.specs.State.{State as ControllerState}
@@ -12,25 +11,27 @@ use Rattle.member_server.specs.declared.plan.MemberPlan.{MemberPlan}
 use Rattle.member_server.specs.declared.state.AtTurn.{AtTurn}
 use Rattle.member_server.specs.declared.state.Running.{Running as MemberRunning}
 use Rattle.member_server.specs.declared.state.TurnTalk.{TurnTalk}
-use Rattle.domain_world.specs.declared.bag.BagUnit.{BagUnit}
-use Rattle.domain_world.specs.declared.links.EndId.{EndId}
-use Rattle.domain_world.specs.declared.links.EndId.TheVariants.{Controller, Member, Client}
-use Rattle.domain_world.specs.declared.moves.Move.{Move}
-use Rattle.domain_world.specs.declared.moves.Move.TheVariants as move
-use Rattle.domain_world.specs.declared.plan.Plan.{Plan}
-use Rattle.domain_world.specs.declared.state.State.{State}
-use Rattle.domain_world.specs.Acting.{Given, piece_comes}
-use Rattle.domain_world.specs.Bag.{first_waiting, pieces_of}
-use Rattle.domain_world.specs.Choosing.{chosen_in, chosen_place, places_from}
-use Rattle.domain_world.specs.ClientNotes.{made_note, units_of_client}
-use Rattle.domain_world.specs.ControllerNotes.{Answered, Where, answer_on, units_of_controller}
-use Rattle.domain_world.specs.Ends.{EndStates}
-use Rattle.domain_world.specs.History.{Book, Judging, JudgementTold, LogonTurn, Mark, Plain, Opening, Opened, Calling, ReplyTo, MessageTaken, OutcomeTold, Sent, blank}
-use Rattle.domain_world.specs.Links.{handed_links, hearer_of, links_of}
-use Rattle.domain_world.specs.MemberNotes.{LinkAt, TurnNote, challenge_note, link_of_place, link_units, message_note, taken_link, turn_in, turn_note, turn_units}
-use Rattle.domain_world.specs.Moving.{end_of_peer, settle}
-use Rattle.domain_world.specs.Served.{ServedUnit}
-use Rattle.domain_world.specs.World.{World, first_world, given_at, happens, run}
+use Rattle.channel_events.specs.Marks.{Mark, Plain}
+use Rattle.step_notes.specs.ClientNotes.{made_note, units_of_client}
+use Rattle.step_notes.specs.ControllerNotes.{Answered, Where, answer_on, units_of_controller}
+use Rattle.step_notes.specs.Marking.{answered_marks, clashes, turn_marks}
+use Rattle.step_notes.specs.MemberNotes.{LinkAt, TurnNote, challenge_note, link_of_place, link_units, message_note, taken_link, turn_in, turn_note, turn_units}
+use Rattle.step_notes.specs.Records.{Book, Judging, JudgementTold, LogonTurn, MessageTaken, OutcomeTold, Sent, blank}
+use Rattle.step_notes.specs.Served.{ServedUnit}
+use Rattle.world_moves.specs.declared.bag.BagUnit.{BagUnit}
+use Rattle.world_moves.specs.declared.links.EndId.{EndId}
+use Rattle.world_moves.specs.declared.links.EndId.TheVariants.{Controller, Member, Client}
+use Rattle.world_moves.specs.declared.moves.Move.{Move}
+use Rattle.world_moves.specs.declared.moves.Move.TheVariants as move
+use Rattle.world_moves.specs.declared.plan.Plan.{Plan}
+use Rattle.world_moves.specs.declared.state.State.{State}
+use Rattle.world_moves.specs.Acting.{Given, piece_comes}
+use Rattle.world_moves.specs.Bag.{first_waiting, pieces_of}
+use Rattle.world_moves.specs.Choosing.{chosen_in, chosen_place, places_from}
+use Rattle.world_moves.specs.Ends.{EndStates}
+use Rattle.world_moves.specs.Links.{handed_links, hearer_of, links_of}
+use Rattle.world_moves.specs.Moving.{end_of_peer, settle}
+use Rattle.world_moves.specs.World.{World, first_world, given_at, happens, run}
 
 -- ---- units that were sent
 
@@ -45,8 +46,8 @@ numbers_on link back before after = places_from (is_sent_on link back) (length b
 abbrev pub sent_at : ℕ → Mark → Sent
 sent_at at mark = record { mark = mark; at = at }
 
--- what the new units of the bag were made for: those on the link in that direction by these marks in order, the others for no channel. The argument:
--- whether the unit is on the link in that direction
+-- what the new units of the bag were made for: those on the link in that direction by these marks in order, the others
+-- for no channel. The argument: whether the unit is on the link in that direction
 abbrev pub marks_by : Bool → List Mark → (List Mark → List Mark) → List Mark
 marks_by false marks later = Plain ∷ later marks
 marks_by true [] later = Plain ∷ later []
@@ -62,42 +63,10 @@ with_marks at link back units marks b = record b { sent = b.sent ++ map (sent_at
 
 -- ---- a clash
 
--- the channel that a unit was made for
-abbrev pub mark_channel : Mark → Option Channel
-mark_channel Plain = None
-mark_channel (Opening channel number) = Some channel
-mark_channel (Opened channel number request) = Some channel
-mark_channel (Calling channel number timestamp) = Some channel
-mark_channel (ReplyTo channel number request) = Some channel
-
-abbrev pub is_channel : Option Channel → Channel → Bool
-is_channel None channel = false
-is_channel (Some other) channel = same_channel other channel
-
-abbrev pub sent_channel : Option Sent → Option Channel
-sent_channel None = None
-sent_channel (Some sent) = mark_channel sent.mark
-
--- a credential that passed on a channel, in that unit of the bag: the unit wasn't made for that channel. Bytes from outside are no unit of the bag
-abbrev pub clashes_in : Option ℕ → Channel → List Sent → Bool
-clashes_in None channel sent = false
-clashes_in (Some unit) channel sent = not (is_channel (sent_channel (slice_get sent unit)) channel)
-
-abbrev pub clashes : Option Channel → Option ℕ → List Sent → Bool
-clashes None unit sent = false
-clashes (Some channel) unit sent = clashes_in unit channel sent
-
 abbrev pub with_clash : Bool → Book → Book
 with_clash here b = record b { clash = b.clash || here }
 
 -- ---- at a controller
-
-abbrev pub mark_if : Bool → Mark → List Mark
-mark_if false mark = []
-mark_if true mark = mark ∷ []
-
-abbrev pub answered_marks : List Answered → List Mark
-answered_marks answers = flat_map (λ (one : Answered). mark_if one.sends one.mark) answers
 
 -- each send is the next of the units that went into the bag on the link
 abbrev pub first_of : List ℕ → Option ℕ
@@ -132,9 +101,6 @@ with_answers answers unit numbers b =
     with_clash (any_clash answers unit b.sent) (record b { judged = onto (judged_of answers numbers) b.judged })
 
 -- ---- at a member
-
-abbrev pub turn_marks : List TurnNote → List Mark
-turn_marks notes = flat_map (λ (one : TurnNote). mark_if one.sends one.mark) notes
 
 -- the message of that link, with this
 abbrev pub change_if : Bool → (MessageTaken → MessageTaken) → MessageTaken → MessageTaken

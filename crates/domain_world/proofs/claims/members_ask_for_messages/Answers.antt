@@ -1,4 +1,4 @@
-use Rattle.domain_world.proofs.CallMessageLaws.{members_ask_for_messages}
+use Rattle.domain_world.proofs.Requests.CallMessageLaws.{members_ask_for_messages}
 use Rattle.domain_world.proofs.claims.members_ask_for_messages.Goals as goal
 
 pub returns : goal.returns

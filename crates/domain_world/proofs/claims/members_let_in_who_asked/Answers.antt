@@ -1,4 +1,4 @@
-use Rattle.domain_world.proofs.LetInLaws.{lets_in_who_asked}
+use Rattle.domain_world.proofs.Accepting.LetInLaws.{lets_in_who_asked}
 use Rattle.domain_world.proofs.claims.members_let_in_who_asked.Goals as goal
 
 pub returns : goal.returns

@@ -1,4 +1,4 @@
-use Rattle.domain_world.proofs.CallMessageLaws.{sends_ask_for_messages}
+use Rattle.domain_world.proofs.Requests.CallMessageLaws.{sends_ask_for_messages}
 use Rattle.domain_world.proofs.claims.sends_ask_for_messages.Goals as goal
 
 pub returns : goal.returns

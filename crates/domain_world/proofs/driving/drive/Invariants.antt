@@ -1,5 +1,5 @@
 use Rattle.std.proofs.Common.{◌≡◌, ◌+◌, ◌≤◌, false, drop, length}
-use Rattle.domain_world.specs.World.{move_limit, run}
+use Rattle.world_moves.specs.World.{move_limit, run}
 use Rattle.domain_world.proofs.driving.drive.Given as goal
 
 -- the run of the rest from here is that of all moves, so many moves are left, and the world goes on

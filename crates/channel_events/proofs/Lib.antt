@@ -1,0 +1,7 @@
+pub mod ListLaws
+mod RequestLaws
+mod RequestStepLaws
+mod SoundExampleLaws
+mod SoundLaws
+mod SoundParts
+mod SoundSteps

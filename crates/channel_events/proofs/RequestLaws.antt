@@ -1,0 +1,339 @@
+-- The calls that were made on secure channels stay apart through each event.
+-- It serves `calls_stay_apart`.
+use Rattle.std.proofs.Common.{◌≡◌, ℕ, ◌+◌, ◌<◌, ◌≤◌, ◌^◌, List, [], ◌∷◌, ◌++◌, inl, inr, Option, Some, None, slice_get, refl, sym, ap, subst, ◌∙◌, arith}
+use Rattle.authenticators.specs.Channels.{Channel}
+use Rattle.channel_client.specs.Effects.{Changes, Effect, Stays, Counts, Begins, Opens, Moves, Calls, Answers, Drops, View}
+use Rattle.channel_client.specs.Machine.{after}
+use Rattle.channel_events.specs.Marks.{Mark, Calling}
+use Rattle.channel_events.specs.Requests.{AreSeenBut, CallsAreApart, CallsStayApart, IsCalm, IsDrawn, IsNoCall, Requests, Steps, after_step, used_by}
+use Rattle.channel_events.specs.Sound.{Holds}
+use Rattle.channel_events.proofs.ListLaws.{at_end, no_some, one_last, one_more, some_is}
+
+-- ---- a requester that holds no more than before
+
+record IsCalmer (u v : View) : Type 0 where
+  holds : (challenge : List ℕ) → Holds v challenge → Holds u challenge
+  opening : (challenge : List ℕ) → v.opening ≡ Some challenge → u.opening ≡ Some challenge
+  onward : u.call ≤ v.call
+  few : v.call ≤ u.call + 1
+
+same_holds : (u v : View) → v.stands ≡ u.stands → v.opening ≡ u.opening → (challenge : List ℕ) → Holds v challenge → Holds u challenge
+same_holds u v stands opening challenge holds = record {
+  how = elim holds.how [
+    | inl under ↦ inl (sym opening ∙ under)
+    | inr there ↦ inr (there.0, sym stands ∙ there.1, there.2)
+  ];
+}
+
+-- the same is held, and the count goes on by one at most
+goes_on : (u v : View) → v.stands ≡ u.stands → v.opening ≡ u.opening → u.call ≤ v.call → v.call ≤ u.call + 1 → IsCalmer u v
+goes_on u v stands opening onward few = record {
+  holds = same_holds u v stands opening;
+  opening = λ challenge is. sym opening ∙ is;
+  onward = onward;
+  few = few;
+}
+
+after_is : (call : ℕ) → call + 1 < 2 ^ 32 → after call ≡ call + 1
+after_is call room = omega (arith, room)
+
+calmer : (effect : Effect) (u v : View) → IsCalm effect → Changes effect u v → u.call + 1 < 2 ^ 32 → IsCalmer u v
+calmer Stays u v calm change room = subst (λ (x : View). IsCalmer u x) (sym change) (goes_on u u refl refl (omega arith) (omega arith))
+calmer Counts u v calm change room =
+    subst (λ (x : View). IsCalmer u x) (sym change)
+    (goes_on u (record u { call = after u.call }) refl refl (omega (arith, after_is u.call room)) (omega (arith, after_is u.call room)))
+calmer (Begins client) u v calm change room = absurd calm
+calmer (Opens c) u v calm change room =
+    subst (λ (x : View). IsCalmer u x) (sym change.1)
+    (record {
+      holds = λ challenge holds. elim holds.how [
+        | inl under ↦ absurd (no_some challenge under)
+        | inr there ↦ record { how = inl (change.0 ∙ ap Some (ap (λ (x : Channel). x.client) (some_is c there.0 there.1) ∙ there.2)) }
+      ];
+      opening = λ challenge is. absurd (no_some challenge is);
+      onward = omega arith;
+      few = omega arith;
+    })
+calmer (Moves c timestamp) u v calm change room =
+    subst (λ (x : View). IsCalmer u x) (sym change.4)
+    (goes_on u _ refl refl (omega (arith, after_is u.call room)) (omega (arith, after_is u.call room)))
+calmer (Calls c number) u v calm change room = absurd calm
+calmer (Answers c number) u v calm change room = subst (λ (x : View). IsCalmer u x) (sym change.2) (goes_on u _ refl refl (omega arith) (omega arith))
+calmer Drops u v calm change room =
+    subst (λ (x : View). IsCalmer u x) (sym change)
+    (record {
+      holds = λ challenge holds. elim holds.how [ inl under ↦ absurd (no_some challenge under) | inr there ↦ absurd (no_some there.0 there.1) ];
+      opening = λ challenge is. absurd (no_some challenge is);
+      onward = omega arith;
+      few = omega arith;
+    })
+
+-- as many numbers are used as the effect uses
+few_used : (effect : Effect) (u v : View) → IsCalm effect → Changes effect u v → u.call + 1 < 2 ^ 32 → v.call ≤ u.call + used_by effect
+few_used Stays u v calm change room = omega (arith, ap (λ (x : View). x.call) change)
+few_used Counts u v calm change room = omega (arith, ap (λ (x : View). x.call) change, after_is u.call room)
+few_used (Begins client) u v calm change room = absurd calm
+few_used (Opens c) u v calm change room = omega (arith, ap (λ (x : View). x.call) change.1)
+few_used (Moves c timestamp) u v calm change room = omega (arith, ap (λ (x : View). x.call) change.4, after_is u.call room)
+few_used (Calls c number) u v calm change room = absurd calm
+few_used (Answers c number) u v calm change room = omega (arith, ap (λ (x : View). x.call) change.2)
+few_used Drops u v calm change room = omega (arith, ap (λ (x : View). x.call) change)
+
+room_for : (call uses : ℕ) → call ≤ uses + 1 → uses + 2 < 2 ^ 32 → call + 1 < 2 ^ 32
+room_for call uses few room = omega (arith, few, room)
+
+calling_is : (c d : Channel) (number more timestamp later : ℕ) → Calling c number timestamp ≡ Calling d more later → (c ≡ d) × (number ≡ more)
+calling_is c d number more timestamp later is = (let x = is in cc, let x = is in cc)
+
+fresh_holds : (challenge : List ℕ) → Holds (record { stands = None; seed = None; opening = None; asking = None; call = 1 }) challenge → ⊥
+fresh_holds challenge holds = elim holds.how [ inl under ↦ no_some challenge under | inr there ↦ no_some there.0 there.1 ]
+
+was_made : (marks : List Mark) (mark : Mark) (unit number timestamp : ℕ) (c : Channel) → IsNoCall mark → slice_get (marks ++ mark ∷ []) unit ≡ Some (Calling c number timestamp) →
+    slice_get marks unit ≡ Some (Calling c number timestamp)
+was_made marks mark unit number timestamp c none made = elim (at_end marks mark (Calling c number timestamp) unit made) [
+  | inl old ↦ old
+  | inr new ↦ absurd (subst IsNoCall new.1 none)
+]
+
+itself : (v : View) → IsCalmer v v
+itself v = goes_on v v refl refl (omega arith) (omega arith)
+
+begun_holds : (client : List ℕ) (call : ℕ) (challenge : List ℕ) → Holds (record { stands = None; seed = None; opening = Some client; asking = None; call = call }) challenge → challenge ≡ client
+begun_holds client call challenge holds = elim holds.how [ inl under ↦ sym (some_is client challenge under) | inr there ↦ absurd (no_some there.0 there.1) ]
+
+module _ {Who : Type 0} where
+  -- whoever is seen afterwards holds what one held that was seen before
+  record Was (views : Who → Option View) (j : Who) (w : View) : Type 0 where
+    view : View
+    at : views j ≡ Some view
+    calm : IsCalmer view w
+
+  was : (old new : Who → Option View) (who : Who) (u v : View) → old who ≡ Some u → AreSeenBut old new who v → IsCalmer u v → (j : Who) (w : View) → new j ≡ Some w → Was old j w
+  was old new who u v at others calm j w there = elim (others j w there) [
+    | inl here ↦ record { view = u; at = ap old here.0 ∙ at; calm = subst (λ (x : View). IsCalmer u x) (sym here.1) calm }
+    | inr before ↦ record { view = w; at = before; calm = itself w }
+  ]
+
+  -- where each that is seen was seen before, and holds no more
+  calmed : (r : Requests Who) (views : Who → Option View) (uses : ℕ) → r.uses ≤ uses → ((j : Who) (w : View) → views j ≡ Some w → Was r.views j w) →
+      ((j : Who) (w : View) → views j ≡ Some w → w.call ≤ uses + 1) → CallsAreApart r → CallsAreApart (record r { views = views; uses = uses })
+  calmed r views uses onward before few a = record {
+    made_before = a.made_before;
+    held_before = λ i v challenge at holds. let w = before i v at in a.held_before i w.view challenge w.at (w.calm.holds challenge holds);
+    apart = λ i j u v challenge at also holds too.
+        let one = before i u at in
+        let other = before j v also in
+        a.apart i j one.view other.view challenge one.at other.at (one.calm.holds challenge holds) (other.calm.holds challenge too);
+    opening = λ i v unit number timestamp c at under is.
+        let w = before i v at in a.opening i w.view unit number timestamp c w.at (w.calm.opening c.client under) is;
+    numbers = λ i v unit number timestamp c at holds is.
+        let w = before i v at in
+        let below : number < w.view.call = a.numbers i w.view unit number timestamp c w.at (w.calm.holds c.client holds) is in
+        omega (arith, below, w.calm.onward);
+    distinct = a.distinct;
+    calls = few;
+  }
+
+  calm_keeps : (r : Requests Who) (effect : Effect) (e : Steps r effect) → IsCalm effect → CallsAreApart r → CallsAreApart (after_step r effect e.views)
+  calm_keeps r effect e calm a =
+      let few : e.before.call ≤ r.uses + 1 = a.calls e.who e.before e.at in
+      let room : e.before.call + 1 < 2 ^ 32 = room_for e.before.call r.uses few e.few in
+      let less : IsCalmer e.before e.after = calmer effect e.before e.after calm e.change room in
+      let used : e.after.call ≤ e.before.call + used_by effect = few_used effect e.before e.after calm e.change room in
+      calmed r e.views (r.uses + used_by effect) (omega arith) (was r.views e.views e.who e.before e.after e.at e.others less)
+      (λ j w there. elim (e.others j w there) [
+        | inl here ↦ omega (arith, few, used, ap (λ (x : View). x.call) here.1)
+        | inr before ↦ omega (arith, a.calls j w before)
+      ]) a
+
+  -- ---- an opening begins
+
+  begins_keep : (r : Requests Who) (client : List ℕ) (e : Steps r (Begins client)) → (IsDrawn client r.drawn → ⊥) → CallsAreApart r →
+      CallsAreApart (after_step (record r { drawn = r.drawn ++ client ∷ [] }) (Begins client) e.views)
+  begins_keep r client e fresh a =
+      let few : e.before.call ≤ r.uses + 1 = a.calls e.who e.before e.at in
+      let now : View = record { stands = None; seed = None; opening = Some client; asking = None; call = after e.before.call } in
+      let is : e.after ≡ now = e.change.1 in
+      let count : after e.before.call ≡ e.before.call + 1 = after_is e.before.call (room_for e.before.call r.uses few e.few) in
+      let held : (v : View) (challenge : List ℕ) → v ≡ e.after → Holds v challenge → challenge ≡ client =
+      λ v challenge same holds. begun_holds client (after e.before.call) challenge (subst (λ (x : View). Holds x challenge) (same ∙ is) holds) in
+      let old : (j : Who) (v : View) → r.views j ≡ Some v → Holds v client → ⊥ = λ j v at holds. fresh (a.held_before j v client at holds) in
+      let unmade : (unit number timestamp : ℕ) (c : Channel) → c.client ≡ client → slice_get r.marks unit ≡ Some (Calling c number timestamp) → ⊥ =
+      λ unit number timestamp c same made. fresh (subst (λ (x : List ℕ). IsDrawn x r.drawn) same (a.made_before unit number timestamp c made)) in
+      record {
+        made_before = λ unit number timestamp c made. one_more (λ (one : List ℕ). one ≡ c.client) r.drawn client (a.made_before unit number timestamp c made);
+        held_before = λ i v challenge at holds. elim (e.others i v at) [
+          | inl here ↦ one_last (λ (one : List ℕ). one ≡ challenge) r.drawn client (sym (held v challenge here.1 holds))
+          | inr before ↦ one_more (λ (one : List ℕ). one ≡ challenge) r.drawn client (a.held_before i v challenge before holds)
+        ];
+        apart = λ i j u v challenge at also holds too. elim (e.others i u at) [
+          | inl here ↦ elim (e.others j v also) [
+            | inl there ↦ here.0 ∙ sym there.0
+            | inr before ↦ absurd (old j v before (subst (λ (x : List ℕ). Holds v x) (held u challenge here.1 holds) too))
+          ]
+          | inr before ↦ elim (e.others j v also) [
+            | inl there ↦ absurd (old i u before (subst (λ (x : List ℕ). Holds u x) (held v challenge there.1 too) holds))
+            | inr more ↦ a.apart i j u v challenge before more holds too
+          ]
+        ];
+        opening = λ i v unit number timestamp c at under made. elim (e.others i v at) [
+          | inl here ↦ unmade unit number timestamp c (held v c.client here.1 (record { how = inl under })) made
+          | inr before ↦ a.opening i v unit number timestamp c before under made
+        ];
+        numbers = λ i v unit number timestamp c at holds made. elim (e.others i v at) [
+          | inl here ↦ absurd (unmade unit number timestamp c (held v c.client here.1 holds) made)
+          | inr before ↦ a.numbers i v unit number timestamp c before holds made
+        ];
+        distinct = a.distinct;
+        calls = λ i v at. elim (e.others i v at) [
+          | inl here ↦ omega (arith, few, count, ap (λ (x : View). x.call) (here.1 ∙ is))
+          | inr before ↦ omega (arith, a.calls i v before)
+        ];
+      }
+
+  -- ---- a call goes out
+
+  calls_keep : (r : Requests Who) (c : Channel) (number timestamp : ℕ) (e : Steps r (Calls c number)) → CallsAreApart r →
+      CallsAreApart (after_step (record r { marks = r.marks ++ Calling c number timestamp ∷ [] }) (Calls c number) e.views)
+  calls_keep r c number timestamp e a =
+      let few : e.before.call ≤ r.uses + 1 = a.calls e.who e.before e.at in
+      let stands : e.before.stands ≡ Some c = e.change.0 in
+      let unopened : e.before.opening ≡ None = e.change.1 in
+      let is_next : number ≡ e.before.call = e.change.2 in
+      let now : View = record e.before { asking = Some number; call = after e.before.call } in
+      let is : e.after ≡ now = e.change.3 in
+      let count : after e.before.call ≡ e.before.call + 1 = after_is e.before.call (room_for e.before.call r.uses few e.few) in
+      let calm : IsCalmer e.before e.after = subst (λ (x : View). IsCalmer e.before x) (sym is) (goes_on e.before now refl refl (omega (arith, count)) (omega (arith, count))) in
+      let before : (j : Who) (w : View) → e.views j ≡ Some w → Was r.views j w = was r.views e.views e.who e.before e.after e.at e.others calm in
+      let mark : Mark = Calling c number timestamp in
+      let mine : Holds e.before c.client = record { how = inr (c, stands, refl) } in
+      -- whoever holds the challenge of the channel is the one that calls
+      let its : (j : Who) (w : View) → e.views j ≡ Some w → Holds w c.client → j ≡ e.who =
+      λ j w there holds. let x = before j w there in a.apart j e.who x.view e.before c.client x.at e.at (x.calm.holds c.client holds) mine in
+      let above : (unit more later : ℕ) (d : Channel) → d.client ≡ c.client → number ≡ more → slice_get r.marks unit ≡ Some (Calling d more later) → ⊥ =
+      λ unit more later d same is_more old.
+      let below : more < e.before.call = a.numbers e.who e.before unit more later d e.at (subst (λ (x : List ℕ). Holds e.before x) (sym same) mine) old in
+      omega (arith, below, is_next, is_more) in
+      record {
+        made_before = λ unit more later d made. elim (at_end r.marks mark (Calling d more later) unit made) [
+          | inl old ↦ a.made_before unit more later d old
+          | inr new ↦ subst (λ (x : Channel). IsDrawn x.client r.drawn) (calling_is c d number more timestamp later new.1).0 (a.held_before e.who e.before c.client e.at mine)
+        ];
+        held_before = λ i v challenge at holds. let x = before i v at in a.held_before i x.view challenge x.at (x.calm.holds challenge holds);
+        apart = λ i j u v challenge at also holds too.
+            let one = before i u at in
+            let other = before j v also in
+            a.apart i j one.view other.view challenge one.at other.at (one.calm.holds challenge holds) (other.calm.holds challenge too);
+        opening = λ i v unit more later d at under made. elim (at_end r.marks mark (Calling d more later) unit made) [
+          | inl old ↦ let x = before i v at in a.opening i x.view unit more later d x.at (x.calm.opening d.client under) old
+          | inr new ↦ let same : c ≡ d = (calling_is c d number more timestamp later new.1).0 in
+              let holds : Holds v c.client = record { how = inl (under ∙ ap (λ (x : Channel). Some x.client) (sym same)) } in
+              elim (e.others i v at) [
+                | inl here ↦ absurd (no_some d.client (sym unopened ∙ ap (λ (x : View). x.opening) (sym (here.1 ∙ is)) ∙ under))
+                | inr old ↦ let who : i ≡ e.who = its i v at holds in
+                    let one : v ≡ e.before = some_is v e.before (sym old ∙ ap r.views who ∙ e.at) in
+                    absurd (no_some d.client (sym unopened ∙ ap (λ (x : View). x.opening) (sym one) ∙ under))
+              ]
+        ];
+        numbers = λ i v unit more later d at holds made. elim (at_end r.marks mark (Calling d more later) unit made) [
+          | inl old ↦ let x = before i v at in
+              let below : more < x.view.call = a.numbers i x.view unit more later d x.at (x.calm.holds d.client holds) old in
+              omega (arith, below, x.calm.onward)
+          | inr new ↦ let same = calling_is c d number more timestamp later new.1 in
+              elim (e.others i v at) [
+                | inl here ↦ omega (arith, count, is_next, same.1, ap (λ (x : View). x.call) (here.1 ∙ is))
+                | inr old ↦ let mine_too : Holds v c.client = subst (λ (x : Channel). Holds v x.client) (sym same.0) holds in
+                    let who : i ≡ e.who = its i v at mine_too in
+                    let one : v ≡ e.after = some_is v e.after (sym at ∙ ap e.views who ∙ e.now) in
+                    omega (arith, count, is_next, same.1, ap (λ (x : View). x.call) (one ∙ is))
+              ]
+        ];
+        distinct = λ unit other more later last d f made also same. elim (at_end r.marks mark (Calling d more later) unit made) [
+          | inl old ↦ elim (at_end r.marks mark (Calling f more last) other also) [
+            | inl too ↦ a.distinct unit other more later last d f old too same
+            | inr new ↦ let is_new = calling_is c f number more timestamp last new.1 in
+                absurd (above unit more later d (same ∙ ap (λ (x : Channel). x.client) (sym is_new.0)) is_new.1 old)
+          ]
+          | inr new ↦ let is_new = calling_is c d number more timestamp later new.1 in
+              elim (at_end r.marks mark (Calling f more last) other also) [
+                | inl old ↦ absurd (above other more last f (sym same ∙ ap (λ (x : Channel). x.client) (sym is_new.0)) is_new.1 old)
+                | inr too ↦ new.0 ∙ sym too.0
+              ]
+        ];
+        calls = λ i v at. elim (e.others i v at) [
+          | inl here ↦ omega (arith, few, count, ap (λ (x : View). x.call) (here.1 ∙ is))
+          | inr old ↦ omega (arith, a.calls i v old)
+        ];
+      }
+
+  -- ---- a requester is made anew
+
+  renewed_keep : (r : Requests Who) (who : Who) (views : Who → Option View) →
+      AreSeenBut r.views views who (record { stands = None; seed = None; opening = None; asking = None; call = 1 }) → CallsAreApart r →
+      CallsAreApart (record r { views = views })
+  renewed_keep r who views others a =
+      let fresh : View = record { stands = None; seed = None; opening = None; asking = None; call = 1 } in
+      let none : (v : View) (challenge : List ℕ) → v ≡ fresh → Holds v challenge → ⊥ =
+      λ v challenge same holds. fresh_holds challenge (subst (λ (x : View). Holds x challenge) same holds) in
+      record {
+        made_before = a.made_before;
+        held_before = λ i v challenge at holds. elim (others i v at) [
+          | inl here ↦ absurd (none v challenge here.1 holds)
+          | inr before ↦ a.held_before i v challenge before holds
+        ];
+        apart = λ i j u v challenge at also holds too. elim (others i u at) [
+          | inl here ↦ absurd (none u challenge here.1 holds)
+          | inr before ↦ elim (others j v also) [
+            | inl there ↦ absurd (none v challenge there.1 too)
+            | inr more ↦ a.apart i j u v challenge before more holds too
+          ]
+        ];
+        opening = λ i v unit number timestamp c at under made. elim (others i v at) [
+          | inl here ↦ none v c.client here.1 (record { how = inl under })
+          | inr before ↦ a.opening i v unit number timestamp c before under made
+        ];
+        numbers = λ i v unit number timestamp c at holds made. elim (others i v at) [
+          | inl here ↦ absurd (none v c.client here.1 holds)
+          | inr before ↦ a.numbers i v unit number timestamp c before holds made
+        ];
+        distinct = a.distinct;
+        calls = λ i v at. elim (others i v at) [
+          | inl here ↦ omega (arith, ap (λ (x : View). x.call) here.1)
+          | inr before ↦ a.calls i v before
+        ];
+      }
+
+  -- ---- a draw, and any other unit
+
+  draws_keep : (r : Requests Who) (challenge : List ℕ) → CallsAreApart r → CallsAreApart (record r { drawn = r.drawn ++ challenge ∷ [] })
+  draws_keep r challenge a = record {
+    made_before = λ unit number timestamp c made. one_more (λ (one : List ℕ). one ≡ c.client) r.drawn challenge (a.made_before unit number timestamp c made);
+    held_before = λ i v held at holds. one_more (λ (one : List ℕ). one ≡ held) r.drawn challenge (a.held_before i v held at holds);
+    apart = a.apart;
+    opening = a.opening;
+    numbers = a.numbers;
+    distinct = a.distinct;
+    calls = a.calls;
+  }
+
+  unit_keeps : (r : Requests Who) (mark : Mark) → IsNoCall mark → CallsAreApart r → CallsAreApart (record r { marks = r.marks ++ mark ∷ [] })
+  unit_keeps r mark none a = record {
+    made_before = λ unit number timestamp c made. a.made_before unit number timestamp c (was_made r.marks mark unit number timestamp c none made);
+    held_before = a.held_before;
+    apart = a.apart;
+    opening = λ i v unit number timestamp c at under made. a.opening i v unit number timestamp c at under (was_made r.marks mark unit number timestamp c none made);
+    numbers = λ i v unit number timestamp c at holds made. a.numbers i v unit number timestamp c at holds (was_made r.marks mark unit number timestamp c none made);
+    distinct = λ unit other number timestamp later c d made also same.
+        a.distinct unit other number timestamp later c d (was_made r.marks mark unit number timestamp c none made) (was_made r.marks mark other number later d none also) same;
+    calls = a.calls;
+  }
+
+  pub calls_stay_apart : CallsStayApart Who
+  calls_stay_apart = record {
+    calm = calm_keeps;
+    begins = begins_keep;
+    calls = calls_keep;
+    renewed = renewed_keep;
+    draws = draws_keep;
+    unit = unit_keeps;
+  }

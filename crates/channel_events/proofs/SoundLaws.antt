@@ -1,0 +1,304 @@
+-- The facts about secure channels hold at first, and each event keeps them.
+-- It serves `channels_stay_sound`.
+use Rattle.std.proofs.Common.{◌≡◌, ℕ, List, [], ◌∷◌, ◌++◌, inl, inr, Option, Some, None, slice_get, refl, sym, ap, subst, ◌∙◌, arith}
+use Rattle.std.specs.List.{AllByRecursion}
+use Rattle.authenticators.specs.Channels.{Channel}
+use Rattle.channel_client.specs.Effects.{View}
+use Rattle.channel_events.specs.Marks.{Mark, Plain, Opening, Opened, Calling, ReplyTo, OneOf}
+use Rattle.channel_events.specs.Sound.{Accepted, History, Holds, Passing}
+use Rattle.channel_events.specs.SoundEvents.{AreFresh, CallPasses, CarriesCall, CarriesOpening, ControllerForgets, IsNamedAlike, IsReplyRight, Notes, OpeningAccepted, ServerWaits, StaySound, UnitSent, after_acceptance, after_answer, after_forgetting, after_pass, after_unit, after_waiting, first_history, notes_of}
+use Rattle.channel_events.specs.SoundExamples.{ChannelsStaySound}
+use Rattle.channel_events.proofs.ListLaws.{all_none, all_weaker, got_nothing, no_some, one_found, one_last, one_more, pairs_first, some_is}
+use Rattle.channel_events.proofs.SoundExampleLaws.{exchange_happens}
+use Rattle.channel_events.proofs.SoundParts.{AreKeptSound, AreOther, AreRepliesSound, IsAcceptedOn, IsDrawn, IsNewTo, IsReplySo, IsSeenSound, Parts, draws_one, kept_drawn, later, one_sent, parts_of, sends_one, whole_of}
+use Rattle.channel_events.proofs.SoundSteps.{answer_keeps, answers_its_own, beginning_keeps, call_keeps, fresh_holds, fresh_one, opening_keeps, quiet_keeps, renewed_keeps, standing_keeps, turn_keeps}
+
+-- ---- a unit that is no request
+
+reply_so : {Who : Type 0} (h : History Who) (mark : Mark) → IsReplyRight h mark → IsReplySo h.marks h.accepted h.passed mark
+reply_so h Plain right = tt
+reply_so h (Opening c number) right = tt
+reply_so h (Opened c number request) right = right
+reply_so h (Calling c number timestamp) right = tt
+reply_so h (ReplyTo c number request) right = right
+
+unit_keeps : {Who : Type 0} (h : History Who) (e : UnitSent h) → Parts h → Parts (after_unit h e)
+unit_keeps {Who} h e p =
+    let no_opening : (c : Channel) (number : ℕ) → e.mark ≡ Opening c number → ⊥ =
+    λ c number is. subst (λ (x : Mark). IsReplyRight h x) is e.right in
+    let no_call : (c : Channel) (number timestamp : ℕ) → e.mark ≡ Calling c number timestamp → ⊥ =
+    λ c number timestamp is. subst (λ (x : Mark). IsReplyRight h x) is e.right in
+    let new : (j : Who) (v : View) → IsNewTo h e.mark j v =
+    λ j v. record {
+      call = λ c number timestamp is under. no_call c number timestamp is;
+      call_number = λ c number timestamp is holds. absurd (no_call c number timestamp is);
+      opening = λ c number is under out. no_opening c number is;
+      opening_number = λ c number is holds. absurd (no_opening c number is);
+    } in
+    sends_one h (notes_of h) e.mark (λ c number is. absurd (no_opening c number is)) (λ c number timestamp is. absurd (no_call c number timestamp is))
+    (reply_so h e.mark e.right) p.apart (λ j v at. one_sent h e.mark j v (new j v) (p.each j v at)) p
+
+-- ---- a server's challenge waits
+
+one_kept : {Who : Type 0} (h : History Who) (waits : ℕ → List ℕ → Option (List ℕ)) (keeps : ℕ → List ℕ → Option Channel) (i : Who) (v : View) → IsSeenSound h i v →
+    IsSeenSound (record h { waits = waits; keeps = keeps }) i v
+one_kept h waits keeps i v o = record {
+  held_before = o.held_before;
+  opening = o.opening;
+  unopened = o.unopened;
+  opening_numbers = o.opening_numbers;
+  numbers = o.numbers;
+  stands = o.stands;
+  turns = o.turns;
+  ends = o.ends;
+  seeds = o.seeds;
+  calls = o.calls;
+}
+
+-- what controllers keep is otherwise
+keeps_otherwise : {Who : Type 0} (h : History Who) (waits : ℕ → List ℕ → Option (List ℕ)) (keeps : ℕ → List ℕ → Option Channel) → AreKeptSound h.accepted h.drawn waits keeps → Parts h →
+    Parts (record h { waits = waits; keeps = keeps })
+keeps_otherwise h waits keeps kept p = record {
+  draws = p.draws;
+  requests = p.requests;
+  replies = p.replies;
+  kept = kept;
+  apart = p.apart;
+  each = λ i v at. one_kept h waits keeps i v (p.each i v at);
+}
+
+waiting_kept : {Who : Type 0} (h : History Who) (e : ServerWaits h) → AreKeptSound h.accepted h.drawn h.waits h.keeps →
+    AreKeptSound h.accepted (h.drawn ++ e.server ∷ []) e.waits h.keeps
+waiting_kept h e k =
+    let never : (challenge : List ℕ) → challenge ≡ e.server → IsDrawn challenge h.drawn → ⊥ =
+    λ challenge is drawn. e.fresh (subst (λ (x : List ℕ). IsDrawn x h.drawn) is drawn) in
+    record {
+      waiting_before = λ controller computer challenge at. elim (e.each controller computer challenge at) [
+        | inl new ↦
+            subst (λ (x : List ℕ). IsDrawn x (h.drawn ++ e.server ∷ [])) (sym new.2) (one_last (λ (one : List ℕ). one ≡ e.server) h.drawn e.server refl)
+        | inr old ↦ one_more (λ (one : List ℕ). one ≡ challenge) h.drawn e.server (k.waiting_before controller computer challenge old)
+      ];
+      accepted_before = (kept_drawn h.accepted h.drawn e.server h.waits h.keeps k).accepted_before;
+      waiting_apart = λ controller more computer other challenge at also. elim (e.each controller computer challenge at) [
+        | inl new ↦ elim (e.each more other challenge also) [
+          | inl too ↦ (new.0 ∙ sym too.0, new.1 ∙ sym too.1)
+          | inr old ↦ absurd (never challenge new.2 (k.waiting_before more other challenge old))
+        ]
+        | inr old ↦ elim (e.each more other challenge also) [
+          | inl new ↦ absurd (never challenge new.2 (k.waiting_before controller computer challenge old))
+          | inr too ↦ k.waiting_apart controller more computer other challenge old too
+        ]
+      ];
+      waiting_unused = λ controller computer challenge at one. elim (e.each controller computer challenge at) [
+        | inl new ↦
+            let it = one_found (λ (a : Accepted). a.channel.server ≡ challenge) (λ (a : Accepted). IsDrawn a.channel.server h.drawn) h.accepted k.accepted_before one in
+            never it.0.channel.server (it.1 ∙ new.2) it.2
+        | inr old ↦ k.waiting_unused controller computer challenge old one
+      ];
+      kept = k.kept;
+    }
+
+waiting_keeps : {Who : Type 0} (h : History Who) (e : ServerWaits h) → Parts h → Parts (after_waiting h e)
+waiting_keeps {Who} h e p =
+    let drawn : History Who = record h { drawn = h.drawn ++ e.server ∷ [] } in
+    keeps_otherwise drawn e.waits h.keeps (waiting_kept h e p.kept) (draws_one h e.server e.fresh p)
+
+-- ---- an opening is accepted
+
+-- channels whose names are alike in the computer's letters too are one
+named_is : (one other : Channel) → IsNamedAlike one other → one ≡ other
+named_is one other alike =
+    ap (λ (controller : ℕ). record one { controller = controller }) alike.same.controller
+    ∙ ap (λ (computer : List ℕ). record one { controller = other.controller; computer = computer }) alike.computer
+    ∙ ap (λ (secret : List ℕ). record one { controller = other.controller; computer = other.computer; secret = secret }) alike.same.secret
+    ∙ ap (λ (client : List ℕ). record other { client = client; server = one.server; flags = one.flags }) alike.same.client
+    ∙ ap (λ (server : List ℕ). record other { server = server; flags = one.flags }) alike.same.server
+    ∙ ap (λ (flags : ℕ). record other { flags = flags }) alike.same.flags
+
+opening_at : (marks : List Mark) (from : Option ℕ) (number : ℕ) (channel : Channel) (unit : ℕ) → CarriesOpening marks from number channel → from ≡ Some unit →
+    slice_get marks unit ≡ Some (Opening channel number)
+opening_at marks None number channel unit carried is = absurd (no_some unit is)
+opening_at marks (Some at) number channel unit carried is =
+    subst (λ (k : ℕ). slice_get marks k ≡ Some (Opening channel number)) (some_is at unit is)
+    (carried.1 ∙ ap (λ (c : Channel). Some (Opening c number)) (named_is carried.0 channel carried.2))
+
+call_at : (marks : List Mark) (from : Option ℕ) (number timestamp : ℕ) (channel : Channel) (unit : ℕ) → CarriesCall marks from number timestamp channel → from ≡ Some unit →
+    slice_get marks unit ≡ Some (Calling channel number timestamp)
+call_at marks None number timestamp channel unit carried is = absurd (no_some unit is)
+call_at marks (Some at) number timestamp channel unit carried is =
+    subst (λ (k : ℕ). slice_get marks k ≡ Some (Calling channel number timestamp)) (some_is at unit is)
+    (carried.1 ∙ ap (λ (c : Channel). Some (Calling c number timestamp)) (named_is carried.0 channel carried.2))
+
+one_accepted : {Who : Type 0} (h : History Who) (new : Accepted) (i : Who) (v : View) → IsSeenSound h i v → IsSeenSound (record h { accepted = new ∷ h.accepted }) i v
+one_accepted h new i v o = record {
+  held_before = o.held_before;
+  opening = o.opening;
+  unopened = o.unopened;
+  opening_numbers = o.opening_numbers;
+  numbers = o.numbers;
+  stands = λ c stands. inr (o.stands c stands);
+  turns = o.turns;
+  ends = o.ends;
+  seeds = o.seeds;
+  calls = o.calls;
+}
+
+-- none was accepted with that server's challenge
+others_accepted : (accepted : List Accepted) (new : Accepted) → (OneOf (λ (one : Accepted). one.channel.server ≡ new.channel.server) accepted → ⊥) → AllByRecursion (AreOther new) accepted
+others_accepted accepted new none =
+    all_weaker (λ (one : Accepted). one.channel.server ≡ new.channel.server → ⊥) (AreOther new) accepted (λ one differs same. differs (sym same.server))
+    (all_none (λ (one : Accepted). one.channel.server ≡ new.channel.server) accepted none)
+
+accepted_replies : {Who : Type 0} (h : History Who) (e : OpeningAccepted h) → AreKeptSound h.accepted h.drawn h.waits h.keeps → AreRepliesSound h.marks h.accepted h.passed →
+    AreRepliesSound h.marks (record { unit = e.unit; channel = e.channel } ∷ h.accepted) h.passed
+accepted_replies h e k r =
+    let new : Accepted = record { unit = e.unit; channel = e.channel } in
+    record {
+      openings = λ unit number request c is. let it = r.openings unit number request c is in (it.0, inr it.1);
+      replies = r.replies;
+      once = pairs_first AreOther new h.accepted
+          (others_accepted h.accepted new (k.waiting_unused e.channel.controller e.channel.computer e.channel.server e.waited)) r.once;
+      on_accepted = all_weaker (λ (pass : Passing). IsAcceptedOn h.accepted pass.channel) (λ (pass : Passing). IsAcceptedOn (new ∷ h.accepted) pass.channel) h.passed
+          (λ pass is. inr is) r.on_accepted;
+      openers = ((λ unit is. (e.number, opening_at h.marks e.unit e.number e.channel unit e.carried is)), r.openers);
+      timestamps = r.timestamps;
+    }
+
+accepted_kept : {Who : Type 0} (h : History Who) (e : OpeningAccepted h) → AreKeptSound h.accepted h.drawn h.waits h.keeps →
+    AreKeptSound (record { unit = e.unit; channel = e.channel } ∷ h.accepted) h.drawn e.waits e.keeps
+accepted_kept h e k = record {
+  waiting_before = λ controller computer server at. k.waiting_before controller computer server (e.served controller computer server at).0;
+  accepted_before = (k.waiting_before e.channel.controller e.channel.computer e.channel.server e.waited, k.accepted_before);
+  waiting_apart = λ controller more computer other server at also.
+      k.waiting_apart controller more computer other server (e.served controller computer server at).0 (e.served more other server also).0;
+  waiting_unused = λ controller computer server at one.
+      let old = e.served controller computer server at in
+      elim one [
+        | inl here ↦
+            let place = k.waiting_apart controller e.channel.controller computer e.channel.computer server old.0 (e.waited ∙ ap Some here) in
+            old.1 place.0 place.1
+        | inr there ↦ k.waiting_unused controller computer server old.0 there
+      ];
+  kept = λ controller computer c at. elim (e.kept controller computer c at) [ inl same ↦ inl same | inr old ↦ inr (k.kept controller computer c old) ];
+}
+
+acceptance_keeps : {Who : Type 0} (h : History Who) (e : OpeningAccepted h) → Parts h → Parts (after_acceptance h e)
+acceptance_keeps h e p =
+    let new : Accepted = record { unit = e.unit; channel = e.channel } in
+    record {
+      draws = p.draws;
+      requests = p.requests;
+      replies = accepted_replies h e p.kept p.replies;
+      kept = accepted_kept h e p.kept;
+      apart = p.apart;
+      each = λ i v at. one_kept (record h { accepted = new ∷ h.accepted }) e.waits e.keeps i v (one_accepted h new i v (p.each i v at));
+    }
+
+-- ---- a call passes
+
+one_passed : {Who : Type 0} (h : History Who) (new : Passing) (i : Who) (v : View) → IsSeenSound h i v → IsSeenSound (record h { passed = new ∷ h.passed }) i v
+one_passed h new i v o = record {
+  held_before = o.held_before;
+  opening = o.opening;
+  unopened = o.unopened;
+  opening_numbers = o.opening_numbers;
+  numbers = o.numbers;
+  stands = o.stands;
+  turns = o.turns;
+  ends = λ c stands unit ended. let it = o.ends c stands unit ended in (it.0, inr it.1);
+  seeds = o.seeds;
+  calls = o.calls;
+}
+
+pass_keeps : {Who : Type 0} (h : History Who) (e : CallPasses h) → Parts h → Parts (after_pass h e)
+pass_keeps h e p =
+    let new : Passing = record { unit = e.unit; channel = e.channel; timestamp = e.timestamp } in
+    record {
+      draws = p.draws;
+      requests = p.requests;
+      replies = record {
+        openings = p.replies.openings;
+        replies = λ unit number request c is. let it = p.replies.replies unit number request c is in (it.0, inr it.1);
+        once = p.replies.once;
+        on_accepted = (p.kept.kept e.channel.controller e.channel.computer e.channel e.kept, p.replies.on_accepted);
+        openers = p.replies.openers;
+        timestamps = ((λ unit is. (e.number, call_at h.marks e.unit e.number e.timestamp e.channel unit e.carried is)), p.replies.timestamps);
+      };
+      kept = p.kept;
+      apart = p.apart;
+      each = λ i v at. one_passed h new i v (p.each i v at);
+    }
+
+-- ---- a controller forgets
+
+forgetting_keeps : {Who : Type 0} (h : History Who) (e : ControllerForgets h) → Parts h → Parts (after_forgetting h e)
+forgetting_keeps h e p =
+    let k = p.kept in
+    keeps_otherwise h e.waits e.keeps
+    (record {
+      waiting_before = λ controller computer server at. k.waiting_before controller computer server (e.waited controller computer server at);
+      accepted_before = k.accepted_before;
+      waiting_apart = λ controller more computer other server at also.
+          k.waiting_apart controller more computer other server (e.waited controller computer server at) (e.waited more other server also);
+      waiting_unused = λ controller computer server at one. k.waiting_unused controller computer server (e.waited controller computer server at) one;
+      kept = λ controller computer c at. k.kept controller computer c (e.kept controller computer c at);
+    }) p
+
+-- ---- at first
+
+first_parts : {Who : Type 0} (n : Notes Who) → AreFresh n → Parts (first_history n)
+first_parts n fresh = record {
+  draws = λ i j d before within. absurd (omega arith);
+  requests = record {
+    opened_before = λ unit number c is. absurd (got_nothing unit (Opening c number) is);
+    made_before = λ unit number timestamp c is. absurd (got_nothing unit (Calling c number timestamp) is);
+    opening_distinct = λ unit other number more c d is also same. absurd (got_nothing unit (Opening c number) is);
+    distinct = λ unit other number timestamp later c d is also same. absurd (got_nothing unit (Calling c number timestamp) is);
+  };
+  replies = record {
+    openings = λ unit number request c is. absurd (got_nothing unit (Opened c number request) is);
+    replies = λ unit number request c is. absurd (got_nothing unit (ReplyTo c number request) is);
+    once = λ i j d before within. absurd (omega arith);
+    on_accepted = tt;
+    openers = tt;
+    timestamps = tt;
+  };
+  kept = record {
+    waiting_before = λ controller computer server at. absurd (no_some server at);
+    accepted_before = tt;
+    waiting_apart = λ controller more computer other server at also. absurd (no_some server at);
+    waiting_unused = λ controller computer server at one. absurd (no_some server at);
+    kept = λ controller computer c at. absurd (no_some c at);
+  };
+  apart = λ i j u v challenge at also holds too. absurd (fresh_holds challenge (subst (λ (x : View). Holds x challenge) (fresh i u at) holds));
+  each = λ i v at. subst (λ (x : View). IsSeenSound (first_history n) i x) (sym (fresh i v at)) (fresh_one (first_history n) i);
+}
+
+-- ---- all of them
+
+stay_sound : (Who : Type 0) → StaySound Who
+stay_sound Who = record {
+  first = λ n fresh. whole_of (first_history n) (first_parts n fresh);
+  count = λ h e s. whole_of _ (later h e.moves e.onward (parts_of h s));
+  drawn = λ h e s. whole_of _ (draws_one h e.challenge e.fresh (parts_of h s));
+  unit = λ h e s. whole_of _ (unit_keeps h e (parts_of h s));
+  quiet = λ h e s. whole_of _ (quiet_keeps h e (parts_of h s));
+  renewed = λ h e s. whole_of _ (renewed_keeps h e (parts_of h s));
+  begins = λ h e s. whole_of _ (beginning_keeps h e (parts_of h s));
+  opening = λ h e s. whole_of _ (opening_keeps h e (parts_of h s));
+  opens = λ h e s. whole_of _ (standing_keeps h e (parts_of h s));
+  turn = λ h e s. whole_of _ (turn_keeps h e (parts_of h s));
+  call = λ h e s. whole_of _ (call_keeps h e (parts_of h s));
+  answer = λ h e s.
+      let own = answers_its_own h e (parts_of h s) in
+      (whole_of (after_answer h e) (answer_keeps h e (parts_of h s)), own.0, own.1);
+  waits = λ h e s. whole_of _ (waiting_keeps h e (parts_of h s));
+  accepted = λ h e s. whole_of _ (acceptance_keeps h e (parts_of h s));
+  accepted_reply = λ h e unit is. (opening_at h.marks e.unit e.number e.channel unit e.carried is, inl is);
+  passes = λ h e s. whole_of _ (pass_keeps h e (parts_of h s));
+  passed_reply = λ h e unit is. ((e.timestamp, call_at h.marks e.unit e.number e.timestamp e.channel unit e.carried is), inl is);
+  forgets = λ h e s. whole_of _ (forgetting_keeps h e (parts_of h s));
+}
+
+pub channels_stay_sound : ChannelsStaySound
+channels_stay_sound = record { events = stay_sound ℕ; exchange = exchange_happens }

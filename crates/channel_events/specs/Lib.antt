@@ -1,0 +1,6 @@
+pub mod Marks
+pub mod RequestSteps
+pub mod Requests
+pub mod Sound
+pub mod SoundEvents
+pub mod SoundExamples

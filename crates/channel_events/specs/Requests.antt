@@ -1,0 +1,102 @@
+-- The calls that were made on secure channels, and what those hold who make them, of any run whose draws differ, also
+-- one in which a credential passed on a unit made for another channel (MS-NRPC 3.1.4.1, 3.1.4.5). It names no machine
+-- and no controller. So no two calls on a channel have one number, and an answer is to one call.
+use Rattle.std.specs.Prelude.{ℕ, ◌≡◌, ◌+◌, ◌<◌, ◌≤◌, ◌^◌, ◌⊎◌, List, [], ◌∷◌, ◌++◌, Option, Some, None, slice_get}
+use Rattle.authenticators.specs.Channels.{Channel}
+use Rattle.channel_client.specs.Effects.{Changes, Effect, Stays, Counts, Begins, Opens, Moves, Calls, Answers, Drops, View}
+use Rattle.channel_events.specs.Marks.{Mark, Calling, OneOf}
+use Rattle.channel_events.specs.Sound.{Holds}
+
+pub record Requests (Who : Type 0) : Type 0 where
+  -- each requester, as it is seen; None where there is none of that name
+  pub views : Who → Option View
+  -- what each unit of the bag was made for
+  pub marks : List Mark
+  -- the challenges that were drawn, in order
+  pub drawn : List (List ℕ)
+  -- how often a requester used a number for a bind or a request, or more
+  pub uses : ℕ
+
+abbrev pub IsDrawn : List ℕ → List (List ℕ) → Type 0
+IsDrawn challenge drawn = OneOf (λ (one : List ℕ). one ≡ challenge) drawn
+
+pub record CallsAreApart {Who : Type 0} (r : Requests Who) : Type 0 where
+  -- a call was made on a channel whose client's challenge was drawn, and so was each challenge that a requester holds
+  pub made_before : (unit number timestamp : ℕ) (c : Channel) → slice_get r.marks unit ≡ Some (Calling c number timestamp) → IsDrawn c.client r.drawn
+  pub held_before : (i : Who) (v : View) (challenge : List ℕ) → r.views i ≡ Some v → Holds v challenge → IsDrawn challenge r.drawn
+  -- no two requesters hold one
+  pub apart : (i j : Who) (u v : View) (challenge : List ℕ) → r.views i ≡ Some u → r.views j ≡ Some v → Holds u challenge → Holds v challenge → i ≡ j
+  -- for a channel that is only being opened no call was made yet
+  pub opening : (i : Who) (v : View) (unit number timestamp : ℕ) (c : Channel) → r.views i ≡ Some v → v.opening ≡ Some c.client →
+      slice_get r.marks unit ≡ Some (Calling c number timestamp) → ⊥
+  -- a call made with a challenge that a requester holds has a number below its next one
+  pub numbers : (i : Who) (v : View) (unit number timestamp : ℕ) (c : Channel) → r.views i ≡ Some v → Holds v c.client →
+      slice_get r.marks unit ≡ Some (Calling c number timestamp) → number < v.call
+  -- the calls made with a client's challenge have different numbers
+  pub distinct : (unit other number timestamp later : ℕ) (c d : Channel) → slice_get r.marks unit ≡ Some (Calling c number timestamp) →
+      slice_get r.marks other ≡ Some (Calling d number later) → c.client ≡ d.client → unit ≡ other
+  -- a requester's next number is at most one above the count of uses: so no number comes round within a run
+  pub calls : (i : Who) (v : View) → r.views i ≡ Some v → v.call ≤ r.uses + 1
+
+-- ---- what happens
+
+-- each requester is as before but for one, which is seen so where it is seen
+abbrev pub AreSeenBut : {Who : Type 0} → (Who → Option View) → (Who → Option View) → Who → View → Type 0
+AreSeenBut {Who} old new who view = (j : Who) (v : View) → new j ≡ Some v → ((j ≡ who) × (v ≡ view)) ⊎ (old j ≡ Some v)
+
+-- nothing of what a call rests on is new: so it is of each effect but that an opening begins and that a call goes out
+abbrev pub IsCalm : Effect → Type 0
+IsCalm Stays = Unit {0}
+IsCalm Counts = Unit {0}
+IsCalm (Begins client) = ⊥
+IsCalm (Opens c) = Unit {0}
+IsCalm (Moves c timestamp) = Unit {0}
+IsCalm (Calls c number) = ⊥
+IsCalm (Answers c number) = Unit {0}
+IsCalm Drops = Unit {0}
+
+-- how many numbers the step uses, for a bind or a request
+abbrev pub used_by : Effect → ℕ
+used_by Stays = 0
+used_by Counts = 1
+used_by (Begins client) = 1
+used_by (Opens c) = 0
+used_by (Moves c timestamp) = 1
+used_by (Calls c number) = 1
+used_by (Answers c number) = 0
+used_by Drops = 0
+
+-- a unit that is no call
+abbrev pub IsNoCall : Mark → Type 0
+IsNoCall (Calling c number timestamp) = ⊥
+IsNoCall _ = Unit {0}
+
+-- a step of a requester; no number comes round
+pub record Steps {Who : Type 0} (r : Requests Who) (effect : Effect) : Type 0 where
+  pub who : Who
+  pub before : View
+  pub after : View
+  pub views : Who → Option View
+  pub at : r.views who ≡ Some before
+  pub now : views who ≡ Some after
+  pub others : AreSeenBut r.views views who after
+  pub change : Changes effect before after
+  pub few : r.uses + 2 < 2 ^ 32
+
+abbrev pub after_step : {Who : Type 0} → (r : Requests Who) → Effect → (Who → Option View) → Requests Who
+after_step r effect views = record r { views = views; uses = r.uses + used_by effect }
+
+-- The facts stay true through each event: a step of a requester that is calm, one that begins an opening with a
+-- challenge that is drawn then, one by which a call goes out, a requester that is made anew or seen no more, a draw,
+-- and any other unit.
+pub record CallsStayApart (Who : Type 0) : Type 0 where
+  pub calm : (r : Requests Who) (effect : Effect) (e : Steps r effect) → IsCalm effect → CallsAreApart r → CallsAreApart (after_step r effect e.views)
+  pub begins : (r : Requests Who) (client : List ℕ) (e : Steps r (Begins client)) → (IsDrawn client r.drawn → ⊥) → CallsAreApart r →
+      CallsAreApart (after_step (record r { drawn = r.drawn ++ client ∷ [] }) (Begins client) e.views)
+  pub calls : (r : Requests Who) (c : Channel) (number timestamp : ℕ) (e : Steps r (Calls c number)) → CallsAreApart r →
+      CallsAreApart (after_step (record r { marks = r.marks ++ Calling c number timestamp ∷ [] }) (Calls c number) e.views)
+  pub renewed : (r : Requests Who) (who : Who) (views : Who → Option View) →
+      AreSeenBut r.views views who (record { stands = None; seed = None; opening = None; asking = None; call = 1 }) → CallsAreApart r →
+      CallsAreApart (record r { views = views })
+  pub draws : (r : Requests Who) (challenge : List ℕ) → CallsAreApart r → CallsAreApart (record r { drawn = r.drawn ++ challenge ∷ [] })
+  pub unit : (r : Requests Who) (mark : Mark) → IsNoCall mark → CallsAreApart r → CallsAreApart (record r { marks = r.marks ++ mark ∷ [] })

@@ -1,0 +1,114 @@
+-- Small runs that meet what is claimed of replies, and some that don't.
+-- It serves `replies_tell_apart`.
+use Rattle.std.proofs.Common.{◌≡◌, ℕ, zero, suc, Bool, true, false, List, [], ◌∷◌, length, inl, inr, Some, refl, sym, ap, subst, ◌∙◌}
+use Rattle.std.specs.Prelude.{codes, flat_map, nat_le, if◌then◌else◌}
+use Rattle.wire_base.specs.Maps.{lookup}
+use Rattle.wire_base.specs.Names.{same_name}
+use Rattle.authenticators.specs.Channels.{Channel}
+use Rattle.outside.specs.declared.action.Judged.TheVariants as judged
+use Rattle.rpc_units.specs.declared.unit.Unit.{Unit as RpcUnit}
+use Rattle.rpc_units.specs.Calls.{bytes_of_call}
+use Rattle.rpc_units.specs.Joining.{cut_of, fragment, fragments_of, stub_of, stub_size}
+use Rattle.rpc_units.specs.Writing.{written, written_start}
+use Rattle.authenticators.specs.Sequences.{authenticator_of}
+use Rattle.domain_controller.specs.Channels.{key_of_channel}
+use Rattle.domain_controller.specs.Laws.{IsNext}
+use Rattle.domain_controller.specs.Machine.{status_of}
+use Rattle.channel_events.specs.Marks.{Mark, Plain, ReplyTo}
+use Rattle.step_notes.specs.ControllerNotes.{channel_by, channel_with}
+use Rattle.step_notes.specs.Records.{Judging, Sent}
+use Rattle.step_notes.specs.ReplySends.{IsReplyOfCall, verdict_passed}
+use Rattle.world_moves.specs.declared.bag.BagUnit.{BagUnit}
+use Rattle.domain_world.specs.Claims.Replies.{IsReplyOfOne, RepliesCarryTheirJudgement}
+use Rattle.domain_world.specs.Past.{sent_at}
+use Rattle.claim_examples.specs.ClaimExamples.{judged_as, next_call, small_channel, small_computers, small_name, small_table}
+use Rattle.claim_examples.specs.ReplyExamples.{OfReplies, replied, replied_call, reply_mark, small_reply}
+use Rattle.channel_events.proofs.ListLaws.{got_nothing, some_is}
+use Rattle.step_notes.proofs.Controllers.GrantVerdictLaws.{granted_status}
+use Rattle.claim_examples.proofs.GrantExampleLaws.{may_small}
+use Rattle.claim_examples.proofs.LogonLaws.{granted_small}
+use Rattle.claim_examples.proofs.SequenceLaws.{kept_small}
+
+-- ---- a call is sent in some bytes
+
+unit_sent : (unit : RpcUnit) (rest : List RpcUnit) → flat_map written (unit ∷ rest) ≡ [] → ⊥
+unfolding written written_start
+unit_sent unit rest is = absurd cc
+
+one_sent : (short : Bool) (last first : RpcUnit) (rest : List RpcUnit) → flat_map written (if short then last ∷ [] else first ∷ rest) ≡ [] → ⊥
+one_sent true last first rest is = unit_sent last [] is
+one_sent false last first rest is = unit_sent first rest is
+
+fragments_sent : (most : ℕ) (unit : RpcUnit) (size : ℕ) (first : Bool) (stub : List ℕ) → flat_map written (fragments_of most unit size first stub) ≡ [] → ⊥
+fragments_sent zero unit size first stub is = unit_sent (fragment unit first true stub) [] is
+fragments_sent (suc most) unit size first stub is = one_sent (nat_le (length stub) size) _ _ _ is
+
+call_sent : (call : RpcUnit) (limit : ℕ) → [] ≡ bytes_of_call call limit → ⊥
+unfolding cut_of
+call_sent call limit is = fragments_sent (length (stub_of call.body)) call (stub_size limit) true (stub_of call.body) (sym is)
+
+-- ---- one unit, and one call
+
+-- what is claimed of a bag of one unit is claimed of it
+of_one : (bytes : List ℕ) (mark : Mark) (j : Judging) → IsReplyOfOne (j ∷ []) 0 bytes mark → RepliesCarryTheirJudgement (replied bytes mark j)
+of_one bytes mark j is zero unit sent there marked =
+    let same : bytes ≡ unit.bytes = ap BagUnit.bytes (some_is _ unit there) in
+    let also : mark ≡ sent.mark = ap Sent.mark (some_is _ sent marked) in
+    subst (λ (b : List ℕ). IsReplyOfOne (j ∷ []) 0 b sent.mark) same (subst (λ (m : Mark). IsReplyOfOne (j ∷ []) 0 bytes m) also is)
+of_one bytes mark j is (suc number) unit sent there marked = absurd (got_nothing number unit there)
+
+the_reply : (bytes : List ℕ) (channel : Channel) (call request : ℕ) (j : Judging) → RepliesCarryTheirJudgement (replied bytes (ReplyTo channel call request) j) →
+    (j.reply ≡ Some 0) × IsReplyOfCall channel call request j bytes
+the_reply bytes channel call request j claim = elim (claim 0 _ (sent_at 6 (ReplyTo channel call request)) refl refl) [ inl here ↦ here | inr never ↦ absurd never ]
+
+passed_small : channel_by 0 (codes "FILE1") (lookup same_name (codes "FILE1") (small_computers []).channels) ≡ Some small_name
+passed_small = ap (channel_by 0 (codes "FILE1")) (kept_small [])
+
+next_small : IsNext (small_computers []) next_call.logon
+next_small = record {
+  computer = codes "FILE1";
+  given = authenticator_of (key_of_channel (small_channel [])) [] 0;
+  channel = small_channel [];
+  named = refl;
+  there = refl;
+  stands = kept_small [];
+  passes = refl;
+}
+
+status_small : status_of (verdict_passed next_call) ≡ 0
+status_small =
+    granted_status small_table next_call.name next_call.moment next_call.logon.info next_call.logon.validation (inr refl) (may_small next_call.moment) granted_small.verifies
+
+other_controller : (one other : Channel) → one.controller ≡ 0 → other.controller ≡ 1 → one ≡ other → ⊥
+other_controller one other is also same = absurd (let never : 0 ≡ 1 = sym is ∙ ap Channel.controller same ∙ also in cc)
+
+pub of_replies : OfReplies
+unfolding next_small
+of_replies = record {
+  meets = of_one small_reply reply_mark replied_call (inl (
+    refl,
+    record {
+      came = refl;
+      passed = passed_small;
+      call = refl;
+      carries = record {
+        next = next_small;
+        how = ap (λ (status : ℕ). Some (judged.Passed status)) (sym status_small);
+        context = 0;
+        limit = 5840;
+        frames = refl;
+      };
+    },
+  ));
+  plain = of_one [] Plain replied_call tt;
+  fails_empty = λ claim. let carries = (the_reply [] small_name 3 7 replied_call claim).1.carries in call_sent _ carries.limit carries.frames;
+  fails_barred = λ claim.
+      let how = (the_reply small_reply small_name 3 7 (judged_as judged.Barred replied_call) claim).1.carries.how in absurd cc;
+  fails_number = λ claim. let never : 3 ≡ 4 = (the_reply small_reply small_name 4 7 replied_call claim).1.call in absurd cc;
+  fails_unit = λ claim. let never : Some 7 ≡ Some 6 = (the_reply small_reply small_name 3 6 replied_call claim).1.came in absurd cc;
+  fails_channel = λ claim.
+      let other : Channel = channel_with 1 (codes "FILE1") (small_channel []) in
+      other_controller small_name other refl refl
+      (some_is small_name other (sym passed_small ∙ (the_reply small_reply other 3 7 replied_call claim).1.passed));
+  fails_reply = λ claim. let never : Some 8 ≡ Some 0 = (the_reply small_reply small_name 3 7 next_call claim).0 in absurd cc;
+}

@@ -1,0 +1,29 @@
+-- That each claim on whole runs is met by some run and not by another (this project's own choice).
+use Rattle.std.specs.Prelude.{◌-◌, []}
+use Rattle.step_notes.specs.Marking.{clashes}
+use Rattle.world_moves.specs.declared.moves.Move.TheVariants as move
+use Rattle.world_moves.specs.declared.plan.Plan.{Plan}
+use Rattle.domain_world.specs.Headline.{IsClaimed}
+use Rattle.claim_examples.specs.ClaimExamples.{OfAcceptingAll, OfAcceptingOnly, OfAll, OfChallenges, OfClashes, OfCredentials, OfInStep, OfKeys, OfReplays, OfSequences, OfShortResponses, OfSoundness, OfTakenAnswers, OfWraps}
+use Rattle.claim_examples.specs.CompletenessExamples.{OfCompleteness, OfSuccess}
+
+-- all of them
+pub record ClaimsTellApart : Type 0 where
+  pub wraps : OfWraps
+  pub clashes : OfClashes
+  pub answers : OfTakenAnswers
+  pub replays : OfReplays
+  pub short_responses : OfShortResponses
+  pub sequences : OfSequences
+  pub in_step : OfInStep
+  pub soundness : OfSoundness
+  pub challenges : OfChallenges
+  pub accepting_only : OfAcceptingOnly
+  pub accepting_all : OfAcceptingAll
+  pub keys : OfKeys
+  pub credentials : OfCredentials
+  pub together : OfAll
+  pub success : OfSuccess
+  pub completeness : OfCompleteness
+  -- and all is so of a world in which no move was made
+  pub at_first : (plan : Plan) → IsClaimed plan []

@@ -1,0 +1,45 @@
+//! No claim is true, or false, of everything that could be written down of a run.
+
+ghost use Rattle.claim_examples.specs.TellApart.{ClaimsTellApart};
+ghost use Rattle.claim_examples.specs.GrantExamples.{GrantsTellApart};
+ghost use Rattle.claim_examples.specs.LetInExamples.{OfLettingIn};
+ghost use Rattle.claim_examples.specs.OwnChallengeExamples.{OfOwnChallenges};
+ghost use Rattle.claim_examples.specs.ReplyExamples.{OfReplies};
+
+use domain_world::claims_hold_of_runs;
+
+/// No claim is true, or false, of everything that could be written down of a run: each is met by some small run and not
+/// by another. So it is of a seed that comes round, of a clash and of the answer that a member took.
+pub fn claims_tell_apart()
+    ensures { ClaimsTellApart }
+{
+    // Of the world before its first move what is proved of every run is so.
+    claims_hold_of_runs();
+}
+
+/// Nor is the claim on who is let in: it is met by a run in which somebody is, and not by others, each of which lacks
+/// one thing.
+#[tactic(auto, using(crate::proofs::LetInExampleLaws::of_letting_in))]
+pub fn letting_in_tells_apart()
+    ensures { OfLettingIn }
+{}
+
+/// What is claimed of replies is met by a run in which one was sent, and not by others, each of which differs from it
+/// in one thing.
+#[tactic(auto, using(crate::proofs::ReplyExampleLaws::of_replies))]
+pub fn replies_tell_apart()
+    ensures { OfReplies }
+{}
+
+/// What is claimed of grants is met by a small run and by a step, and not by others that differ from them in one thing.
+#[tactic(auto, using(crate::proofs::GrantExampleLaws::grants_tell_apart))]
+pub fn grants_tell_apart()
+    ensures { GrantsTellApart }
+{}
+
+/// What `messages_have_own_challenges` says isn't true of everything that could be written down of a run: a small run
+/// meets it, and others, each with one part changed, don't.
+#[tactic(auto, using(crate::proofs::OwnChallengeExampleLaws::of_own_challenges))]
+pub fn own_challenges_tell_apart()
+    ensures { OfOwnChallenges }
+{}

@@ -1,0 +1,10 @@
+//! Small runs, written down by hand, that meet the claims on runs, and others that differ from them in one thing and
+//! don't. Nothing stands on it.
+#![tactic(auto)]
+
+mod laws;
+
+pub use laws::{
+    claims_tell_apart, grants_tell_apart, letting_in_tells_apart, own_challenges_tell_apart,
+    replies_tell_apart,
+};

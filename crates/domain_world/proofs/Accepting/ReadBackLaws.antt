@@ -1,0 +1,168 @@
+-- What is told of an answer is what its controller judged, read with the key of the channel.
+-- It serves `outcomes_are_read_back`.
+use Rattle.std.proofs.Common.{◌≡◌, ℕ, ◌==◌, Bool, true, false, List, Option, Some, None, Result, Ok, slice_get, refl, sym, ap, ◌∙◌, subst}
+use Rattle.std.specs.List.{AllByRecursion}
+use Rattle.std.proofs.lemmas.Bool.Decides.{Decides-eqb}
+use Rattle.authenticators.specs.Channels.{Channel, channel_key}
+use Rattle.authenticators.proofs.ChannelLaws.{channel_key-same}
+use Rattle.outside.specs.declared.action.Outcome.{Outcome}
+use Rattle.rpc_units.specs.Joining.{stub_of}
+use Rattle.logon_stubs.specs.Calls.{reply_of}
+use Rattle.logon_stubs.specs.Status.{access_denied}
+use Rattle.logon_stubs.specs.Structures.{has_extra}
+use Rattle.logon_stubs.specs.declared.calls.LogonReply.{LogonReply}
+use Rattle.logon_stubs.specs.declared.calls.Reply.{Reply}
+use Rattle.logon_stubs.specs.declared.calls.Reply.TheVariants as reply
+use Rattle.logon_stubs.specs.declared.info.SamInfo.{SamInfo}
+use Rattle.logon_stubs.specs.declared.info.Verdict.{Verdict}
+use Rattle.logon_stubs.specs.declared.info.Verdict.TheVariants.{Granted, Status}
+use Rattle.logon_stubs.specs.declared.refused.StubRefused.{StubRefused}
+use Rattle.sam_logon.specs.Granted.{at_level, with_extra_if}
+use Rattle.channel_client.specs.Hidden.{crypt_key}
+use Rattle.channel_client.specs.Machine.{judge_awaited, judge_level, judge_logon, judge_status, level_asked}
+use Rattle.channel_client.specs.Opened.{OpenState, after_return, is_awaited, open_key}
+use Rattle.channel_client.specs.declared.judging.Judgement.TheVariants as judgement
+use Rattle.channel_client.specs.declared.state.Standing.TheVariants as standing
+use Rattle.domain_controller.specs.Channels.{ChannelState, key_of_channel}
+use Rattle.domain_controller.specs.Laws.{IsNext}
+use Rattle.domain_controller.specs.Machine.{info_of, reply_info, status_of}
+use Rattle.member_server.specs.Outcomes.{outcome_of}
+use Rattle.member_server.specs.Turns.{ending_of}
+use Rattle.channel_events.specs.Marks.{OneOf, ReplyTo}
+use Rattle.step_notes.specs.ControllerNotes.{channel_by, channel_in, channel_with, has_passed}
+use Rattle.step_notes.specs.Judged.{channel_if, passed_channel}
+use Rattle.step_notes.specs.Marking.{mark_channel}
+use Rattle.step_notes.specs.Records.{Judging, MessageTaken, OutcomeTold, Sent}
+use Rattle.step_notes.specs.ReplySends.{IsReplyOfCall, verdict_passed}
+use Rattle.world_moves.specs.declared.bag.BagUnit.{BagUnit}
+use Rattle.world_moves.specs.Counting.{is_in}
+use Rattle.domain_world.specs.Accepting.Answered.{IsLetInAsRead, IsToldAsRead, outcome_read, verdict_read}
+use Rattle.domain_world.specs.Accepting.ReadBack.{IsLetInInTurn, IsReadIn, IsToldInTurn, OutcomesAreReadBack, RepliesAreReadBack, TurnsAreTold, TurnsLetIn}
+use Rattle.domain_world.specs.Past.{Past}
+use Rattle.channel_events.proofs.ListLaws.{all_weaker, one_weaker, some_is}
+
+-- ---- a reply that a member takes as an answer
+
+given_level : (right : Bool) (info : SamInfo) (o later : OpenState) (w : Verdict) → judge_level right (Some info) o ≡ judgement.Answer later w →
+    w ≡ Granted (record info { key = crypt_key (open_key o) info.key })
+given_level false info o later w is = absurd (let x = is in cc)
+given_level true info o later w is = cc
+
+level_given : (right : Bool) (level : ℕ) (info : SamInfo) (o later : OpenState) (w : Verdict) → (level == level_asked) ≡ right → judge_level right (Some info) o ≡ judgement.Answer later w → level ≡ 3
+level_given false level info o later w asked is = absurd (let x = is in cc)
+level_given true level info o later w asked is = (Decides-eqb level 3).0 asked
+
+no_info : (right : Bool) (o later : OpenState) (w : Verdict) → judge_level right None o ≡ judgement.Answer later w → ⊥
+no_info false o later w is = let x = is in cc
+no_info true o later w is = let x = is in cc
+
+given_granted : (awaited : Bool) (level : ℕ) (info : SamInfo) (o later : OpenState) (w : Verdict) → judge_awaited awaited 0 level (Some info) o ≡ judgement.Answer later w →
+    w ≡ Granted (record info { key = crypt_key (open_key o) info.key })
+given_granted false level info o later w is = absurd (let x = is in cc)
+given_granted true level info o later w is = given_level (level == level_asked) info (after_return true o) later w is
+
+status_by : (zero : Bool) (status level : ℕ) (o later : OpenState) (w : Verdict) → judge_status zero status level None o ≡ judgement.Answer later w → w ≡ Status status
+status_by false status level o later w is = cc
+status_by true status level o later w is = absurd (no_info (level == level_asked) o later w is)
+
+given_status : (awaited : Bool) (status level : ℕ) (o later : OpenState) (w : Verdict) → judge_awaited awaited status level None o ≡ judgement.Answer later w → w ≡ Status status
+given_status false status level o later w is = absurd (let x = is in cc)
+given_status true status level o later w is = status_by (status == 0) status level (after_return true o) later w is
+
+-- it is one at the level that is asked for, which carries all that is granted
+given_asked : (awaited : Bool) (level : ℕ) (info : SamInfo) (o later : OpenState) (w : Verdict) → judge_awaited awaited 0 level (Some info) o ≡ judgement.Answer later w → level ≡ 3
+given_asked false level info o later w is = absurd (let x = is in cc)
+given_asked true level info o later w is = level_given (level == level_asked) level info (after_return true o) later w refl is
+
+all_at : (level : ℕ) (info : SamInfo) → level ≡ 3 → at_level level info ≡ info
+unfolding at_level
+all_at level info three = ap (λ (has : Bool). with_extra_if has info) (ap has_extra three)
+
+read_as : (denied : Bool) (v : Verdict) (key credential : List ℕ) (level : ℕ) (o later : OpenState) (w : Verdict) → open_key o ≡ key →
+    judge_logon denied (standing.Open o) (Some (record { credential = credential; timestamp = 0 })) (status_of v) level (info_of level key v) ≡ judgement.Answer later w →
+    w ≡ verdict_read key v
+read_as true v key credential level o later w same is = absurd (let x = is in cc)
+read_as false (Granted info) key credential level o later w same is =
+    let carried : SamInfo = reply_info level key info in
+    let three : level ≡ 3 = given_asked (is_awaited o.awaited credential) level carried o later w is in
+    given_granted (is_awaited o.awaited credential) level carried o later w is
+    ∙ ap (λ (all : SamInfo). Granted (record all { key = crypt_key (open_key o) (crypt_key key info.key) })) (all_at level info three)
+    ∙ ap (λ (k : List ℕ). Granted (record info { key = crypt_key k (crypt_key key info.key) })) same
+read_as false (Status status) key credential level o later w same is = given_status (is_awaited o.awaited credential) status level o later w is
+
+reply_is : (found : Result Reply StubRefused) (one other : LogonReply) → found ≡ Ok (reply.Logon one) → found ≡ Ok (reply.Logon other) → one ≡ other
+reply_is found one other is also = cc
+
+-- ---- what is told
+
+module _ (past : Past) (back : RepliesAreReadBack past) where
+  -- the unit as the member read it, and the judging that it answers
+  read_of : (message : MessageTaken) (u : ℕ) (result : Outcome) (read : IsReadIn past message u result) (channel : Channel) (number request : ℕ) (j : Judging) →
+      read.sent.mark ≡ ReplyTo channel number request → IsReplyOfCall channel number request j read.carrier.bytes → result ≡ outcome_read channel j message
+  read_of message u result read channel number request j mark reply =
+      let next : IsNext j.computers j.logon = reply.carries.next in
+      let found : passed_channel j ≡ Some (channel_with j.controller next.computer next.channel) =
+      ap (λ (how : _). channel_if (has_passed how) j) reply.carries.how ∙ ap (λ (name : Option (List ℕ)). channel_in j.controller name j.computers) next.named
+      ∙ ap (λ (c : Option ChannelState). channel_by j.controller next.computer c) next.stands in
+      let its : channel_with j.controller next.computer next.channel ≡ channel = some_is (channel_with j.controller next.computer next.channel) channel (sym found ∙ reply.passed) in
+      let key : key_of_channel next.channel ≡ channel_key channel = ap channel_key its in
+      let named : read.named ≡ channel = some_is read.named channel (sym read.made ∙ ap mark_channel mark) in
+      let stood : open_key read.stood ≡ key_of_channel next.channel =
+      read.key ∙ sym (channel_key-same read.named read.channel read.same) ∙ ap channel_key named ∙ sym key in
+      let same = reply_is (reply_of 2 (stub_of read.whole.unit.body)) read.read _ read.reads (back u read.carrier read.sent read.there read.noted channel number request j mark reply read.whole) in
+      let verdict : read.verdict ≡ verdict_read (key_of_channel next.channel) (verdict_passed j) =
+      read_as (status_of (verdict_passed j) == access_denied) (verdict_passed j) (key_of_channel next.channel) _ j.logon.validation read.stood read.later read.verdict stood
+      (subst (λ (r : LogonReply). judge_logon (r.status == access_denied) (standing.Open read.stood) r.returned r.status r.level r.info ≡ judgement.Answer read.later read.verdict)
+      same read.judged) in
+      read.is ∙ ap (λ (v : Verdict). outcome_of (ending_of v) message.logon) (verdict ∙ ap (λ (k : List ℕ). verdict_read k (verdict_passed j)) key)
+
+  -- whichever unit and mark are meant, they are those
+  outcome_is : (message : MessageTaken) (u : ℕ) (result : Outcome) → IsReadIn past message u result → (carrier : BagUnit) (sent : Sent) (channel : Channel) (number request : ℕ)
+      (j : Judging) → slice_get past.world.state.bag u ≡ Some carrier → slice_get past.book.sent u ≡ Some sent → sent.mark ≡ ReplyTo channel number request →
+      IsReplyOfCall channel number request j carrier.bytes → result ≡ outcome_read channel j message
+  outcome_is message u result read carrier sent channel number request j there noted mark reply =
+      let one : carrier ≡ read.carrier = some_is carrier read.carrier (sym there ∙ read.there) in
+      let same : sent ≡ read.sent = some_is sent read.sent (sym noted ∙ read.noted) in
+      read_of message u result read channel number request j (sym (ap (λ (s : Sent). s.mark) same) ∙ mark)
+      (subst (λ (c : BagUnit). IsReplyOfCall channel number request j c.bytes) one reply)
+
+  told_as_read : TurnsAreTold past → past.book.clash ≡ false →
+      AllByRecursion (λ (message : MessageTaken). (unit : ℕ) → message.reply ≡ Some unit → (carrier : BagUnit) (sent : Sent)
+      (channel : Channel) (number request : ℕ) (j : Judging) → slice_get past.world.state.bag unit ≡ Some carrier → slice_get past.book.sent unit ≡ Some sent →
+      sent.mark ≡ ReplyTo channel number request → IsReplyOfCall channel number request j carrier.bytes → OneOf (IsToldAsRead channel message j) past.book.told) past.book.messages
+  told_as_read turns clear =
+      all_weaker (λ (message : MessageTaken). (u : ℕ) → message.reply ≡ Some u → OneOf (λ (told : OutcomeTold). IsToldInTurn past message u told) past.book.told)
+      (λ (message : MessageTaken). (unit : ℕ) → message.reply ≡ Some unit → (carrier : BagUnit) (sent : Sent)
+      (channel : Channel) (number request : ℕ) (j : Judging) → slice_get past.world.state.bag unit ≡ Some carrier → slice_get past.book.sent unit ≡ Some sent →
+      sent.mark ≡ ReplyTo channel number request → IsReplyOfCall channel number request j carrier.bytes → OneOf (IsToldAsRead channel message j) past.book.told)
+      past.book.messages
+      (λ message each unit taken carrier sent channel number request j there noted mark reply.
+      one_weaker (λ (told : OutcomeTold). IsToldInTurn past message unit told) (IsToldAsRead channel message j) past.book.told
+      (λ told turn. record {
+        link = turn.link;
+        member = turn.member;
+        outcome = outcome_is message unit told.outcome turn.reading carrier sent channel number request j there noted mark reply;
+      }) (each unit taken))
+      (turns clear)
+
+  let_in_as_read : TurnsLetIn past → past.book.clash ≡ false →
+      AllByRecursion (λ (told : OutcomeTold). is_in told.outcome ≡ true → OneOf (λ (message : MessageTaken). IsLetInAsRead past told message) past.book.messages) past.book.told
+  let_in_as_read turns clear =
+      all_weaker (λ (told : OutcomeTold). is_in told.outcome ≡ true → OneOf (λ (message : MessageTaken). IsLetInInTurn past told message) past.book.messages)
+      (λ (told : OutcomeTold). is_in told.outcome ≡ true → OneOf (λ (message : MessageTaken). IsLetInAsRead past told message) past.book.messages)
+      past.book.told
+      (λ told each in_is. one_weaker (λ (message : MessageTaken). IsLetInInTurn past told message) (λ (message : MessageTaken). IsLetInAsRead past told message) past.book.messages
+      (λ message turn. record {
+        link = sym turn.turn.link;
+        member = sym turn.turn.member;
+        unit = turn.unit;
+        reply = turn.reply;
+        outcome = outcome_is message turn.unit told.outcome turn.turn.reading;
+      }) (each in_is))
+      (turns clear)
+
+pub read_back : OutcomesAreReadBack
+read_back = record {
+  told = λ past back turns clear. told_as_read past back turns clear;
+  let_in = λ past back turns clear. let_in_as_read past back turns clear;
+}

@@ -1,0 +1,59 @@
+-- Where each unit is heard whole a run's claims on answers hold.
+-- It serves `runs_are_heard`.
+use Rattle.std.proofs.Common.{◌≡◌, ℕ, zero, suc, List, [], ◌∷◌, map, Some, slice_get, ap, ◌∙◌}
+use Rattle.channel_events.specs.Marks.{Mark}
+use Rattle.channel_events.specs.Requests.{CallsAreApart, Requests}
+use Rattle.step_notes.specs.Records.{Sent}
+use Rattle.world_moves.specs.declared.moves.Move.{Move}
+use Rattle.world_moves.specs.declared.plan.Plan.{Plan}
+use Rattle.world_moves.specs.Draws.{DrawsDiffer}
+use Rattle.domain_world.specs.Accepting.Answered.{AnswersAreHeard}
+use Rattle.domain_world.specs.Accepting.Carried.{CallsHaveNumbers}
+use Rattle.domain_world.specs.Accepting.Units.{HasMarksOf, RunsAreHeard, UnitsAreHeard}
+use Rattle.domain_world.specs.Past.{Past, past}
+use Rattle.channel_events.proofs.ListLaws.{got_nothing, some_is}
+use Rattle.domain_world.proofs.Accepting.AnsweredLaws.{accepts_all, accepts_only, keys_agree, raises_once}
+use Rattle.domain_world.proofs.Accepting.AnsweredRunLaws.{is_proved}
+use Rattle.domain_world.proofs.Accepting.CarriedLaws.{carried_heard}
+use Rattle.domain_world.proofs.Accepting.KeyLaws.{keys_made}
+use Rattle.domain_world.proofs.Accepting.ReadBackLaws.{read_back}
+use Rattle.domain_world.proofs.Challenges.MessageApartLaws.{messages_apart}
+use Rattle.domain_world.proofs.Judgements.ReplyLaws.{replies_carry}
+use Rattle.domain_world.proofs.Judgements.UnclashedLaws.{passes_unclashed}
+use Rattle.domain_world.proofs.Requests.MarkWayLaws.{marks_have_their_way}
+
+got_mapped : {S T : Type 0} (f : S → T) (items : List S) (k : ℕ) (item : S) → slice_get items k ≡ Some item → slice_get (map f items) k ≡ Some (f item)
+got_mapped f [] k item there = absurd (got_nothing k item there)
+got_mapped f (one ∷ items) zero item there = ap (λ (found : _). Some (f found)) (some_is one item there)
+got_mapped f (one ∷ items) (suc k) item there = got_mapped f items k item there
+
+calls_numbered : (past : Past) (r : Requests ℕ) → HasMarksOf past r → CallsAreApart r → CallsHaveNumbers past
+calls_numbered past r marks apart n m number timestamp later c d one other there also mark mark_too same =
+    apart.distinct n m number timestamp later c d
+    (ap (λ (all : List Mark). slice_get all n) marks ∙ got_mapped (λ (s : Sent). s.mark) past.book.sent n one there ∙ ap Some mark)
+    (ap (λ (all : List Mark). slice_get all m) marks ∙ got_mapped (λ (s : Sent). s.mark) past.book.sent m other also ∙ ap Some mark_too)
+    same
+
+heard_in : (plan : Plan) (moves : List Move) → UnitsAreHeard (past plan moves) → DrawsDiffer (past plan moves).world → AnswersAreHeard (past plan moves)
+heard_in plan moves heard differ =
+    let its : Past = past plan moves in
+    record {
+      passes = passes_unclashed plan moves;
+      alike = carried_heard.alike its heard.judged;
+      asks = carried_heard.asks its heard.judged heard.called;
+      answers = carried_heard.answers its heard.whole (marks_have_their_way plan moves) heard.judged (passes_unclashed plan moves) (replies_carry plan moves) heard.numbers heard.turns;
+      told = read_back.told its heard.back heard.told;
+      messages = messages_apart plan moves;
+      let_in = read_back.let_in its heard.back heard.let_in;
+      keys = keys_made its heard.made heard.taken;
+    }
+
+pub runs_heard : RunsAreHeard
+runs_heard = record {
+  numbers = calls_numbered;
+  heard = heard_in;
+  only = λ plan moves heard differ clear. accepts_only (past plan moves) (is_proved plan moves differ) (heard_in plan moves heard differ) clear;
+  all = λ plan moves heard differ clear. accepts_all (past plan moves) (is_proved plan moves differ) (heard_in plan moves heard differ) clear;
+  keys = λ plan moves heard differ clear. keys_agree (past plan moves) (is_proved plan moves differ) (heard_in plan moves heard differ) clear;
+  counts = λ plan moves heard differ clear. raises_once (past plan moves) (is_proved plan moves differ) (heard_in plan moves heard differ) clear;
+}

@@ -1,0 +1,487 @@
+-- What holds of each unit of the bag and its mark, through all moves of a run: whatever holds where an end makes a unit
+-- for a mark, and goes on holding as more is written down. It may rest on something of the ends, the maker of
+-- challenges and the links that holds through all moves (`FrameLaws`). It serves `each_unit_is_marked`.
+use Rattle.std.proofs.Common.{◌≡◌, ℕ, ◌+◌, Bool, true, false, List, [], ◌∷◌, ◌++◌, drop, length, map, inl, inr, Option, Some, None, slice_get, refl, ap, sym, subst, ◌∙◌, arith, length-append}
+use Rattle.std.specs.Prelude.{◌-◌, ◌≤◌, replicate}
+use Rattle.std.specs.List.{AllByRecursion}
+use Rattle.std.proofs.lemmas.List.{drop_at, length-map, length-replicate}
+use Rattle.wire_base.specs.Maps.{lookup, same_number}
+use Rattle.outside.specs.Drawing.{Drawing}
+use Rattle.outside.specs.declared.event.Event.TheVariants as event
+use Rattle.domain_controller.specs.State.{State as ControllerState}
+use Rattle.domain_controller.specs.Step.{step_of as controller_step_of}
+use Rattle.logon_client.specs.State.{State as ClientState}
+use Rattle.member_server.specs.State.{State as MemberState}
+use Rattle.member_server.specs.declared.state.AtTurn.{AtTurn}
+use Rattle.member_server.specs.declared.state.TurnTalk.{TurnTalk}
+use Rattle.channel_events.specs.Marks.{Mark, Plain}
+use Rattle.step_notes.specs.Marking.{answered_marks, turn_marks}
+use Rattle.step_notes.specs.MemberNotes.{turn_note, turn_units}
+use Rattle.step_notes.specs.Records.{Book, Sent, blank}
+use Rattle.step_notes.specs.Served.{ServedUnit}
+use Rattle.world_moves.specs.declared.bag.BagUnit.{BagUnit}
+use Rattle.world_moves.specs.declared.links.EndId.{EndId}
+use Rattle.world_moves.specs.declared.links.EndId.TheVariants.{Controller, Member, Client}
+use Rattle.world_moves.specs.declared.links.Route.{Route}
+use Rattle.world_moves.specs.declared.moves.Move.{Move}
+use Rattle.world_moves.specs.declared.moves.Move.TheVariants as move
+use Rattle.world_moves.specs.declared.plan.Plan.{Plan}
+use Rattle.world_moves.specs.declared.state.State.{State}
+use Rattle.world_moves.specs.Acting.{Heard, done, heard_by, hears, hears_if, piece_comes, pieces_come}
+use Rattle.world_moves.specs.Bag.{first_waiting, pieces_of, settle_at, settled}
+use Rattle.world_moves.specs.Choosing.{chosen_in, chosen_place}
+use Rattle.world_moves.specs.Ends.{EndStates, actions_by, controller_step, member_step}
+use Rattle.world_moves.specs.Links.{handed_links, hearer_of, links_of}
+use Rattle.world_moves.specs.Moving.{act, come_by, come_on_own, deliver_by, deliver_on, deliver_unit, hand_on, onward_by, settle}
+use Rattle.world_moves.specs.World.{World, first_world, given_at, happens, run}
+use Rattle.domain_world.specs.Claims.MarkedUnits.{EachUnitIsMarked}
+use Rattle.domain_world.specs.Past.{Coming, answers_of, at_controller, book, controller_of, first_of, later_of, marks_of, note, note_at, note_chosen, note_client, note_coming, note_controller, note_deliver, note_hand, note_member, note_messages, note_on, note_onward, note_own, note_pieces, note_turn, note_turns, note_unit, numbers_on, past, sent_at}
+use Rattle.channel_events.proofs.ListLaws.{got_append, got_nothing}
+use Rattle.world_moves.proofs.LinkFrameLaws.{HasNoBytes, IsOnLink, LinkFact, StaysAlways, actions_stay, heard_stays, move_stays}
+use Rattle.domain_world.proofs.Frames.FrameLaws.{Fact, HoldsIn, StaysWritten, end_stays, note_stays}
+use Rattle.domain_world.proofs.Frames.FrontLaws.{controller_unit}
+use Rattle.domain_world.proofs.Frames.MarkPlaceLaws.{got_beside, got_later, got_map, got_replicate, got_settled, later_or, marks_length, no_longer, settled_length}
+use Rattle.domain_world.proofs.Frames.NewUnitLaws.{IsNewUnit}
+use Rattle.domain_world.proofs.Frames.OpenMadeLaws.{IsAsMade, IsAtSide, IsMore, MoreOf, OpenAsMade, as_made, goes_on, hears_side, no_more, same_side}
+
+-- ---- what is to hold of each unit
+
+-- by a part of what is written down: something of a unit of the bag, its number and its mark
+abbrev pub UnitFact : Type 0 → Type 1
+UnitFact X = X → ℕ → BagUnit → Mark → Type 0
+
+-- the unit of that number is in the bag, and it holds of it
+pub record IsOfUnit {X : Type 0} (P : UnitFact X) (x : X) (bag : List BagUnit) (number : ℕ) (mark : Mark) : Type 0 where
+  pub unit : BagUnit
+  pub there : slice_get bag number ≡ Some unit
+  pub holds : P x number unit mark
+
+-- it holds of each unit that has a mark yet
+abbrev pub OfEachUnit : {X : Type 0} → UnitFact X → X → List BagUnit → List Sent → Type 0
+OfEachUnit P x bag sent = (number : ℕ) (one : Sent) → slice_get sent number ≡ Some one → IsOfUnit P x bag number one.mark
+
+-- ---- the marks that bytes come to at an end
+
+abbrev pub controller_marks : ℕ → ControllerState → Coming → List ℕ → State → List Mark
+controller_marks at c w piece s = answered_marks (answers_of at c w piece s)
+
+abbrev pub member_marks : ℕ → MemberState → Coming → List ℕ → State → List Mark
+member_marks at m w piece s = turn_marks (map (turn_note (controller_of at s)) (turn_units m w.link piece s.moment s.chances.left))
+
+-- ---- more is written down
+
+-- The part of the book is now that: the units that had marks have them, and it holds of each new one.
+goes_on_with : {X : Type 0} (P : UnitFact X) (x now : X) (bag units : List BagUnit) (sent : List Sent) (marks : List Mark) (at : ℕ) → length sent ≡ length bag →
+    ((number : ℕ) (unit : BagUnit) (one : Sent) → slice_get bag number ≡ Some unit → slice_get sent number ≡ Some one → P x number unit one.mark → P now number unit one.mark) →
+    length marks ≡ length units →
+    ((place : ℕ) (unit : BagUnit) (mark : Mark) → slice_get units place ≡ Some unit → slice_get marks place ≡ Some mark → P now (length bag + place) unit mark) →
+    OfEachUnit P x bag sent → OfEachUnit P now (bag ++ units) (sent ++ map (sent_at at) marks)
+goes_on_with P x now bag units sent marks at same grows size fresh each number one is =
+    elim (later_or sent (map (sent_at at) marks) number one is) [
+      | inl old ↦ let had : IsOfUnit P x bag number one.mark = each number one old in
+          record {
+            unit = had.unit;
+            there = got_append bag units number had.unit had.there;
+            holds = grows number had.unit one had.there old had.holds;
+          }
+      | inr new ↦ let made : (mark : Mark) × (slice_get marks new.place ≡ Some mark) × (sent_at at mark ≡ one) = got_map (sent_at at) marks new.place one new.there in
+          let beside : (unit : BagUnit) × (slice_get units new.place ≡ Some unit) = got_beside marks units new.place made.0 size made.1 in
+          let here : length bag + new.place ≡ number = omega (arith, same, new.is) in
+          subst (λ (o : Sent). IsOfUnit P now (bag ++ units) number o.mark) made.2
+          (subst (λ (n : ℕ). IsOfUnit P now (bag ++ units) n made.0) here (record {
+            unit = beside.0;
+            there = got_later bag units new.place beside.0 beside.1;
+            holds = fresh new.place beside.0 made.0 beside.1 made.1;
+          }))
+    ]
+
+-- ---- what is to be shown
+
+-- It holds of every unit that is made for no channel, and goes on holding where a unit is delivered or lost, and where
+-- more is written down of bytes that an end hears. It holds of each unit that a controller sends for a mark on the link
+-- on which bytes came to it, and of each that goes into the bag where a member hears bytes, by the mark that the unit
+-- gets. All units had their marks before, and the new ones are behind them.
+pub record MarksStay {X : Type 0} (part : Book → X) (Side : X → Fact) (P : UnitFact X) : Type 0 where
+  pub plain : (x : X) (number : ℕ) (unit : BagUnit) → P x number unit Plain
+  pub settles : (x : X) (number : ℕ) (unit : BagUnit) (mark : Mark) → P x number unit mark → P x number (settled unit) mark
+  pub grows : (end : EndId) (w : Coming) (piece : List ℕ) (s after : State) (b : Book) (number : ℕ) (unit : BagUnit) (one : Sent) → HoldsIn (Side (part b)) s →
+      slice_get s.bag number ≡ Some unit → slice_get b.sent number ≡ Some one → P (part b) number unit one.mark →
+      P (part (note_at (Some end) w piece s after b)) number unit one.mark
+  pub controllers : (c : ControllerState) (at : ℕ) (w : Coming) (piece : List ℕ) (s after : State) (b : Book) (number : ℕ) (unit : BagUnit) (mark : Mark) →
+      slice_get s.ends.controllers at ≡ Some c → HoldsIn (Side (part b)) s → length b.sent ≡ length s.bag →
+      IsNewUnit w.link true (actions_by (controller_step_of c (event.Bytes w.link piece) s.moment s.chances.left).answer) (controller_marks at c w piece s)
+      (numbers_on w.link true s.bag after.bag) number unit mark →
+      P (part (note_controller (Some c) at w piece s after b)) number unit mark
+  pub members : (m : MemberState) (at : ℕ) (w : Coming) (piece : List ℕ) (s : State) (b : Book) → slice_get s.ends.members at ≡ Some m → HoldsIn (Side (part b)) s →
+      IsAtSide s.links w.link w.back (Member at) → length b.sent ≡ length s.bag →
+      let after : State = (done (Member at) (heard_by (member_step (Some m) at (event.Bytes w.link piece) s.moment s.ends s.chances) s)).state in
+      (units : List BagUnit) → after.bag ≡ s.bag ++ units → AllByRecursion (IsOnLink s.links) units → (place : ℕ) (unit : BagUnit) (mark : Mark) →
+      slice_get units place ≡ Some unit → slice_get (marks_of w.link false units (member_marks at m w piece s)) place ≡ Some mark →
+      P (part (note_member (Some m) at w piece s after b)) (length s.bag + place) unit mark
+
+-- the same by the units that the step adds to the bag, whatever end sends them
+record StepsMark {X : Type 0} (part : Book → X) (Side : X → Fact) (P : UnitFact X) : Type 0 where
+  plain : (x : X) (number : ℕ) (unit : BagUnit) → P x number unit Plain
+  settles : (x : X) (number : ℕ) (unit : BagUnit) (mark : Mark) → P x number unit mark → P x number (settled unit) mark
+  grows : (end : EndId) (w : Coming) (piece : List ℕ) (s after : State) (b : Book) (number : ℕ) (unit : BagUnit) (one : Sent) → HoldsIn (Side (part b)) s →
+      slice_get s.bag number ≡ Some unit → slice_get b.sent number ≡ Some one → P (part b) number unit one.mark →
+      P (part (note_at (Some end) w piece s after b)) number unit one.mark
+  controllers : (c : ControllerState) (at : ℕ) (w : Coming) (piece : List ℕ) (s : State) (b : Book) → slice_get s.ends.controllers at ≡ Some c → HoldsIn (Side (part b)) s →
+      IsAtSide s.links w.link w.back (Controller at) → length b.sent ≡ length s.bag →
+      let after : State = (done (Controller at) (heard_by (controller_step (Some c) at (event.Bytes w.link piece) s.moment s.ends s.chances) s)).state in
+      (units : List BagUnit) → after.bag ≡ s.bag ++ units → AllByRecursion (IsOnLink s.links) units → (place : ℕ) (unit : BagUnit) (mark : Mark) →
+      slice_get units place ≡ Some unit → slice_get (marks_of w.link true units (controller_marks at c w piece s)) place ≡ Some mark →
+      P (part (note_controller (Some c) at w piece s after b)) (length s.bag + place) unit mark
+  members : (m : MemberState) (at : ℕ) (w : Coming) (piece : List ℕ) (s : State) (b : Book) → slice_get s.ends.members at ≡ Some m → HoldsIn (Side (part b)) s →
+      IsAtSide s.links w.link w.back (Member at) → length b.sent ≡ length s.bag →
+      let after : State = (done (Member at) (heard_by (member_step (Some m) at (event.Bytes w.link piece) s.moment s.ends s.chances) s)).state in
+      (units : List BagUnit) → after.bag ≡ s.bag ++ units → AllByRecursion (IsOnLink s.links) units → (place : ℕ) (unit : BagUnit) (mark : Mark) →
+      slice_get units place ≡ Some unit → slice_get (marks_of w.link false units (member_marks at m w piece s)) place ≡ Some mark →
+      P (part (note_member (Some m) at w piece s after b)) (length s.bag + place) unit mark
+
+-- it holds of each unit, and each unit has its mark
+record IsMarked {X : Type 0} (P : UnitFact X) (x : X) (bag : List BagUnit) (sent : List Sent) : Type 0 where
+  each : OfEachUnit P x bag sent
+  all : length sent ≡ length bag
+
+abbrev hear_bytes : EndId → Coming → List ℕ → State → State
+hear_bytes end w piece s = (hears end (event.Bytes w.link piece) s).state
+
+-- what holds where a move begins
+record Begins {X : Type 0} (part : Book → X) (Side : X → Fact) (P : UnitFact X) (s : State) (b : Book) : Type 0 where
+  side : HoldsIn (Side (part b)) s
+  made : AllByRecursion (IsAsMade s.links) s.open_links
+  marked : IsMarked P (part b) s.bag b.sent
+
+abbrev IsServer : EndId → Type 0
+IsServer (Controller at) = Unit {0}
+IsServer (Member at) = Unit {0}
+IsServer (Client at) = ⊥
+
+-- and between the pieces of what comes: each unit has its mark, unless a client is at that side of the link
+record Goes {X : Type 0} (part : Book → X) (Side : X → Fact) (P : UnitFact X) (w : Coming) (s : State) (b : Book) : Type 0 where
+  side : HoldsIn (Side (part b)) s
+  made : AllByRecursion (IsAsMade s.links) s.open_links
+  each : OfEachUnit P (part b) s.bag b.sent
+  all : (end : EndId) → IsAtSide s.links w.link w.back end → IsServer end → length b.sent ≡ length s.bag
+
+-- and where it ends, before the other units get their marks
+record Comes {X : Type 0} (P : UnitFact X) (x : X) (s : State) (sent : List Sent) : Type 0 where
+  made : AllByRecursion (IsAsMade s.links) s.open_links
+  each : OfEachUnit P x s.bag sent
+
+abbrev EachOf : {X : Type 0} → UnitFact X → X → List Sent → LinkFact
+EachOf P x sent links map bag = OfEachUnit P x bag sent
+
+module _ {X : Type 0} (part : Book → X) (Side : X → Fact) (P : UnitFact X) (written : StaysWritten part Side) (stays : StepsMark part Side P) where
+  -- ---- an end hears bytes
+
+  -- the new units get these marks
+  marked_more : (x now : X) (s : State) (after : List BagUnit) (sent : List Sent) (link : ℕ) (back : Bool) (marks : List Mark) (at : ℕ) (units : List BagUnit) → after ≡ s.bag ++ units →
+      ((number : ℕ) (unit : BagUnit) (one : Sent) → slice_get s.bag number ≡ Some unit → slice_get sent number ≡ Some one → P x number unit one.mark → P now number unit one.mark) →
+      ((place : ℕ) (unit : BagUnit) (mark : Mark) → slice_get units place ≡ Some unit → slice_get (marks_of link back units marks) place ≡ Some mark →
+      P now (length s.bag + place) unit mark) → IsMarked P x s.bag sent →
+      IsMarked P now after (sent ++ map (sent_at at) (marks_of link back (drop (length s.bag) after) marks))
+  marked_more x now s after sent link back marks at units is grows fresh before =
+      let new : drop (length s.bag) after ≡ units = ap (λ (bag : List BagUnit). drop (length s.bag) bag) is ∙ drop_at s.bag units (length s.bag) refl in
+      let all : List Sent = sent ++ map (sent_at at) (marks_of link back units marks) in
+      let each : OfEachUnit P now (s.bag ++ units) all =
+      goes_on_with P x now s.bag units sent (marks_of link back units marks) at before.all grows (marks_length link back units marks) fresh before.each in
+      let size : length all ≡ length (s.bag ++ units) =
+      omega (
+        arith,
+        before.all,
+        length-append sent (map (sent_at at) (marks_of link back units marks)),
+        length-map (marks_of link back units marks) (sent_at at),
+        marks_length link back units marks,
+        length-append s.bag units,
+      ) in
+      let both : IsMarked P now (s.bag ++ units) all = record { each = each; all = size } in
+      subst (λ (bag : List BagUnit). IsMarked P now bag (sent ++ map (sent_at at) (marks_of link back (drop (length s.bag) after) marks))) (sym is)
+      (subst (λ (more : List BagUnit). IsMarked P now (s.bag ++ units) (sent ++ map (sent_at at) (marks_of link back more marks))) (sym new) both)
+
+  controller_hears : (found : Option ControllerState) (at : ℕ) (w : Coming) (piece : List ℕ) (s : State) (b : Book) → slice_get s.ends.controllers at ≡ found → HoldsIn (Side (part b)) s →
+      IsAtSide s.links w.link w.back (Controller at) → IsMarked P (part b) s.bag b.sent →
+      let after : State = (done (Controller at) (heard_by (controller_step found at (event.Bytes w.link piece) s.moment s.ends s.chances) s)).state in
+      let now : Book = note_controller found at w piece s after b in
+      ((number : ℕ) (unit : BagUnit) (one : Sent) → slice_get s.bag number ≡ Some unit → slice_get b.sent number ≡ Some one → P (part b) number unit one.mark → P (part now) number unit one.mark) →
+      IsMarked P (part now) after.bag now.sent
+  controller_hears None at w piece s b is side hears before grows = before
+  controller_hears (Some c) at w piece s b is side hears before grows =
+      let heard : Heard = heard_by (controller_step (Some c) at (event.Bytes w.link piece) s.moment s.ends s.chances) s in
+      let after : State = (done (Controller at) heard).state in
+      let more : IsMore s.links s.bag after.links after.bag = actions_stay (MoreOf s.links s.bag) (goes_on s.links s.bag) (Controller at) heard.actions heard.state (no_more s.links s.bag) in
+      marked_more (part b) (part (note_controller (Some c) at w piece s after b)) s after.bag b.sent w.link true (controller_marks at c w piece s) w.at more.units more.is grows
+      (λ place unit mark there marked. stays.controllers c at w piece s b is side hears before.all more.units more.is more.on place unit mark there marked) before
+
+  turns_sent : (controller : ℕ) (units : List (ServedUnit AtTurn TurnTalk)) (unit : Option ℕ) (numbers : List ℕ) (b : Book) → (note_turns controller units unit numbers b).sent ≡ b.sent
+  turns_sent controller [] unit numbers b = refl
+  turns_sent controller (served ∷ units) unit numbers b =
+      turns_sent controller units unit (later_of (turn_note controller served).sends numbers) (note_turn (turn_note controller served) served unit (first_of numbers) b)
+
+  member_hears : (found : Option MemberState) (at : ℕ) (w : Coming) (piece : List ℕ) (s : State) (b : Book) → slice_get s.ends.members at ≡ found → HoldsIn (Side (part b)) s →
+      IsAtSide s.links w.link w.back (Member at) → IsMarked P (part b) s.bag b.sent →
+      let after : State = (done (Member at) (heard_by (member_step found at (event.Bytes w.link piece) s.moment s.ends s.chances) s)).state in
+      let now : Book = note_member found at w piece s after b in
+      ((number : ℕ) (unit : BagUnit) (one : Sent) → slice_get s.bag number ≡ Some unit → slice_get b.sent number ≡ Some one → P (part b) number unit one.mark → P (part now) number unit one.mark) →
+      IsMarked P (part now) after.bag now.sent
+  member_hears None at w piece s b is side hears before grows = before
+  member_hears (Some m) at w piece s b is side hears before grows =
+      let heard : Heard = heard_by (member_step (Some m) at (event.Bytes w.link piece) s.moment s.ends s.chances) s in
+      let after : State = (done (Member at) heard).state in
+      let now : X = part (note_member (Some m) at w piece s after b) in
+      let more : IsMore s.links s.bag after.links after.bag = actions_stay (MoreOf s.links s.bag) (goes_on s.links s.bag) (Member at) heard.actions heard.state (no_more s.links s.bag) in
+      let old : List Sent = (note_turns (controller_of at s) (turn_units m w.link piece s.moment s.chances.left) w.unit (numbers_on w.link false s.bag after.bag) (note_messages at m w piece s b)).sent in
+      let same : old ≡ b.sent =
+      turns_sent (controller_of at s) (turn_units m w.link piece s.moment s.chances.left) w.unit (numbers_on w.link false s.bag after.bag) (note_messages at m w piece s b) in
+      subst (λ (sent : List Sent). IsMarked P now after.bag (sent ++ map (sent_at w.at) (marks_of w.link false (drop (length s.bag) after.bag) (member_marks at m w piece s)))) (sym same)
+      (marked_more (part b) now s after.bag b.sent w.link false (member_marks at m w piece s) w.at more.units more.is grows
+      (λ place unit mark there marked. stays.members m at w piece s b is side hears before.all more.units more.is more.on place unit mark there marked) before)
+
+  each_more : (x now : X) (bag units after : List BagUnit) (sent : List Sent) → after ≡ bag ++ units →
+      ((number : ℕ) (unit : BagUnit) (one : Sent) → slice_get bag number ≡ Some unit → slice_get sent number ≡ Some one → P x number unit one.mark → P now number unit one.mark) →
+      OfEachUnit P x bag sent → OfEachUnit P now after sent
+  each_more x now bag units after sent is grows each number one there =
+      let had : IsOfUnit P x bag number one.mark = each number one there in
+      record {
+        unit = had.unit;
+        there = ap (λ (all : List BagUnit). slice_get all number) is ∙ got_append bag units number had.unit had.there;
+        holds = grows number had.unit one had.there there had.holds;
+      }
+
+  client_sent : (found : Option ClientState) (client : ℕ) (w : Coming) (piece : List ℕ) (s : State) (b : Book) → (note_client found client w piece s b).sent ≡ b.sent
+  client_sent None client w piece s b = refl
+  client_sent (Some c) client w piece s b = refl
+
+  abbrev EndHeard : EndId → Coming → List ℕ → State → Book → State → Type 0
+  EndHeard end w piece s b after =
+      OfEachUnit P (part (note_at (Some end) w piece s after b)) after.bag (note_at (Some end) w piece s after b).sent
+      × (IsServer end → length (note_at (Some end) w piece s after b).sent ≡ length after.bag)
+
+  end_hears : (end : EndId) (w : Coming) (piece : List ℕ) (s : State) (b : Book) → HoldsIn (Side (part b)) s → IsAtSide s.links w.link w.back end →
+      OfEachUnit P (part b) s.bag b.sent → (IsServer end → length b.sent ≡ length s.bag) → EndHeard end w piece s b (hears end (event.Bytes w.link piece) s).state
+  end_hears (Controller at) w piece s b side hears each all =
+      let after : State = (hear_bytes (Controller at) w piece s) in
+      let marked : IsMarked P (part (note_at (Some (Controller at)) w piece s after b)) after.bag (note_at (Some (Controller at)) w piece s after b).sent =
+      controller_hears (slice_get s.ends.controllers at) at w piece s b refl side hears (record { each = each; all = all tt })
+      (λ number unit one there sent holds. stays.grows (Controller at) w piece s after b number unit one side there sent holds) in
+      (marked.each, (λ server. marked.all))
+  end_hears (Member at) w piece s b side hears each all =
+      let after : State = (hear_bytes (Member at) w piece s) in
+      let marked : IsMarked P (part (note_at (Some (Member at)) w piece s after b)) after.bag (note_at (Some (Member at)) w piece s after b).sent =
+      member_hears (slice_get s.ends.members at) at w piece s b refl side hears (record { each = each; all = all tt })
+      (λ number unit one there sent holds. stays.grows (Member at) w piece s after b number unit one side there sent holds) in
+      (marked.each, (λ server. marked.all))
+  end_hears (Client at) w piece s b side hears each all =
+      let after : State = (hear_bytes (Client at) w piece s) in
+      let now : X = part (note_at (Some (Client at)) w piece s after b) in
+      let more : IsMore s.links s.bag after.links after.bag = heard_stays (MoreOf s.links s.bag) (goes_on s.links s.bag) (Client at) (event.Bytes w.link piece) s (no_more s.links s.bag) in (
+        subst (λ (sent : List Sent). OfEachUnit P now after.bag sent) (sym (client_sent (slice_get s.ends.clients at) at w piece s b))
+            (each_more (part b) now s.bag more.units after.bag b.sent more.is
+            (λ number unit one there sent holds. stays.grows (Client at) w piece s after b number unit one side there sent holds) each),
+        (λ server. absurd server),
+      )
+
+  piece_goes : (end : Option EndId) (w : Coming) (piece : List ℕ) (s : State) (b : Book) → hearer_of w.back (lookup same_number w.link s.open_links) ≡ end → Goes part Side P w s b →
+      Goes part Side P w (hears_if end (event.Bytes w.link piece) s).state (note_at end w piece s (hears_if end (event.Bytes w.link piece) s).state b)
+  piece_goes None w piece s b is goes = goes
+  piece_goes (Some end) w piece s b is goes =
+      let after : State = (hear_bytes end w piece s) in
+      let here : IsAtSide s.links w.link w.back end = hears_side w.back w.link s.links s.open_links end goes.made is in
+      let more : IsMore s.links s.bag after.links after.bag = heard_stays (MoreOf s.links s.bag) (goes_on s.links s.bag) end (event.Bytes w.link piece) s (no_more s.links s.bag) in
+      let heard : EndHeard end w piece s b after = end_hears end w piece s b goes.side here goes.each (λ server. goes.all end here server) in
+      record {
+        side = end_stays part Side written (Some end) w piece s after b goes.side;
+        made = heard_stays OpenAsMade as_made.steps end (event.Bytes w.link piece) s goes.made;
+        each = heard.0;
+        all = λ other there server. heard.1 (subst IsServer (same_side other end s.links w.link w.back (subst (λ (links : List Route). IsAtSide links w.link w.back other) more.links_same there) here) server);
+      }
+
+  pieces_go : (w : Coming) (pieces : List (List ℕ)) (s : State) (b : Book) → Goes part Side P w s b →
+      Comes P (part (note_pieces w pieces s b)) (pieces_come w.back w.link pieces s).state (note_pieces w pieces s b).sent
+  pieces_go w [] s b goes = record { made = goes.made; each = goes.each }
+  pieces_go w (piece ∷ pieces) s b goes =
+      let end : Option EndId = hearer_of w.back (lookup same_number w.link s.open_links) in
+      let after : State = (piece_comes w.back w.link piece s).state in
+      pieces_go w pieces after (note_at end w piece s after b) (piece_goes end w piece s b refl goes)
+
+  first_goes : (w : Coming) (s : State) (b : Book) → Begins part Side P s b → Goes part Side P w s b
+  first_goes w s b begins = record { side = begins.side; made = begins.made; each = begins.marked.each; all = λ end there server. begins.marked.all }
+
+  -- ---- moves at which bytes come
+
+  begins_still : (s : State) (b : Book) → Begins part Side P s b → Comes P (part b) s b.sent
+  begins_still s b begins = record { made = begins.made; each = begins.marked.each }
+
+  settled_each : (x : X) (number : ℕ) (bag : List BagUnit) (sent : List Sent) → OfEachUnit P x bag sent → OfEachUnit P x (settle_at number bag) sent
+  settled_each x number bag sent each k one there =
+      let had : IsOfUnit P x bag k one.mark = each k one there in
+      elim (got_settled bag number k had.unit had.there) [
+        | inl same ↦ record { unit = had.unit; there = same; holds = had.holds }
+        | inr now ↦ record { unit = settled had.unit; there = now; holds = stays.settles x k had.unit one.mark had.holds }
+      ]
+
+  each_always : (x : X) (sent : List Sent) → StaysAlways (EachOf P x sent)
+  each_always x sent = record {
+    steps = record {
+      sends = λ unit links map bag on each. each_more x x bag (unit ∷ []) (bag ++ unit ∷ []) sent refl (λ number here one there mark holds. holds) each;
+      shuts = λ link links map bag each. each;
+    };
+    opens = λ route links map bag each. each;
+    answers = λ link there links map bag is each. each;
+    forgets = λ end links map bag each. each;
+    settles = λ number links map bag each. settled_each x number bag sent each;
+  }
+
+  settled_begins : (number : ℕ) (s : State) (b : Book) → Begins part Side P s b → Begins part Side P (settle number s) b
+  settled_begins number s b begins = record {
+    side = begins.side;
+    made = begins.made;
+    marked = record { each = settled_each (part b) number s.bag b.sent begins.marked.each; all = begins.marked.all ∙ sym (settled_length number s.bag) };
+  }
+
+  unit_comes : (unit : Option BagUnit) (number link at : ℕ) (s : State) (b : Book) → Begins part Side P s b →
+      Comes P (part (note_unit unit number link at s b)) (come_by unit link s).state (note_unit unit number link at s b).sent
+  unit_comes None number link at s b begins = begins_still s b begins
+  unit_comes (Some unit) number link at s b begins =
+      let w : Coming = record { at = at; unit = Some number; link = link; back = unit.back } in pieces_go w (pieces_of unit.bytes) s b (first_goes w s b begins)
+
+  own_comes : (unit : Option BagUnit) (number at : ℕ) (s : State) (b : Book) → Begins part Side P s b →
+      Comes P (part (note_own unit number at s b)) (come_on_own unit number s).state (note_own unit number at s b).sent
+  own_comes None number at s b begins = begins_still s b begins
+  own_comes (Some unit) number at s b begins = unit_comes (slice_get (settle number s).bag number) number unit.link at (settle number s) b (settled_begins number s b begins)
+
+  onward_comes : (number : Option ℕ) (at : ℕ) (s : State) (b : Book) → Begins part Side P s b →
+      Comes P (part (note_onward number at s b)) (onward_by number s).state (note_onward number at s b).sent
+  onward_comes None at s b begins = begins_still s b begins
+  onward_comes (Some number) at s b begins = own_comes (slice_get s.bag number) number at s b begins
+
+  on_comes : (link : Option ℕ) (number at : ℕ) (s : State) (b : Book) → Begins part Side P s b →
+      Comes P (part (note_on link number at s b)) (deliver_on link number s).state (note_on link number at s b).sent
+  on_comes None number at s b begins = begins_still s b begins
+  on_comes (Some link) number at s b begins = unit_comes (slice_get (settle number s).bag number) number link at (settle number s) b (settled_begins number s b begins)
+
+  chosen_comes : (unit : Option BagUnit) (number link at : ℕ) (s : State) (b : Book) → Begins part Side P s b →
+      Comes P (part (note_chosen unit number link at s b)) (deliver_unit unit number link s).state (note_chosen unit number link at s b).sent
+  chosen_comes None number link at s b begins = begins_still s b begins
+  chosen_comes (Some unit) number link at s b begins = on_comes (chosen_in link (links_of unit.kind s.links)) number at s b begins
+
+  deliver_comes : (number : Option ℕ) (link at : ℕ) (s : State) (b : Book) → Begins part Side P s b →
+      Comes P (part (note_deliver number link at s b)) (deliver_by number link s).state (note_deliver number link at s b).sent
+  deliver_comes None link at s b begins = begins_still s b begins
+  deliver_comes (Some number) link at s b begins = chosen_comes (slice_get s.bag number) number link at s b begins
+
+  hand_comes : (link : Option ℕ) (back : Bool) (bytes : List ℕ) (at : ℕ) (s : State) (b : Book) → Begins part Side P s b →
+      Comes P (part (note_hand link back bytes at s b)) (hand_on link back bytes s).state (note_hand link back bytes at s b).sent
+  hand_comes None back bytes at s b begins = begins_still s b begins
+  hand_comes (Some link) back bytes at s b begins =
+      let w : Coming = record { at = at; unit = None; link = link; back = back } in pieces_go w (bytes ∷ []) s b (first_goes w s b begins)
+
+  -- ---- a move
+
+  quiet_comes : (what : Move) (s : State) (b : Book) → HasNoBytes what → Begins part Side P s b → Comes P (part b) (act s what).state b.sent
+  quiet_comes what s b none begins = record {
+    made = move_stays OpenAsMade as_made what s none begins.made;
+    each = move_stays (EachOf P (part b) b.sent) (each_always (part b) b.sent) what s none begins.marked.each;
+  }
+
+  act_comes : (what : Move) (at : ℕ) (s : State) (b : Book) → Begins part Side P s b →
+      Comes P (part (note_coming what at s b)) (act s what).state (note_coming what at s b).sent
+  act_comes move.Onward at s b begins = onward_comes (first_waiting s.bag) at s b begins
+  act_comes (move.Deliver unit link) at s b begins = deliver_comes (chosen_place unit (length s.bag)) link at s b begins
+  act_comes (move.Hand link back bytes) at s b begins = hand_comes (chosen_in link (handed_links s.links)) back bytes at s b begins
+  act_comes (move.Start number) at s b begins = quiet_comes (move.Start number) s b tt begins
+  act_comes (move.Stranger number) at s b begins = quiet_comes (move.Stranger number) s b tt begins
+  act_comes move.Connect at s b begins = quiet_comes move.Connect s b tt begins
+  act_comes move.FailDial at s b begins = quiet_comes move.FailDial s b tt begins
+  act_comes move.Lose at s b begins = quiet_comes move.Lose s b tt begins
+  act_comes (move.Shut number) at s b begins = quiet_comes (move.Shut number) s b tt begins
+  act_comes (move.Restart number) at s b begins = quiet_comes (move.Restart number) s b tt begins
+  act_comes (move.Tick more) at s b begins = quiet_comes (move.Tick more) s b tt begins
+
+  -- the units that have no mark yet are made for no channel
+  others_marked : (x : X) (bag : List BagUnit) (sent : List Sent) (at : ℕ) → OfEachUnit P x bag sent →
+      IsMarked P x bag (sent ++ replicate (length bag - length sent) (sent_at at Plain))
+  others_marked x bag sent at each =
+      let few : length sent ≤ length bag = no_longer sent bag (λ k one there. ((each k one there).unit, (each k one there).there)) in
+      let size : length (sent ++ replicate (length bag - length sent) (sent_at at Plain)) ≡ length bag =
+      omega (arith, few, length-append sent (replicate (length bag - length sent) (sent_at at Plain)), length-replicate (length bag - length sent) (sent_at at Plain)) in
+      record {
+        each = λ number one there. elim (later_or sent (replicate (length bag - length sent) (sent_at at Plain)) number one there) [
+          | inl old ↦ each number one old
+          | inr new ↦ let beside : (unit : BagUnit) × (slice_get bag number ≡ Some unit) =
+              got_beside (sent ++ replicate (length bag - length sent) (sent_at at Plain)) bag number one size there in
+              subst (λ (o : Sent). IsOfUnit P x bag number o.mark) (sym (got_replicate (length bag - length sent) (sent_at at Plain) new.place one new.there))
+              (record { unit = beside.0; there = beside.1; holds = stays.plain x number beside.0 })
+        ];
+        all = size;
+      }
+
+  note_begins : (w : World) (what : Move) (b : Book) → Begins part Side P w.state b → Begins part Side P (happens w what).state (note w what b)
+  note_begins w what b begins =
+      let after : State = (happens w what).state in
+      let come : Book = note_coming what w.moves w.state b in
+      let comes : Comes P (part come) after come.sent = act_comes what w.moves w.state b begins in
+      record {
+        side = note_stays part Side written w what b begins.side;
+        made = comes.made;
+        marked = subst (λ (x : X). IsMarked P x after.bag (note w what b).sent) (sym (written.given w.moves (given_at w what) after come))
+            (others_marked (part come) after.bag come.sent w.moves comes.each);
+      }
+
+  run_begins : (moves : List Move) (w : World) (b : Book) → Begins part Side P w.state b → Begins part Side P (run moves w).state (book moves w b)
+  run_begins [] w b begins = begins
+  run_begins (what ∷ moves) w b begins = run_begins moves (happens w what) (note w what b) (note_begins w what b begins)
+
+  run_marked : (plan : Plan) (moves : List Move) → HoldsIn (Side (part blank)) (first_world plan).state →
+      IsMarked P (part (past plan moves).book) (past plan moves).world.state.bag (past plan moves).book.sent
+  run_marked plan moves holds = (run_begins moves (first_world plan) blank (record {
+    side = holds;
+    made = tt;
+    marked = record { each = λ number one there. absurd (got_nothing number one there); all = refl };
+  })).marked
+
+-- ---- a run
+
+new_marked : {X : Type 0} (part : Book → X) (Side : X → Fact) (P : UnitFact X) → MarksStay part Side P → StepsMark part Side P
+new_marked part Side P stays = record {
+  plain = stays.plain;
+  settles = stays.settles;
+  grows = stays.grows;
+  controllers = λ c at w piece s b is side hears all units more on place unit mark there marked.
+      let after : State = (done (Controller at) (heard_by (controller_step (Some c) at (event.Bytes w.link piece) s.moment s.ends s.chances) s)).state in
+      let now : _ = part (note_controller (Some c) at w piece s after b) in
+      elim (controller_unit c at w.link w.back piece s (at_controller at c w s) hears units more on place unit mark there marked) [
+        | inl plain ↦ subst (λ (m : Mark). P now (length s.bag + place) unit m) (sym plain) (stays.plain now (length s.bag + place) unit)
+        | inr new ↦ stays.controllers c at w piece s after b (length s.bag + place) unit mark is side all new
+      ];
+  members = stays.members;
+}
+
+-- in every run it holds of each unit
+pub run_stays_marked : {X : Type 0} (part : Book → X) (Side : X → Fact) (P : UnitFact X) → StaysWritten part Side → MarksStay part Side P → (plan : Plan) (moves : List Move) →
+    HoldsIn (Side (part blank)) (first_world plan).state →
+    OfEachUnit P (part (past plan moves).book) (past plan moves).world.state.bag (past plan moves).book.sent
+run_stays_marked part Side P written stays plan moves holds = (run_marked part Side P written (new_marked part Side P stays) plan moves holds).each
+
+-- in every run each unit of the bag has its mark
+pub each_marked : (plan : Plan) (moves : List Move) → EachUnitIsMarked (past plan moves)
+each_marked plan moves =
+    (run_marked (λ (b : Book). tt) (λ (x : Unit {0}) (ends : EndStates) (chances : Drawing) (links : List Route). Unit {0})
+    (λ (x : Unit {0}) (number : ℕ) (unit : BagUnit) (mark : Mark). Unit {0}) (record {
+      stays = λ x. record {
+        hears = λ end what now ends chances links quiet holds. tt;
+        opens = λ route now ends chances links holds. tt;
+        controllers = λ c at ends chances links is holds. tt;
+        members = λ plan at ends chances links holds. tt;
+        clients = λ client at ends chances links holds. tt;
+      };
+      bytes = λ end w piece s after b holds. tt;
+      given = λ at given after b. refl;
+    }) (record {
+      plain = λ x number unit. tt;
+      settles = λ x number unit mark holds. tt;
+      grows = λ end w piece s after b number unit one side there sent holds. tt;
+      controllers = λ c at w piece s b is side hears all units more on place unit mark there marked. tt;
+      members = λ m at w piece s b is side hears all units more on place unit mark there marked. tt;
+    }) plan moves tt).all

@@ -1,0 +1,10 @@
+-- What holds in every run of the calls that controllers judged.
+pub mod GrantLaws
+pub mod JudgedLaws
+pub mod MovedLaws
+pub mod ReplayLaws
+pub mod ReplyLaws
+pub mod SeedLaws
+pub mod SeedStepLaws
+pub mod ToldLaws
+pub mod UnclashedLaws

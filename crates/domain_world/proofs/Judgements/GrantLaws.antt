@@ -1,0 +1,336 @@
+-- In every run a controller grants a Logon call exactly where it is to be granted, by the accounts of the plan.
+-- It serves `controllers_grant_who_may_log_on`.
+use Rattle.std.proofs.Common.{◌≡◌, ℕ, zero, suc, ◌==◌, Bool, true, false, List, [], ◌∷◌, ◌++◌, drop, length, Option, Some, None, Ok, Err, inl, inr, slice_get, slice_set, refl, sym, ap, subst, ◌∙◌}
+use Rattle.std.specs.List.{AllByRecursion}
+use Rattle.wire_base.specs.Maps.{lookup, same_number, take_out}
+use Rattle.wire_base.specs.Names.{same_name}
+use Rattle.wire_base.specs.declared.authenticator.Authenticator.{Authenticator}
+use Rattle.outside.specs.Drawing.{Drawing}
+use Rattle.outside.specs.Machine.{step_by, then_part}
+use Rattle.outside.specs.declared.action.Action.{Action}
+use Rattle.outside.specs.declared.action.Action.TheVariants as action
+use Rattle.outside.specs.declared.action.Judged.{Judged}
+use Rattle.outside.specs.declared.action.Judged.TheVariants as judged
+use Rattle.outside.specs.declared.event.Event.{Event}
+use Rattle.outside.specs.declared.event.Event.TheVariants as event
+use Rattle.rpc_units.specs.declared.refused.UnitRefused.{UnitRefused}
+use Rattle.rpc_units.specs.Stream.{cut_stream}
+use Rattle.logon_stubs.specs.declared.calls.Call.TheVariants as call
+use Rattle.logon_stubs.specs.declared.calls.ChallengeCall.{ChallengeCall}
+use Rattle.logon_stubs.specs.declared.info.NetworkInfo.{NetworkInfo}
+use Rattle.logon_stubs.specs.declared.info.Verdict.{Verdict}
+use Rattle.account_table.specs.AccountTable.{AccountTable}
+use Rattle.account_table.specs.Changes.{DifferInCounts}
+use Rattle.account_table.proofs.ChangeLaws.{differs-again, differs-none}
+use Rattle.sam_logon.specs.Verdict.{judgement_of}
+use Rattle.end_links.specs.Links.{LinkState}
+use Rattle.end_links.specs.Serving.{ServedPart, Service, served_by, served_cut, then_open, then_talk}
+use Rattle.domain_controller.specs.Channels.{ChannelState, key_of_channel, channel_by, passes_on, return_by}
+use Rattle.domain_controller.specs.Hearing.{hear}
+use Rattle.domain_controller.proofs.CountLaws.{PartCounts, counts_by_verdict, heard-differs, part-differs}
+use Rattle.domain_controller.specs.Laws.{is_passed}
+use Rattle.domain_controller.specs.Machine.{Desk, answer_logon, by_heard, controller_server, desk, draw_challenge, judge_channel, judge_info, judge_level, judge_return, put_channel, status_of, take_channel}
+use Rattle.domain_controller.specs.State.{State as ControllerState}
+use Rattle.domain_controller.specs.Step.{LinkMap, StepPart, after_units, by_event, first_desk, first_state, halted, serve_on, start_turn, state_after, step_of, step_on}
+use Rattle.domain_controller.specs.declared.hearing.Heard.{Heard}
+use Rattle.domain_controller.specs.declared.hearing.Heard.TheVariants as heard
+use Rattle.domain_controller.specs.declared.line.Line.{Line}
+use Rattle.domain_controller.specs.declared.state.Running.{Running}
+use Rattle.domain_controller.specs.declared.state.Talk.{Talk}
+use Rattle.logon_client.specs.State.{State as ClientState}
+use Rattle.member_server.specs.State.{State as MemberState}
+use Rattle.step_notes.specs.ControllerNotes.{Answered, Where, answer_on, has_passed, judged_in, units_at, units_by, units_of_controller}
+use Rattle.step_notes.specs.Judged.{IsJudgedRight}
+use Rattle.step_notes.specs.Records.{Book, Judging, blank}
+use Rattle.step_notes.specs.Served.{ServedUnit, served_units, units_on, units_then}
+use Rattle.world_moves.specs.declared.links.EndId.{EndId}
+use Rattle.world_moves.specs.declared.links.EndId.TheVariants.{Controller, Member, Client}
+use Rattle.world_moves.specs.declared.links.Route.{Route}
+use Rattle.world_moves.specs.declared.moves.Move.{Move}
+use Rattle.world_moves.specs.declared.plan.Plan.{Plan}
+use Rattle.world_moves.specs.declared.state.State.{State}
+use Rattle.world_moves.specs.Ends.{EndStates, client_step, controller_step, end_step, member_step}
+use Rattle.world_moves.specs.Links.{acceptor_of}
+use Rattle.world_moves.specs.World.{first_controllers, first_world}
+use Rattle.domain_world.specs.Claims.Grants.{GrantsWhoMayLogOn, IsGrantedRightly, IsPlannedTable, IsToBeGranted}
+use Rattle.domain_world.specs.Past.{Coming, answers_of, at_controller, judged_of, note_at, note_controller, numbers_on, past}
+use Rattle.step_notes.proofs.Controllers.GrantVerdictLaws.{IsServedGrant, granted_status, served_grant}
+use Rattle.step_notes.proofs.Controllers.JudgedStepLaws.{told_first, same_status}
+use Rattle.domain_world.proofs.Challenges.MessageOnceLaws.{set_cases}
+use Rattle.domain_world.proofs.Frames.FrameLaws.{Fact, HoldsAfter, HoldsIn, Stays, StaysWritten, run_stays}
+use Rattle.domain_world.proofs.Judgements.JudgedLaws.{AreRight, HoldsIf, IsServedBy, answers_hold, are_if_taken, heard_holds, judged_hold, judged_rightly, onto_hold}
+use Rattle.domain_world.proofs.Judgements.ReplayLaws.{client_judged, member_judged}
+
+-- ---- a Logon call: its status is that of its verdict
+
+-- where the call passed, it was told with the status of that verdict
+abbrev pub HasStatus : Option Judged → Verdict → Type 0
+HasStatus how verdict = has_passed how ≡ true → how ≡ Some (judged.Passed (status_of verdict))
+
+-- what is told by the actions behind those before
+abbrev pub told_by : List Action → Desk → Option Judged
+told_by old after = judged_in (drop (length old) after.work.actions)
+
+not_passed : (how : Judged) (verdict : Verdict) → is_passed how ≡ false → HasStatus (Some how) verdict
+not_passed how verdict none passed = absurd (let never : false ≡ true = sym none ∙ passed in cc)
+
+refused_status : (old : List Action) (how : Judged) (other : Action) (verdict : Verdict) → is_passed how ≡ false →
+    HasStatus (judged_in (drop (length old) ((old ++ action.Judged how ∷ []) ++ other ∷ []))) verdict
+refused_status old how other verdict none = subst (λ (told : Option Judged). HasStatus told verdict) (sym (told_first old how other)) (not_passed how verdict none)
+
+module _ (name : List ℕ) (now : ℕ) (line : Line) (info : NetworkInfo) (validation : ℕ) where
+  return_status : (returned : Option (List ℕ)) (key : List ℕ) (d : Desk) →
+      HasStatus (told_by d.work.actions (judge_return returned key name now line info validation d)) (judge_info d.table name now info validation).verdict
+  return_status None key d = refused_status d.work.actions judged.Barred _ (judge_info d.table name now info validation).verdict refl
+  return_status (Some credential) key d = λ passed. told_first d.work.actions (judged.Passed (status_of (judge_info d.table name now info validation).verdict)) _
+
+  channel_status : (found : Option ChannelState) (computer : List ℕ) (given : Authenticator) (d : Desk) →
+      HasStatus (told_by d.work.actions (judge_channel found computer given name now line info validation d)) (judge_info d.table name now info validation).verdict
+  channel_status None computer given d = refused_status d.work.actions judged.NoChannel _ (judge_info d.table name now info validation).verdict refl
+  channel_status (Some channel) computer given d =
+      return_status (return_by (passes_on channel given) channel given) (key_of_channel channel)
+      (desk d.table (put_channel computer (channel_by (passes_on channel given) channel given) d.work))
+
+  pub call_status : (computer : Option (List ℕ)) (given : Option Authenticator) (d : Desk) →
+      HasStatus (told_by d.work.actions (answer_logon computer given name now line info validation d)) (judge_info d.table name now info validation).verdict
+  call_status None given d = refused_status d.work.actions judged.NoChannel _ (judge_info d.table name now info validation).verdict refl
+  call_status (Some computer) None d = refused_status d.work.actions judged.NoChannel _ (judge_info d.table name now info validation).verdict refl
+  call_status (Some computer) (Some given) d =
+      channel_status (lookup same_name computer d.work.computers.channels) computer given (desk d.table (take_channel computer d.work))
+
+-- ---- the units of a stream
+
+-- a unit that was served, where these accounts differed in counts alone from those before it
+abbrev pub IsServedFrom : List ℕ → ℕ → ℕ → AccountTable → ServedUnit Desk Talk → Type 0
+IsServedFrom name now link table unit = DifferInCounts table unit.work.table × IsServedBy (controller_server name now link) unit
+
+-- what is served later is so, where it finds such accounts
+abbrev pub AreServedFrom : List ℕ → ℕ → ℕ → AccountTable → (Desk → Talk → List (List ℕ) → List (ServedUnit Desk Talk)) → Type 0
+AreServedFrom name now link table later =
+    (d : Desk) (talk : Talk) (left : List (List ℕ)) → DifferInCounts table d.table → AllByRecursion (IsServedFrom name now link table) (later d talk left)
+
+module _ (name : List ℕ) (now link : ℕ) where
+  on_served : (table : AccountTable) (later : Desk → Talk → List (List ℕ) → List (ServedUnit Desk Talk)) (d : Desk) (talk : Option Talk) (left : List (List ℕ)) →
+      AreServedFrom name now link table later → DifferInCounts table d.table → AllByRecursion (IsServedFrom name now link table) (units_on d talk left later)
+  on_served table later d None left each is = tt
+  on_served table later d (Some talk) left each is = each d talk left is
+
+  then_served : (table : AccountTable) (later : Desk → Talk → List (List ℕ) → List (ServedUnit Desk Talk)) (part : ServedPart Desk Talk) →
+      AreServedFrom name now link table later → PartCounts table part → AllByRecursion (IsServedFrom name now link table) (units_then part later)
+  then_served table later (Err why) each is = tt
+  then_served table later (Ok part) each is = on_served table later part.value.0 part.value.1 part.left each is
+
+  units_served : (table : AccountTable) (units : List (List ℕ)) →
+      AreServedFrom name now link table (λ d talk left. served_units (controller_server name now link) units d talk left)
+  units_served table [] d talk left is = tt
+  units_served table (bytes ∷ units) d talk left is = (
+    (is, refl),
+    then_served table (λ later said rest. served_units (controller_server name now link) units later said rest) (by_heard (hear link bytes talk) link name now d left)
+        (units_served table units)
+        (part-differs table d.table (by_heard (hear link bytes talk) link name now d left) is (heard-differs (hear link bytes talk) link name now d left)),
+  )
+
+-- ---- a step of a controller
+
+-- it has its accounts, but for their counts, and its name
+abbrev pub KeepsPlan : ControllerState → ControllerState → Type 0
+KeepsPlan c new = DifferInCounts c.table new.table × (new.name ≡ c.name)
+
+part_named : (part : StepPart) (c : ControllerState) (left : List (List ℕ)) →
+    (step_by (λ after. after.0.work.actions) (λ after. state_after c after) (halted c) left (then_part part (λ after rest. start_turn after rest))).state.name ≡ c.name
+part_named (Err why) c left = refl
+part_named (Ok part) c left = refl
+
+running_named : (running : Option Running) (c : ControllerState) (what : Event) (now : ℕ) (left : List (List ℕ)) → (step_on running c what now left).state.name ≡ c.name
+running_named None c what now left = refl
+running_named (Some running) c what now left = part_named (by_event what c.name now (first_desk c.table running) running.links left) c left
+
+step_keeps : (c : ControllerState) (what : Event) (now : ℕ) (left : List (List ℕ)) → KeepsPlan c (step_of c what now left).state
+step_keeps c what now left = (counts_by_verdict.counts c what now left, running_named c.running c what now left)
+
+-- ---- what a controller is by its plan, and what it judges
+
+-- these are the accounts, but for their counts, and the name of that controller of the plan
+pub record IsPlanned (plan : Plan) (controller : ℕ) (table : AccountTable) (name : List ℕ) : Type 0 where
+  pub table_is : IsPlannedTable plan controller table
+  pub name_is : slice_get plan.controllers controller ≡ Some name
+
+planned_later : (plan : Plan) (controller : ℕ) (table other : AccountTable) (name : List ℕ) → IsPlanned plan controller table name → DifferInCounts table other →
+    IsPlanned plan controller other name
+planned_later plan controller table other name planned differ = record {
+  table_is = record {
+    planned = planned.table_is.planned;
+    is = planned.table_is.is;
+    counts = differs-again planned.table_is.planned table other planned.table_is.counts differ;
+  };
+  name_is = planned.name_is;
+}
+
+-- where the call passed, it was told with the status of the verdict on it
+abbrev pub HasItsStatus : Judging → Type 0
+HasItsStatus j = HasStatus j.how (judge_info j.table j.name j.moment j.logon.info j.logon.validation).verdict
+
+-- besides, it was judged by the accounts of the plan
+abbrev pub IsByPlan : Plan → Judging → Type 0
+IsByPlan plan j = IsPlanned plan j.controller j.table j.name × HasItsStatus j
+
+unit_by_plan : (plan : Plan) (w : Where) (link : ℕ) (table : AccountTable) → IsPlanned plan w.controller table w.name → (unit : ServedUnit Desk Talk) → IsServedFrom w.name w.moment link table unit →
+    HoldsIf (IsByPlan plan) (answer_on link w unit).judging
+unit_by_plan plan w link table planned unit served =
+    heard_holds (IsByPlan plan) (hear link unit.bytes unit.talk) w link unit.work unit.left unit.part
+    (λ line c. (
+      planned_later plan w.controller table unit.work.table w.name planned served.0,
+      call_status w.name w.moment line c.info c.validation c.computer c.authenticator unit.work,
+    ))
+    served.1
+
+at_served : (found : Option (LinkState Talk)) (number : ℕ) (piece : List ℕ) (c : ControllerState) (running : Running) (now : ℕ) (left : List (List ℕ)) →
+    AllByRecursion (IsServedFrom c.name now number c.table) (units_at found number piece c running now left)
+at_served None number piece c running now left = tt
+at_served (Some link) number piece c running now left = units_served c.name now number c.table (cut_stream (link.rest ++ piece)).units (first_desk c.table running) link.talk left (differs-none c.table)
+
+by_served : (running : Option Running) (number : ℕ) (piece : List ℕ) (c : ControllerState) (now : ℕ) (left : List (List ℕ)) →
+    AllByRecursion (IsServedFrom c.name now number c.table) (units_by running number piece c now left)
+by_served None number piece c now left = tt
+by_served (Some running) number piece c now left = at_served (lookup same_number number running.links) number piece c running now left
+
+answers_by_plan : (plan : Plan) (controller : ℕ) (c : ControllerState) (w : Coming) (piece : List ℕ) (s : State) → IsPlanned plan controller c.table c.name →
+    AllByRecursion (λ (one : Answered). HoldsIf (IsByPlan plan) one.judging) (answers_of controller c w piece s)
+answers_by_plan plan controller c w piece s planned =
+    answers_hold (IsByPlan plan) (IsServedFrom c.name s.moment w.link c.table) (at_controller controller c w s) w.link
+    (unit_by_plan plan (at_controller controller c w s) w.link c.table planned)
+    (units_of_controller c w.link piece s.moment s.chances.left)
+    (are_if_taken (IsServedFrom c.name s.moment w.link c.table) (step_of c (event.Bytes w.link piece) s.moment s.chances.left).answer (units_by c.running w.link piece c s.moment s.chances.left)
+    (by_served c.running w.link piece c s.moment s.chances.left))
+
+-- ---- through the moves
+
+-- so it is of what was judged, and of each controller as it stands
+pub record StandsByPlan (plan : Plan) (judgings : List Judging) (controllers : List ControllerState) : Type 0 where
+  pub judged : AllByRecursion (IsByPlan plan) judgings
+  pub each : (at : ℕ) (c : ControllerState) → slice_get controllers at ≡ Some c → IsPlanned plan at c.table c.name
+
+abbrev pub ByPlan : Plan → List Judging → Fact
+ByPlan plan judgings ends chances links = StandsByPlan plan judgings ends.controllers
+
+-- a controller that keeps its accounts and its name is put in its place
+controller_put : (plan : Plan) (judgings now : List Judging) (controllers : List ControllerState) (at : ℕ) (c new : ControllerState) → slice_get controllers at ≡ Some c → KeepsPlan c new →
+    AllByRecursion (IsByPlan plan) now → StandsByPlan plan judgings controllers → StandsByPlan plan now (slice_set controllers at new)
+controller_put plan judgings now controllers at c new there keeps all stands =
+    let was : IsPlanned plan at c.table c.name = stands.each at c there in
+    let is : IsPlanned plan at new.table new.name =
+    subst (λ (n : List ℕ). IsPlanned plan at new.table n) (sym keeps.1) (planned_later plan at c.table new.table c.name was keeps.0) in
+    record {
+      judged = all;
+      each = λ k other its. elim (set_cases controllers at k new other its) [
+        | inl here ↦
+            subst (λ (x : ControllerState). IsPlanned plan k x.table x.name) here.1 (subst (λ (n : ℕ). IsPlanned plan n new.table new.name) (sym here.0) is)
+        | inr apart ↦ stands.each k other apart.1
+      ];
+    }
+
+controller_stands : (found : Option ControllerState) (plan : Plan) (judgings : List Judging) (at : ℕ) (what : Event) (now : ℕ) (ends : EndStates) (chances : Drawing) (links : List Route) →
+    slice_get ends.controllers at ≡ found → ByPlan plan judgings ends chances links → HoldsAfter (ByPlan plan judgings) (controller_step found at what now ends chances) links
+controller_stands None plan judgings at what now ends chances links is stands = stands
+controller_stands (Some c) plan judgings at what now ends chances links is stands =
+    controller_put plan judgings judgings ends.controllers at c (step_of c what now chances.left).state is (step_keeps c what now chances.left) stands.judged stands
+
+member_stands : (found : Option MemberState) (plan : Plan) (judgings : List Judging) (at : ℕ) (what : Event) (now : ℕ) (ends : EndStates) (chances : Drawing) (links : List Route) →
+    ByPlan plan judgings ends chances links → HoldsAfter (ByPlan plan judgings) (member_step found at what now ends chances) links
+member_stands None plan judgings at what now ends chances links stands = stands
+member_stands (Some m) plan judgings at what now ends chances links stands = stands
+
+client_stands : (found : Option ClientState) (plan : Plan) (judgings : List Judging) (at : ℕ) (what : Event) (now : ℕ) (ends : EndStates) (chances : Drawing) (links : List Route) →
+    ByPlan plan judgings ends chances links → HoldsAfter (ByPlan plan judgings) (client_step found at what now ends chances) links
+client_stands None plan judgings at what now ends chances links stands = stands
+client_stands (Some c) plan judgings at what now ends chances links stands = stands
+
+end_stands : (end : EndId) (plan : Plan) (judgings : List Judging) (what : Event) (now : ℕ) (ends : EndStates) (chances : Drawing) (links : List Route) →
+    ByPlan plan judgings ends chances links → HoldsAfter (ByPlan plan judgings) (end_step end what now ends chances) links
+end_stands (Controller at) plan judgings what now ends chances links stands = controller_stands (slice_get ends.controllers at) plan judgings at what now ends chances links refl stands
+end_stands (Member at) plan judgings what now ends chances links stands = member_stands (slice_get ends.members at) plan judgings at what now ends chances links stands
+end_stands (Client at) plan judgings what now ends chances links stands = client_stands (slice_get ends.clients at) plan judgings at what now ends chances links stands
+
+stands_so : (plan : Plan) (judgings : List Judging) → Stays (ByPlan plan judgings)
+stands_so plan judgings = record {
+  hears = λ end what now ends chances links quiet stands. end_stands end plan judgings what now ends chances links stands;
+  opens = λ route now ends chances links stands. end_stands (acceptor_of route) plan judgings (event.Opened (length links)) now ends chances links stands;
+  controllers = λ c at ends chances links is stands.
+      controller_put plan judgings judgings ends.controllers at c (first_state c.table c.name) is (differs-none c.table, refl) stands.judged stands;
+  members = λ member at ends chances links stands. stands;
+  clients = λ client at ends chances links stands. stands;
+}
+
+-- ---- what is written down of bytes
+
+controller_bytes : (found : Option ControllerState) (plan : Plan) (at : ℕ) (w : Coming) (piece : List ℕ) (s after : State) (b : Book) → slice_get s.ends.controllers at ≡ found →
+    HoldsIn (ByPlan plan b.judged) s →
+    HoldsAfter (ByPlan plan (note_controller found at w piece s after b).judged) (controller_step found at (event.Bytes w.link piece) s.moment s.ends s.chances) s.links
+controller_bytes None plan at w piece s after b is stands = stands
+controller_bytes (Some c) plan at w piece s after b is stands =
+    controller_put plan b.judged (note_controller (Some c) at w piece s after b).judged s.ends.controllers at c (step_of c (event.Bytes w.link piece) s.moment s.chances.left).state is
+    (step_keeps c (event.Bytes w.link piece) s.moment s.chances.left)
+    (onto_hold (IsByPlan plan) (judged_of (answers_of at c w piece s) (numbers_on w.link true s.bag after.bag)) b.judged
+    (judged_hold (IsByPlan plan) (λ j number holds. holds) (answers_of at c w piece s) (numbers_on w.link true s.bag after.bag) (answers_by_plan plan at c w piece s (stands.each at c is)))
+    stands.judged)
+    stands
+
+bytes_stand : (plan : Plan) (end : EndId) (w : Coming) (piece : List ℕ) (s after : State) (b : Book) → HoldsIn (ByPlan plan b.judged) s →
+    HoldsAfter (ByPlan plan (note_at (Some end) w piece s after b).judged) (end_step end (event.Bytes w.link piece) s.moment s.ends s.chances) s.links
+bytes_stand plan (Controller at) w piece s after b stands = controller_bytes (slice_get s.ends.controllers at) plan at w piece s after b refl stands
+bytes_stand plan (Member at) w piece s after b stands =
+    subst (λ (judgings : List Judging). HoldsAfter (ByPlan plan judgings) (end_step (Member at) (event.Bytes w.link piece) s.moment s.ends s.chances) s.links)
+    (sym (member_judged (slice_get s.ends.members at) at w piece s after b))
+    (end_stands (Member at) plan b.judged (event.Bytes w.link piece) s.moment s.ends s.chances s.links stands)
+bytes_stand plan (Client at) w piece s after b stands =
+    subst (λ (judgings : List Judging). HoldsAfter (ByPlan plan judgings) (end_step (Client at) (event.Bytes w.link piece) s.moment s.ends s.chances) s.links)
+    (sym (client_judged (slice_get s.ends.clients at) at w piece s b))
+    (end_stands (Client at) plan b.judged (event.Bytes w.link piece) s.moment s.ends s.chances s.links stands)
+
+stands_written : (plan : Plan) → StaysWritten (λ (b : Book). b.judged) (ByPlan plan)
+stands_written plan = record { stays = stands_so plan; bytes = bytes_stand plan; given = λ at given after b. refl }
+
+-- ---- at first
+
+first_planned : (tables : List AccountTable) (names : List (List ℕ)) (at : ℕ) (c : ControllerState) → slice_get (first_controllers tables names) at ≡ Some c →
+    (slice_get tables at ≡ Some c.table) × (slice_get names at ≡ Some c.name)
+first_planned [] names at c there = absurd cc
+first_planned (table ∷ tables) [] at c there = absurd cc
+first_planned (table ∷ tables) (name ∷ names) zero c there =
+    let is : first_state table name ≡ c = cc in (ap (λ (x : ControllerState). Some x.table) is, ap (λ (x : ControllerState). Some x.name) is)
+first_planned (table ∷ tables) (name ∷ names) (suc at) c there = first_planned tables names at c there
+
+first_stands : (plan : Plan) → HoldsIn (ByPlan plan []) (first_world plan).state
+first_stands plan = record {
+  judged = tt;
+  each = λ at c there. let both = first_planned plan.tables plan.controllers at c there in
+      record { table_is = record { planned = c.table; is = both.0; counts = differs-none c.table }; name_is = both.1 };
+}
+
+-- ---- each is granted rightly
+
+to_be_granted : (j : Judging) → HasItsStatus j → IsJudgedRight j → j.how ≡ Some (judged.Passed 0) → IsToBeGranted j
+to_be_granted j told right how =
+    let passed : has_passed j.how ≡ true = ap has_passed how in
+    let served : IsServedGrant j.table j.name j.moment j.logon.info j.logon.validation (judge_info j.table j.name j.moment j.logon.info j.logon.validation).verdict =
+    served_grant j.table j.name j.moment j.logon.info j.logon.validation (same_status _ 0 (sym (told passed) ∙ how)) in
+    record { next = right.passed.0 passed; level = served.level; may = served.may; verifies = served.verifies }
+
+pub is_granted_so : (j : Judging) → HasItsStatus j → IsJudgedRight j → IsToBeGranted j → j.how ≡ Some (judged.Passed 0)
+is_granted_so j told right meets =
+    told (right.passed.1 meets.next)
+    ∙ ap (λ (status : ℕ). Some (judged.Passed status)) (granted_status j.table j.name j.moment j.logon.info j.logon.validation meets.level meets.may meets.verifies)
+
+all_rightly : (plan : Plan) (judgings : List Judging) → AllByRecursion (IsByPlan plan) judgings → AreRight judgings → AllByRecursion (λ (j : Judging). IsGrantedRightly plan j) judgings
+all_rightly plan [] planned right = tt
+all_rightly plan (j ∷ judgings) planned right = (
+  record { granted = (to_be_granted j planned.0.1 right.0, is_granted_so j planned.0.1 right.0); table = planned.0.0.table_is; name = planned.0.0.name_is },
+  all_rightly plan judgings planned.1 right.1,
+)
+
+-- in every run a controller grants a Logon call exactly where it is to be granted, by the accounts of the plan
+pub grants_who_may : (plan : Plan) (moves : List Move) → GrantsWhoMayLogOn (past plan moves)
+grants_who_may plan moves =
+    all_rightly plan (past plan moves).book.judged
+    (run_stays (λ (b : Book). b.judged) (ByPlan plan) (stands_written plan) moves (first_world plan) blank (first_stands plan)).judged
+    (judged_rightly plan moves)

@@ -1,0 +1,122 @@
+-- How far the authenticators that passed on a channel moved its seed.
+-- It serves `carried_calls_are_heard`, `controllers_grant_who_may_log_on`, `replays_pass_by_sum` and 5 more.
+use Rattle.std.proofs.Common.{◌≡◌, ℕ, ◌+◌, Bool, true, false, List, [], ◌∷◌, ◌++◌, Option, Some, None, refl, sym, ap, ◌∙◌, arith}
+use Rattle.wire_base.specs.Maps.{lookup}
+use Rattle.wire_base.specs.Names.{same_name}
+use Rattle.authenticators.specs.Channels.{Channel, SameChannel, same_channel}
+use Rattle.authenticators.proofs.ChannelLaws.{same_channel-Decides}
+use Rattle.domain_controller.specs.Channels.{ChannelState}
+use Rattle.domain_controller.specs.declared.state.Computers.{Computers}
+use Rattle.step_notes.specs.ControllerNotes.{channel_by, channel_in, channel_with, has_passed}
+use Rattle.step_notes.specs.Judged.{channel_if, passed_channel}
+use Rattle.step_notes.specs.Marking.{is_channel}
+use Rattle.step_notes.specs.Records.{Judging}
+use Rattle.domain_world.specs.Claims.{moved_if, moved_on, passed_on, timestamp_of}
+use Rattle.step_notes.proofs.Controllers.ComputerLaws.{same_tests}
+
+-- ---- tests
+
+fails_so : (test : Bool) → (test ≡ true → ⊥) → test ≡ false
+fails_so true none = absurd (none refl)
+fails_so false none = refl
+
+-- ---- channels that are one
+
+pub same_back : (one other : Channel) → SameChannel one other → SameChannel other one
+same_back one other same = record {
+  controller = sym same.controller;
+  computer = sym same.computer;
+  secret = sym same.secret;
+  client = sym same.client;
+  server = sym same.server;
+  flags = sym same.flags;
+}
+
+pub same_on : (one other third : Channel) → SameChannel one other → SameChannel other third → SameChannel one third
+same_on one other third first second = record {
+  controller = first.controller ∙ second.controller;
+  computer = first.computer ∙ second.computer;
+  secret = first.secret ∙ second.secret;
+  client = first.client ∙ second.client;
+  server = first.server ∙ second.server;
+  flags = first.flags ∙ second.flags;
+}
+
+same_self : (one : Channel) → SameChannel one one
+same_self one = record { controller = refl; computer = refl; secret = refl; client = refl; server = refl; flags = refl }
+
+pub one_channel : (one other : Channel) → same_channel one other ≡ true → SameChannel one other
+one_channel one other is = (same_channel-Decides one other).0 is
+
+pub itself : (one : Channel) → same_channel one one ≡ true
+itself one = (same_channel-Decides one one).1 (same_self one)
+
+found_same : (found one other : Channel) → SameChannel one other → same_channel found one ≡ same_channel found other
+found_same found one other same =
+    same_tests (same_channel found one) (same_channel found other)
+    (λ is. (same_channel-Decides found other).1 (same_on found one other (one_channel found one is) same))
+    (λ is. (same_channel-Decides found one).1 (same_on found other one (one_channel found other is) (same_back one other same)))
+
+on_same : (found : Option Channel) (one other : Channel) → SameChannel one other → is_channel found one ≡ is_channel found other
+on_same None one other same = refl
+on_same (Some found) one other same = found_same found one other same
+
+-- ---- how far a seed moved
+
+-- it is that of the channel, whatever the case of its computer's name
+pub moved_same : (one other : Channel) → SameChannel one other → (judgings : List Judging) → moved_on one judgings ≡ moved_on other judgings
+moved_same one other same [] = refl
+moved_same one other same (j ∷ judgings) =
+    ap (λ (passed : Bool). moved_if passed (timestamp_of j) (moved_on one judgings)) (on_same (passed_channel j) one other same)
+    ∙ ap (λ (moved : ℕ). moved_if (passed_on other j) (timestamp_of j) moved) (moved_same one other same judgings)
+
+more_if : (passed : Bool) (timestamp all some rest : ℕ) → all ≡ some + rest → moved_if passed timestamp all ≡ moved_if passed timestamp some + rest
+more_if false timestamp all some rest is = is
+more_if true timestamp all some rest is = omega (arith, is)
+
+pub moved_append : (channel : Channel) (later earlier : List Judging) → moved_on channel (later ++ earlier) ≡ moved_on channel later + moved_on channel earlier
+moved_append channel [] earlier = omega arith
+moved_append channel (j ∷ later) earlier =
+    more_if (passed_on channel j) (timestamp_of j) (moved_on channel (later ++ earlier)) (moved_on channel later) (moved_on channel earlier) (moved_append channel later earlier)
+
+not_on : (found : Option Channel) (channel : Channel) → ((other : Channel) → found ≡ Some other → SameChannel other channel → ⊥) → is_channel found channel ≡ false
+not_on None channel none = refl
+not_on (Some other) channel none = fails_so (same_channel other channel) (λ is. none other refl (one_channel other channel is))
+
+-- a call that didn't pass on the channel doesn't move its seed
+pub moved_past : (channel : Channel) (j : Judging) (judgings : List Judging) → ((other : Channel) → passed_channel j ≡ Some other → SameChannel other channel → ⊥) →
+    moved_on channel (j ∷ judgings) ≡ moved_on channel judgings
+moved_past channel j judgings none =
+    ap (λ (passed : Bool). moved_if passed (timestamp_of j) (moved_on channel judgings)) (not_on (passed_channel j) channel none)
+
+-- ---- the channel that a call is checked on
+
+-- it is that of the computer that the call names, as the controller keeps it
+pub record IsFound (controller : ℕ) (computer : Option (List ℕ)) (computers : Computers) (channel : Channel) : Type 0 where
+  pub name : List ℕ
+  pub state : ChannelState
+  pub named : computer ≡ Some name
+  pub stands : lookup same_name name computers.channels ≡ Some state
+  pub is : channel_with controller name state ≡ channel
+
+found_by : (found : Option ChannelState) (controller : ℕ) (name : List ℕ) (computers : Computers) (channel : Channel) → lookup same_name name computers.channels ≡ found →
+    channel_by controller name found ≡ Some channel → IsFound controller (Some name) computers channel
+found_by None controller name computers channel stands is = absurd cc
+found_by (Some state) controller name computers channel stands is = record { name = name; state = state; named = refl; stands = stands; is = cc }
+
+pub found_in : (controller : ℕ) (computer : Option (List ℕ)) (computers : Computers) (channel : Channel) → channel_in controller computer computers ≡ Some channel →
+    IsFound controller computer computers channel
+found_in controller None computers channel is = absurd cc
+found_in controller (Some name) computers channel is = found_by (lookup same_name name computers.channels) controller name computers channel refl is
+
+passed_if : (passed : Bool) (j : Judging) (channel : Channel) → channel_if passed j ≡ Some channel → channel_in j.controller j.logon.computer j.computers ≡ Some channel
+passed_if false j channel is = absurd cc
+passed_if true j channel is = is
+
+pub passed_in : (j : Judging) (channel : Channel) → passed_channel j ≡ Some channel → IsFound j.controller j.logon.computer j.computers channel
+passed_in j channel is = found_in j.controller j.logon.computer j.computers channel (passed_if (has_passed j.how) j channel is)
+
+-- a call that was barred, or found no channel, passed on none
+pub not_passed : (passed : Bool) (j : Judging) (channel : Channel) → passed ≡ false → channel_if passed j ≡ Some channel → ⊥
+not_passed false j channel none is = absurd cc
+not_passed true j channel none is = absurd cc

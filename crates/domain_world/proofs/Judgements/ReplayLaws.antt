@@ -1,0 +1,316 @@
+-- In every run a replayed authenticator passes again exactly where the timestamps that passed since, each plus one, sum
+-- to a multiple of 2^32. It serves `replays_pass_by_sum`.
+use Rattle.std.proofs.Common.{◌≡◌, ◌≢◌, ◌↔◌, ℕ, zero, suc, ◌+◌, ◌-◌, ◌%◌, ◌^◌, Bool, true, false, List, [], ◌∷◌, ◌++◌, length, Option, Some, None, AllPairs, refl, sym, ap, ap₂, subst, ◌∙◌, arith, slice_get}
+use Rattle.std.proofs.lemmas.List.Elements.{recursion_from_All}
+use Rattle.wire_base.specs.Maps.{lookup}
+use Rattle.wire_base.specs.Names.{same_name}
+use Rattle.wire_base.specs.declared.authenticator.Authenticator.{Authenticator}
+use Rattle.channel_keys.specs.Credentials.{cred_of}
+use Rattle.channel_keys.specs.Des.{IsBlock}
+use Rattle.channel_keys.proofs.CredLaws.{IsBlock-cred_of}
+use Rattle.authenticators.specs.Channels.{Channel, SameChannel, channel_key}
+use Rattle.authenticators.specs.Sequences.{Passes, add_to, moved_by, seed_after}
+use Rattle.authenticators.proofs.ChannelLaws.{channel_key-same}
+use Rattle.authenticators.proofs.ReplayLaws.{replay}
+use Rattle.authenticators.proofs.SeedLaws.{IsBlock-add_to, add_to-add_to, seed_after-moved_by}
+use Rattle.outside.specs.Counter.{most_draws}
+use Rattle.outside.specs.Drawing.{Drawing}
+use Rattle.outside.specs.declared.event.Event.{Event}
+use Rattle.outside.specs.declared.event.Event.TheVariants as event
+use Rattle.outside.proofs.CounterLaws.{challenges_from-distinct}
+use Rattle.account_table.specs.AccountTable.{AccountTable}
+use Rattle.domain_controller.specs.Channels.{ChannelState, key_of_channel}
+use Rattle.domain_controller.specs.Laws.{IsNext}
+use Rattle.domain_controller.specs.State.{State as ControllerState}
+use Rattle.domain_controller.specs.Step.{first_state}
+use Rattle.logon_client.specs.State.{State as ClientState}
+use Rattle.member_server.specs.State.{State as MemberState}
+use Rattle.step_notes.specs.ControllerNotes.{channel_in, channel_with, has_passed}
+use Rattle.step_notes.specs.Judged.{channel_if}
+use Rattle.step_notes.specs.Marking.{is_channel}
+use Rattle.step_notes.specs.MemberNotes.{turn_units}
+use Rattle.step_notes.specs.Records.{Book, Judging, blank, timestamp_in}
+use Rattle.world_moves.specs.declared.links.EndId.{EndId}
+use Rattle.world_moves.specs.declared.links.EndId.TheVariants.{Controller, Member, Client}
+use Rattle.world_moves.specs.declared.links.Route.{Route}
+use Rattle.world_moves.specs.declared.moves.Move.{Move}
+use Rattle.world_moves.specs.declared.plan.Plan.{Plan}
+use Rattle.world_moves.specs.declared.state.State.{State}
+use Rattle.world_moves.specs.Ends.{EndStates, client_step, controller_step, end_step, member_step}
+use Rattle.world_moves.specs.Links.{acceptor_of}
+use Rattle.world_moves.specs.World.{first_controllers, first_world}
+use Rattle.domain_world.specs.Claims.{ReplaysBySum, moved_if, moved_on, passed_on, timestamp_of}
+use Rattle.domain_world.specs.Past.{Coming, controller_of, note_at, note_client, note_controller, note_member, note_messages, numbers_on, past}
+use Rattle.channel_events.proofs.ListLaws.{moved_none, moved_one}
+use Rattle.step_notes.proofs.Members.RestLaws.{client_leaves_rest, member_leaves}
+use Rattle.domain_world.proofs.Frames.FrameLaws.{Fact, HoldsAfter, HoldsIn, IsQuiet, Stays, StaysWritten, run_stays}
+use Rattle.domain_world.proofs.Judgements.JudgedLaws.{AreRight, judged_rightly}
+use Rattle.domain_world.proofs.Judgements.MovedLaws.{found_in, moved_append, moved_same, one_channel}
+use Rattle.domain_world.proofs.Judgements.SeedLaws.{AreApart, AreKept, AreMoved, AreUnheard, IsMovedIn}
+use Rattle.domain_world.proofs.Judgements.SeedStepLaws.{AreKeptIf, SeedsFollow, bytes_follow, controller_put, drawn_follow, quiet_follow}
+use Rattle.domain_world.proofs.Judgements.ToldLaws.{IsNoBytes, turns_judged}
+
+-- ---- through the moves
+
+-- the seeds follow, by the parts of a world
+abbrev pub Follows : List Judging → Fact
+Follows judgings ends chances links = SeedsFollow judgings chances.left ends.controllers
+
+member_follow : (found : Option MemberState) (judgings : List Judging) (at : ℕ) (what : Event) (now : ℕ) (ends : EndStates) (chances : Drawing) (links : List Route) →
+    Follows judgings ends chances links → HoldsAfter (Follows judgings) (member_step found at what now ends chances) links
+member_follow None judgings at what now ends chances links follow = follow
+member_follow (Some m) judgings at what now ends chances links follow = drawn_follow judgings chances.left _ ends.controllers (member_leaves m what now chances.left) follow
+
+client_follow : (found : Option ClientState) (judgings : List Judging) (at : ℕ) (what : Event) (now : ℕ) (ends : EndStates) (chances : Drawing) (links : List Route) →
+    Follows judgings ends chances links → HoldsAfter (Follows judgings) (client_step found at what now ends chances) links
+client_follow None judgings at what now ends chances links follow = follow
+client_follow (Some c) judgings at what now ends chances links follow = drawn_follow judgings chances.left _ ends.controllers (client_leaves_rest c what now chances.left) follow
+
+end_follow : (end : EndId) (judgings : List Judging) (what : Event) (now : ℕ) (ends : EndStates) (chances : Drawing) (links : List Route) → IsNoBytes what →
+    Follows judgings ends chances links → HoldsAfter (Follows judgings) (end_step end what now ends chances) links
+end_follow (Controller at) judgings what now ends chances links none follow = quiet_follow (slice_get ends.controllers at) judgings at what now ends chances refl none follow
+end_follow (Member at) judgings what now ends chances links none follow = member_follow (slice_get ends.members at) judgings at what now ends chances links follow
+end_follow (Client at) judgings what now ends chances links none follow = client_follow (slice_get ends.clients at) judgings at what now ends chances links follow
+
+no_bytes : (what : Event) → IsQuiet what → IsNoBytes what
+no_bytes (event.Bytes link piece) quiet = absurd quiet
+no_bytes (event.Opened link) quiet = absurd quiet
+no_bytes (event.Closed link) quiet = tt
+no_bytes (event.Dialled link) quiet = tt
+no_bytes event.DialFailed quiet = tt
+no_bytes event.Stop quiet = tt
+
+-- a controller that is made anew keeps nothing of computers
+fresh_kept : (judgings : List Judging) (left : List (List ℕ)) (controller : ℕ) → AreKept judgings left controller (record { pending = []; channels = [] })
+fresh_kept judgings left controller = record {
+  map = λ i j d lt within. absurd (omega (arith, within));
+  each = λ name. record { channels = λ c there. absurd cc; pairs = λ pair waits. absurd cc; differ = λ c pair there waits. absurd cc };
+}
+
+follows_so : (judgings : List Judging) → Stays (Follows judgings)
+follows_so judgings = record {
+  hears = λ end what now ends chances links quiet follow. end_follow end judgings what now ends chances links (no_bytes what quiet) follow;
+  opens = λ route now ends chances links follow. end_follow (acceptor_of route) judgings (event.Opened (length links)) now ends chances links tt follow;
+  controllers = λ c at ends chances links is follow.
+      controller_put judgings judgings chances.left chances.left ends.controllers at (first_state c.table c.name) follow (record {
+        order = follow.order;
+        kept = fresh_kept judgings chances.left at;
+        fewer = record { front = []; is = refl };
+        others = λ channel apart. refl;
+      });
+  members = λ plan at ends chances links follow. follow;
+  clients = λ client at ends chances links follow. follow;
+}
+
+-- ---- what is written down of bytes
+
+controller_bytes : (found : Option ControllerState) (at : ℕ) (w : Coming) (piece : List ℕ) (s after : State) (b : Book) → slice_get s.ends.controllers at ≡ found → HoldsIn (Follows b.judged) s →
+    HoldsAfter (Follows (note_controller found at w piece s after b).judged) (controller_step found at (event.Bytes w.link piece) s.moment s.ends s.chances) s.links
+controller_bytes None at w piece s after b is follow = follow
+controller_bytes (Some c) at w piece s after b is follow =
+    bytes_follow (Some c) b.judged w.at at w.unit w.link piece s.moment s.ends s.chances (numbers_on w.link true s.bag after.bag) is follow c refl
+
+pub member_judged : (found : Option MemberState) (member : ℕ) (w : Coming) (piece : List ℕ) (s after : State) (b : Book) → (note_member found member w piece s after b).judged ≡ b.judged
+member_judged None member w piece s after b = refl
+member_judged (Some m) member w piece s after b =
+    turns_judged (controller_of member s) (turn_units m w.link piece s.moment s.chances.left) w.unit (numbers_on w.link false s.bag after.bag) (note_messages member m w piece s b)
+
+pub client_judged : (found : Option ClientState) (client : ℕ) (w : Coming) (piece : List ℕ) (s : State) (b : Book) → (note_client found client w piece s b).judged ≡ b.judged
+client_judged None client w piece s b = refl
+client_judged (Some c) client w piece s b = refl
+
+bytes_written : (end : EndId) (w : Coming) (piece : List ℕ) (s after : State) (b : Book) → HoldsIn (Follows b.judged) s →
+    HoldsAfter (Follows (note_at (Some end) w piece s after b).judged) (end_step end (event.Bytes w.link piece) s.moment s.ends s.chances) s.links
+bytes_written (Controller at) w piece s after b follow = controller_bytes (slice_get s.ends.controllers at) at w piece s after b refl follow
+bytes_written (Member at) w piece s after b follow =
+    subst (λ (judgings : List Judging). HoldsAfter (Follows judgings) (end_step (Member at) (event.Bytes w.link piece) s.moment s.ends s.chances) s.links)
+    (sym (member_judged (slice_get s.ends.members at) at w piece s after b))
+    (member_follow (slice_get s.ends.members at) b.judged at (event.Bytes w.link piece) s.moment s.ends s.chances s.links follow)
+bytes_written (Client at) w piece s after b follow =
+    subst (λ (judgings : List Judging). HoldsAfter (Follows judgings) (end_step (Client at) (event.Bytes w.link piece) s.moment s.ends s.chances) s.links)
+    (sym (client_judged (slice_get s.ends.clients at) at w piece s b))
+    (client_follow (slice_get s.ends.clients at) b.judged at (event.Bytes w.link piece) s.moment s.ends s.chances s.links follow)
+
+follows_written : StaysWritten (λ (b : Book). b.judged) Follows
+follows_written = record { stays = follows_so; bytes = bytes_written; given = λ at given after b. refl }
+
+-- ---- at first
+
+none_heard : (left : List (List ℕ)) → AreUnheard [] left
+none_heard [] = tt
+none_heard (one ∷ left) = (λ channel is. refl, none_heard left)
+
+apart_from : (left : List (List ℕ)) → AllPairs (λ one other. one ≢ other) left → AreApart left
+apart_from [] differ = tt
+apart_from (challenge ∷ left) differ = (
+  recursion_from_All (λ (one : List ℕ). one ≢ challenge) left (λ place d within same. differ 0 (suc place) d (omega arith) (omega (arith, within)) (sym same)),
+  apart_from left (λ i j d lt within. differ (suc i) (suc j) d (omega (arith, lt)) (omega (arith, within))),
+)
+
+fresh_controllers : (tables : List AccountTable) (names : List (List ℕ)) (judgings : List Judging) (left : List (List ℕ)) (controller at : ℕ) (c : ControllerState) →
+    slice_get (first_controllers tables names) at ≡ Some c → AreKeptIf judgings left controller c.running
+fresh_controllers [] names judgings left controller at c there = absurd cc
+fresh_controllers (table ∷ tables) [] judgings left controller at c there = absurd cc
+fresh_controllers (table ∷ tables) (name ∷ names) judgings left controller zero c there =
+    let is : first_state table name ≡ c = cc in subst (λ (x : ControllerState). AreKeptIf judgings left controller x.running) is (fresh_kept judgings left controller)
+fresh_controllers (table ∷ tables) (name ∷ names) judgings left controller (suc at) c there = fresh_controllers tables names judgings left controller at c there
+
+first_follows : (plan : Plan) → HoldsIn (Follows []) (first_world plan).state
+first_follows plan =
+    let left : List (List ℕ) = (first_world plan).state.chances.left in
+    record {
+      order = record { moved = tt; unheard = none_heard left; apart = apart_from left (challenges_from-distinct plan.seed 0 (most_draws - 0) (omega arith) (omega arith)) };
+      each = λ at c there. fresh_controllers plan.tables plan.controllers [] left at at c there;
+    }
+
+-- in every run each call that was judged met its channel's seed moved so
+seeds_follow : (plan : Plan) (moves : List Move) → AreMoved (past plan moves).book.judged
+seeds_follow plan moves = (run_stays (λ (b : Book). b.judged) Follows follows_written moves (first_world plan) blank (first_follows plan)).order.moved
+
+-- ---- the claim
+
+later_moved : (later : List Judging) (j : Judging) (earlier : List Judging) → AreMoved (later ++ j ∷ earlier) → AreMoved (j ∷ earlier)
+later_moved [] j earlier moved = moved
+later_moved (one ∷ later) j earlier moved = later_moved later j earlier moved.1
+
+later_right : (later : List Judging) (j : Judging) (earlier : List Judging) → AreRight (later ++ j ∷ earlier) → AreRight (j ∷ earlier)
+later_right [] j earlier right = right
+later_right (one ∷ later) j earlier right = later_right later j earlier right.1
+
+-- the call is checked on the channel
+pub record IsOn (j : Judging) (channel : Channel) : Type 0 where
+  pub name : List ℕ
+  pub state : ChannelState
+  pub named : j.logon.computer ≡ Some name
+  pub stands : lookup same_name name j.computers.channels ≡ Some state
+  pub same : SameChannel (channel_with j.controller name state) channel
+
+on_by : (found : Option Channel) (j : Judging) (channel : Channel) → channel_in j.controller j.logon.computer j.computers ≡ found → is_channel found channel ≡ true → IsOn j channel
+on_by None j channel is same = absurd cc
+on_by (Some other) j channel is same =
+    let found = found_in j.controller j.logon.computer j.computers other is in
+    record {
+      name = found.name;
+      state = found.state;
+      named = found.named;
+      stands = found.stands;
+      same = subst (λ (c : Channel). SameChannel c channel) (sym found.is) (one_channel other channel same);
+    }
+
+on_if : (passed : Bool) (j : Judging) (channel : Channel) → is_channel (channel_if passed j) channel ≡ true → (passed ≡ true) × IsOn j channel
+on_if false j channel same = absurd cc
+on_if true j channel same = (refl, on_by (channel_in j.controller j.logon.computer j.computers) j channel refl same)
+
+some_is : {T : Type 0} (one other : T) → Some one ≡ Some other → one ≡ other
+some_is one other is = cc
+
+module _ (j : Judging) (channel : Channel) (on : IsOn j channel) where
+  key_is : key_of_channel on.state ≡ channel_key channel
+  key_is = channel_key-same (channel_with j.controller on.name on.state) channel on.same
+
+  -- the seed that the call met
+  seed_is : (older : List Judging) → AreMoved (j ∷ older) → on.state.seed ≡ add_to (cred_of (channel_key channel) channel.client) (moved_on channel older)
+  seed_is older moved =
+      (subst (λ (o : Option (List ℕ)). IsMovedIn older j.controller o j.computers) on.named moved.0) on.state on.stands
+      ∙ ap₂ (λ (key client : List ℕ). add_to (cred_of key client) (moved_on (channel_with j.controller on.name on.state) older)) key_is on.same.client
+      ∙ ap (λ (n : ℕ). add_to (cred_of (channel_key channel) channel.client) n) (moved_same (channel_with j.controller on.name on.state) channel on.same older)
+
+  -- its authenticator passes there where it is the next one
+  next_passes : (seed : List ℕ) (given : Authenticator) → on.state.seed ≡ seed → j.logon.authenticator ≡ Some given → IsNext j.computers j.logon → Passes (channel_key channel) seed given
+  next_passes seed given is there next =
+      let name : next.computer ≡ on.name = some_is next.computer on.name (sym next.named ∙ on.named) in
+      let state : next.channel ≡ on.state =
+      some_is next.channel on.state (sym next.stands ∙ ap (λ (n : List ℕ). lookup same_name n j.computers.channels) name ∙ on.stands) in
+      let own : next.given ≡ given = some_is next.given given (sym next.there ∙ there) in
+      subst (λ (s : List ℕ). Passes (channel_key channel) s given) is
+      (subst (λ (key : List ℕ). Passes key on.state.seed given) key_is
+      (subst (λ (c : ChannelState). Passes (key_of_channel c) c.seed given) state
+      (subst (λ (g : Authenticator). Passes (key_of_channel next.channel) next.channel.seed g) own next.passes)))
+
+  passes_next : (seed : List ℕ) (given : Authenticator) → on.state.seed ≡ seed → j.logon.authenticator ≡ Some given → Passes (channel_key channel) seed given → IsNext j.computers j.logon
+  passes_next seed given is there pass = record {
+    computer = on.name;
+    given = given;
+    channel = on.state;
+    named = on.named;
+    there = there;
+    stands = on.stands;
+    passes = subst (λ (key : List ℕ). Passes key on.state.seed given) (sym key_is) (subst (λ (s : List ℕ). Passes (channel_key channel) s given) (sym is) pass);
+  }
+
+-- the timestamps that passed on a channel, the newest first
+abbrev pub timestamp_if : Bool → ℕ → List ℕ → List ℕ
+timestamp_if false timestamp timestamps = timestamps
+timestamp_if true timestamp timestamps = timestamp ∷ timestamps
+
+abbrev pub timestamps_on : Channel → List Judging → List ℕ
+timestamps_on channel [] = []
+timestamps_on channel (j ∷ judgings) = timestamp_if (passed_on channel j) (timestamp_of j) (timestamps_on channel judgings)
+
+moved_if_one : (passed : Bool) (timestamp : ℕ) (timestamps : List ℕ) (moved : ℕ) → moved_by timestamps ≡ moved → moved_by (timestamp_if passed timestamp timestamps) ≡ moved_if passed timestamp moved
+moved_if_one false timestamp timestamps moved is = is
+moved_if_one true timestamp timestamps moved is = moved_one timestamp timestamps ∙ ap (λ (n : ℕ). timestamp + 1 + n) is
+
+moved_sum : (channel : Channel) (judgings : List Judging) → moved_by (timestamps_on channel judgings) ≡ moved_on channel judgings
+moved_sum channel [] = moved_none
+moved_sum channel (j ∷ judgings) =
+    moved_if_one (passed_on channel j) (timestamp_of j) (timestamps_on channel judgings) (moved_on channel judgings) (moved_sum channel judgings)
+
+-- a call that passed moves the seed by its timestamp plus one
+moved_first : (channel : Channel) (j : Judging) (older : List Judging) (timestamp : ℕ) → passed_on channel j ≡ true → timestamp_of j ≡ timestamp →
+    moved_on channel (j ∷ older) ≡ timestamp + 1 + moved_on channel older
+moved_first channel j older timestamp passed is =
+    ap (λ (b : Bool). moved_if b (timestamp_of j) (moved_on channel older)) passed ∙ ap (λ (n : ℕ). n + 1 + moved_on channel older) is
+
+-- a call that passed on a channel, and those that were judged after it
+module _ (channel : Channel) (between earlier : List Judging) (first : Judging) (given : Authenticator) (passed : passed_on channel first ≡ true)
+    (there : first.logon.authenticator ≡ Some given) where
+  sum_between : moved_by (given.timestamp ∷ timestamps_on channel between) ≡ moved_on channel (between ++ first ∷ [])
+  sum_between =
+      let one : moved_on channel (first ∷ []) ≡ given.timestamp + 1 + 0 = moved_first channel first [] given.timestamp passed (ap timestamp_in there) in
+      omega (arith, moved_one given.timestamp (timestamps_on channel between), moved_sum channel between, moved_append channel between (first ∷ []), one)
+
+  sum_before : moved_on channel (between ++ first ∷ earlier) ≡ moved_on channel earlier + moved_by (given.timestamp ∷ timestamps_on channel between)
+  sum_before =
+      let one : moved_on channel (first ∷ earlier) ≡ given.timestamp + 1 + moved_on channel earlier = moved_first channel first earlier given.timestamp passed (ap timestamp_in there) in
+      omega (arith, moved_one given.timestamp (timestamps_on channel between), moved_sum channel between, moved_append channel between (first ∷ earlier), one)
+
+  passes_again : (key base : List ℕ) → IsBlock base → Passes key (add_to base (moved_on channel earlier)) given →
+      Passes key (add_to base (moved_on channel (between ++ first ∷ earlier))) given ↔ (moved_on channel (between ++ first ∷ []) % 2 ^ 32 ≡ 0)
+  passes_again key base block pass =
+      let seed : List ℕ = add_to base (moved_on channel earlier) in
+      let timestamps : List ℕ = timestamps_on channel between in
+      let at : seed_after seed (given.timestamp ∷ timestamps) ≡ add_to base (moved_on channel (between ++ first ∷ earlier)) =
+      seed_after-moved_by seed (given.timestamp ∷ timestamps) (IsBlock-add_to base (moved_on channel earlier) block)
+      ∙ add_to-add_to base (moved_on channel earlier) (moved_by (given.timestamp ∷ timestamps))
+      ∙ ap (λ (n : ℕ). add_to base n) (sym sum_before) in
+      let law : Passes key (seed_after seed (given.timestamp ∷ timestamps)) given ↔ (moved_by (given.timestamp ∷ timestamps) % 2 ^ 32 ≡ 0) =
+      replay key seed given timestamps (IsBlock-add_to base (moved_on channel earlier) block) pass in (
+        λ again. subst (λ (n : ℕ). n % 2 ^ 32 ≡ 0) sum_between (law.0 (subst (λ (s : List ℕ). Passes key s given) (sym at) again)),
+        λ whole. subst (λ (s : List ℕ). Passes key s given) at (law.1 (subst (λ (n : ℕ). n % 2 ^ 32 ≡ 0) (sym sum_between) whole)),
+      )
+
+by_sum : (channel : Channel) (between earlier : List Judging) (second first : Judging) → AreMoved (second ∷ (between ++ first ∷ earlier)) → AreRight (second ∷ (between ++ first ∷ earlier)) →
+    passed_on channel first ≡ true → is_channel (channel_in second.controller second.logon.computer second.computers) channel ≡ true → second.logon.authenticator ≡ first.logon.authenticator →
+    (has_passed second.how ≡ true) ↔ (moved_on channel (between ++ first ∷ []) % 2 ^ 32 ≡ 0)
+by_sum channel between earlier second first moved right passed same again =
+    let was = on_if (has_passed first.how) first channel passed in
+    let is : IsOn second channel = on_by (channel_in second.controller second.logon.computer second.computers) second channel refl same in
+    let next : IsNext first.computers first.logon = (later_right between first earlier right.1).0.passed.0 was.0 in
+    let given : Authenticator = next.given in
+    let base : List ℕ = cred_of (channel_key channel) channel.client in
+    let pass : Passes (channel_key channel) (add_to base (moved_on channel earlier)) given =
+    next_passes first channel was.1 (add_to base (moved_on channel earlier)) given (seed_is first channel was.1 earlier (later_moved between first earlier moved.1)) next.there next in
+    let law = passes_again channel between earlier first given passed next.there (channel_key channel) base (IsBlock-cred_of (channel_key channel) channel.client) pass in
+    let seed : is.state.seed ≡ add_to base (moved_on channel (between ++ first ∷ earlier)) = seed_is second channel is (between ++ first ∷ earlier) moved in (
+      λ told. law.0 (next_passes second channel is _ given seed (again ∙ next.there) (right.0.passed.0 told)),
+      λ whole. right.0.passed.1 (passes_next second channel is _ given seed (again ∙ next.there) (law.1 whole)),
+    )
+
+-- in every run a replay passes by the sum of timestamps
+pub replays_by_sum : (plan : Plan) (moves : List Move) → ReplaysBySum (past plan moves)
+replays_by_sum plan moves channel later between earlier second first all passed same again =
+    by_sum channel between earlier second first
+    (later_moved later second (between ++ first ∷ earlier) (subst (λ (judgings : List Judging). AreMoved judgings) all (seeds_follow plan moves)))
+    (later_right later second (between ++ first ∷ earlier) (subst (λ (judgings : List Judging). AreRight judgings) all (judged_rightly plan moves)))
+    passed same again

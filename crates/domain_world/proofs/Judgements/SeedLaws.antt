@@ -1,0 +1,457 @@
+-- The seed of each channel that a controller keeps: the credential of its client's challenge, moved by the timestamps
+-- that passed on it. It serves `controllers_grant_who_may_log_on`, `replays_pass_by_sum`,
+-- `replies_carry_their_judgement` and 3 more.
+use Rattle.std.proofs.Common.{◌≡◌, ◌≢◌, ℕ, ◌+◌, Bool, true, false, List, [], ◌∷◌, length, drop, Option, Some, None, refl, sym, ap, subst, ◌∙◌, inl, inr, arith, bytes_eq}
+use Rattle.std.specs.List.{AllByRecursion}
+use Rattle.std.proofs.lemmas.Bool.{cases_Bool}
+use Rattle.std.proofs.lemmas.Slice.Eq.{bytes_eq-Decides}
+use Rattle.wire_base.specs.declared.authenticator.Authenticator.{Authenticator}
+use Rattle.wire_base.specs.Maps.{IsMap, lookup, put, take_out}
+use Rattle.wire_base.specs.Names.{SameName, same_name}
+use Rattle.wire_base.proofs.MapLaws.{IsMap-put, IsMap-take_out, lookup-put_same, lookup-take_out_same, put_others, taken_others}
+use Rattle.wire_base.proofs.NameLaws.{IsSameness-same_name, same_name-Decides}
+use Rattle.ntlm_flags.specs.Flags.{has_flag}
+use Rattle.channel_keys.specs.Credentials.{cred_of}
+use Rattle.channel_keys.specs.Flags.{rc4_flag}
+use Rattle.channel_keys.proofs.CredLaws.{IsBlock-cred_of}
+use Rattle.authenticators.specs.Channels.{Channel}
+use Rattle.authenticators.specs.Sequences.{add_to}
+use Rattle.authenticators.proofs.SeedLaws.{add_to-add_to, add_to-zero}
+use Rattle.outside.specs.declared.action.Judged.{Judged}
+use Rattle.outside.specs.declared.action.Judged.TheVariants as judged
+use Rattle.logon_stubs.specs.declared.calls.AuthCall.{AuthCall}
+use Rattle.logon_stubs.specs.declared.calls.LogonCall.{LogonCall}
+use Rattle.logon_stubs.specs.declared.info.NetworkInfo.{NetworkInfo}
+use Rattle.account_table.specs.declared.account.Account.{Account}
+use Rattle.domain_controller.specs.Channels.{ChannelState, channel_by, key_of_channel, passes_on, return_by}
+use Rattle.domain_controller.specs.Laws.{KeepsComputer}
+use Rattle.domain_controller.specs.Machine.{Desk, answer_logon, channel_for, desk, judge_account, judge_channel, judge_offer, judge_pair, judge_return, open_channel, put_channel, put_pair_if, take_channel, take_pair}
+use Rattle.domain_controller.specs.declared.line.Line.{Line}
+use Rattle.domain_controller.specs.declared.state.Computers.{Computers}
+use Rattle.domain_controller.specs.declared.state.Pending.{Pending}
+use Rattle.domain_controller.specs.declared.state.Work.{Work}
+use Rattle.step_notes.specs.ControllerNotes.{Where, channel_in, channel_with, has_passed, judged_in}
+use Rattle.step_notes.specs.ControllerNotes as notes
+use Rattle.step_notes.specs.Judged.{channel_if, passed_channel}
+use Rattle.step_notes.specs.Marking.{is_channel}
+use Rattle.step_notes.specs.Records.{Judging, timestamp_in}
+use Rattle.domain_world.specs.Claims.{moved_if, moved_on, passed_on, timestamp_of}
+use Rattle.step_notes.proofs.Controllers.ComputerLaws.{lookup_named, return_computers, taken_none}
+use Rattle.step_notes.proofs.Controllers.JudgedStepLaws.{told_first}
+use Rattle.domain_world.proofs.Judgements.MovedLaws.{itself, moved_past, moved_same, not_passed, passed_in}
+
+-- ---- what is known
+
+-- the seed at which a channel opens
+abbrev pub first_seed : ChannelState → List ℕ
+first_seed c = cred_of (key_of_channel c) c.client
+
+-- the seed is that one, moved by what passed on the channel of that controller and computer
+abbrev pub IsMoved : List Judging → ℕ → List ℕ → ChannelState → Type 0
+IsMoved judgings controller name c = c.seed ≡ add_to (first_seed c) (moved_on (channel_with controller name c) judgings)
+
+-- the challenge is none of those that are left
+abbrev pub IsSpent : List ℕ → List (List ℕ) → Type 0
+IsSpent challenge left = AllByRecursion (λ (one : List ℕ). one ≢ challenge) left
+
+-- a channel of the controller and the computer
+abbrev pub channel_of : ℕ → List ℕ → List ℕ → List ℕ → List ℕ → ℕ → Channel
+channel_of controller name secret client server flags =
+    record { controller = controller; computer = name; secret = secret; client = client; server = server; flags = flags }
+
+-- nothing passed on a channel of the controller and the computer with that server challenge
+abbrev pub IsUnheard : List Judging → ℕ → List ℕ → List ℕ → Type 0
+IsUnheard judgings controller name server =
+    (secret client : List ℕ) (flags : ℕ) → moved_on (channel_of controller name secret client server flags) judgings ≡ 0
+
+-- Of a computer: its channel's seed moved so; nothing passed on a channel that its challenges that wait may open; and
+-- their server challenges are two, neither of which is left.
+pub record IsKept (judgings : List Judging) (left : List (List ℕ)) (controller : ℕ) (name : List ℕ) (computers : Computers) : Type 0 where
+  pub channels : (c : ChannelState) → lookup same_name name computers.channels ≡ Some c → IsMoved judgings controller name c × IsSpent c.server left
+  pub pairs : (pair : Pending) → lookup same_name name computers.pending ≡ Some pair → IsUnheard judgings controller name pair.server × IsSpent pair.server left
+  pub differ : (c : ChannelState) (pair : Pending) → lookup same_name name computers.channels ≡ Some c → lookup same_name name computers.pending ≡ Some pair → c.server ≢ pair.server
+
+-- of all computers of a controller
+pub record AreKept (judgings : List Judging) (left : List (List ℕ)) (controller : ℕ) (computers : Computers) : Type 0 where
+  pub map : IsMap same_name computers.pending
+  pub each : (name : List ℕ) → IsKept judgings left controller name computers
+
+-- before a call was judged its channel's seed had moved so
+abbrev pub IsMovedIn : List Judging → ℕ → Option (List ℕ) → Computers → Type 0
+IsMovedIn judgings controller None computers = Unit {0}
+IsMovedIn judgings controller (Some name) computers =
+    (c : ChannelState) → lookup same_name name computers.channels ≡ Some c → IsMoved judgings controller name c
+
+abbrev pub AreMoved : List Judging → Type 0
+AreMoved [] = Unit {0}
+AreMoved (j ∷ judgings) = IsMovedIn judgings j.controller j.logon.computer j.computers × AreMoved judgings
+
+-- nothing passed on a channel with a challenge that is left
+abbrev pub AreUnheard : List Judging → List (List ℕ) → Type 0
+AreUnheard judgings left = AllByRecursion (λ (one : List ℕ). (channel : Channel) → channel.server ≡ one → moved_on channel judgings ≡ 0) left
+
+-- no two of them are alike
+abbrev pub AreApart : List (List ℕ) → Type 0
+AreApart [] = Unit {0}
+AreApart (challenge ∷ left) = IsSpent challenge left × AreApart left
+
+-- of the calls that were judged and the challenges that are left
+pub record IsInOrder (judgings : List Judging) (left : List (List ℕ)) : Type 0 where
+  pub moved : AreMoved judgings
+  pub unheard : AreUnheard judgings left
+  pub apart : AreApart left
+
+-- ---- one computer
+
+pub keeps_all : (name : List ℕ) (computers : Computers) → KeepsComputer name computers computers
+keeps_all name computers = record { pair = refl; channel = refl }
+
+-- the channel and the challenges of a computer are those of before, and so is how far seeds moved
+pub kept_on : (judgings now : List Judging) (left rest : List (List ℕ)) (controller : ℕ) (name : List ℕ) (old new : Computers) → KeepsComputer name old new →
+    ((secret client server : List ℕ) (flags : ℕ) → moved_on (channel_of controller name secret client server flags) now ≡ moved_on (channel_of controller name secret client server flags) judgings) →
+    ((challenge : List ℕ) → IsSpent challenge left → IsSpent challenge rest) → IsKept judgings left controller name old → IsKept now rest controller name new
+kept_on judgings now left rest controller name old new keeps moved fewer kept = record {
+  channels = λ c there.
+      let was = kept.channels c (sym keeps.channel ∙ there) in
+      (was.0 ∙ ap (λ (n : ℕ). add_to (first_seed c) n) (sym (moved c.secret c.client c.server c.flags)), fewer c.server was.1);
+  pairs = λ pair there.
+      let was = kept.pairs pair (sym keeps.pair ∙ there) in
+      (λ secret client flags. moved secret client pair.server flags ∙ was.0 secret client flags, fewer pair.server was.1);
+  differ = λ c pair there waits. kept.differ c pair (sym keeps.channel ∙ there) (sym keeps.pair ∙ waits);
+}
+
+moved_named : (judgings : List Judging) (controller : ℕ) (one other secret client server : List ℕ) (flags : ℕ) → same_name one other ≡ true →
+    moved_on (channel_of controller one secret client server flags) judgings ≡ moved_on (channel_of controller other secret client server flags) judgings
+moved_named judgings controller one other secret client server flags same =
+    moved_same (channel_of controller one secret client server flags) (channel_of controller other secret client server flags)
+    (record { controller = refl; computer = (same_name-Decides one other).0 same; secret = refl; client = refl; server = refl; flags = refl }) judgings
+
+-- what is known of a computer is known of it by its name in another case
+kept_named : (judgings : List Judging) (left : List (List ℕ)) (controller : ℕ) (one other : List ℕ) (computers : Computers) → same_name one other ≡ true →
+    IsKept judgings left controller one computers → IsKept judgings left controller other computers
+kept_named judgings left controller one other computers same kept = record {
+  channels = λ c there.
+      let was = kept.channels c (sym (lookup_named one other computers.channels same) ∙ there) in
+      (was.0 ∙ ap (λ (n : ℕ). add_to (first_seed c) n) (moved_named judgings controller one other c.secret c.client c.server c.flags same), was.1);
+  pairs = λ pair there.
+      let was = kept.pairs pair (sym (lookup_named one other computers.pending same) ∙ there) in
+      (λ secret client flags. sym (moved_named judgings controller one other secret client pair.server flags same) ∙ was.0 secret client flags, was.1);
+  differ = λ c pair there waits.
+      kept.differ c pair (sym (lookup_named one other computers.channels same) ∙ there) (sym (lookup_named one other computers.pending same) ∙ waits);
+}
+
+-- a step that concerns one computer
+by_name : (judgings : List Judging) (left : List (List ℕ)) (controller : ℕ) (one : List ℕ) (computers : Computers) → IsKept judgings left controller one computers →
+    ((other : List ℕ) → same_name one other ≡ false → IsKept judgings left controller other computers) → (name : List ℕ) → IsKept judgings left controller name computers
+by_name judgings left controller one computers here others name =
+    elim (cases_Bool (same_name one name)) [
+      | inl same ↦ kept_named judgings left controller one name computers same here
+      | inr not_same ↦ others name not_same
+    ]
+
+-- ---- a challenge is drawn
+
+fewer_left : (challenge server : List ℕ) (left : List (List ℕ)) → IsSpent challenge (server ∷ left) → IsSpent challenge left
+fewer_left challenge server left spent = spent.1
+
+pub drawn_order : (judgings : List Judging) (server : List ℕ) (left : List (List ℕ)) → IsInOrder judgings (server ∷ left) → IsInOrder judgings left
+drawn_order judgings server left order = record { moved = order.moved; unheard = order.unheard.1; apart = order.apart.1 }
+
+some_is : {T : Type 0} (one other : T) → Some one ≡ Some other → one ≡ other
+some_is one other is = cc
+
+pub pair_kept : (knows : Bool) (judgings : List Judging) (server : List ℕ) (left : List (List ℕ)) (controller : ℕ) (name client : List ℕ) (work : Work) →
+    IsInOrder judgings (server ∷ left) → AreKept judgings (server ∷ left) controller work.computers →
+    AreKept judgings left controller (put_pair_if knows name (record { client = client; server = server }) work).computers
+pair_kept false judgings server left controller name client work order kept = record {
+  map = kept.map;
+  each = λ other.
+      kept_on judgings judgings (server ∷ left) left controller other work.computers work.computers (keeps_all other work.computers) (λ secret client server flags. refl)
+      (λ challenge spent. fewer_left challenge server left spent) (kept.each other);
+}
+pair_kept true judgings server left controller name client work order kept =
+    let pair : Pending = record { client = client; server = server } in
+    let there : lookup same_name name (put same_name name pair work.computers.pending) ≡ Some pair =
+    lookup-put_same same_name name pair work.computers.pending (IsSameness-same_name.reflexive name) in
+    let is : (other : Pending) → lookup same_name name (put same_name name pair work.computers.pending) ≡ Some other → pair ≡ other = λ other waits. some_is pair other (sym there ∙ waits) in
+    let new : Computers = (put_pair_if true name pair work).computers in
+    let here : IsKept judgings left controller name new = record {
+      channels = λ c stands. let was = (kept.each name).channels c stands in (was.0, was.1.1);
+      pairs = λ other waits.
+          subst (λ (p : Pending). IsUnheard judgings controller name p.server × IsSpent p.server left) (is other waits)
+          (λ secret client flags. order.unheard.0 (channel_of controller name secret client server flags) refl, order.apart.0);
+      differ = λ c other stands waits same. ((kept.each name).channels c stands).1.0 (ap Pending.server (is other waits) ∙ sym same);
+    } in
+    record {
+      map = IsMap-put same_name name pair work.computers.pending IsSameness-same_name kept.map;
+      each = by_name judgings left controller name new here (λ other apart.
+          kept_on judgings judgings (server ∷ left) left controller other work.computers new
+          (record { pair = put_others same_name name other pair work.computers.pending IsSameness-same_name apart; channel = refl }) (λ secret client server flags. refl)
+          (λ challenge spent. fewer_left challenge server left spent) (kept.each other));
+    }
+
+-- ---- challenges are taken, and may open a channel
+
+module _ (judgings : List Judging) (left : List (List ℕ)) (controller : ℕ) where
+  none_waits : (name : List ℕ) (computers : Computers) → IsMap same_name computers.pending → (pair : Pending) → lookup same_name name (take_out same_name name computers.pending) ≡ Some pair → ⊥
+  none_waits name computers map pair waits =
+      absurd (let none : None ≡ Some pair = sym (lookup-take_out_same same_name name computers.pending IsSameness-same_name map) ∙ waits in cc)
+
+  -- a refusal leaves the channel
+  pub taken_kept : (name : List ℕ) (work : Work) → AreKept judgings left controller work.computers → AreKept judgings left controller (take_pair name work).computers
+  taken_kept name work kept =
+      let new : Computers = (take_pair name work).computers in
+      let here : IsKept judgings left controller name new = record {
+        channels = λ c stands. (kept.each name).channels c stands;
+        pairs = λ pair waits. absurd (none_waits name work.computers kept.map pair waits);
+        differ = λ c pair stands waits. absurd (none_waits name work.computers kept.map pair waits);
+      } in
+      record {
+        map = IsMap-take_out same_name name work.computers.pending kept.map;
+        each = by_name judgings left controller name new here (λ other apart.
+            kept_on judgings judgings left left controller other work.computers new
+            (record { pair = taken_others same_name name other work.computers.pending IsSameness-same_name apart; channel = refl }) (λ secret client server flags. refl)
+            (λ challenge spent. spent) (kept.each other));
+      }
+
+  opened_kept : (right : Bool) (pair : Pending) (account : Account) (line : Line) (c : AuthCall) (work : Work) → lookup same_name c.computer work.computers.pending ≡ Some pair →
+      bytes_eq c.credential (first_seed (channel_for account pair c)) ≡ right → AreKept judgings left controller work.computers →
+      AreKept judgings left controller (open_channel right (channel_for account pair c) line c (take_pair c.computer work)).computers
+  opened_kept false pair account line c work waits is kept = taken_kept c.computer work kept
+  opened_kept true pair account line c work waits is kept =
+      let opened : ChannelState = channel_for account pair c in
+      let name : List ℕ = c.computer in
+      let taken : Work = take_pair name work in
+      let new : Computers = (put_channel name opened taken).computers in
+      let was : AreKept judgings left controller taken.computers = taken_kept name work kept in
+      let fresh = (kept.each name).pairs pair waits in
+      let there : lookup same_name name new.channels ≡ Some opened = lookup-put_same same_name name opened taken.computers.channels (IsSameness-same_name.reflexive name) in
+      let moved : IsMoved judgings controller name opened =
+      (bytes_eq-Decides c.credential (first_seed opened)).0 is
+      ∙ sym (add_to-zero (first_seed opened) (IsBlock-cred_of (key_of_channel opened) opened.client))
+      ∙ ap (λ (n : ℕ). add_to (first_seed opened) n) (sym (fresh.0 opened.secret opened.client opened.flags)) in
+      let here : IsKept judgings left controller name new = record {
+        channels = λ other stands.
+            subst (λ (x : ChannelState). IsMoved judgings controller name x × IsSpent x.server left) (some_is opened other (sym there ∙ stands)) (moved, fresh.1);
+        pairs = λ other waits. absurd (none_waits name work.computers kept.map other waits);
+        differ = λ c other stands waits. absurd (none_waits name work.computers kept.map other waits);
+      } in
+      record {
+        map = was.map;
+        each = by_name judgings left controller name new here (λ other apart.
+            kept_on judgings judgings left left controller other taken.computers new
+            (record { pair = refl; channel = put_others same_name name other opened taken.computers.channels IsSameness-same_name apart }) (λ secret client server flags. refl)
+            (λ challenge spent. spent) (was.each other));
+      }
+
+  pair_opened : (pair : Option Pending) (account : Account) (line : Line) (c : AuthCall) (work : Work) → lookup same_name c.computer work.computers.pending ≡ pair →
+      AreKept judgings left controller work.computers → AreKept judgings left controller (judge_pair pair account line c (take_pair c.computer work)).computers
+  pair_opened None account line c work waits kept = taken_kept c.computer work kept
+  pair_opened (Some pair) account line c work waits kept =
+      opened_kept (bytes_eq c.credential (first_seed (channel_for account pair c))) pair account line c work waits refl kept
+
+  offer_opened : (offered : Bool) (pair : Option Pending) (account : Account) (line : Line) (c : AuthCall) (work : Work) → lookup same_name c.computer work.computers.pending ≡ pair →
+      AreKept judgings left controller work.computers → AreKept judgings left controller (judge_offer offered pair account line c (take_pair c.computer work)).computers
+  offer_opened false pair account line c work waits kept = taken_kept c.computer work kept
+  offer_opened true pair account line c work waits kept = pair_opened pair account line c work waits kept
+
+  pub account_opened : (account : Option Account) (pair : Option Pending) (line : Line) (c : AuthCall) (work : Work) → lookup same_name c.computer work.computers.pending ≡ pair →
+      AreKept judgings left controller work.computers → AreKept judgings left controller (judge_account account pair line c (take_pair c.computer work)).computers
+  account_opened None pair line c work waits kept = taken_kept c.computer work kept
+  account_opened (Some account) pair line c work waits kept = offer_opened (has_flag c.flags rc4_flag) pair account line c work waits kept
+
+-- ---- a Logon call is judged
+
+module _ (judgings : List Judging) (left : List (List ℕ)) (j : Judging) (kept : AreKept judgings left j.controller j.computers) where
+  spent_on : (channel : Channel) → passed_channel j ≡ Some channel → IsSpent channel.server left
+  spent_on channel passed =
+      let found = passed_in j channel passed in
+      subst (λ (c : Channel). IsSpent c.server left) found.is ((kept.each found.name).channels found.state found.stands).1
+
+  still_unheard : (some : List (List ℕ)) → ((channel : Channel) → passed_channel j ≡ Some channel → IsSpent channel.server some) → AreUnheard judgings some → AreUnheard (j ∷ judgings) some
+  still_unheard [] spent unheard = tt
+  still_unheard (one ∷ some) spent unheard = (
+    λ channel is.
+        moved_past channel j judgings (λ other passed same. (spent other passed).0 (sym is ∙ sym same.server)) ∙ unheard.0 channel is,
+    still_unheard some (λ channel passed. (spent channel passed).1) unheard.1,
+  )
+
+  moved_before : (computer : Option (List ℕ)) → IsMovedIn judgings j.controller computer j.computers
+  moved_before None = tt
+  moved_before (Some name) = λ c stands. ((kept.each name).channels c stands).0
+
+  pub judged_order : IsInOrder judgings left → IsInOrder (j ∷ judgings) left
+  judged_order order = record {
+    moved = (moved_before j.logon.computer, order.moved);
+    unheard = still_unheard left (λ channel passed. spent_on channel passed) order.unheard;
+    apart = order.apart;
+  }
+
+  -- the seeds of other controllers' channels, and of other computers', don't move
+  pub others_unmoved : (channel : Channel) → (channel.controller ≡ j.controller → ⊥) → moved_on channel (j ∷ judgings) ≡ moved_on channel judgings
+  others_unmoved channel apart =
+      moved_past channel j judgings (λ other passed same. apart (sym same.controller ∙ sym (ap Channel.controller (passed_in j other passed).is)))
+
+  unnamed_unmoved : (name : List ℕ) (channel : Channel) → j.logon.computer ≡ Some name → same_name name channel.computer ≡ false → moved_on channel (j ∷ judgings) ≡ moved_on channel judgings
+  unnamed_unmoved name channel named apart =
+      moved_past channel j judgings (λ other passed same.
+      let found = passed_in j other passed in
+      let here : found.name ≡ name = some_is found.name name (sym found.named ∙ named) in
+      let computer : other.computer ≡ name = sym (ap Channel.computer found.is) ∙ here in
+      let so : same_name name channel.computer ≡ true =
+      (same_name-Decides name channel.computer).1 (subst (λ (n : List ℕ). SameName n channel.computer) computer same.computer) in
+      absurd cc)
+
+  -- challenges that wait open no channel on which the call passed
+  pair_unheard : (name : List ℕ) (pair : Pending) → lookup same_name name j.computers.pending ≡ Some pair → IsUnheard (j ∷ judgings) j.controller name pair.server
+  pair_unheard name pair waits secret client flags =
+      moved_past (channel_of j.controller name secret client pair.server flags) j judgings (λ other passed same.
+      let found = passed_in j other passed in
+      let one : same_name found.name name ≡ true =
+      (same_name-Decides found.name name).1 (subst (λ (c : Channel). SameName c.computer name) (sym found.is) same.computer) in
+      (kept.each name).differ found.state pair (lookup_named found.name name j.computers.channels one ∙ found.stands) waits (ap Channel.server found.is ∙ same.server))
+      ∙ ((kept.each name).pairs pair waits).0 secret client flags
+
+  -- a call that passed on no channel
+  none_moved : ((channel : Channel) → passed_channel j ≡ Some channel → ⊥) → (new : Computers) → new.pending ≡ j.computers.pending → new.channels ≡ j.computers.channels →
+      AreKept (j ∷ judgings) left j.controller new
+  none_moved none new pending channels = record {
+    map = subst (λ entries. IsMap same_name entries) (sym pending) kept.map;
+    each = λ name.
+        kept_on judgings (j ∷ judgings) left left j.controller name j.computers new
+        (record { pair = ap (λ entries. lookup same_name name entries) pending; channel = ap (λ entries. lookup same_name name entries) channels })
+        (λ secret client server flags. moved_past (channel_of j.controller name secret client server flags) j judgings (λ other passed same. none other passed))
+        (λ challenge spent. spent) (kept.each name);
+  }
+
+  passed_here : (name : List ℕ) (c : ChannelState) → has_passed j.how ≡ true → j.logon.computer ≡ Some name → lookup same_name name j.computers.channels ≡ Some c →
+      passed_on (channel_with j.controller name c) j ≡ true
+  passed_here name c passed named stands =
+      ap (λ (found : Option Channel). is_channel found (channel_with j.controller name c))
+      (ap (λ (b : Bool). channel_if b j) passed ∙ ap (λ (o : Option (List ℕ)). channel_in j.controller o j.computers) named
+      ∙ ap (λ (found : Option ChannelState). notes.channel_by j.controller name found) stands)
+      ∙ itself (channel_with j.controller name c)
+
+  -- its channel's seed moves where it passes
+  seed_moved : (passes : Bool) (name : List ℕ) (given : Authenticator) (c : ChannelState) → has_passed j.how ≡ passes → j.logon.computer ≡ Some name → j.logon.authenticator ≡ Some given →
+      lookup same_name name j.computers.channels ≡ Some c → IsMoved (j ∷ judgings) j.controller name (channel_by passes c given)
+  seed_moved false name given c passed named there stands =
+      ((kept.each name).channels c stands).0
+      ∙ ap (λ (n : ℕ). add_to (first_seed c) n)
+      (sym (moved_past (channel_with j.controller name c) j judgings (λ other found same. not_passed (has_passed j.how) j other passed found)))
+  seed_moved true name given c passed named there stands =
+      let before : ℕ = moved_on (channel_with j.controller name c) judgings in
+      let moved : moved_on (channel_with j.controller name c) (j ∷ judgings) ≡ given.timestamp + 1 + before =
+      ap (λ (b : Bool). moved_if b (timestamp_of j) before) (passed_here name c passed named stands)
+      ∙ ap (λ (o : Option Authenticator). timestamp_in o + 1 + before) there in
+      let sum : before + (given.timestamp + 1) ≡ given.timestamp + 1 + before = omega arith in
+      ap (λ (seed : List ℕ). add_to seed (given.timestamp + 1)) ((kept.each name).channels c stands).0
+      ∙ add_to-add_to (first_seed c) before (given.timestamp + 1)
+      ∙ ap (λ (n : ℕ). add_to (first_seed c) n) (sum ∙ sym moved)
+
+  server_stays : (passes : Bool) (c : ChannelState) (given : Authenticator) → c.server ≡ (channel_by passes c given).server
+  server_stays false c given = refl
+  server_stays true c given = refl
+
+  -- the channel is put back so
+  moved_kept : (passes : Bool) (name : List ℕ) (given : Authenticator) (c : ChannelState) (new : Computers) → has_passed j.how ≡ passes → j.logon.computer ≡ Some name →
+      j.logon.authenticator ≡ Some given → lookup same_name name j.computers.channels ≡ Some c → new.pending ≡ j.computers.pending →
+      new.channels ≡ put same_name name (channel_by passes c given) (take_out same_name name j.computers.channels) → AreKept (j ∷ judgings) left j.controller new
+  moved_kept passes name given c new passed named there stands pending channels =
+      let moved : ChannelState = channel_by passes c given in
+      let taken = take_out same_name name j.computers.channels in
+      let now : lookup same_name name new.channels ≡ Some moved =
+      ap (λ entries. lookup same_name name entries) channels ∙ lookup-put_same same_name name moved taken (IsSameness-same_name.reflexive name) in
+      let was : (pair : Pending) → lookup same_name name new.pending ≡ Some pair → lookup same_name name j.computers.pending ≡ Some pair =
+      λ pair waits. sym (ap (λ entries. lookup same_name name entries) pending) ∙ waits in
+      let spent : IsSpent moved.server left = subst (λ (x : List ℕ). IsSpent x left) (server_stays passes c given) ((kept.each name).channels c stands).1 in
+      let here : IsKept (j ∷ judgings) left j.controller name new = record {
+        channels = λ other stands_now.
+            subst (λ (x : ChannelState). IsMoved (j ∷ judgings) j.controller name x × IsSpent x.server left) (some_is moved other (sym now ∙ stands_now))
+            (seed_moved passes name given c passed named there stands, spent);
+        pairs = λ pair waits. (pair_unheard name pair (was pair waits), ((kept.each name).pairs pair (was pair waits)).1);
+        differ = λ other pair stands_now waits same.
+            (kept.each name).differ c pair stands (was pair waits)
+            (server_stays passes c given ∙ ap ChannelState.server (some_is moved other (sym now ∙ stands_now)) ∙ same);
+      } in
+      record {
+        map = subst (λ entries. IsMap same_name entries) (sym pending) kept.map;
+        each = by_name (j ∷ judgings) left j.controller name new here (λ other apart.
+            kept_on judgings (j ∷ judgings) left left j.controller other j.computers new (record {
+              pair = ap (λ entries. lookup same_name other entries) pending;
+              channel = ap (λ entries. lookup same_name other entries) channels
+                  ∙ put_others same_name name other moved taken IsSameness-same_name apart
+                  ∙ taken_others same_name name other j.computers.channels IsSameness-same_name apart;
+            })
+            (λ secret client server flags. unnamed_unmoved name (channel_of j.controller other secret client server flags) named apart)
+            (λ challenge spent. spent) (kept.each other));
+      }
+
+-- the call as it is judged
+abbrev pub judged_as : Option Judged → Option ℕ → Where → Line → LogonCall → Desk → Judging
+judged_as how number w line c d = record {
+  at = w.at;
+  controller = w.controller;
+  name = w.name;
+  unit = w.unit;
+  number = line.call;
+  logon = c;
+  table = d.table;
+  computers = d.work.computers;
+  moment = w.moment;
+  how = how;
+  reply = number;
+}
+
+-- what is told first after the actions of before
+abbrev pub told_in : Desk → Desk → Option Judged
+told_in before after = judged_in (drop (length before.work.actions) after.work.actions)
+
+how_passes : (passes : Bool) (key : List ℕ) (channel : ChannelState) (given : Authenticator) (name : List ℕ) (now : ℕ) (line : Line) (info : NetworkInfo) (validation : ℕ) (d : Desk) →
+    has_passed (told_in d (judge_return (return_by passes channel given) key name now line info validation d)) ≡ passes
+how_passes true key channel given name now line info validation d = ap has_passed (told_first d.work.actions (judged.Passed _) _)
+how_passes false key channel given name now line info validation d = ap has_passed (told_first d.work.actions judged.Barred _)
+
+no_channel_found : (name other : List ℕ) (c : ChannelState) (computers : Computers) → name ≡ other → lookup same_name name computers.channels ≡ Some c → lookup same_name other computers.channels ≡ None → ⊥
+no_channel_found name other c computers same stands none =
+    absurd (let both : Some c ≡ None = sym stands ∙ ap (λ (n : List ℕ). lookup same_name n computers.channels) same ∙ none in cc)
+
+none_is : {T : Type 0} (value : T) → None ≡ Some value → ⊥
+none_is value is = absurd cc
+
+module _ (judgings : List Judging) (left : List (List ℕ)) (number : Option ℕ) (w : Where) (line : Line) (c : LogonCall) (name : List ℕ) (now : ℕ) (info : NetworkInfo) (validation : ℕ) where
+  channel_judged : (found : Option ChannelState) (how : Option Judged) (computer : List ℕ) (given : Authenticator) (d : Desk) → c.computer ≡ Some computer → c.authenticator ≡ Some given →
+      lookup same_name computer d.work.computers.channels ≡ found →
+      how ≡ told_in d (judge_channel found computer given name now line info validation (desk d.table (take_channel computer d.work))) → AreKept judgings left w.controller d.work.computers →
+      AreKept (judged_as how number w line c d ∷ judgings) left w.controller (judge_channel found computer given name now line info validation (desk d.table (take_channel computer d.work))).work.computers
+  channel_judged None how computer given d named there stands told kept =
+      let j : Judging = judged_as how number w line c d in
+      none_moved judgings left j kept (λ channel passed.
+      let found = passed_in j channel passed in
+      no_channel_found found.name computer found.state d.work.computers (some_is found.name computer (sym found.named ∙ named)) found.stands stands)
+      (take_channel computer d.work).computers refl (taken_none computer d.work.computers.channels stands)
+  channel_judged (Some channel) how computer given d named there stands told kept =
+      let j : Judging = judged_as how number w line c d in
+      let passes : Bool = passes_on channel given in
+      let put_back : Desk = desk d.table (put_channel computer (channel_by passes channel given) (take_channel computer d.work)) in
+      let after : Desk = judge_return (return_by passes channel given) (key_of_channel channel) name now line info validation put_back in
+      let same : after.work.computers ≡ put_back.work.computers = return_computers (return_by passes channel given) (key_of_channel channel) name now line info validation put_back in
+      moved_kept judgings left j kept passes computer given channel after.work.computers
+      (ap has_passed told ∙ how_passes passes (key_of_channel channel) channel given name now line info validation put_back) named there stands
+      (ap Computers.pending same) (ap Computers.channels same)
+
+  pub logon_kept : (computer : Option (List ℕ)) (given : Option Authenticator) (how : Option Judged) (d : Desk) → c.computer ≡ computer → c.authenticator ≡ given →
+      how ≡ told_in d (answer_logon computer given name now line info validation d) → AreKept judgings left w.controller d.work.computers →
+      AreKept (judged_as how number w line c d ∷ judgings) left w.controller (answer_logon computer given name now line info validation d).work.computers
+  logon_kept None given how d named there told kept =
+      let j : Judging = judged_as how number w line c d in
+      none_moved judgings left j kept (λ channel passed.
+      let found = passed_in j channel passed in none_is found.name (sym named ∙ found.named))
+      d.work.computers refl refl
+  logon_kept (Some computer) None how d named there told kept =
+      let j : Judging = judged_as how number w line c d in
+      none_moved judgings left j kept
+      (λ channel passed. not_passed (has_passed how) j channel (ap has_passed (told ∙ told_first d.work.actions judged.NoChannel _)) passed)
+      d.work.computers refl refl
+  logon_kept (Some computer) (Some given) how d named there told kept =
+      channel_judged (lookup same_name computer d.work.computers.channels) how computer given d named there refl told kept

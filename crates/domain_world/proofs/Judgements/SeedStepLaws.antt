@@ -1,0 +1,331 @@
+-- The seeds of the channels that controllers keep, through each step of an end.
+-- It serves `controllers_grant_who_may_log_on`, `replays_pass_by_sum`, `replies_carry_their_judgement` and 3 more.
+use Rattle.std.proofs.Common.{◌≡◌, ◌≢◌, ℕ, Bool, true, false, List, [], ◌∷◌, ◌++◌, length, map, Option, Some, None, Ok, Err, refl, sym, subst, ◌∙◌, inl, inr, slice_get, slice_set}
+use Rattle.std.specs.Prelude.{nat_le}
+use Rattle.std.specs.List.{AllByRecursion}
+use Rattle.wire_base.specs.Maps.{lookup, same_number, take_out}
+use Rattle.wire_base.specs.Names.{same_name}
+use Rattle.authenticators.specs.Channels.{Channel}
+use Rattle.outside.specs.declared.event.Event.{Event}
+use Rattle.outside.specs.declared.event.Event.TheVariants as event
+use Rattle.outside.specs.Drawing.{Drawing, IsRest}
+use Rattle.outside.specs.Machine.{step_by, then_part}
+use Rattle.outside.proofs.DrawLaws.{IsRest-later, IsRest-nothing, IsRest-refl, IsRest-trans}
+use Rattle.rpc_units.specs.declared.refused.UnitRefused.{UnitRefused}
+use Rattle.rpc_units.specs.Stream.{cut_stream}
+use Rattle.logon_stubs.specs.declared.calls.Call.TheVariants as call
+use Rattle.logon_stubs.specs.declared.calls.ChallengeCall.{ChallengeCall}
+use Rattle.account_table.specs.AccountTable.{AccountTable}
+use Rattle.account_table.specs.LookUps.{knows_in}
+use Rattle.end_links.specs.Links.{LinkState}
+use Rattle.end_links.specs.Serving.{ServedPart, Service, served_by, served_cut, then_open, then_talk}
+use Rattle.domain_controller.specs.Hearing.{hear}
+use Rattle.domain_controller.specs.Machine.{Desk, account_for, answer_logon, by_heard, controller_server, draw_challenge}
+use Rattle.domain_controller.specs.State.{State as ControllerState}
+use Rattle.domain_controller.specs.Step.{LinkMap, first_desk, halted, open_by, start_turn, state_after, step_of, step_on, with_open}
+use Rattle.domain_controller.specs.declared.hearing.Heard.{Heard}
+use Rattle.domain_controller.specs.declared.hearing.Heard.TheVariants as heard
+use Rattle.domain_controller.specs.declared.line.Line.{Line}
+use Rattle.domain_controller.specs.declared.state.Computers.{Computers}
+use Rattle.domain_controller.specs.declared.state.Running.{Running}
+use Rattle.domain_controller.specs.declared.state.Talk.{Talk}
+use Rattle.domain_controller.specs.declared.state.Work.{Work}
+use Rattle.step_notes.specs.ControllerNotes.{Answered, Where, answer_on, channel_in, has_passed, heard_answer, judged_in, judging_by, judging_of, new_actions, opened_by, opening, passing, units_at, units_by}
+use Rattle.step_notes.specs.Records.{Judging}
+use Rattle.step_notes.specs.Served.{ServedUnit, served_units, units_if_taken, units_on, units_then, work_after}
+use Rattle.world_moves.specs.Ends.{EndStates, controller_step}
+use Rattle.domain_world.specs.Claims.{moved_on}
+use Rattle.domain_world.specs.Past.{first_of, judged_of, later_of, onto, with_reply}
+use Rattle.domain_world.proofs.Challenges.MessageOnceLaws.{set_cases}
+use Rattle.domain_world.proofs.Judgements.SeedLaws.{AreApart, AreKept, AreUnheard, IsInOrder, IsSpent, account_opened, channel_of, drawn_order, judged_as, judged_order, keeps_all, kept_on, logon_kept, others_unmoved, pair_kept}
+use Rattle.domain_world.proofs.Judgements.ToldLaws.{IsNoBytes, standing_at, step_after, step_link}
+
+-- ---- fewer challenges are left
+
+all_behind : {T : Type 0} (P : T → Type 0) (front rest : List T) → AllByRecursion P (front ++ rest) → AllByRecursion P rest
+all_behind P [] rest all = all
+all_behind P (item ∷ front) rest all = all_behind P front rest all.1
+
+apart_behind : (front rest : List (List ℕ)) → AreApart (front ++ rest) → AreApart rest
+apart_behind [] rest apart = apart
+apart_behind (challenge ∷ front) rest apart = apart_behind front rest apart.1
+
+spent_rest : (rest left : List (List ℕ)) → IsRest rest left → (challenge : List ℕ) → IsSpent challenge left → IsSpent challenge rest
+spent_rest rest left is challenge spent =
+    all_behind (λ (one : List ℕ). one ≢ challenge) is.front rest (subst (λ (l : List (List ℕ)). IsSpent challenge l) (sym is.is) spent)
+
+order_rest : (judgings : List Judging) (rest left : List (List ℕ)) → IsRest rest left → IsInOrder judgings left → IsInOrder judgings rest
+order_rest judgings rest left is order = record {
+  moved = order.moved;
+  unheard = all_behind (λ (one : List ℕ). (channel : Channel) → channel.server ≡ one → moved_on channel judgings ≡ 0) is.front rest
+      (subst (λ (l : List (List ℕ)). AreUnheard judgings l) (sym is.is) order.unheard);
+  apart = apart_behind is.front rest (subst (λ (l : List (List ℕ)). AreApart l) (sym is.is) order.apart);
+}
+
+-- what a controller keeps, where how far its channels' seeds moved is the same
+kept_rest : (judgings now : List Judging) (rest left : List (List ℕ)) (controller : ℕ) (computers : Computers) → IsRest rest left →
+    ((channel : Channel) → channel.controller ≡ controller → moved_on channel now ≡ moved_on channel judgings) → AreKept judgings left controller computers →
+    AreKept now rest controller computers
+kept_rest judgings now rest left controller computers is moved kept = record {
+  map = kept.map;
+  each = λ name.
+      kept_on judgings now left rest controller name computers computers (keeps_all name computers)
+      (λ secret client server flags. moved (channel_of controller name secret client server flags) refl) (spent_rest rest left is) (kept.each name);
+}
+
+-- ---- a part of a step of a controller
+
+-- What is known after it: of what was judged and of its own channels; and the seeds of other controllers' channels
+-- didn't move.
+pub record Goes (judgings now : List Judging) (left rest : List (List ℕ)) (controller : ℕ) (computers : Computers) : Type 0 where
+  pub order : IsInOrder now rest
+  pub kept : AreKept now rest controller computers
+  pub fewer : IsRest rest left
+  pub others : (channel : Channel) → (channel.controller ≡ controller → ⊥) → moved_on channel now ≡ moved_on channel judgings
+
+abbrev pub PartGoes : List Judging → List Judging → List (List ℕ) → ℕ → ServedPart Desk Talk → Type 0
+PartGoes judgings now left controller (Err why) = Unit {0}
+PartGoes judgings now left controller (Ok part) = Goes judgings now left part.left controller part.value.0.work.computers
+
+stays : (judgings : List Judging) (left : List (List ℕ)) (controller : ℕ) (computers : Computers) → IsInOrder judgings left → AreKept judgings left controller computers →
+    Goes judgings judgings left left controller computers
+stays judgings left controller computers order kept = record { order = order; kept = kept; fewer = IsRest-refl left; others = λ channel apart. refl }
+
+goes_on : (judgings middle now : List Judging) (left rest : List (List ℕ)) (controller : ℕ) (computers : Computers) (part : ServedPart Desk Talk) →
+    Goes judgings middle left rest controller computers → PartGoes middle now rest controller part → PartGoes judgings now left controller part
+goes_on judgings middle now left rest controller computers (Err why) first second = tt
+goes_on judgings middle now left rest controller computers (Ok part) first second = record {
+  order = second.order;
+  kept = second.kept;
+  fewer = IsRest-trans part.left rest left second.fewer first.fewer;
+  others = λ channel apart. second.others channel apart ∙ first.others channel apart;
+}
+
+-- ---- a unit
+
+-- with the call that was judged, if one was
+abbrev pub with_judging : Option Judging → Option ℕ → List Judging → List Judging
+with_judging None number judgings = judgings
+with_judging (Some j) number judgings = record j { reply = number } ∷ judgings
+
+opening_none : (channel : Option Channel) (w : Where) (number : ℕ) → (opening channel w number).judging ≡ None
+opening_none None w number = refl
+opening_none (Some channel) w number = refl
+
+passing_some : (channel : Option Channel) (j : Judging) → (passing channel j).judging ≡ Some j
+passing_some None j = refl
+passing_some (Some channel) j = refl
+
+judging_some : (passed : Bool) (j : Judging) → (judging_by passed j).judging ≡ Some j
+judging_some false j = refl
+judging_some true j = passing_some (channel_in j.controller j.logon.computer j.computers) j
+
+module _ (judgings : List Judging) (w : Where) (d : Desk) where
+  drawn_goes : (left : List (List ℕ)) (line : Line) (c : ChallengeCall) (talk : Talk) → IsInOrder judgings left → AreKept judgings left w.controller d.work.computers →
+      PartGoes judgings judgings left w.controller (draw_challenge left line c talk d)
+  drawn_goes [] line c talk order kept = tt
+  drawn_goes (server ∷ left) line c talk order kept = record {
+    order = drawn_order judgings server left order;
+    kept = pair_kept (knows_in d.table.accounts c.computer) judgings server left w.controller c.computer c.challenge d.work order kept;
+    fewer = IsRest-later server left left (IsRest-refl left);
+    others = λ channel apart. refl;
+  }
+
+  heard_goes : (what : Heard) (link : ℕ) (number : Option ℕ) (left : List (List ℕ)) → IsInOrder judgings left → AreKept judgings left w.controller d.work.computers →
+      PartGoes judgings (with_judging (heard_answer what w d (work_after (by_heard what link w.name w.moment d left))).judging number judgings) left w.controller
+      (by_heard what link w.name w.moment d left)
+  heard_goes (heard.Close cause) link number left order kept = stays judgings left w.controller d.work.computers order kept
+  heard_goes (heard.Answer bytes talk) link number left order kept = stays judgings left w.controller d.work.computers order kept
+  heard_goes (heard.Waits talk) link number left order kept = stays judgings left w.controller d.work.computers order kept
+  heard_goes (heard.Asked line (call.Challenge c) talk) link number left order kept = drawn_goes left line c talk order kept
+  heard_goes (heard.Asked line (call.Authenticate c) talk) link number left order kept =
+      subst (λ (j : Option Judging). PartGoes judgings (with_judging j number judgings) left w.controller (by_heard (heard.Asked line (call.Authenticate c) talk) link w.name w.moment d left))
+      (sym (opening_none (opened_by w.controller c d) w line.call))
+      (stays judgings left w.controller _ order
+      (account_opened judgings left w.controller (account_for d.table c) (lookup same_name c.computer d.work.computers.pending) line c d.work refl kept))
+  heard_goes (heard.Asked line (call.Logoff c) talk) link number left order kept = stays judgings left w.controller d.work.computers order kept
+  heard_goes (heard.Asked line (call.Logon c) talk) link number left order kept =
+      let after : Desk = answer_logon c.computer c.authenticator w.name w.moment line c.info c.validation d in
+      let how = judged_in (new_actions (Some after) d) in
+      let j : Judging = judged_as how number w line c d in
+      subst (λ (o : Option Judging). PartGoes judgings (with_judging o number judgings) left w.controller (by_heard (heard.Asked line (call.Logon c) talk) link w.name w.moment d left))
+      (sym (judging_some (has_passed how) (judging_of w line c d (Some after)))) (record {
+        order = judged_order judgings left j kept order;
+        kept = logon_kept judgings left number w line c w.name w.moment c.info c.validation c.computer c.authenticator how d refl refl refl kept;
+        fewer = IsRest-refl left;
+        others = others_unmoved judgings left j kept;
+      })
+
+-- ---- the units of a stream
+
+abbrev pub judged_at : ℕ → Where → List (ServedUnit Desk Talk) → List ℕ → List Judging → List Judging
+judged_at link w units numbers judgings = onto (judged_of (map (answer_on link w) units) numbers) judgings
+
+onto_reply : (j : Option Judging) (number : Option ℕ) (later judgings : List Judging) → onto (with_reply j number ++ later) judgings ≡ onto later (with_judging j number judgings)
+onto_reply None number later judgings = refl
+onto_reply (Some j) number later judgings = refl
+
+abbrev pub LaterGo : ℕ → Where → Service Desk Talk → (Desk → Talk → List (List ℕ) → List (ServedUnit Desk Talk)) → Type 0
+LaterGo link w later rest =
+    (d : Desk) (talk : Talk) (left : List (List ℕ)) (numbers : List ℕ) (judgings : List Judging) → IsInOrder judgings left → AreKept judgings left w.controller d.work.computers →
+    PartGoes judgings (judged_at link w (rest d talk left) numbers judgings) left w.controller (later d talk left)
+
+module _ (link : ℕ) (w : Where) (later : Service Desk Talk) (rest : Desk → Talk → List (List ℕ) → List (ServedUnit Desk Talk)) (each : LaterGo link w later rest) where
+  talk_goes : (judgings middle : List Judging) (left some : List (List ℕ)) (numbers : List ℕ) (d : Desk) (talk : Option Talk) → Goes judgings middle left some w.controller d.work.computers →
+      PartGoes judgings (judged_at link w (units_on d talk some rest) numbers middle) left w.controller (then_talk d talk some later)
+  talk_goes judgings middle left some numbers d None goes = goes
+  talk_goes judgings middle left some numbers d (Some talk) goes =
+      goes_on judgings middle (judged_at link w (rest d talk some) numbers middle) left some w.controller d.work.computers (later d talk some) goes
+      (each d talk some numbers middle goes.order goes.kept)
+
+  part_goes : (judgings middle : List Judging) (left : List (List ℕ)) (numbers : List ℕ) (part : ServedPart Desk Talk) → PartGoes judgings middle left w.controller part →
+      PartGoes judgings (judged_at link w (units_then part rest) numbers middle) left w.controller (then_open part later)
+  part_goes judgings middle left numbers (Err why) goes = tt
+  part_goes judgings middle left numbers (Ok part) goes = talk_goes judgings middle left part.left numbers part.value.0 part.value.1 goes
+
+units_go : (link : ℕ) (w : Where) (units : List (List ℕ)) (why : Option UnitRefused) →
+    LaterGo link w (λ d talk left. served_by (controller_server w.name w.moment link) units why d talk left) (λ d talk left. served_units (controller_server w.name w.moment link) units d talk left)
+units_go link w [] None d talk left numbers judgings order kept = stays judgings left w.controller d.work.computers order kept
+units_go link w [] (Some why) d talk left numbers judgings order kept = stays judgings left w.controller d.work.computers order kept
+units_go link w (bytes ∷ units) why d talk left numbers judgings order kept =
+    let part : ServedPart Desk Talk = by_heard (hear link bytes talk) link w.name w.moment d left in
+    let one : Answered = heard_answer (hear link bytes talk) w d (work_after part) in
+    let rest = λ (later : Desk) (said : Talk) (some : List (List ℕ)). served_units (controller_server w.name w.moment link) units later said some in
+    let later = λ (next : Desk) (said : Talk) (some : List (List ℕ)). served_by (controller_server w.name w.moment link) units why next said some in
+    subst (λ (now : List Judging). PartGoes judgings now left w.controller (then_open part later))
+    (sym (onto_reply one.judging (first_of numbers) (judged_of (map (answer_on link w) (units_then part rest)) (later_of one.sends numbers)) judgings))
+    (part_goes link w later rest (units_go link w units why) judgings (with_judging one.judging (first_of numbers) judgings) left (later_of one.sends numbers) part
+    (heard_goes judgings w d (hear link bytes talk) link (first_of numbers) left order kept))
+
+-- ---- a step of a controller
+
+-- of a controller that hasn't stopped
+abbrev pub AreKeptIf : List Judging → List (List ℕ) → ℕ → Option Running → Type 0
+AreKeptIf judgings left controller None = Unit {0}
+AreKeptIf judgings left controller (Some running) = AreKept judgings left controller running.computers
+
+pub record StepGoes (judgings now : List Judging) (left rest : List (List ℕ)) (controller : ℕ) (running : Option Running) : Type 0 where
+  pub order : IsInOrder now rest
+  pub kept : AreKeptIf now rest controller running
+  pub fewer : IsRest rest left
+  pub others : (channel : Channel) → (channel.controller ≡ controller → ⊥) → moved_on channel now ≡ moved_on channel judgings
+
+step_stays : (judgings : List Judging) (left : List (List ℕ)) (controller : ℕ) (running : Option Running) → IsInOrder judgings left → AreKeptIf judgings left controller running →
+    StepGoes judgings judgings left left controller running
+step_stays judgings left controller running order kept = record { order = order; kept = kept; fewer = IsRest-refl left; others = λ channel apart. refl }
+
+-- the challenges weren't enough: the controller stops, and nothing is written down
+step_ends : (judgings : List Judging) (left : List (List ℕ)) (controller : ℕ) → IsInOrder judgings left → StepGoes judgings judgings left [] controller None
+step_ends judgings left controller order =
+    record { order = order_rest judgings [] left (IsRest-nothing left) order; kept = tt; fewer = IsRest-nothing left; others = λ channel apart. refl }
+
+part_step : (judgings : List Judging) (link : ℕ) (w : Where) (c : ControllerState) (part : ServedPart Desk Talk) (units : List (ServedUnit Desk Talk)) (rest : List ℕ) (others : LinkMap)
+    (left : List (List ℕ)) (numbers : List ℕ) → IsInOrder judgings left → PartGoes judgings (judged_at link w units numbers judgings) left w.controller part →
+    StepGoes judgings
+    (judged_at link w (units_if_taken (step_by (λ after. after.0.work.actions) (λ after. state_after c after) (halted c) left (step_after c part rest link others)).answer units) numbers judgings)
+    left (step_by (λ after. after.0.work.actions) (λ after. state_after c after) (halted c) left (step_after c part rest link others)).left w.controller
+    (step_by (λ after. after.0.work.actions) (λ after. state_after c after) (halted c) left (step_after c part rest link others)).state.running
+part_step judgings link w c (Err why) units rest others left numbers order goes = step_ends judgings left w.controller order
+part_step judgings link w c (Ok part) units rest others left numbers order goes = record { order = goes.order; kept = goes.kept; fewer = goes.fewer; others = goes.others }
+
+link_step : (found : Option (LinkState Talk)) (judgings : List Judging) (at controller : ℕ) (unit : Option ℕ) (link : ℕ) (piece : List ℕ) (c : ControllerState) (running : Running) (now : ℕ)
+    (left : List (List ℕ)) (numbers : List ℕ) → IsInOrder judgings left → AreKept judgings left controller running.computers →
+    StepGoes judgings
+    (judged_at link (standing_at at controller unit c now) (units_if_taken (step_link found link piece c running now left).answer (units_at found link piece c running now left)) numbers judgings)
+    left (step_link found link piece c running now left).left controller (step_link found link piece c running now left).state.running
+link_step None judgings at controller unit link piece c running now left numbers order kept =
+    step_stays judgings left controller (step_link None link piece c running now left).state.running order kept
+link_step (Some there) judgings at controller unit link piece c running now left numbers order kept =
+    let w : Where = standing_at at controller unit c now in
+    let cut = cut_stream (there.rest ++ piece) in
+    part_step judgings link w c (served_cut (controller_server c.name now link) cut (first_desk c.table running) there.talk left) (units_at (Some there) link piece c running now left) cut.rest
+    (take_out same_number link running.links) left numbers order
+    (units_go link w cut.units cut.refused (first_desk c.table running) there.talk left numbers judgings order kept)
+
+bytes_step : (running : Option Running) (judgings : List Judging) (at controller : ℕ) (unit : Option ℕ) (link : ℕ) (piece : List ℕ) (c : ControllerState) (now : ℕ) (left : List (List ℕ))
+    (numbers : List ℕ) → IsInOrder judgings left → AreKeptIf judgings left controller c.running → AreKeptIf judgings left controller running →
+    StepGoes judgings
+    (judged_at link (standing_at at controller unit c now) (units_if_taken (step_on running c (event.Bytes link piece) now left).answer (units_by running link piece c now left)) numbers judgings)
+    left (step_on running c (event.Bytes link piece) now left).left controller (step_on running c (event.Bytes link piece) now left).state.running
+bytes_step None judgings at controller unit link piece c now left numbers order was kept = step_stays judgings left controller c.running order was
+bytes_step (Some running) judgings at controller unit link piece c now left numbers order was kept =
+    link_step (lookup same_number link running.links) judgings at controller unit link piece c running now left numbers order kept
+
+-- ---- a step at which no bytes come
+
+opened_step : (full : Bool) (judgings : List Judging) (controller link : ℕ) (links : LinkMap) (work : Work) (table : AccountTable) (c : ControllerState) (left : List (List ℕ)) →
+    IsInOrder judgings left → AreKept judgings left controller work.computers →
+    StepGoes judgings judgings left
+    (step_by (λ after. after.0.work.actions) (λ after. state_after c after) (halted c) left (then_part (with_open (open_by full link work links) table left) (λ after rest. start_turn after rest))).left
+    controller
+    (step_by (λ after. after.0.work.actions) (λ after. state_after c after) (halted c) left (then_part (with_open (open_by full link work links) table left) (λ after rest. start_turn after rest))).state.running
+opened_step false judgings controller link links work table c left order kept = record { order = order; kept = kept; fewer = IsRest-refl left; others = λ channel apart. refl }
+opened_step true judgings controller link links work table c left order kept = record { order = order; kept = kept; fewer = IsRest-refl left; others = λ channel apart. refl }
+
+quiet_step : (running : Option Running) (what : Event) (judgings : List Judging) (controller : ℕ) (c : ControllerState) (now : ℕ) (left : List (List ℕ)) → IsNoBytes what → IsInOrder judgings left →
+    AreKeptIf judgings left controller c.running → AreKeptIf judgings left controller running →
+    StepGoes judgings judgings left (step_on running c what now left).left controller (step_on running c what now left).state.running
+quiet_step None what judgings controller c now left none order was kept = step_stays judgings left controller c.running order was
+quiet_step (Some running) (event.Bytes link piece) judgings controller c now left none order was kept = absurd none
+quiet_step (Some running) (event.Opened link) judgings controller c now left none order was kept =
+    opened_step (nat_le 256 (length (take_out same_number link running.links))) judgings controller link (take_out same_number link running.links) (first_desk c.table running).work c.table c left order kept
+quiet_step (Some running) (event.Closed link) judgings controller c now left none order was kept =
+    record { order = order; kept = kept; fewer = IsRest-refl left; others = λ channel apart. refl }
+quiet_step (Some running) (event.Dialled link) judgings controller c now left none order was kept =
+    record { order = order; kept = kept; fewer = IsRest-refl left; others = λ channel apart. refl }
+quiet_step (Some running) event.DialFailed judgings controller c now left none order was kept =
+    record { order = order; kept = kept; fewer = IsRest-refl left; others = λ channel apart. refl }
+quiet_step (Some running) event.Stop judgings controller c now left none order was kept =
+    record { order = order; kept = kept; fewer = IsRest-refl left; others = λ channel apart. refl }
+
+-- ---- all controllers
+
+-- Of the calls that were judged, of the challenges that are left, and of what each controller keeps.
+pub record SeedsFollow (judgings : List Judging) (left : List (List ℕ)) (controllers : List ControllerState) : Type 0 where
+  pub order : IsInOrder judgings left
+  pub each : (at : ℕ) (c : ControllerState) → slice_get controllers at ≡ Some c → AreKeptIf judgings left at c.running
+
+kept_apart : (judgings now : List Judging) (rest left : List (List ℕ)) (controller : ℕ) (running : Option Running) → IsRest rest left →
+    ((channel : Channel) → channel.controller ≡ controller → moved_on channel now ≡ moved_on channel judgings) → AreKeptIf judgings left controller running → AreKeptIf now rest controller running
+kept_apart judgings now rest left controller None is moved kept = tt
+kept_apart judgings now rest left controller (Some running) is moved kept = kept_rest judgings now rest left controller running.computers is moved kept
+
+-- a controller took a step
+pub controller_put : (judgings now : List Judging) (left rest : List (List ℕ)) (controllers : List ControllerState) (at : ℕ) (new : ControllerState) → SeedsFollow judgings left controllers →
+    StepGoes judgings now left rest at new.running → SeedsFollow now rest (slice_set controllers at new)
+controller_put judgings now left rest controllers at new follow goes = record {
+  order = goes.order;
+  each = λ k c there. elim (set_cases controllers at k new c there) [
+    | inl here ↦
+        subst (λ (x : ControllerState). AreKeptIf now rest k x.running) here.1 (subst (λ n. AreKeptIf now rest n new.running) (sym here.0) goes.kept)
+    | inr other ↦
+        kept_apart judgings now rest left k c.running goes.fewer (λ channel is. goes.others channel (λ same. other.0 (sym is ∙ same))) (follow.each k c other.1)
+  ];
+}
+
+-- another end drew challenges
+pub drawn_follow : (judgings : List Judging) (left rest : List (List ℕ)) (controllers : List ControllerState) → IsRest rest left → SeedsFollow judgings left controllers →
+    SeedsFollow judgings rest controllers
+drawn_follow judgings left rest controllers is follow = record {
+  order = order_rest judgings rest left is follow.order;
+  each = λ k c there. kept_apart judgings judgings rest left k c.running is (λ channel same. refl) (follow.each k c there);
+}
+
+pub bytes_follow : (found : Option ControllerState) (judgings : List Judging) (at controller : ℕ) (unit : Option ℕ) (link : ℕ) (piece : List ℕ) (now : ℕ) (ends : EndStates) (chances : Drawing)
+    (numbers : List ℕ) → slice_get ends.controllers controller ≡ found → SeedsFollow judgings chances.left ends.controllers → (c : ControllerState) → found ≡ Some c →
+    SeedsFollow
+    (judged_at link (standing_at at controller unit c now) (units_if_taken (step_of c (event.Bytes link piece) now chances.left).answer (units_by c.running link piece c now chances.left)) numbers judgings)
+    (step_of c (event.Bytes link piece) now chances.left).left (slice_set ends.controllers controller (step_of c (event.Bytes link piece) now chances.left).state)
+bytes_follow found judgings at controller unit link piece now ends chances numbers is follow c there =
+    let kept : AreKeptIf judgings chances.left controller c.running = follow.each controller c (is ∙ there) in
+    controller_put judgings _ chances.left _ ends.controllers controller (step_of c (event.Bytes link piece) now chances.left).state follow
+    (bytes_step c.running judgings at controller unit link piece c now chances.left numbers follow.order kept kept)
+
+pub quiet_follow : (found : Option ControllerState) (judgings : List Judging) (controller : ℕ) (what : Event) (now : ℕ) (ends : EndStates) (chances : Drawing) →
+    slice_get ends.controllers controller ≡ found → IsNoBytes what → SeedsFollow judgings chances.left ends.controllers →
+    SeedsFollow judgings (controller_step found controller what now ends chances).chances.left (controller_step found controller what now ends chances).ends.controllers
+quiet_follow None judgings controller what now ends chances is none follow = follow
+quiet_follow (Some c) judgings controller what now ends chances is none follow =
+    let kept : AreKeptIf judgings chances.left controller c.running = follow.each controller c is in
+    controller_put judgings judgings chances.left _ ends.controllers controller (step_of c what now chances.left).state follow
+    (quiet_step c.running what judgings controller c now chances.left none follow.order kept kept)

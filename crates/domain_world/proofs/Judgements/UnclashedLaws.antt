@@ -1,0 +1,165 @@
+-- In every run without a clash each credential that passed for a call passed on the channel for which the unit was made
+-- that carried the call. It serves `passes_are_unclashed`.
+use Rattle.std.proofs.Common.{◌≡◌, ℕ, Bool, true, false, ◌||◌, not, List, [], ◌∷◌, ◌++◌, map, Option, Some, None, slice_get, refl, ap, ap₂, ◌∙◌}
+use Rattle.std.specs.List.{AllByRecursion}
+use Rattle.authenticators.specs.Channels.{Channel}
+use Rattle.logon_stubs.specs.declared.calls.Call.{Call}
+use Rattle.logon_stubs.specs.declared.calls.Call.TheVariants as call
+use Rattle.domain_controller.specs.Hearing.{hear}
+use Rattle.domain_controller.specs.Machine.{Desk}
+use Rattle.domain_controller.specs.State.{State as ControllerState}
+use Rattle.domain_controller.specs.declared.hearing.Heard.{Heard}
+use Rattle.domain_controller.specs.declared.hearing.Heard.TheVariants as heard
+use Rattle.domain_controller.specs.declared.line.Line.{Line}
+use Rattle.domain_controller.specs.declared.state.Talk.{Talk}
+use Rattle.logon_client.specs.State.{State as ClientState}
+use Rattle.member_server.specs.State.{State as MemberState}
+use Rattle.member_server.specs.declared.state.AtTurn.{AtTurn}
+use Rattle.member_server.specs.declared.state.TurnTalk.{TurnTalk}
+use Rattle.step_notes.specs.ControllerNotes.{Answered, Where, answer_on, call_answer, channel_in, has_passed, heard_answer, judging_by, judging_of, opened_by, opening, passing, units_of_controller}
+use Rattle.step_notes.specs.Judged.{channel_if, passed_channel}
+use Rattle.step_notes.specs.Marking.{clashes, is_channel, sent_channel}
+use Rattle.step_notes.specs.MemberNotes.{turn_note, turn_units}
+use Rattle.step_notes.specs.Records.{Book, Judging, Sent, blank}
+use Rattle.step_notes.specs.Served.{ServedUnit, work_after}
+use Rattle.world_moves.specs.declared.links.EndId.{EndId}
+use Rattle.world_moves.specs.declared.links.EndId.TheVariants.{Controller, Member, Client}
+use Rattle.world_moves.specs.declared.moves.Move.{Move}
+use Rattle.world_moves.specs.declared.plan.Plan.{Plan}
+use Rattle.world_moves.specs.declared.state.State.{State}
+use Rattle.world_moves.specs.World.{first_world}
+use Rattle.domain_world.specs.Accepting.Answered.{PassesAreUnclashed}
+use Rattle.domain_world.specs.Past.{Coming, answers_of, any_clash, at_controller, controller_of, first_of, judged_of, later_of, note_at, note_client, note_controller, note_member, note_messages, note_turn, note_turns, numbers_on, onto, past, with_reply}
+use Rattle.channel_events.proofs.ListLaws.{all_weaker, got_append}
+use Rattle.domain_world.proofs.Frames.BookFrameLaws.{book_holds}
+use Rattle.domain_world.proofs.Judgements.JudgedLaws.{onto_hold}
+
+-- ---- what is to hold
+
+abbrev Fits : List Sent → Judging → Type 0
+Fits sent j = clashes (passed_channel j) j.unit sent ≡ false
+
+abbrev AreUnclashed : Book → Type 0
+AreUnclashed b = b.clash ≡ false → AllByRecursion (Fits b.sent) b.judged
+
+-- ---- more units are sent
+
+more_by : (found : Option Sent) (channel : Channel) (unit : ℕ) (sent more : List Sent) → slice_get sent unit ≡ found → not (is_channel (sent_channel found) channel) ≡ false →
+    not (is_channel (sent_channel (slice_get (sent ++ more) unit)) channel) ≡ false
+more_by None channel unit sent more is none = absurd (let x = none in cc)
+more_by (Some one) channel unit sent more is none =
+    ap (λ (f : Option Sent). not (is_channel (sent_channel f) channel)) (got_append sent more unit one is) ∙ none
+
+clashes_more : (channel : Option Channel) (unit : Option ℕ) (sent more : List Sent) → clashes channel unit sent ≡ false → clashes channel unit (sent ++ more) ≡ false
+clashes_more None unit sent more none = refl
+clashes_more (Some channel) None sent more none = refl
+clashes_more (Some channel) (Some unit) sent more none = more_by (slice_get sent unit) channel unit sent more refl none
+
+sent_more : (b : Book) (more : List Sent) → AreUnclashed b → AreUnclashed (record b { sent = b.sent ++ more })
+sent_more b more all apart =
+    all_weaker (Fits b.sent) (Fits (b.sent ++ more)) b.judged (λ j fits. clashes_more (passed_channel j) j.unit b.sent more fits) (all apart)
+
+or_false : (one other : Bool) → (one || other) ≡ false → (one ≡ false) × (other ≡ false)
+or_false false false is = (refl, refl)
+or_false false true is = absurd (let x = is in cc)
+or_false true other is = absurd (let x = is in cc)
+
+-- ---- what a controller answers
+
+-- a call that was judged came in that unit, and what is checked is the channel on which it passed
+abbrev IfNoted : Option ℕ → Option Channel → Option Judging → Type 0
+IfNoted unit checked None = Unit {0}
+IfNoted unit checked (Some j) = (passed_channel j ≡ checked) × (j.unit ≡ unit)
+
+abbrev IsNoted : Option ℕ → Answered → Type 0
+IsNoted unit one = IfNoted unit one.checked one.judging
+
+passing_noted : (found : Option Channel) (j : Judging) → has_passed j.how ≡ true → channel_in j.controller j.logon.computer j.computers ≡ found → IsNoted j.unit (passing found j)
+passing_noted None j passed is = (ap (λ (p : Bool). channel_if p j) passed ∙ is, refl)
+passing_noted (Some channel) j passed is = (ap (λ (p : Bool). channel_if p j) passed ∙ is, refl)
+
+judging_noted : (passed : Bool) (j : Judging) → has_passed j.how ≡ passed → IsNoted j.unit (judging_by passed j)
+judging_noted false j is = (ap (λ (p : Bool). channel_if p j) is, refl)
+judging_noted true j is = passing_noted (channel_in j.controller j.logon.computer j.computers) j is refl
+
+opening_noted : (channel : Option Channel) (w : Where) (number : ℕ) → IsNoted w.unit (opening channel w number)
+opening_noted None w number = tt
+opening_noted (Some channel) w number = tt
+
+call_noted : (c : Call) (line : Line) (w : Where) (before : Desk) (after : Option Desk) → IsNoted w.unit (call_answer c line w before after)
+call_noted (call.Challenge c) line w before after = tt
+call_noted (call.Authenticate c) line w before after = opening_noted (opened_by w.controller c before) w line.call
+call_noted (call.Logon c) line w before after = judging_noted (has_passed (judging_of w line c before after).how) (judging_of w line c before after) refl
+call_noted (call.Logoff c) line w before after = tt
+
+heard_noted : (what : Heard) (w : Where) (before : Desk) (after : Option Desk) → IsNoted w.unit (heard_answer what w before after)
+heard_noted (heard.Close cause) w before after = tt
+heard_noted (heard.Answer bytes talk) w before after = tt
+heard_noted (heard.Waits talk) w before after = tt
+heard_noted (heard.Asked line c talk) w before after = call_noted c line w before after
+
+answers_noted : (link : ℕ) (w : Where) (units : List (ServedUnit Desk Talk)) → AllByRecursion (IsNoted w.unit) (map (answer_on link w) units)
+answers_noted link w [] = tt
+answers_noted link w (unit ∷ units) = (heard_noted (hear link unit.bytes unit.talk) w unit.work (work_after unit.part), answers_noted link w units)
+
+-- which unit carries the reply changes nothing of that
+reply_same : (passed : Bool) (j : Judging) (number : Option ℕ) → channel_if passed (record j { reply = number }) ≡ channel_if passed j
+reply_same false j number = refl
+reply_same true j number = refl
+
+judging_fits : (judging : Option Judging) (checked : Option Channel) (unit number : Option ℕ) (sent : List Sent) (later : List Judging) → IfNoted unit checked judging →
+    clashes checked unit sent ≡ false → AllByRecursion (Fits sent) later → AllByRecursion (Fits sent) (with_reply judging number ++ later)
+judging_fits None checked unit number sent later noted none fits = fits
+judging_fits (Some j) checked unit number sent later noted none fits = (
+  ap₂ (λ (c : Option Channel) (u : Option ℕ). clashes c u sent) (reply_same (has_passed j.how) j number ∙ noted.0) noted.1 ∙ none,
+  fits,
+)
+
+judged_fit : (answers : List Answered) (unit : Option ℕ) (numbers : List ℕ) (sent : List Sent) → AllByRecursion (IsNoted unit) answers → any_clash answers unit sent ≡ false →
+    AllByRecursion (Fits sent) (judged_of answers numbers)
+judged_fit [] unit numbers sent noted none = tt
+judged_fit (one ∷ answers) unit numbers sent noted none =
+    let both = or_false (clashes one.checked unit sent) (any_clash answers unit sent) none in
+    judging_fits one.judging one.checked unit (first_of numbers) sent (judged_of answers (later_of one.sends numbers)) noted.0 both.0
+    (judged_fit answers unit (later_of one.sends numbers) sent noted.1 both.1)
+
+-- ---- bytes that an end hears
+
+controller_unclashed : (found : Option ControllerState) (at : ℕ) (w : Coming) (piece : List ℕ) (s after : State) (b : Book) → AreUnclashed b →
+    AreUnclashed (note_controller found at w piece s after b)
+controller_unclashed None at w piece s after b all = all
+controller_unclashed (Some c) at w piece s after b all = λ apart.
+    let answers : List Answered = answers_of at c w piece s in
+    let both = or_false b.clash (any_clash answers w.unit b.sent) apart in
+    let numbers : List ℕ = numbers_on w.link true s.bag after.bag in
+    all_weaker (Fits b.sent) (Fits _) (onto (judged_of answers numbers) b.judged) (λ j fits. clashes_more (passed_channel j) j.unit b.sent _ fits)
+    (onto_hold (Fits b.sent) (judged_of answers numbers) b.judged
+    (judged_fit answers w.unit numbers b.sent (answers_noted w.link (at_controller at c w s) (units_of_controller c w.link piece s.moment s.chances.left)) both.1) (all both.0))
+
+turns_unclashed : (controller : ℕ) (units : List (ServedUnit AtTurn TurnTalk)) (unit : Option ℕ) (numbers : List ℕ) (b : Book) → AreUnclashed b →
+    AreUnclashed (note_turns controller units unit numbers b)
+turns_unclashed controller [] unit numbers b all = all
+turns_unclashed controller (served ∷ units) unit numbers b all =
+    turns_unclashed controller units unit (later_of (turn_note controller served).sends numbers) (note_turn (turn_note controller served) served unit (first_of numbers) b)
+    (λ apart. all (or_false b.clash (clashes (turn_note controller served).checked unit b.sent) apart).0)
+
+member_unclashed : (found : Option MemberState) (at : ℕ) (w : Coming) (piece : List ℕ) (s after : State) (b : Book) → AreUnclashed b →
+    AreUnclashed (note_member found at w piece s after b)
+member_unclashed None at w piece s after b all = all
+member_unclashed (Some m) at w piece s after b all =
+    sent_more (note_turns (controller_of at s) (turn_units m w.link piece s.moment s.chances.left) w.unit (numbers_on w.link false s.bag after.bag) (note_messages at m w piece s b)) _
+    (turns_unclashed (controller_of at s) (turn_units m w.link piece s.moment s.chances.left) w.unit (numbers_on w.link false s.bag after.bag) (note_messages at m w piece s b) all)
+
+client_unclashed : (found : Option ClientState) (at : ℕ) (w : Coming) (piece : List ℕ) (s : State) (b : Book) → AreUnclashed b → AreUnclashed (note_client found at w piece s b)
+client_unclashed None at w piece s b all = all
+client_unclashed (Some c) at w piece s b all = all
+
+end_unclashed : (end : EndId) (w : Coming) (piece : List ℕ) (s after : State) (b : Book) → AreUnclashed b → AreUnclashed (note_at (Some end) w piece s after b)
+end_unclashed (Controller at) w piece s after b all = controller_unclashed (slice_get s.ends.controllers at) at w piece s after b all
+end_unclashed (Member at) w piece s after b all = member_unclashed (slice_get s.ends.members at) at w piece s after b all
+end_unclashed (Client at) w piece s after b all = client_unclashed (slice_get s.ends.clients at) at w piece s b all
+
+-- in every run
+pub passes_unclashed : (plan : Plan) (moves : List Move) → PassesAreUnclashed (past plan moves)
+passes_unclashed plan moves =
+    book_holds AreUnclashed end_unclashed (λ at given after b all. sent_more b _ all) moves (first_world plan) blank (λ apart. tt)

@@ -1,0 +1,7 @@
+-- What a run's answers rest on: what is left to show of a run, and what follows from it.
+pub mod Answered
+pub mod Carried
+pub mod KeysMade
+pub mod ReadBack
+pub mod Runs
+pub mod Units

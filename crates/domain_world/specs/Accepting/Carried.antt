@@ -1,0 +1,154 @@
+-- What is below the premises of the claims on answers (`Answered`): of each unit of the bag that its bytes are those of
+-- one whole unit, of each mark what such a unit is, and of each message which calls were made for it and in which turn
+-- its answer was taken. From these follow three of the eight premises (`CarriedCallsAreHeard`).
+use Rattle.std.specs.Prelude.{ℕ, ◌≡◌, true, false, List, Option, Some, None, Result, Ok, Err, slice_get}
+use Rattle.std.specs.List.{AllByRecursion}
+use Rattle.wire_base.specs.declared.authenticator.Authenticator.{Authenticator}
+use Rattle.authenticators.specs.Channels.{Channel, SameChannel}
+use Rattle.rpc_units.specs.Calls.{IsHeard}
+use Rattle.rpc_units.specs.Joining.{stub_of}
+use Rattle.rpc_units.specs.declared.unit.Body.{Body}
+use Rattle.rpc_units.specs.declared.unit.Body.TheVariants.{Request}
+use Rattle.rpc_units.specs.declared.unit.Unit.{Unit as RpcUnit}
+use Rattle.logon_stubs.specs.Calls.{call_of, opnum_of_call, reply_of}
+use Rattle.logon_stubs.specs.Writing.{written_call}
+use Rattle.logon_stubs.specs.declared.calls.Call.{Call}
+use Rattle.logon_stubs.specs.declared.calls.Call.TheVariants as call
+use Rattle.logon_stubs.specs.declared.calls.LogonCall.{LogonCall}
+use Rattle.logon_stubs.specs.declared.calls.LogonReply.{LogonReply}
+use Rattle.logon_stubs.specs.declared.calls.Reply.TheVariants as reply
+use Rattle.logon_stubs.specs.declared.refused.StubRefused.{StubRefused}
+use Rattle.end_links.specs.Sending.{request_of}
+use Rattle.channel_events.specs.Marks.{Mark, Plain, Opening, Opened, Calling, ReplyTo}
+use Rattle.step_notes.specs.Marking.{sent_channel}
+use Rattle.step_notes.specs.Records.{Judging, MessageTaken, Sent}
+use Rattle.world_moves.specs.declared.bag.BagUnit.{BagUnit}
+use Rattle.domain_world.specs.Accepting.Answered.{AnswersAreToCalls, CallsAskForMessages, MarksHaveTheirWay, PassesAreUnclashed, UnitsAreHeardAlike}
+use Rattle.domain_world.specs.Claims.{HasController, info_asked}
+use Rattle.domain_world.specs.Claims.Replies.{RepliesCarryTheirJudgement}
+use Rattle.domain_world.specs.Past.{Past}
+
+-- ---- what a whole unit carries
+
+-- the call, if it carries one
+abbrev pub call_read : Result Call StubRefused → Option Call
+call_read (Err why) = None
+call_read (Ok c) = Some c
+
+abbrev pub call_carried : Body → Option Call
+call_carried (Request hint context opnum stub) = call_read (call_of opnum stub)
+call_carried _ = None
+
+-- the bytes are those of one whole unit
+pub record IsWholeUnit (bytes : List ℕ) : Type 0 where
+  pub frames : List RpcUnit
+  pub unit : RpcUnit
+  pub heard : IsHeard bytes frames unit
+
+-- it isn't a Logon call
+abbrev pub IsNoLogon : RpcUnit → Type 0
+IsNoLogon unit = (c : LogonCall) → call_carried unit.body ≡ Some (call.Logon c) → ⊥
+
+-- it can't be read as the reply to a Logon call that has an authenticator
+abbrev pub IsNoAnswer : RpcUnit → Type 0
+IsNoAnswer unit = (r : LogonReply) (given : Authenticator) → reply_of 2 (stub_of unit.body) ≡ Ok (reply.Logon r) → r.returned ≡ Some given → ⊥
+
+-- by what a unit was made for
+abbrev pub IsAsMarked : Mark → RpcUnit → Type 0
+IsAsMarked Plain unit = Unit {0}
+IsAsMarked (Opening channel number) unit = IsNoLogon unit
+IsAsMarked (Opened channel number request) unit = IsNoLogon unit × IsNoAnswer unit
+IsAsMarked (Calling channel number timestamp) unit = unit.call ≡ number
+IsAsMarked (ReplyTo channel number request) unit = IsNoLogon unit × (unit.call ≡ number)
+
+abbrev pub IsPlain : Mark → Type 0
+IsPlain Plain = Unit {0}
+IsPlain _ = ⊥
+
+pub record IsWholeAsMarked (mark : Mark) (bytes : List ℕ) : Type 0 where
+  pub whole : IsWholeUnit bytes
+  pub marked : IsAsMarked mark whole.unit
+
+-- each unit that was made for a channel is one whole unit, and is what its mark says
+abbrev pub MarkedUnitsAreWhole : Past → Type 0
+MarkedUnitsAreWhole past =
+    (n : ℕ) (unit : BagUnit) (one : Sent) → slice_get past.world.state.bag n ≡ Some unit → slice_get past.book.sent n ≡ Some one →
+    (IsPlain one.mark → ⊥) → IsWholeAsMarked one.mark unit.bytes
+
+-- ---- at a controller
+
+-- the call that was judged is that of a unit of the bag, with its number
+pub record IsJudgedAsCarried (past : Past) (j : Judging) (n : ℕ) : Type 0 where
+  pub carrier : BagUnit
+  pub there : slice_get past.world.state.bag n ≡ Some carrier
+  pub whole : IsWholeUnit carrier.bytes
+  pub number : j.number ≡ whole.unit.call
+  pub carried : call_carried whole.unit.body ≡ Some (call.Logon j.logon)
+
+abbrev pub JudgedAsCarried : Past → Type 0
+JudgedAsCarried past = AllByRecursion (λ (j : Judging). (n : ℕ) → j.unit ≡ Some n → IsJudgedAsCarried past j n) past.book.judged
+
+-- ---- at a member
+
+-- the unit carries the Logon call of a message
+pub record IsCalledFor (past : Past) (message : MessageTaken) (n : ℕ) : Type 0 where
+  pub carrier : BagUnit
+  pub there : slice_get past.world.state.bag n ≡ Some carrier
+  pub number : ℕ
+  pub logon : LogonCall
+  pub frames : List RpcUnit
+  pub heard : IsHeard carrier.bytes frames (request_of number 0 (opnum_of_call (call.Logon logon)) (written_call (call.Logon logon)))
+  pub again : call_of (opnum_of_call (call.Logon logon)) (written_call (call.Logon logon)) ≡ Ok (call.Logon logon)
+  pub info : logon.info ≡ record (info_asked message) { logon_id = message.place }
+  pub level : logon.validation ≡ 3
+
+abbrev pub MessagesAreCalled : Past → Type 0
+MessagesAreCalled past =
+    AllByRecursion (λ (message : MessageTaken). (n : ℕ) → message.call ≡ Some n → IsCalledFor past message n) past.book.messages
+
+-- The unit was taken as the answer in the turn of a message: on a channel that stood, with the controller of the
+-- member's plan, on which the call of the message had gone out with that number; and it came back on the turn's link,
+-- has the number, can be read as a reply that has an authenticator, and was made for that channel.
+pub record IsTakenInTurn (past : Past) (message : MessageTaken) (u : ℕ) : Type 0 where
+  pub channel : Channel
+  pub number : ℕ
+  pub timestamp : ℕ
+  pub request : ℕ
+  pub out : Sent
+  pub call : message.call ≡ Some request
+  pub asked : slice_get past.book.sent request ≡ Some out
+  pub mark : out.mark ≡ Calling channel number timestamp
+  pub controller : HasController (slice_get past.plan.members message.member) past.world.state.ends channel.controller
+  pub carrier : BagUnit
+  pub there : slice_get past.world.state.bag u ≡ Some carrier
+  pub back : carrier.back ≡ true
+  pub whole : IsWholeUnit carrier.bytes
+  pub has : whole.unit.call ≡ number
+  pub read : LogonReply
+  pub given : Authenticator
+  pub reads : reply_of 2 (stub_of whole.unit.body) ≡ Ok (reply.Logon read)
+  pub returned : read.returned ≡ Some given
+  pub sent : Sent
+  pub noted : slice_get past.book.sent u ≡ Some sent
+  pub named : Channel
+  pub made : sent_channel (Some sent) ≡ Some named
+  pub same : SameChannel named channel
+
+abbrev pub AnswersAreInTurn : Past → Type 0
+AnswersAreInTurn past =
+    past.book.clash ≡ false → AllByRecursion (λ (message : MessageTaken). (u : ℕ) → message.reply ≡ Some u → IsTakenInTurn past message u)
+    past.book.messages
+
+-- the calls that were made with one client's challenge have different numbers (`Requests`)
+abbrev pub CallsHaveNumbers : Past → Type 0
+CallsHaveNumbers past =
+    (n m number timestamp later : ℕ) (c d : Channel) (one other : Sent) → slice_get past.book.sent n ≡ Some one → slice_get past.book.sent m ≡ Some other →
+    one.mark ≡ Calling c number timestamp → other.mark ≡ Calling d number later → c.client ≡ d.client → n ≡ m
+
+-- ---- the law
+
+pub record CarriedCallsAreHeard : Type 0 where
+  pub alike : (past : Past) → JudgedAsCarried past → UnitsAreHeardAlike past
+  pub asks : (past : Past) → JudgedAsCarried past → MessagesAreCalled past → CallsAskForMessages past
+  pub answers : (past : Past) → MarkedUnitsAreWhole past → MarksHaveTheirWay past → JudgedAsCarried past → PassesAreUnclashed past →
+      RepliesCarryTheirJudgement past → CallsHaveNumbers past → AnswersAreInTurn past → AnswersAreToCalls past

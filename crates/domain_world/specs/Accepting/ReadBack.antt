@@ -1,0 +1,79 @@
+-- What a member reads in an answer (MS-NRPC 3.5.4.5.3), and what is told of it: below `AnswersAreTold` and
+-- `LetsInAsRead` of `Answered`, which follow from it (`OutcomesAreReadBack`).
+use Rattle.std.specs.Prelude.{ℕ, ◌≡◌, ◌==◌, true, false, Some, Ok, slice_get}
+use Rattle.std.specs.List.{AllByRecursion}
+use Rattle.authenticators.specs.Channels.{Channel, SameChannel, channel_key}
+use Rattle.outside.specs.declared.action.Outcome.{Outcome}
+use Rattle.rpc_units.specs.Joining.{stub_of}
+use Rattle.logon_stubs.specs.Calls.{reply_of}
+use Rattle.logon_stubs.specs.Status.{access_denied}
+use Rattle.logon_stubs.specs.declared.calls.LogonReply.{LogonReply}
+use Rattle.logon_stubs.specs.declared.calls.Reply.TheVariants as reply
+use Rattle.logon_stubs.specs.declared.info.Verdict.{Verdict}
+use Rattle.channel_client.specs.Machine.{judge_logon}
+use Rattle.channel_client.specs.Opened.{OpenState, open_key}
+use Rattle.channel_client.specs.declared.judging.Judgement.TheVariants as judgement
+use Rattle.channel_client.specs.declared.state.Standing.TheVariants as standing
+use Rattle.member_server.specs.Outcomes.{outcome_of}
+use Rattle.member_server.specs.Turns.{ending_of}
+use Rattle.channel_events.specs.Marks.{OneOf, ReplyTo}
+use Rattle.step_notes.specs.Marking.{sent_channel}
+use Rattle.step_notes.specs.Records.{Judging, MessageTaken, OutcomeTold, Sent}
+use Rattle.step_notes.specs.ReplySends.{IsReplyOfCall, reply_passed}
+use Rattle.world_moves.specs.declared.bag.BagUnit.{BagUnit}
+use Rattle.world_moves.specs.Counting.{is_in}
+use Rattle.domain_world.specs.Accepting.Answered.{AnswersAreTold, LetsInAsRead}
+use Rattle.domain_world.specs.Accepting.Carried.{IsWholeUnit}
+use Rattle.domain_world.specs.Past.{Past}
+
+-- a unit that is the reply to a call that passed is read as the reply that its controller made
+abbrev pub RepliesAreReadBack : Past → Type 0
+RepliesAreReadBack past =
+    (n : ℕ) (unit : BagUnit) (one : Sent) → slice_get past.world.state.bag n ≡ Some unit → slice_get past.book.sent n ≡ Some one →
+    (channel : Channel) (number request : ℕ) (j : Judging) → one.mark ≡ ReplyTo channel number request → (is : IsReplyOfCall channel number request j unit.bytes) →
+    (whole : IsWholeUnit unit.bytes) → reply_of 2 (stub_of whole.unit.body) ≡ Ok (reply_passed j is.carries.next.channel is.carries.next.given)
+
+-- The outcome is what the member read in that unit, on a channel that stood, by the logon of a message; and the unit
+-- was made for that channel.
+pub record IsReadIn (past : Past) (message : MessageTaken) (u : ℕ) (result : Outcome) : Type 0 where
+  pub channel : Channel
+  pub stood : OpenState
+  pub key : open_key stood ≡ channel_key channel
+  pub carrier : BagUnit
+  pub there : slice_get past.world.state.bag u ≡ Some carrier
+  pub whole : IsWholeUnit carrier.bytes
+  pub read : LogonReply
+  pub reads : reply_of 2 (stub_of whole.unit.body) ≡ Ok (reply.Logon read)
+  pub later : OpenState
+  pub verdict : Verdict
+  pub judged : judge_logon (read.status == access_denied) (standing.Open stood) read.returned read.status read.level read.info ≡ judgement.Answer later verdict
+  pub is : result ≡ outcome_of (ending_of verdict) message.logon
+  pub sent : Sent
+  pub noted : slice_get past.book.sent u ≡ Some sent
+  pub named : Channel
+  pub made : sent_channel (Some sent) ≡ Some named
+  pub same : SameChannel named channel
+
+pub record IsToldInTurn (past : Past) (message : MessageTaken) (u : ℕ) (told : OutcomeTold) : Type 0 where
+  pub link : told.link ≡ message.link
+  pub member : told.member ≡ message.member
+  pub reading : IsReadIn past message u told.outcome
+
+abbrev pub TurnsAreTold : Past → Type 0
+TurnsAreTold past =
+    past.book.clash ≡ false → AllByRecursion (λ (message : MessageTaken). (u : ℕ) → message.reply ≡ Some u →
+    OneOf (λ (told : OutcomeTold). IsToldInTurn past message u told) past.book.told) past.book.messages
+
+pub record IsLetInInTurn (past : Past) (told : OutcomeTold) (message : MessageTaken) : Type 0 where
+  pub unit : ℕ
+  pub reply : message.reply ≡ Some unit
+  pub turn : IsToldInTurn past message unit told
+
+abbrev pub TurnsLetIn : Past → Type 0
+TurnsLetIn past =
+    past.book.clash ≡ false → AllByRecursion (λ (told : OutcomeTold). is_in told.outcome ≡ true →
+    OneOf (λ (message : MessageTaken). IsLetInInTurn past told message) past.book.messages) past.book.told
+
+pub record OutcomesAreReadBack : Type 0 where
+  pub told : (past : Past) → RepliesAreReadBack past → TurnsAreTold past → AnswersAreTold past
+  pub let_in : (past : Past) → RepliesAreReadBack past → TurnsLetIn past → LetsInAsRead past

@@ -1,0 +1,43 @@
+-- All that is left to show of a run whose draws differ, so that the claims on answers hold of it: each fact is of one
+-- unit of the bag, one message or one step.
+use Rattle.std.specs.Prelude.{ℕ, ◌≡◌, List, map}
+use Rattle.channel_events.specs.Requests.{CallsAreApart, Requests}
+use Rattle.step_notes.specs.Records.{Sent}
+use Rattle.world_moves.specs.declared.moves.Move.{Move}
+use Rattle.world_moves.specs.declared.plan.Plan.{Plan}
+use Rattle.world_moves.specs.Draws.{DrawsDiffer}
+use Rattle.domain_world.specs.Accepting.Answered.{AnswersAreHeard}
+use Rattle.domain_world.specs.Accepting.Carried.{AnswersAreInTurn, CallsHaveNumbers, JudgedAsCarried, MarkedUnitsAreWhole, MessagesAreCalled}
+use Rattle.domain_world.specs.Accepting.KeysMade.{MessagesAreMade, MessagesAreTakenAsSent}
+use Rattle.domain_world.specs.Accepting.ReadBack.{RepliesAreReadBack, TurnsAreTold, TurnsLetIn}
+use Rattle.domain_world.specs.Claims.{AcceptsAllGranted, AcceptsOnlyGranted, IsClear, KeysAgree}
+use Rattle.domain_world.specs.Claims.Counts.{EachCallRaisesOnce}
+use Rattle.domain_world.specs.Past.{Past, past}
+
+pub record UnitsAreHeard (past : Past) : Type 0 where
+  pub whole : MarkedUnitsAreWhole past
+  pub judged : JudgedAsCarried past
+  pub called : MessagesAreCalled past
+  pub numbers : CallsHaveNumbers past
+  pub turns : AnswersAreInTurn past
+  pub back : RepliesAreReadBack past
+  pub told : TurnsAreTold past
+  pub let_in : TurnsLetIn past
+  pub made : MessagesAreMade past
+  pub taken : MessagesAreTakenAsSent past
+
+-- requesters whose marks are those of what was sent, whatever is seen of them
+abbrev pub HasMarksOf : Past → Requests ℕ → Type 0
+HasMarksOf past r = r.marks ≡ map (λ (one : Sent). one.mark) past.book.sent
+
+pub record RunsAreHeard : Type 0 where
+  pub numbers : (past : Past) (r : Requests ℕ) → HasMarksOf past r → CallsAreApart r → CallsHaveNumbers past
+  pub heard : (plan : Plan) (moves : List Move) → UnitsAreHeard (past plan moves) → DrawsDiffer (past plan moves).world → AnswersAreHeard (past plan moves)
+  pub only : (plan : Plan) (moves : List Move) → UnitsAreHeard (past plan moves) → DrawsDiffer (past plan moves).world → IsClear (past plan moves).book →
+      AcceptsOnlyGranted (past plan moves)
+  pub all : (plan : Plan) (moves : List Move) → UnitsAreHeard (past plan moves) → DrawsDiffer (past plan moves).world → IsClear (past plan moves).book →
+      AcceptsAllGranted (past plan moves)
+  pub keys : (plan : Plan) (moves : List Move) → UnitsAreHeard (past plan moves) → DrawsDiffer (past plan moves).world → IsClear (past plan moves).book →
+      KeysAgree (past plan moves)
+  pub counts : (plan : Plan) (moves : List Move) → UnitsAreHeard (past plan moves) → DrawsDiffer (past plan moves).world → IsClear (past plan moves).book →
+      EachCallRaisesOnce (past plan moves)

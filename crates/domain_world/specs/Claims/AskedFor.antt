@@ -1,0 +1,81 @@
+-- What members ask for in a run: in each Logon call what a message says that the member took in the run (MS-NRPC
+-- 3.5.4.5.3, MS-NLMP 3.2.5.1.2). What is claimed is this project's own choice.
+use Rattle.std.specs.Prelude.{ℕ, ◌≡◌, List, map, Option, Some, Ok, slice_get}
+use Rattle.std.specs.List.{AllByRecursion}
+use Rattle.authenticators.specs.Channels.{Channel}
+use Rattle.outside.specs.declared.action.Action.{Action}
+use Rattle.outside.specs.declared.event.Event.TheVariants as event
+use Rattle.end_links.specs.Sending.{joined_frames}
+use Rattle.member_server.specs.Machine.{step_of}
+use Rattle.member_server.specs.State.{State as MemberState}
+use Rattle.member_server.specs.declared.state.AtTurn.{AtTurn}
+use Rattle.member_server.specs.declared.state.Logon.{Logon}
+use Rattle.member_server.specs.declared.state.Running.{Running}
+use Rattle.member_server.specs.declared.state.TurnTalk.{TurnTalk}
+use Rattle.channel_events.specs.Marks.{Mark, OneOf}
+use Rattle.step_notes.specs.CallLogons.{AreForLogon, AsksUnlessStopped, IfCalling, IsForItsLogon, info_at}
+use Rattle.step_notes.specs.ChannelNames.{sends_in}
+use Rattle.step_notes.specs.Marking.{turn_marks}
+use Rattle.step_notes.specs.MemberNotes.{turn_note, turn_units}
+use Rattle.step_notes.specs.Records.{MessageTaken}
+use Rattle.step_notes.specs.Served.{ServedUnit, work_after}
+use Rattle.domain_world.specs.Claims.{info_asked}
+use Rattle.domain_world.specs.Past.{Past}
+
+-- ---- laws
+
+-- each member asks for what it keeps, at the end of a run
+abbrev pub MembersAskForKept : Past → Type 0
+MembersAskForKept past = AllByRecursion (λ (m : MemberState). AsksUnlessStopped m.running) past.world.state.ends.members
+
+-- ---- in a run
+
+-- what is asked for the logon that a member keeps under a place is what that message asks, which the member took for
+-- that place
+pub record IsOfMessage (member place : ℕ) (logon : Logon) (message : MessageTaken) : Type 0 where
+  pub same_member : message.member ≡ member
+  pub same_place : message.place ≡ place
+  pub asks : info_at place logon ≡ record (info_asked message) { logon_id = message.place }
+
+-- such a request goes out, and what is asked is what a message asks
+pub record IsForItsMessage
+    (member : ℕ) (messages : List MessageTaken) (controller : ℕ) (before : AtTurn) (later : Option AtTurn) (called : Option ℕ) (channel : Channel)
+    (number timestamp : ℕ) : Type 0 where
+  pub carries : IsForItsLogon controller before later called channel number timestamp
+  pub message : OneOf (IsOfMessage member carries.asks.place carries.asks.logon) messages
+
+-- of a unit that the member serves, where the channel is with that controller
+abbrev pub AsksForItsMessage : ℕ → List MessageTaken → ℕ → ServedUnit AtTurn TurnTalk → Type 0
+AsksForItsMessage member messages controller unit =
+    IfCalling
+    (IsForItsMessage member messages controller unit.work (work_after unit.part) (turn_note controller unit).called)
+    (turn_note controller unit).mark
+
+-- At the end of a run, whatever bytes then come at a member on whatever link: each Logon call that goes out carries
+-- what a message asks that the member took in the run.
+abbrev pub MembersAskForMessages : Past → Type 0
+MembersAskForMessages past =
+    (member : ℕ) (m : MemberState) → slice_get past.world.state.ends.members member ≡ Some m →
+    (controller number : ℕ) (piece : List ℕ) (now : ℕ) (left : List (List ℕ)) →
+    AllByRecursion (AsksForItsMessage member past.book.messages controller) (turn_units m number piece now left)
+
+-- bytes that a member sends are such a request, by its plan, the logons that it keeps and the channel that stands as
+-- they were before the step, and what is asked is what a message asks
+pub record AreSentForMessage
+    (member : ℕ) (m : MemberState) (messages : List MessageTaken) (controller : ℕ) (bytes : List ℕ) (channel : Channel) (number timestamp : ℕ) : Type 0 where
+  pub running : Running
+  pub runs : m.running ≡ Some running
+  pub frames : List (List ℕ)
+  pub asks : AreForLogon controller running.logons channel number timestamp frames
+  pub message : OneOf (IsOfMessage member asks.place asks.logon) messages
+  pub is : bytes ≡ joined_frames frames
+
+-- So of the marks that are written down of that step and of what it sends, those in one place go together.
+abbrev pub SendsAskForMessages : Past → Type 0
+SendsAskForMessages past =
+    (member : ℕ) (m : MemberState) → slice_get past.world.state.ends.members member ≡ Some m →
+    (controller number : ℕ) (piece : List ℕ) (now : ℕ) (left : List (List ℕ)) (actions : List Action) →
+    (step_of m (event.Bytes number piece) now left).answer ≡ Ok actions → (place : ℕ) (mark : Mark) (bytes : List ℕ) →
+    slice_get (turn_marks (map (turn_note controller) (turn_units m number piece now left))) place ≡ Some mark →
+    slice_get (sends_in actions) place ≡ Some bytes →
+    IfCalling (AreSentForMessage member m past.book.messages controller bytes) mark

@@ -1,0 +1,94 @@
+-- How the two ends of a secure channel stand to each other in a run (MS-NRPC 3.1.4.5; that one turn is out at a time is
+-- this project's own choice).
+use Rattle.std.specs.Prelude.{ℕ, ◌≡◌, ◌⊎◌, ◌==◌, ◌&&◌, Bool, false, List, [], ◌∷◌, ◌++◌, filter, map, Option, Some, None, slice_get}
+use Rattle.std.specs.List.{list_any}
+use Rattle.wire_base.specs.Maps.{lookup}
+use Rattle.wire_base.specs.Names.{same_name}
+use Rattle.channel_keys.specs.Credentials.{cred_of}
+use Rattle.authenticators.specs.Channels.{Channel, SameChannel, channel_key, same_channel}
+use Rattle.authenticators.specs.Sequences.{add_to, moved_by}
+use Rattle.channel_client.specs.Effects.{channel_of}
+use Rattle.channel_client.specs.Opened.{OpenState}
+use Rattle.channel_client.specs.declared.state.Standing.TheVariants as standing
+use Rattle.channel_client.specs.declared.state.Pending.{Pending}
+use Rattle.domain_controller.specs.Channels.{ChannelState}
+use Rattle.domain_controller.specs.State.{State as ControllerState}
+use Rattle.domain_controller.specs.declared.state.Running.{Running as ControllerRunning}
+use Rattle.member_server.specs.State.{State as MemberState}
+use Rattle.member_server.specs.declared.state.Running.{Running as MemberRunning}
+use Rattle.step_notes.specs.ControllerNotes.{channel_with}
+use Rattle.step_notes.specs.Records.{Judging, LogonTurn}
+use Rattle.world_moves.specs.declared.state.State.{State}
+use Rattle.domain_world.specs.Claims.{passed_on}
+use Rattle.domain_world.specs.Past.{Past, controller_of}
+
+-- ---- the member's side
+
+-- the turn is one of that member on that channel
+abbrev pub is_turn_on : ℕ → Channel → LogonTurn → Bool
+is_turn_on member channel turn = (turn.member == member) && same_channel turn.channel channel
+
+-- the timestamps of its turns on the channel, in order
+abbrev pub timestamps_on : ℕ → Channel → List LogonTurn → List ℕ
+timestamps_on member channel turns = map (λ (turn : LogonTurn). turn.timestamp) (filter (is_turn_on member channel) turns)
+
+-- the seed of a channel after authenticators with these timestamps: the client's credential moved by the sum of each
+-- plus one
+abbrev pub channel_seed : Channel → List ℕ → List ℕ
+channel_seed channel timestamps = add_to (cred_of (channel_key channel) channel.client) (moved_by timestamps)
+
+-- a turn is out, and this is the seed before its timestamp, the last one
+pub record IsBeforeTurn (turn : Option Pending) (seed : List ℕ) (channel : Channel) (timestamps : List ℕ) : Type 0 where
+  pub pending : Pending
+  pub is_out : turn ≡ Some pending
+  pub earlier : List ℕ
+  pub last : ℕ
+  pub all : timestamps ≡ earlier ++ last ∷ []
+  pub seed_before : seed ≡ channel_seed channel earlier
+
+-- the channel that stands at a member, and its state there
+pub record Stands (s : State) (member : ℕ) (channel : Channel) (o : OpenState) : Type 0 where
+  pub state : MemberState
+  pub running : MemberRunning
+  pub at : slice_get s.ends.members member ≡ Some state
+  pub runs : state.running ≡ Some running
+  pub open_so : running.logons.channel.standing ≡ standing.Open o
+  pub is : channel ≡ channel_of (controller_of member s) running.logons.channel.caller.computer o
+  pub turn : Option Pending
+  pub is_turn : running.logons.channel.turn ≡ turn
+
+-- ---- the controller's side
+
+-- the controller has a channel for that computer, in this state
+pub record Keeps (s : State) (controller : ℕ) (computer : List ℕ) (c : ChannelState) : Type 0 where
+  pub state : ControllerState
+  pub running : ControllerRunning
+  pub at : slice_get s.ends.controllers controller ≡ Some state
+  pub runs : state.running ≡ Some running
+  pub kept : lookup same_name computer running.computers.channels ≡ Some c
+
+-- an authenticator of bytes from outside passed on the channel
+abbrev pub is_foreign : Channel → Option ℕ → Judging → Bool
+is_foreign channel None j = passed_on channel j
+is_foreign channel (Some unit) j = false
+
+abbrev pub any_foreign : Channel → List Judging → Bool
+any_foreign channel judgings = list_any (λ (j : Judging). is_foreign channel j.unit j) judgings
+
+-- ---- the claim
+
+-- The seed of a member's open channel is the client's credential moved by the timestamps of its Logon turns on that
+-- channel, each plus one. Where the controller of its plan has the same channel, and no authenticator from outside
+-- passed on it, the controller's seed is the member's, or with a turn out the one before that turn.
+pub record SequenceIsShared (past : Past) (member : ℕ) : Type 0 where
+  pub own : (channel : Channel) (o : OpenState) → Stands past.world.state member channel o →
+      o.seed ≡ channel_seed channel (timestamps_on member channel past.book.turns)
+  pub other : (channel : Channel) (o : OpenState) (c : ChannelState) → (stands : Stands past.world.state member channel o) →
+      Keeps past.world.state channel.controller channel.computer c →
+      SameChannel (channel_with channel.controller channel.computer c) channel →
+      any_foreign channel past.book.judged ≡ false →
+      (c.seed ≡ o.seed) ⊎ IsBeforeTurn stands.turn c.seed channel (timestamps_on member channel past.book.turns)
+
+-- each member's is. At most one turn is out at a member: what it keeps has room for one
+abbrev pub SequencesAreShared : Past → Type 0
+SequencesAreShared past = (member : ℕ) → SequenceIsShared past member

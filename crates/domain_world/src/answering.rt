@@ -1,0 +1,94 @@
+//! What a run's answers rest on.
+
+ghost use Rattle.std.specs.Prelude.{List};
+ghost use Rattle.world_moves.specs.declared.moves.Move.{Move};
+ghost use Rattle.world_moves.specs.declared.plan.Plan.{Plan};
+ghost use Rattle.world_moves.specs.Draws.{DrawsAreBlocks, DrawsDiffer};
+ghost use Rattle.domain_world.specs.Accepting.Answered.{AnswersAreHeard, IsProved, MarksHaveTheirWay, MessagesAreApart, PassesAreUnclashed};
+ghost use Rattle.domain_world.specs.Accepting.Carried.{CarriedCallsAreHeard};
+ghost use Rattle.domain_world.specs.Accepting.KeysMade.{KeysAreFoundAsMade};
+ghost use Rattle.domain_world.specs.Accepting.ReadBack.{OutcomesAreReadBack};
+ghost use Rattle.domain_world.specs.Accepting.Runs.{RunsBegin};
+ghost use Rattle.domain_world.specs.Accepting.Units.{RunsAreHeard};
+ghost use Rattle.domain_world.specs.Claims.{AcceptsAllGranted, AcceptsOnlyGranted, IsClear, KeysAgree, ShortResponsesServeOnce};
+ghost use Rattle.domain_world.specs.Past.{Past, past};
+
+/// Where the challenges that were drawn are blocks of 8 bytes of which no two are alike, a response of 24 bytes is
+/// accepted on one link alone.
+pub fn short_responses_serve_once()
+    ensures { (plan : Plan) (moves : List Move) → DrawsDiffer (past plan moves).world →
+        DrawsAreBlocks (past plan moves).world → ShortResponsesServeOnce (past plan moves) }
+{}
+
+/// Where what is said of units that are heard whole holds of a run that is clear, a member accepts only what its
+/// controller granted, and all of it, and client and member hold one key.
+#[tactic(auto, using(crate::proofs::Accepting::AnsweredLaws::accepts_only, crate::proofs::Accepting::AnsweredLaws::accepts_all, crate::proofs::Accepting::AnsweredLaws::keys_agree))]
+pub fn what_is_heard_is_accepted()
+    ensures only { (past : Past) → IsProved past → AnswersAreHeard past → IsClear past.book →
+        AcceptsOnlyGranted past }
+    ensures all { (past : Past) → IsProved past → AnswersAreHeard past → IsClear past.book →
+        AcceptsAllGranted past }
+    ensures keys { (past : Past) → IsProved past → AnswersAreHeard past → IsClear past.book →
+        KeysAgree past }
+{}
+
+/// In every run whose draws differ what is proved of runs holds.
+pub fn runs_are_proved()
+    ensures { (plan : Plan) (moves : List Move) → DrawsDiffer (past plan moves).world →
+        IsProved (past plan moves) }
+{}
+
+/// In every run without a clash each credential that passed for a Logon call passed on the channel for which the unit
+/// was made that carried the call.
+#[tactic(auto, using(crate::proofs::Judgements::UnclashedLaws::passes_unclashed))]
+pub fn passes_are_unclashed()
+    ensures { (plan : Plan) (moves : List Move) → PassesAreUnclashed (past plan moves) }
+{}
+
+/// In every run no two messages for which a logon waits or waited came on one link.
+#[tactic(auto, using(crate::proofs::Challenges::MessageApartLaws::messages_apart))]
+pub fn messages_are_apart()
+    ensures { (plan : Plan) (moves : List Move) → MessagesAreApart (past plan moves) }
+{}
+
+/// In every run each unit that is marked as a request goes on from the end that dialled its link, and each that is
+/// marked as a reply goes back to it.
+#[tactic(auto, using(crate::proofs::Requests::MarkWayLaws::marks_have_their_way))]
+pub fn marks_have_their_way()
+    ensures { (plan : Plan) (moves : List Move) → MarksHaveTheirWay (past plan moves) }
+{}
+
+/// Three of the premises of the claims on answers follow from what is said of single units and messages: units are
+/// heard alike, calls ask for their messages, and answers are to the calls of their messages.
+#[tactic(auto, using(crate::proofs::Accepting::CarriedLaws::carried_heard))]
+pub fn carried_calls_are_heard()
+    ensures { CarriedCallsAreHeard }
+{}
+
+/// Two more follow from what a member reads in single units: what is told of an answer, and who is let in, is what the
+/// controller judged.
+#[tactic(auto, using(crate::proofs::Accepting::ReadBackLaws::read_back))]
+pub fn outcomes_are_read_back()
+    ensures { OutcomesAreReadBack }
+{}
+
+/// In a run whose draws differ a member accepts only what its controller granted, and all of it, client and member hold
+/// one key, and each call raises a count of bad passwords at most once, where the run is clear and each unit is heard
+/// whole; and calls have different numbers, where requesters keep them apart.
+#[tactic(auto, using(crate::proofs::Accepting::UnitLaws::runs_heard))]
+pub fn runs_are_heard()
+    ensures { RunsAreHeard }
+{}
+
+/// The last of them follows from what a client makes for a CHALLENGE and what a member takes.
+#[tactic(auto, using(crate::proofs::Accepting::KeyLaws::keys_made))]
+pub fn keys_are_found_as_made()
+    ensures { KeysAreFoundAsMade }
+{}
+
+/// A run begins as it is to go on: nothing is under way, and no call was made; and within a schedule no number comes
+/// round.
+#[tactic(auto, using(crate::proofs::Accepting::RunBeginLaws::runs_begin))]
+pub fn runs_begin()
+    ensures { RunsBegin }
+{}

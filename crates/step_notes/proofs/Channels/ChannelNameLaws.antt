@@ -1,0 +1,755 @@
+-- Both ends of a secure channel name it alike.
+-- It serves `channels_are_named_alike`.
+use Rattle.std.proofs.Common.{◌≡◌, ◌==◌, ◌&&◌, not, ℕ, Bool, true, false, List, [], ◌∷◌, length, nat_le, Option, Some, None, Ok, Err, inl, inr, if◌then◌else◌, refl, sym, ap, ap₂, ◌∙◌, subst, bytes_eq}
+use Rattle.std.specs.Int.Bits.{and_self}
+use Rattle.std.proofs.lemmas.Bool.{cases_Bool}
+use Rattle.std.proofs.lemmas.Slice.Eq.{bytes_eq-Decides}
+use Rattle.wire_base.specs.Maps.{lookup, put}
+use Rattle.wire_base.specs.Names.{same_name}
+use Rattle.wire_base.specs.declared.authenticator.Authenticator.{Authenticator}
+use Rattle.wire_base.proofs.MapLaws.{lookup-put_same, put_others, taken_others}
+use Rattle.wire_base.proofs.NameLaws.{IsSameness-same_name}
+use Rattle.authenticators.specs.Channels.{Channel, SameChannel}
+use Rattle.authenticators.proofs.ChannelLaws.{same_channel-Decides}
+use Rattle.ntlm_flags.specs.Flags.{has_flag}
+use Rattle.channel_keys.specs.Credentials.{cred_of}
+use Rattle.channel_keys.specs.Flags.{rc4_flag, supported_flags}
+use Rattle.channel_keys.specs.SessionKeys.{key_of}
+use Rattle.rpc_units.specs.declared.unit.Body.{Body}
+use Rattle.rpc_units.specs.declared.unit.Body.TheVariants.{Bind, BindAck, BindNak, Auth3, Request, Response, Fault}
+use Rattle.rpc_units.specs.declared.unit.Unit.{Unit as RpcUnit}
+use Rattle.logon_stubs.specs.Status.{access_denied}
+use Rattle.logon_stubs.specs.declared.calls.AuthCall.{AuthCall}
+use Rattle.logon_stubs.specs.declared.calls.Call.{Call}
+use Rattle.logon_stubs.specs.declared.calls.Call.TheVariants as call
+use Rattle.logon_stubs.specs.declared.calls.ChallengeCall.{ChallengeCall}
+use Rattle.logon_stubs.specs.declared.calls.ChallengeReply.{ChallengeReply}
+use Rattle.logon_stubs.specs.declared.calls.LogonCall.{LogonCall}
+use Rattle.logon_stubs.specs.declared.calls.Reply.{Reply}
+use Rattle.logon_stubs.specs.declared.calls.Reply.TheVariants as reply
+use Rattle.logon_stubs.specs.declared.info.NetworkInfo.{NetworkInfo}
+use Rattle.logon_stubs.specs.declared.info.SamInfo.{SamInfo}
+use Rattle.account_table.specs.LookUps.{knows_in}
+use Rattle.account_table.specs.declared.account.Account.{Account}
+use Rattle.end_links.specs.Binding.{limit_of}
+use Rattle.end_links.specs.Serving.{ServedPart}
+use Rattle.channel_client.specs.Effects.{channel_of, stands_in, step_in}
+use Rattle.channel_client.specs.Machine.{Taking, act, ask_by, auth_call, begin_with, can_start, challenge_call, hear, hear_ack, hear_body, hear_by, is_accepting, judge, judge_auth, judge_awaited, judge_challenge, judge_credential, judge_flags, judge_level, judge_logon, judge_return, judge_status, level_asked, offered_flags, place_of, question_of, server_credential, settle, start_by, wait_for, waiting_limit}
+use Rattle.channel_client.specs.Opened.{OpenState, after_return, first_state, is_awaited}
+use Rattle.channel_client.specs.State.{Requester}
+use Rattle.channel_client.specs.declared.answers.Taken.TheVariants as taken
+use Rattle.channel_client.specs.declared.caller.Caller.{Caller}
+use Rattle.channel_client.specs.declared.hearing.Hearing.{Hearing}
+use Rattle.channel_client.specs.declared.hearing.Hearing.TheVariants as hearing
+use Rattle.channel_client.specs.declared.judging.Judgement.{Judgement}
+use Rattle.channel_client.specs.declared.judging.Judgement.TheVariants as judgement
+use Rattle.channel_client.specs.declared.state.Pending.{Pending}
+use Rattle.channel_client.specs.declared.state.Question.{Question}
+use Rattle.channel_client.specs.declared.state.Question.TheVariants as question
+use Rattle.channel_client.specs.declared.state.Standing.{Standing}
+use Rattle.channel_client.specs.declared.state.Standing.TheVariants as standing
+use Rattle.channel_client.specs.declared.state.Step.TheVariants as step
+use Rattle.channel_client.specs.declared.state.Waiting.{Waiting}
+use Rattle.domain_controller.specs.Channels.{ChannelState, channel_by as moved_by_call, key_of_channel, passes_on, return_by}
+use Rattle.domain_controller.specs.Hearing.{hear as hear_unit}
+use Rattle.domain_controller.specs.Machine.{Desk, account_for, answer_authenticate, answer_challenge, answer_logon, by_call, by_heard, channel_for, desk, draw_challenge, grant_flags, judge_account, judge_channel, judge_offer, judge_pair, judge_return as return_logon, open_channel, put_channel, put_pair_if, send_reply, take_channel, take_pair}
+use Rattle.domain_controller.specs.declared.hearing.Heard.{Heard}
+use Rattle.domain_controller.specs.declared.hearing.Heard.TheVariants as heard
+use Rattle.domain_controller.specs.declared.line.Line.{Line}
+use Rattle.domain_controller.specs.declared.state.Computers.{Computers}
+use Rattle.domain_controller.specs.declared.state.Pending.{Pending as Pair}
+use Rattle.domain_controller.specs.declared.state.Talk.{Talk}
+use Rattle.domain_controller.specs.declared.state.Work.{Work}
+use Rattle.channel_events.specs.Marks.{Calling, Opening}
+use Rattle.step_notes.specs.ChannelNames.{AreFramesOf, CallsAreNamedAlike, ChallengesAreShared, ChannelsAreNamedAlike, ChannelsStandAsAsked, ExchangesHaveNoClash, Expects, HasChannel, IsOfOther, OpeningsAreNamedAlike, OwnUnitsAreNoClash, StandsOrGoes, WillAsk, WillCall, WillOpen, frames_sent, opened_call, opened_unit, channel_marked, passed_note, place_answered, standing_channel}
+use Rattle.step_notes.specs.ControllerNotes.{Answered, channel_by, channel_in, channel_with, has_passed, judging_by, opened_account, opened_by, opened_if, opened_offer, opened_pair, opening, passing}
+use Rattle.step_notes.specs.Marking.{clashes, is_channel}
+use Rattle.step_notes.specs.MemberNotes.{TurnNote, asked_note, half_channel, request_note, taking_note, timestamp_bound}
+use Rattle.step_notes.specs.Records.{Judging, Sent, timestamp_in}
+use Rattle.step_notes.specs.Served.{work_after}
+
+some_is : {T : Type 0} (one other : T) → Some one ≡ Some other → one ≡ other
+some_is one other is = cc
+
+-- both challenges, as a controller keeps them
+abbrev pub pair_of : List ℕ → List ℕ → Pair
+pair_of client server = record { client = client; server = server }
+
+-- ---- a turn that starts
+
+-- a bind is out with that number, for that place, and that call waits
+abbrev pub bound_at : ℕ → ℕ → Call → Option Pending
+bound_at number place c = Some (record { number = number; place = place; step = step.Bind c })
+
+starts_asking : (turn : Option Pending) (logons : List Waiting) (s : Requester) (timestamp : ℕ) (challenge : List ℕ) → s.standing ≡ standing.Nothing → can_start turn logons ≡ true →
+    WillAsk (start_by turn logons s timestamp challenge).state (challenge_call s.caller challenge) × ((start_by turn logons s timestamp challenge).state.caller ≡ s.caller)
+starts_asking (Some p) logons s timestamp challenge none can = absurd cc
+starts_asking None [] s timestamp challenge none can = absurd cc
+starts_asking None (logon ∷ logons) s timestamp challenge none can = (
+  record {
+    number = s.next_call;
+    place = logon.place;
+    turn = ap (λ (how : Standing). bound_at s.next_call logon.place (begin_with how s.caller logon.info timestamp challenge).call) none;
+  },
+  refl,
+)
+
+begins_half : (how : Standing) (caller : Caller) (info : NetworkInfo) (timestamp : ℕ) (challenge client server : List ℕ) → how ≡ standing.Half client server →
+    ((begin_with how caller info timestamp challenge).standing ≡ standing.Half client server) × ((begin_with how caller info timestamp challenge).call ≡ auth_call caller client server)
+begins_half how caller info timestamp challenge client server half =
+    subst (λ (h : Standing). ((begin_with h caller info timestamp challenge).standing ≡ standing.Half client server) × ((begin_with h caller info timestamp challenge).call ≡ auth_call caller client server))
+    (sym half) (refl, refl)
+
+starts_half : (turn : Option Pending) (logons : List Waiting) (s : Requester) (timestamp : ℕ) (challenge client server : List ℕ) → s.standing ≡ standing.Half client server → can_start turn logons ≡ true →
+    WillOpen (start_by turn logons s timestamp challenge).state client server × ((start_by turn logons s timestamp challenge).state.caller ≡ s.caller)
+starts_half (Some p) logons s timestamp challenge client server half can = absurd cc
+starts_half None [] s timestamp challenge client server half can = absurd cc
+starts_half None (logon ∷ logons) s timestamp challenge client server half can =
+    let begins = begins_half s.standing s.caller logon.info timestamp challenge client server half in
+    (record { half = begins.0; asks = record { number = s.next_call; place = logon.place; turn = ap (bound_at s.next_call logon.place) begins.1 } }, refl)
+
+-- the Logon call of a turn that starts
+abbrev pub HasLogon : Call → List ℕ → Type 0
+HasLogon c computer = (logon : LogonCall) × (c ≡ call.Logon logon) × (logon.computer ≡ Some computer)
+
+begins_open : (controller : ℕ) (how : Standing) (caller : Caller) (info : NetworkInfo) (timestamp : ℕ) (challenge : List ℕ) (channel : Channel) → stands_in controller caller.computer how ≡ Some channel →
+    HasLogon (begin_with how caller info timestamp challenge).call channel.computer
+begins_open controller standing.Nothing caller info timestamp challenge channel stands = absurd cc
+begins_open controller (standing.Half client server) caller info timestamp challenge channel stands = absurd cc
+begins_open controller (standing.Open o) caller info timestamp challenge channel stands =
+    let is : channel_of controller caller.computer o ≡ channel = cc in
+    (_, refl, ap (λ (c : Channel). Some c.computer) is)
+
+starts_open : (controller : ℕ) (turn : Option Pending) (logons : List Waiting) (s : Requester) (timestamp : ℕ) (challenge : List ℕ) (channel : Channel) → standing_channel controller s ≡ Some channel →
+    can_start turn logons ≡ true → WillCall (start_by turn logons s timestamp challenge).state channel.computer
+starts_open controller (Some p) logons s timestamp challenge channel stands can = absurd cc
+starts_open controller None [] s timestamp challenge channel stands can = absurd cc
+starts_open controller None (logon ∷ logons) s timestamp challenge channel stands can =
+    let begins = begins_open controller s.standing s.caller logon.info timestamp challenge channel stands in
+    record { logon = begins.0; asks = record { number = s.next_call; place = logon.place; turn = ap (bound_at s.next_call logon.place) begins.1 }; names = begins.2 }
+
+begun_stands : (controller : ℕ) (how : Standing) (caller : Caller) (info : NetworkInfo) (timestamp : ℕ) (challenge : List ℕ) →
+    stands_in controller caller.computer (begin_with how caller info timestamp challenge).standing ≡ stands_in controller caller.computer how
+begun_stands controller standing.Nothing caller info timestamp challenge = refl
+begun_stands controller (standing.Half client server) caller info timestamp challenge = refl
+begun_stands controller (standing.Open o) caller info timestamp challenge = refl
+
+started_stands : (controller : ℕ) (turn : Option Pending) (logons : List Waiting) (s : Requester) (timestamp : ℕ) (challenge : List ℕ) →
+    standing_channel controller (start_by turn logons s timestamp challenge).state ≡ standing_channel controller s
+started_stands controller (Some p) logons s timestamp challenge = refl
+started_stands controller None [] s timestamp challenge = refl
+started_stands controller None (logon ∷ logons) s timestamp challenge = begun_stands controller s.standing s.caller logon.info timestamp challenge
+
+asked_stands : (controller : ℕ) (full : Bool) (s : Requester) (info : NetworkInfo) → standing_channel controller (ask_by full s info).state ≡ standing_channel controller s
+asked_stands controller true s info = refl
+asked_stands controller false s info = refl
+
+-- ---- a unit that comes while a bind is out: the call goes out, or nothing does
+
+abbrev pub IsBindHeard : Call → ℕ → Hearing → Type 0
+IsBindHeard c next hearing.Skip = Unit {0}
+IsBindHeard c next (hearing.Next q frames) = (q ≡ question_of c) × AreFramesOf next c frames
+IsBindHeard c next (hearing.Reply q r) = ⊥
+IsBindHeard c next (hearing.Drop cause) = Unit {0}
+
+ack_heard : (accepts : Bool) (c : Call) (receive next : ℕ) → IsBindHeard c next (hear_ack accepts (step.Bind c) receive next)
+ack_heard false c receive next = tt
+ack_heard true c receive next = (refl, (limit_of receive, refl))
+
+body_heard : (body : Body) (c : Call) (next : ℕ) → IsBindHeard c next (hear_body body (step.Bind c) next)
+body_heard (Bind send receive group contexts) c next = tt
+body_heard (BindAck send receive group results) c next = ack_heard (is_accepting results) c receive next
+body_heard (BindNak reason) c next = tt
+body_heard Auth3 c next = tt
+body_heard (Request hint context opnum stub) c next = tt
+body_heard (Response hint context stub) c next = tt
+body_heard (Fault hint context status) c next = tt
+
+numbered_heard : (same : Bool) (number place : ℕ) (c : Call) (unit : RpcUnit) (next : ℕ) → IsBindHeard c next (hear_by same (record { number = number; place = place; step = step.Bind c }) unit next)
+numbered_heard false number place c unit next = tt
+numbered_heard true number place c unit next = body_heard unit.body c next
+
+bind_heard : (turn : Option Pending) (number place : ℕ) (c : Call) (unit : RpcUnit) (next : ℕ) → turn ≡ bound_at number place c → IsBindHeard c next (hear turn unit next)
+bind_heard turn number place c unit next is =
+    subst (λ (t : Option Pending). IsBindHeard c next (hear t unit next)) (sym is) (numbered_heard (unit.call == number) number place c unit next)
+
+-- ---- challenges
+
+challenge_asked : (what : Hearing) (s : Requester) (client : List ℕ) (frames : List (List ℕ)) → IsBindHeard (challenge_call s.caller client) s.next_call what → frames_sent (act what s).taken ≡ Some frames →
+    AreFramesOf s.next_call (challenge_call s.caller client) frames × (step_in (act what s).state.turn ≡ Some (step.Reply (question.Challenge client)))
+challenge_asked hearing.Skip s client frames out sent = absurd cc
+challenge_asked (hearing.Next q more) s client frames out sent =
+    let same : more ≡ frames = cc in (
+      subst (λ (f : List (List ℕ)). AreFramesOf s.next_call (challenge_call s.caller client) f) same out.1,
+      ap (λ (asked : Question). Some (step.Reply asked)) out.0,
+    )
+challenge_asked (hearing.Reply q r) s client frames out sent = absurd out
+challenge_asked (hearing.Drop cause) s client frames out sent = absurd cc
+
+-- a controller that knows the computer keeps both
+abbrev pub IsChallenged : Requester → List ℕ → List ℕ → Line → Desk → Desk → Type 0
+IsChallenged s client server line before later =
+    (lookup same_name s.caller.computer later.work.computers.pending ≡ Some (pair_of client server))
+    × (later.work.actions ≡ (send_reply before.work line (reply.Challenge (record { challenge = server; status = 0 }))).actions)
+    × (later.table ≡ before.table)
+
+known_waits : (knows : Bool) (s : Requester) (client server : List ℕ) (line : Line) (d : Desk) → knows ≡ true →
+    IsChallenged s client server line d
+    (desk d.table (send_reply (put_pair_if knows s.caller.computer (pair_of client server) d.work) line (reply.Challenge (record { challenge = server; status = 0 }))))
+known_waits false s client server line d known = absurd cc
+known_waits true s client server line d known =
+    (lookup-put_same same_name s.caller.computer (pair_of client server) d.work.computers.pending (IsSameness-same_name.reflexive s.caller.computer), refl, refl)
+
+waits_then : (s : Requester) (client server : List ℕ) (line : Line) (before later : Desk) → knows_in before.table.accounts s.caller.computer ≡ true →
+    Some (desk before.table (answer_challenge before.table line (record { primary = None; computer = s.caller.computer; challenge = client }) server before.work)) ≡ Some later →
+    IsChallenged s client server line before later
+waits_then s client server line before later known is =
+    subst (λ (d : Desk). IsChallenged s client server line before d) (some_is _ _ is)
+    (known_waits (knows_in before.table.accounts s.caller.computer) s client server line before known)
+
+-- ---- the call that opens a channel goes out
+
+note_opening : (q : Question) (how : Standing) (controller : ℕ) (before later : Requester) (client server : List ℕ) → q ≡ question.Authenticate → how ≡ standing.Half client server →
+    asked_note (Some (step.Reply q)) how controller before later ≡ request_note (Opening (half_channel controller later client server) before.next_call) None
+note_opening q how controller before later client server is half =
+    ap (λ (asked : Question). asked_note (Some (step.Reply asked)) how controller before later) is
+    ∙ ap (λ (h : Standing). asked_note (Some (step.Reply question.Authenticate)) h controller before later) half
+
+opening_asked : (what : Hearing) (controller : ℕ) (s : Requester) (client server : List ℕ) (frames : List (List ℕ)) → IsBindHeard (auth_call s.caller client server) s.next_call what →
+    s.standing ≡ standing.Half client server → frames_sent (act what s).taken ≡ Some frames →
+    AreFramesOf s.next_call (auth_call s.caller client server) frames
+    × (taking_note (Some (act what s)) controller s ≡ request_note (Opening (half_channel controller s client server) s.next_call) None)
+opening_asked hearing.Skip controller s client server frames out half sent = absurd cc
+opening_asked (hearing.Next q more) controller s client server frames out half sent =
+    let same : more ≡ frames = cc in (
+      subst (λ (f : List (List ℕ)). AreFramesOf s.next_call (auth_call s.caller client server) f) same out.1,
+      note_opening q s.standing controller s (wait_for s (place_of s.turn) (step.Reply q)) client server out.0 half,
+    )
+opening_asked (hearing.Reply q r) controller s client server frames out half sent = absurd out
+opening_asked (hearing.Drop cause) controller s client server frames out half sent = absurd cc
+
+-- ---- a Logon call goes out
+
+note_calling : (q : Question) (how : Standing) (controller : ℕ) (before later : Requester) (channel : Channel) → q ≡ question.Logon → stands_in controller later.caller.computer how ≡ Some channel →
+    asked_note (Some (step.Reply q)) how controller before later
+    ≡ request_note (Calling channel before.next_call (timestamp_bound (step_in before.turn))) (Some (place_of later.turn))
+note_calling q standing.Nothing controller before later channel is stands = absurd cc
+note_calling q (standing.Half client server) controller before later channel is stands = absurd cc
+note_calling q (standing.Open o) controller before later channel is stands =
+    let same : channel_of controller later.caller.computer o ≡ channel = cc in
+    ap (λ (asked : Question). asked_note (Some (step.Reply asked)) (standing.Open o) controller before later) is
+    ∙ ap (λ (c : Channel). request_note (Calling c before.next_call (timestamp_bound (step_in before.turn))) (Some (place_of later.turn))) same
+
+calling_asked : (what : Hearing) (controller : ℕ) (s : Requester) (channel : Channel) (logon : LogonCall) (number place : ℕ) (frames : List (List ℕ)) → IsBindHeard (call.Logon logon) s.next_call what →
+    standing_channel controller s ≡ Some channel → s.turn ≡ bound_at number place (call.Logon logon) → frames_sent (act what s).taken ≡ Some frames →
+    AreFramesOf s.next_call (call.Logon logon) frames
+    × (taking_note (Some (act what s)) controller s ≡ request_note (Calling channel s.next_call (timestamp_in logon.authenticator)) (Some place))
+calling_asked hearing.Skip controller s channel logon number place frames out stands turn sent = absurd cc
+calling_asked (hearing.Next q more) controller s channel logon number place frames out stands turn sent =
+    let same : more ≡ frames = cc in (
+      subst (λ (f : List (List ℕ)). AreFramesOf s.next_call (call.Logon logon) f) same out.1,
+      note_calling q s.standing controller s (wait_for s (place_of s.turn) (step.Reply q)) channel out.0 stands
+          ∙ ap (λ (t : Option Pending). request_note (Calling channel s.next_call (timestamp_bound (step_in t))) (Some (place_of t))) turn,
+    )
+calling_asked (hearing.Reply q r) controller s channel logon number place frames out stands turn sent = absurd out
+calling_asked (hearing.Drop cause) controller s channel logon number place frames out stands turn sent = absurd cc
+
+-- ---- how a reply that is judged stands to the channel
+
+abbrev pub Fits : Judgement → Standing → List ℕ → Type 0
+Fits (judgement.Half client server) how secret = Unit {0}
+Fits (judgement.Opened o) how secret =
+    (client : List ℕ) × (server : List ℕ) × (how ≡ standing.Half client server) × (o ≡ first_state secret client server offered_flags)
+Fits (judgement.Answer o v) how secret = (p : OpenState) × (how ≡ standing.Open p) × (o ≡ after_return true p)
+Fits (judgement.Drop cause) how secret = Unit {0}
+
+challenge_fits : (granted : Bool) (client server : List ℕ) (how : Standing) (secret : List ℕ) → Fits (judge_challenge granted client server) how secret
+challenge_fits false client server how secret = tt
+challenge_fits true client server how secret = tt
+
+flags_fit : (enough : Bool) (secret client server : List ℕ) → Fits (judge_flags enough secret client server) (standing.Half client server) secret
+flags_fit false secret client server = tt
+flags_fit true secret client server = (client, server, refl, refl)
+
+credential_fits : (right : Bool) (secret client server : List ℕ) (flags : ℕ) → Fits (judge_credential right secret client server flags) (standing.Half client server) secret
+credential_fits false secret client server flags = tt
+credential_fits true secret client server flags = flags_fit (has_flag offered_flags flags && has_flag flags rc4_flag) secret client server
+
+auth_fits : (granted : Bool) (how : Standing) (secret credential : List ℕ) (flags : ℕ) → Fits (judge_auth granted how secret credential flags) how secret
+auth_fits false how secret credential flags = tt
+auth_fits true standing.Nothing secret credential flags = tt
+auth_fits true (standing.Half client server) secret credential flags =
+    credential_fits (bytes_eq credential (server_credential secret client server)) secret client server flags
+auth_fits true (standing.Open o) secret credential flags = tt
+
+level_fits : (asked : Bool) (info : Option SamInfo) (p : OpenState) (secret : List ℕ) → Fits (judge_level asked info (after_return true p)) (standing.Open p) secret
+level_fits false info p secret = tt
+level_fits true None p secret = tt
+level_fits true (Some info) p secret = (p, refl, refl)
+
+status_fits : (granted : Bool) (status level : ℕ) (info : Option SamInfo) (p : OpenState) (secret : List ℕ) → Fits (judge_status granted status level info (after_return true p)) (standing.Open p) secret
+status_fits false status level info p secret = (p, refl, refl)
+status_fits true status level info p secret = level_fits (level == level_asked) info p secret
+
+awaited_fits : (right : Bool) (status level : ℕ) (info : Option SamInfo) (p : OpenState) (secret : List ℕ) → Fits (judge_awaited right status level info p) (standing.Open p) secret
+awaited_fits false status level info p secret = tt
+awaited_fits true status level info p secret = status_fits (status == 0) status level info p secret
+
+return_fits : (returned : Option Authenticator) (status level : ℕ) (info : Option SamInfo) (p : OpenState) (secret : List ℕ) → Fits (judge_return returned status level info p) (standing.Open p) secret
+return_fits None status level info p secret = tt
+return_fits (Some returned) status level info p secret = awaited_fits (is_awaited p.awaited returned.credential) status level info p secret
+
+logon_fits : (denied : Bool) (how : Standing) (returned : Option Authenticator) (status level : ℕ) (info : Option SamInfo) (secret : List ℕ) → Fits (judge_logon denied how returned status level info) how secret
+logon_fits true how returned status level info secret = tt
+logon_fits false standing.Nothing returned status level info secret = tt
+logon_fits false (standing.Half client server) returned status level info secret = tt
+logon_fits false (standing.Open o) returned status level info secret = return_fits returned status level info o secret
+
+pub fits : (q : Question) (r : Reply) (how : Standing) (secret : List ℕ) → Fits (judge q r how secret) how secret
+fits (question.Challenge client) (reply.Challenge r) how secret = challenge_fits (r.status == 0) client r.challenge how secret
+fits (question.Challenge client) (reply.Authenticate r) how secret = tt
+fits (question.Challenge client) (reply.Logon r) how secret = tt
+fits (question.Challenge client) (reply.Logoff r) how secret = tt
+fits question.Authenticate (reply.Challenge r) how secret = tt
+fits question.Authenticate (reply.Authenticate r) how secret = auth_fits (r.status == 0) how secret r.credential r.flags
+fits question.Authenticate (reply.Logon r) how secret = tt
+fits question.Authenticate (reply.Logoff r) how secret = tt
+fits question.Logon (reply.Challenge r) how secret = tt
+fits question.Logon (reply.Authenticate r) how secret = tt
+fits question.Logon (reply.Logon r) how secret = logon_fits (r.status == access_denied) how r.returned r.status r.level r.info secret
+fits question.Logon (reply.Logoff r) how secret = tt
+
+-- ---- a channel opens
+
+abbrev pub IsOpenedAsAsked : ℕ → Requester → Taking → Type 0
+IsOpenedAsAsked controller s taking =
+    (client : List ℕ) × (server : List ℕ) × (s.standing ≡ standing.Half client server)
+    × (standing_channel controller taking.state ≡ Some (half_channel controller s client server))
+    × (taking_note (Some taking) controller s ≡ passed_note (half_channel controller s client server) None)
+
+opened_settles : (j : Judgement) (controller : ℕ) (s : Requester) → Fits j s.standing s.caller.secret → (settle j s).taken ≡ taken.Opened → IsOpenedAsAsked controller s (settle j s)
+opened_settles (judgement.Half client server) controller s fit is = absurd cc
+opened_settles (judgement.Opened o) controller s fit is = (
+  fit.0,
+  fit.1,
+  fit.2,
+  ap (λ (x : OpenState). Some (channel_of controller s.caller.computer x)) fit.3,
+  ap (λ (x : OpenState). passed_note (channel_of controller s.caller.computer x) None) fit.3,
+)
+opened_settles (judgement.Answer o v) controller s fit is = absurd cc
+opened_settles (judgement.Drop cause) controller s fit is = absurd cc
+
+opened_acts : (what : Hearing) (controller : ℕ) (s : Requester) → (act what s).taken ≡ taken.Opened → IsOpenedAsAsked controller s (act what s)
+opened_acts hearing.Skip controller s is = absurd cc
+opened_acts (hearing.Next q frames) controller s is = absurd cc
+opened_acts (hearing.Reply q r) controller s is = opened_settles (judge q r s.standing s.caller.secret) controller s (fits q r s.standing s.caller.secret) is
+opened_acts (hearing.Drop cause) controller s is = absurd cc
+
+-- ---- it stands, or goes
+
+still : (channel : Channel) (found : Option Channel) → found ≡ Some channel → StandsOrGoes channel found
+still channel found is = subst (λ (f : Option Channel). StandsOrGoes channel f) (sym is) refl
+
+no_half : (controller : ℕ) (computer : List ℕ) (how : Standing) (channel : Channel) (client server : List ℕ) → stands_in controller computer how ≡ Some channel → how ≡ standing.Half client server → ⊥
+no_half controller computer how channel client server stands half =
+    absurd (let none : None ≡ Some channel = sym (ap (stands_in controller computer) half) ∙ stands in cc)
+
+settled_stands : (j : Judgement) (controller : ℕ) (s : Requester) (channel : Channel) → Fits j s.standing s.caller.secret → standing_channel controller s ≡ Some channel →
+    StandsOrGoes channel (standing_channel controller (settle j s).state)
+settled_stands (judgement.Half client server) controller s channel fit stands = tt
+settled_stands (judgement.Opened o) controller s channel fit stands = absurd (no_half controller s.caller.computer s.standing channel fit.0 fit.1 stands fit.2)
+settled_stands (judgement.Answer o v) controller s channel fit stands =
+    let before : Some (channel_of controller s.caller.computer fit.0) ≡ Some channel = sym (ap (stands_in controller s.caller.computer) fit.1) ∙ stands in
+    still channel (Some (channel_of controller s.caller.computer o)) (ap (λ (x : OpenState). Some (channel_of controller s.caller.computer x)) fit.2 ∙ before)
+settled_stands (judgement.Drop cause) controller s channel fit stands = tt
+
+acted_stands : (what : Hearing) (controller : ℕ) (s : Requester) (channel : Channel) → standing_channel controller s ≡ Some channel →
+    StandsOrGoes channel (standing_channel controller (act what s).state)
+acted_stands hearing.Skip controller s channel stands = still channel (standing_channel controller s) stands
+acted_stands (hearing.Next q frames) controller s channel stands = still channel (standing_channel controller s) stands
+acted_stands (hearing.Reply q r) controller s channel stands = settled_stands (judge q r s.standing s.caller.secret) controller s channel (fits q r s.standing s.caller.secret) stands
+acted_stands (hearing.Drop cause) controller s channel stands = tt
+
+-- ---- an answer is taken
+
+abbrev pub IsTakenOn : ℕ → Requester → ℕ → Taking → Type 0
+IsTakenOn controller s place taking =
+    (channel : Channel) × (standing_channel controller s ≡ Some channel)
+    × (standing_channel controller taking.state ≡ Some channel)
+    × (taking_note (Some taking) controller s ≡ passed_note channel (Some place))
+
+answer_settles : (j : Judgement) (controller : ℕ) (s : Requester) (place : ℕ) → Fits j s.standing s.caller.secret → place_answered (settle j s).taken ≡ Some place → IsTakenOn controller s place (settle j s)
+answer_settles (judgement.Half client server) controller s place fit is = absurd cc
+answer_settles (judgement.Opened o) controller s place fit is = absurd cc
+answer_settles (judgement.Answer o v) controller s place fit is =
+    let same : place_of s.turn ≡ place = cc in (
+      channel_of controller s.caller.computer fit.0,
+      ap (stands_in controller s.caller.computer) fit.1,
+      ap (λ (x : OpenState). Some (channel_of controller s.caller.computer x)) fit.2,
+      ap₂ (λ (x : OpenState) (p : ℕ). passed_note (channel_of controller s.caller.computer x) (Some p)) fit.2 same,
+    )
+answer_settles (judgement.Drop cause) controller s place fit is = absurd cc
+
+answer_acts : (what : Hearing) (controller : ℕ) (s : Requester) (place : ℕ) → place_answered (act what s).taken ≡ Some place → IsTakenOn controller s place (act what s)
+answer_acts hearing.Skip controller s place is = absurd cc
+answer_acts (hearing.Next q frames) controller s place is = absurd cc
+answer_acts (hearing.Reply q r) controller s place is = answer_settles (judge q r s.standing s.caller.secret) controller s place (fits q r s.standing s.caller.secret) is
+answer_acts (hearing.Drop cause) controller s place is = absurd cc
+
+-- ---- a controller accepts the opening
+
+granted : grant_flags offered_flags ≡ offered_flags
+granted = and_self supported_flags
+
+-- the parameters of the call
+abbrev pub auth_of : Requester → List ℕ → List ℕ → AuthCall
+auth_of s client server = record {
+  primary = None;
+  account = s.caller.account;
+  channel = s.caller.kind;
+  computer = s.caller.computer;
+  credential = cred_of (key_of s.caller.secret client server offered_flags) client;
+  flags = offered_flags;
+}
+
+-- the channel that it opens with an account
+abbrev pub channel_opened : Account → Requester → List ℕ → List ℕ → ChannelState
+channel_opened account s client server = channel_for account (pair_of client server) (auth_of s client server)
+
+offers : has_flag offered_flags rc4_flag ≡ true
+offers = refl
+
+-- the credential that is compared with the member's
+abbrev pub is_clients : Account → Requester → List ℕ → List ℕ → Bool
+is_clients account s client server =
+    bytes_eq (auth_of s client server).credential (cred_of (key_of_channel (channel_opened account s client server)) client)
+
+accepted : (account : Account) (s : Requester) (client server : List ℕ) → account.hash ≡ s.caller.secret → is_clients account s client server ≡ true
+accepted account s client server same =
+    (bytes_eq-Decides _ _).1 (ap₂ (λ (secret : List ℕ) (flags : ℕ). cred_of (key_of secret client server flags) client) (sym same) (sym granted))
+
+opened_known : (account : Account) (s : Requester) (client server : List ℕ) → account.hash ≡ s.caller.secret →
+    opened_account (Some account) (Some (pair_of client server)) (auth_of s client server) ≡ Some (channel_opened account s client server)
+opened_known account s client server same =
+    ap (λ (offered : Bool). opened_offer offered (Some (pair_of client server)) account (auth_of s client server)) offers
+    ∙ ap (λ (right : Bool). opened_if right (channel_opened account s client server)) (accepted account s client server same)
+
+-- a channel by its parts
+abbrev pub named : ℕ → List ℕ → List ℕ → List ℕ → List ℕ → ℕ → Channel
+named controller computer client server secret flags =
+    record { controller = controller; computer = computer; secret = secret; client = client; server = server; flags = flags }
+
+named_alike : (controller : ℕ) (account : Account) (s : Requester) (client server : List ℕ) → account.hash ≡ s.caller.secret →
+    channel_with controller s.caller.computer (channel_opened account s client server) ≡ half_channel controller s client server
+named_alike controller account s client server same = ap₂ (named controller s.caller.computer client server) same granted
+
+opens_named : (controller : ℕ) (s : Requester) (client server : List ℕ) (d : Desk) → Expects d s client server → opened_by controller (auth_of s client server) d ≡ Some (half_channel controller s client server)
+opens_named controller s client server d expects =
+    ap (channel_by controller s.caller.computer)
+    (ap₂ (λ (account : Option Account) (pair : Option Pair). opened_account account pair (auth_of s client server)) expects.found expects.pair
+    ∙ opened_known expects.account s client server expects.secret)
+    ∙ ap Some (named_alike controller expects.account s client server expects.secret)
+
+-- the channels that the controller keeps then
+put_known : (account : Account) (s : Requester) (client server : List ℕ) (line : Line) (work : Work) → account.hash ≡ s.caller.secret →
+    (judge_account (Some account) (Some (pair_of client server)) line (auth_of s client server) work).computers.channels
+    ≡ put same_name s.caller.computer (channel_opened account s client server) work.computers.channels
+put_known account s client server line work same =
+    ap (λ (offered : Bool). (judge_offer offered (Some (pair_of client server)) account line (auth_of s client server) work).computers.channels) offers
+    ∙ ap (λ (right : Bool). (open_channel right (channel_opened account s client server) line (auth_of s client server) work).computers.channels) (accepted account s client server same)
+
+put_named : (s : Requester) (client server : List ℕ) (line : Line) (d : Desk) → (expects : Expects d s client server) →
+    (answer_authenticate d.table line (auth_of s client server) d.work).computers.channels
+    ≡ put same_name s.caller.computer (channel_opened expects.account s client server) d.work.computers.channels
+put_named s client server line d expects =
+    ap₂ (λ (account : Option Account) (pair : Option Pair). (judge_account account pair line (auth_of s client server) (take_pair s.caller.computer d.work)).computers.channels) expects.found expects.pair
+    ∙ put_known expects.account s client server line (take_pair s.caller.computer d.work) expects.secret
+
+keeps_named : (controller : ℕ) (s : Requester) (client server : List ℕ) (line : Line) (d : Desk) → Expects d s client server →
+    HasChannel (answer_authenticate d.table line (auth_of s client server) d.work).computers (half_channel controller s client server)
+keeps_named controller s client server line d expects = record {
+  state = channel_opened expects.account s client server;
+  kept = ap (lookup same_name s.caller.computer) (put_named s client server line d expects)
+      ∙ lookup-put_same same_name s.caller.computer (channel_opened expects.account s client server) d.work.computers.channels (IsSameness-same_name.reflexive s.caller.computer);
+  is = named_alike controller expects.account s client server expects.secret;
+}
+
+opening_kept : (controller : ℕ) (s : Requester) (client server : List ℕ) (line : Line) (before later : Desk) → Expects before s client server →
+    Some (desk before.table (answer_authenticate before.table line (auth_of s client server) before.work)) ≡ Some later →
+    HasChannel later.work.computers (half_channel controller s client server)
+opening_kept controller s client server line before later expects is =
+    subst (λ (d : Desk). HasChannel d.work.computers (half_channel controller s client server)) (some_is _ _ is) (keeps_named controller s client server line before expects)
+
+pub openings : OpeningsAreNamedAlike
+openings = record {
+  starts = λ s timestamp challenge client server half can. starts_half s.turn s.waiting s timestamp challenge client server half can;
+  asks = λ controller s unit client server frames will sent.
+      opening_asked (hear s.turn unit s.next_call) controller s client server frames
+      (bind_heard s.turn will.asks.number will.asks.place (auth_call s.caller client server) unit s.next_call will.asks.turn) will.half sent;
+  opens = λ s client server w line before later expects.
+      ap (λ (channel : Option Channel). opening channel w line.call) (opens_named w.controller s client server before expects);
+  keeps = λ controller s client server line talk name now before later left expects is. opening_kept controller s client server line before later expects is;
+}
+
+pub standings : ChannelsStandAsAsked
+standings = record {
+  opens = λ controller s unit is. opened_acts (hear s.turn unit s.next_call) controller s is;
+  asks = λ controller s info. asked_stands controller (nat_le waiting_limit (length s.waiting)) s info;
+  starts = λ controller s timestamp challenge. started_stands controller s.turn s.waiting s timestamp challenge;
+  takes = λ controller s unit channel stands. acted_stands (hear s.turn unit s.next_call) controller s channel stands;
+  loses = λ controller s. refl;
+}
+
+-- ---- a controller keeps a channel
+
+same_channels : (old new : Computers) (channel : Channel) → new.channels ≡ old.channels → HasChannel old channel → HasChannel new channel
+same_channels old new channel same has =
+    record { state = has.state; kept = ap (lookup same_name channel.computer) same ∙ has.kept; is = has.is }
+
+pair_keeps : (knows : Bool) (computer : List ℕ) (pair : Pair) (work : Work) → (put_pair_if knows computer pair work).computers.channels ≡ work.computers.channels
+pair_keeps false computer pair work = refl
+pair_keeps true computer pair work = refl
+
+-- the part keeps it, where it is whole
+abbrev pub PartHas : Channel → ServedPart Desk Talk → Type 0
+PartHas channel (Err why) = Unit {0}
+PartHas channel (Ok part) = HasChannel part.value.0.work.computers channel
+
+draw_has : (left : List (List ℕ)) (line : Line) (c : ChallengeCall) (talk : Talk) (d : Desk) (channel : Channel) → HasChannel d.work.computers channel → PartHas channel (draw_challenge left line c talk d)
+draw_has [] line c talk d channel has = tt
+draw_has (server ∷ left) line c talk d channel has =
+    same_channels d.work.computers _ channel (pair_keeps (knows_in d.table.accounts c.computer) c.computer (record { client = c.challenge; server = server }) d.work) has
+
+-- another opening leaves it, unless it is accepted for that computer
+open_has : (right : Bool) (controller : ℕ) (state : ChannelState) (line : Line) (c : AuthCall) (work : Work) (channel : Channel) → HasChannel work.computers channel →
+    IsOfOther channel.computer (channel_by controller c.computer (opened_if right state)) → HasChannel (open_channel right state line c work).computers channel
+open_has false controller state line c work channel has other = same_channels work.computers _ channel refl has
+open_has true controller state line c work channel has other = record {
+  state = has.state;
+  kept = put_others same_name c.computer channel.computer state work.computers.channels IsSameness-same_name other ∙ has.kept;
+  is = has.is;
+}
+
+pair_has : (pair : Option Pair) (controller : ℕ) (account : Account) (line : Line) (c : AuthCall) (work : Work) (channel : Channel) → HasChannel work.computers channel →
+    IsOfOther channel.computer (channel_by controller c.computer (opened_pair pair account c)) → HasChannel (judge_pair pair account line c work).computers channel
+pair_has None controller account line c work channel has other = same_channels work.computers _ channel refl has
+pair_has (Some pair) controller account line c work channel has other =
+    open_has (bytes_eq c.credential (cred_of (key_of_channel (channel_for account pair c)) pair.client)) controller (channel_for account pair c) line c work channel has other
+
+offer_has : (offered : Bool) (pair : Option Pair) (controller : ℕ) (account : Account) (line : Line) (c : AuthCall) (work : Work) (channel : Channel) → HasChannel work.computers channel →
+    IsOfOther channel.computer (channel_by controller c.computer (opened_offer offered pair account c)) → HasChannel (judge_offer offered pair account line c work).computers channel
+offer_has false pair controller account line c work channel has other = same_channels work.computers _ channel refl has
+offer_has true pair controller account line c work channel has other = pair_has pair controller account line c work channel has other
+
+account_has : (account : Option Account) (pair : Option Pair) (controller : ℕ) (line : Line) (c : AuthCall) (work : Work) (channel : Channel) → HasChannel work.computers channel →
+    IsOfOther channel.computer (channel_by controller c.computer (opened_account account pair c)) → HasChannel (judge_account account pair line c work).computers channel
+account_has None pair controller line c work channel has other = same_channels work.computers _ channel refl has
+account_has (Some account) pair controller line c work channel has other = offer_has (has_flag c.flags rc4_flag) pair controller account line c work channel has other
+
+auth_has : (controller : ℕ) (line : Line) (c : AuthCall) (d : Desk) (channel : Channel) → HasChannel d.work.computers channel → IsOfOther channel.computer (opened_by controller c d) →
+    HasChannel (answer_authenticate d.table line c d.work).computers channel
+auth_has controller line c d channel has other =
+    account_has (account_for d.table c) (lookup same_name c.computer d.work.computers.pending) controller line c (take_pair c.computer d.work) channel
+    (same_channels d.work.computers _ channel refl has) other
+
+-- ---- a Logon call leaves it
+
+tests_alike : (one other key : List ℕ) → same_name one other ≡ true → same_name one key ≡ same_name other key
+tests_alike one other key is =
+    elim (cases_Bool (same_name other key)) [
+      | inl pass ↦ IsSameness-same_name.transitive one other key is pass ∙ sym pass
+      | inr fail ↦
+          elim (cases_Bool (same_name one key)) [
+            | inl also ↦
+                absurd (let back : same_name other key ≡ true = IsSameness-same_name.transitive other one key (IsSameness-same_name.symmetric one other is) also in cc)
+            | inr neither ↦ neither ∙ sym fail
+          ]
+    ]
+
+found_alike : (one other : List ℕ) (entries : List (List ℕ × ChannelState)) → same_name one other ≡ true → lookup same_name one entries ≡ lookup same_name other entries
+found_alike one other [] is = refl
+found_alike one other (entry ∷ entries) is =
+    ap (λ (hit : Bool). if hit then Some entry.1 else lookup same_name one entries) (tests_alike one other entry.0 is)
+    ∙ ap (λ (rest : Option ChannelState). if same_name other entry.0 then Some entry.1 else rest) (found_alike one other entries is)
+
+moved_named : (passes : Bool) (controller : ℕ) (computer : List ℕ) (state : ChannelState) (given : Authenticator) → channel_with controller computer (moved_by_call passes state given) ≡ channel_with controller computer state
+moved_named false controller computer state given = refl
+moved_named true controller computer state given = refl
+
+returned_same : (credential : Option (List ℕ)) (key name : List ℕ) (now : ℕ) (line : Line) (info : NetworkInfo) (validation : ℕ) (d : Desk) →
+    (return_logon credential key name now line info validation d).work.computers ≡ d.work.computers
+returned_same None key name now line info validation d = refl
+returned_same (Some credential) key name now line info validation d = refl
+
+-- the channel of another computer
+other_has : (found : Option ChannelState) (computer : List ℕ) (given : Authenticator) (name : List ℕ) (now : ℕ) (line : Line) (info : NetworkInfo) (validation : ℕ) (d : Desk) (channel : Channel) →
+    same_name computer channel.computer ≡ false → HasChannel d.work.computers channel → HasChannel (judge_channel found computer given name now line info validation d).work.computers channel
+other_has None computer given name now line info validation d channel differs has = same_channels d.work.computers _ channel refl has
+other_has (Some state) computer given name now line info validation d channel differs has =
+    let moved : ChannelState = moved_by_call (passes_on state given) state given in
+    let later : Desk = desk d.table (put_channel computer moved d.work) in
+    let same = returned_same (return_by (passes_on state given) state given) (key_of_channel state) name now line info validation later in
+    record {
+      state = has.state;
+      kept = ap (λ (c : Computers). lookup same_name channel.computer c.channels) same
+          ∙ put_others same_name computer channel.computer moved d.work.computers.channels IsSameness-same_name differs ∙ has.kept;
+      is = has.is;
+    }
+
+-- the channel itself, which was taken out
+own_has : (state : ChannelState) (computer : List ℕ) (given : Authenticator) (name : List ℕ) (now : ℕ) (line : Line) (info : NetworkInfo) (validation : ℕ) (d : Desk) (channel : Channel) →
+    same_name computer channel.computer ≡ true → channel_with channel.controller channel.computer state ≡ channel →
+    HasChannel (judge_channel (Some state) computer given name now line info validation d).work.computers channel
+own_has state computer given name now line info validation d channel same is =
+    let moved : ChannelState = moved_by_call (passes_on state given) state given in
+    let later : Desk = desk d.table (put_channel computer moved d.work) in
+    let kept = returned_same (return_by (passes_on state given) state given) (key_of_channel state) name now line info validation later in
+    record {
+      state = moved;
+      kept = ap (λ (c : Computers). lookup same_name channel.computer c.channels) kept
+          ∙ sym (found_alike computer channel.computer (put same_name computer moved d.work.computers.channels) same)
+          ∙ lookup-put_same same_name computer moved d.work.computers.channels (IsSameness-same_name.reflexive computer);
+      is = moved_named (passes_on state given) channel.controller channel.computer state given ∙ is;
+    }
+
+named_has : (computer : List ℕ) (given : Authenticator) (name : List ℕ) (now : ℕ) (line : Line) (info : NetworkInfo) (validation : ℕ) (d : Desk) (channel : Channel) → HasChannel d.work.computers channel →
+    HasChannel (answer_logon (Some computer) (Some given) name now line info validation d).work.computers channel
+named_has computer given name now line info validation d channel has =
+    let after_taking : Desk = desk d.table (take_channel computer d.work) in
+    elim (cases_Bool (same_name computer channel.computer)) [
+      | inl same ↦
+          subst (λ (found : Option ChannelState). HasChannel (judge_channel found computer given name now line info validation after_taking).work.computers channel)
+          (sym (found_alike computer channel.computer d.work.computers.channels same ∙ has.kept))
+          (own_has has.state computer given name now line info validation after_taking channel same has.is)
+      | inr differs ↦
+          other_has (lookup same_name computer d.work.computers.channels) computer given name now line info validation after_taking channel differs
+          (record {
+            state = has.state;
+            kept = taken_others same_name computer channel.computer d.work.computers.channels IsSameness-same_name differs ∙ has.kept;
+            is = has.is;
+          })
+    ]
+
+logon_has : (computer : Option (List ℕ)) (given : Option Authenticator) (name : List ℕ) (now : ℕ) (line : Line) (info : NetworkInfo) (validation : ℕ) (d : Desk) (channel : Channel) → HasChannel d.work.computers channel →
+    HasChannel (answer_logon computer given name now line info validation d).work.computers channel
+logon_has None given name now line info validation d channel has = same_channels d.work.computers _ channel refl has
+logon_has (Some computer) None name now line info validation d channel has = same_channels d.work.computers _ channel refl has
+logon_has (Some computer) (Some given) name now line info validation d channel has = named_has computer given name now line info validation d channel has
+
+-- ---- a unit leaves it
+
+call_has : (c : Call) (controller : ℕ) (line : Line) (talk : Talk) (name : List ℕ) (now : ℕ) (d : Desk) (left : List (List ℕ)) (channel : Channel) → HasChannel d.work.computers channel →
+    IsOfOther channel.computer (opened_call controller c d) → PartHas channel (by_call c line talk name now d left)
+call_has (call.Challenge c) controller line talk name now d left channel has other = draw_has left line c talk d channel has
+call_has (call.Authenticate c) controller line talk name now d left channel has other = auth_has controller line c d channel has other
+call_has (call.Logon c) controller line talk name now d left channel has other = logon_has c.computer c.authenticator name now line c.info c.validation d channel has
+call_has (call.Logoff c) controller line talk name now d left channel has other = same_channels d.work.computers _ channel refl has
+
+heard_has : (what : Heard) (controller link : ℕ) (name : List ℕ) (now : ℕ) (d : Desk) (left : List (List ℕ)) (channel : Channel) → HasChannel d.work.computers channel →
+    IsOfOther channel.computer (opened_unit controller what d) → PartHas channel (by_heard what link name now d left)
+heard_has (heard.Close cause) controller link name now d left channel has other = same_channels d.work.computers _ channel refl has
+heard_has (heard.Answer bytes talk) controller link name now d left channel has other = same_channels d.work.computers _ channel refl has
+heard_has (heard.Waits talk) controller link name now d left channel has other = has
+heard_has (heard.Asked line c talk) controller link name now d left channel has other = call_has c controller line talk name now d left channel has other
+
+part_has : (part : ServedPart Desk Talk) (channel : Channel) (later : Desk) → PartHas channel part → work_after part ≡ Some later → HasChannel later.work.computers channel
+part_has (Err why) channel later has is = absurd cc
+part_has (Ok part) channel later has is = subst (λ (d : Desk). HasChannel d.work.computers channel) (some_is _ _ is) has
+
+-- ---- a call passes on it
+
+passes_named : (j : Judging) (channel : Channel) → j.controller ≡ channel.controller → j.logon.computer ≡ Some channel.computer → HasChannel j.computers channel → has_passed j.how ≡ true →
+    judging_by (has_passed j.how) j ≡ passing (Some channel) j
+passes_named j channel at names has passed =
+    ap (λ (so : Bool). judging_by so j) passed
+    ∙ ap (λ (c : Option Channel). passing c j)
+    (ap₂ (λ (controller : ℕ) (computer : Option (List ℕ)). channel_in controller computer j.computers) at names
+    ∙ ap (channel_by channel.controller channel.computer) has.kept ∙ ap Some has.is)
+
+pub calls : CallsAreNamedAlike
+calls = record {
+  starts = λ controller s timestamp challenge channel stands can. starts_open controller s.turn s.waiting s timestamp challenge channel stands can;
+  asks = λ controller s unit channel logon frames stands ask sent.
+      calling_asked (hear s.turn unit s.next_call) controller s channel logon ask.number ask.place frames
+      (bind_heard s.turn ask.number ask.place (call.Logon logon) unit s.next_call ask.turn) stands ask.turn sent;
+  keeps = λ controller name now link bytes before later talk left channel has other is.
+      part_has (by_heard (hear_unit link bytes talk) link name now before left) channel later
+      (heard_has (hear_unit link bytes talk) controller link name now before left channel has other) is;
+  passes = λ j channel at names has passed. passes_named j channel at names has passed;
+  takes = λ controller s unit place is. answer_acts (hear s.turn unit s.next_call) controller s place is;
+}
+
+own_units : OwnUnitsAreNoClash
+own_units channel other unit sent is same =
+    ap (λ (c : Option Channel). not (is_channel c channel)) is ∙ ap not ((same_channel-Decides other channel).1 same)
+
+-- ---- no clash
+
+same_itself : (channel : Channel) → SameChannel channel channel
+same_itself channel = record { controller = refl; computer = refl; secret = refl; client = refl; server = refl; flags = refl }
+
+-- a credential passes on the channel that the unit was made for
+own_passes : (channel : Channel) (number : Option ℕ) (sent : List Sent) → channel_marked number sent ≡ Some channel → clashes (Some channel) number sent ≡ false
+own_passes channel None sent is = refl
+own_passes channel (Some unit) sent is = own_units channel channel unit sent is (same_itself channel)
+
+opened_clear : (controller : ℕ) (s : Requester) (taking : Taking) (client server : List ℕ) (number : Option ℕ) (sent : List Sent) → s.standing ≡ standing.Half client server → IsOpenedAsAsked controller s taking →
+    channel_marked number sent ≡ Some (half_channel controller s client server) → clashes (taking_note (Some taking) controller s).checked number sent ≡ false
+opened_clear controller s taking client server number sent half opened is =
+    let both : standing.Half client server ≡ standing.Half opened.0 opened.1 = sym half ∙ opened.2 in
+    let one : client ≡ opened.0 = cc in
+    let other : server ≡ opened.1 = cc in
+    ap (λ (note : TurnNote). clashes note.checked number sent) opened.4
+    ∙ own_passes (half_channel controller s opened.0 opened.1) number sent (is ∙ ap₂ (λ (c : List ℕ) (d : List ℕ). Some (half_channel controller s c d)) one other)
+
+answered_clear : (controller : ℕ) (s : Requester) (taking : Taking) (place : ℕ) (channel : Channel) (number : Option ℕ) (sent : List Sent) → standing_channel controller s ≡ Some channel → IsTakenOn controller s place taking →
+    channel_marked number sent ≡ Some channel → clashes (taking_note (Some taking) controller s).checked number sent ≡ false
+answered_clear controller s taking place channel number sent stands on is =
+    ap (λ (note : TurnNote). clashes note.checked number sent) on.3 ∙ own_passes on.0 number sent (is ∙ sym stands ∙ on.1)
+
+passing_clear : (j : Judging) (channel : Channel) (sent : List Sent) → channel_marked j.unit sent ≡ Some channel → clashes (passing (Some channel) j).checked j.unit sent ≡ false
+passing_clear j channel sent is = own_passes channel j.unit sent is
+
+exchanges : ExchangesHaveNoClash
+exchanges = record {
+  opening = λ s client server w line before later sent expects is.
+      ap (λ (channel : Option Channel). clashes (opening channel w line.call).checked w.unit sent) (opens_named w.controller s client server before expects)
+      ∙ own_passes (half_channel w.controller s client server) w.unit sent is;
+  opened = λ controller s unit client server number sent half taken_so is.
+      opened_clear controller s _ client server number sent half (opened_acts (hear s.turn unit s.next_call) controller s taken_so) is;
+  calling = λ j channel sent at names has passed is.
+      ap (λ (one : Answered). clashes one.checked j.unit sent) (passes_named j channel at names has passed) ∙ passing_clear j channel sent is;
+  answered = λ controller s unit place channel number sent stands took is.
+      answered_clear controller s _ place channel number sent stands (answer_acts (hear s.turn unit s.next_call) controller s place took) is;
+}
+
+-- ---- the way to a controller
+
+learns_half : (s : Requester) (what : Hearing) (client : List ℕ) (r : ChallengeReply) → what ≡ hearing.Reply (question.Challenge client) (reply.Challenge r) → r.status ≡ 0 →
+    ((act what s).taken ≡ taken.Half) × ((act what s).state.standing ≡ standing.Half client r.challenge) × ((act what s).state.caller ≡ s.caller)
+learns_half s what client r is done =
+    subst (λ (h : Hearing). ((act h s).taken ≡ taken.Half) × ((act h s).state.standing ≡ standing.Half client r.challenge) × ((act h s).state.caller ≡ s.caller)) (sym is)
+    (subst (λ (n : ℕ). ((settle (judge_challenge (n == 0) client r.challenge) s).taken ≡ taken.Half)
+    × ((settle (judge_challenge (n == 0) client r.challenge) s).state.standing ≡ standing.Half client r.challenge)
+    × ((settle (judge_challenge (n == 0) client r.challenge) s).state.caller ≡ s.caller)) (sym done) (refl, refl, refl))
+
+pub challenges : ChallengesAreShared
+challenges = record {
+  starts = λ s timestamp challenge none can. starts_asking s.turn s.waiting s timestamp challenge none can;
+  asks = λ s unit client frames will sent.
+      challenge_asked (hear s.turn unit s.next_call) s client frames
+      (bind_heard s.turn will.number will.place (challenge_call s.caller client) unit s.next_call will.turn) sent;
+  waits = λ s client server line talk name now before later left known is. waits_then s client server line before later known is;
+  learns = λ s unit client r is done. learns_half s (hear s.turn unit s.next_call) client r is done;
+}
+
+-- both ends name a channel alike
+pub channels_are_named_alike : ChannelsAreNamedAlike
+channels_are_named_alike = record {
+  challenges = challenges;
+  openings = openings;
+  standings = standings;
+  calls = calls;
+  own = own_units;
+  exchanges = exchanges;
+}

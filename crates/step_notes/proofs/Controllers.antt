@@ -1,0 +1,9 @@
+-- What a controller hears, judges, keeps and sends at one step.
+pub mod ComputerLaws
+pub mod GrantSendLaws
+pub mod GrantVerdictLaws
+pub mod HeardLaws
+pub mod JudgedStepLaws
+pub mod KeptNoteLaws
+pub mod ReplySendLaws
+pub mod ReplyStepLaws

@@ -1,0 +1,280 @@
+-- What a controller sends when bytes come is, in order, what its units come to; and a unit that is marked as a reply
+-- carries what its call came to. It serves `replies_are_sent_as_judged`.
+use Rattle.std.proofs.Common.{◌≡◌, ℕ, Bool, true, false, List, [], ◌∷◌, ◌++◌, drop, length, map, Option, Some, None, Ok, Err, refl, sym, ap, ◌∙◌, subst, bytes_eq}
+use Rattle.std.proofs.lemmas.List.{append_assoc, append-nil}
+use Rattle.std.proofs.lemmas.List.Concat.{flat_map-append}
+use Rattle.wire_base.specs.Maps.{lookup, same_number, take_out}
+use Rattle.wire_base.specs.Names.{same_name}
+use Rattle.ntlm_flags.specs.Flags.{has_flag}
+use Rattle.channel_keys.specs.Credentials.{cred_of}
+use Rattle.channel_keys.specs.Flags.{rc4_flag}
+use Rattle.authenticators.specs.Channels.{Channel}
+use Rattle.outside.specs.declared.action.Action.{Action}
+use Rattle.outside.specs.declared.action.Action.TheVariants as action
+use Rattle.outside.specs.declared.action.CloseCause.TheVariants as close
+use Rattle.outside.specs.declared.action.Judged.{Judged}
+use Rattle.outside.specs.declared.event.Event.TheVariants as event
+use Rattle.outside.specs.Machine.{step_by, then_part}
+use Rattle.rpc_units.specs.declared.refused.UnitRefused.{UnitRefused}
+use Rattle.rpc_units.specs.Stream.{cut_stream}
+use Rattle.logon_stubs.specs.declared.calls.AuthCall.{AuthCall}
+use Rattle.logon_stubs.specs.declared.calls.Call.TheVariants as call
+use Rattle.logon_stubs.specs.declared.calls.ChallengeCall.{ChallengeCall}
+use Rattle.logon_stubs.specs.declared.calls.LogonCall.{LogonCall}
+use Rattle.account_table.specs.LookUps.{knows_in}
+use Rattle.account_table.specs.declared.account.Account.{Account}
+use Rattle.end_links.specs.Links.{LinkState}
+use Rattle.end_links.specs.Serving.{ServedPart, Service, served_by, served_cut, then_open, then_talk}
+use Rattle.domain_controller.specs.Channels.{ChannelState, key_of_channel}
+use Rattle.domain_controller.specs.Hearing.{hear}
+use Rattle.domain_controller.specs.Machine.{Desk, account_for, answer_challenge, answer_logon, by_heard, channel_for, controller_server, draw_challenge, judge_account, judge_offer, judge_pair, open_channel, put_pair_if, take_pair}
+use Rattle.domain_controller.specs.State.{State as ControllerState}
+use Rattle.domain_controller.specs.Step.{LinkMap, StepPart, after_units, first_desk, halted, serve_on, start_turn, state_after, step_on}
+use Rattle.domain_controller.specs.declared.hearing.Heard.{Heard}
+use Rattle.domain_controller.specs.declared.hearing.Heard.TheVariants as heard
+use Rattle.domain_controller.specs.declared.line.Line.{Line}
+use Rattle.domain_controller.specs.declared.state.Pending.{Pending}
+use Rattle.domain_controller.specs.declared.state.Running.{Running}
+use Rattle.domain_controller.specs.declared.state.Talk.{Talk}
+use Rattle.domain_controller.specs.declared.state.Work.{Work}
+use Rattle.step_notes.specs.ChannelNames.{sends_in, sent_by}
+use Rattle.step_notes.specs.ControllerNotes.{Answered, Where, answer_on, channel_in, has_passed, heard_answer, judged_in, judging_by, judging_of, logon_answer, new_actions, opened_by, opened_mark, opening, passing, plain, reply_mark, units_at, units_by}
+use Rattle.step_notes.specs.Judged.{channel_if}
+use Rattle.step_notes.specs.Records.{Judging}
+use Rattle.step_notes.specs.ReplySends.{AreSentFor, CarriesReply, IsItsReply, IsSentIf, RepliesAreSentAsJudged, standing_at}
+use Rattle.step_notes.specs.Served.{ServedUnit, served_units, units_if_taken, units_on, units_then, work_after}
+use Rattle.step_notes.proofs.Controllers.JudgedStepLaws.{Told, by_names}
+use Rattle.step_notes.proofs.Controllers.ReplySendLaws.{IsSentAsPassed, dropped, passed_sends}
+
+-- ---- what is sent
+
+one_more : (actions : List Action) (link : ℕ) (bytes : List ℕ) → sends_in (actions ++ action.Send link bytes ∷ []) ≡ sends_in actions ++ bytes ∷ []
+one_more actions link bytes = flat_map-append sent_by actions (action.Send link bytes ∷ [])
+
+none_more : (actions : List Action) (what : Action) → sent_by what ≡ [] → sends_in (actions ++ what ∷ []) ≡ sends_in actions
+none_more actions what none =
+    flat_map-append sent_by actions (what ∷ [])
+    ∙ ap (λ (more : List (List ℕ)). sends_in actions ++ (more ++ [])) none
+    ∙ append-nil (sends_in actions)
+
+-- beside what was sent before: what was sent is what these units come to
+record IsSentBeside (old : List Action) (answers : List Answered) (all : List Action) : Type 0 where
+  new : List (List ℕ)
+  is : sends_in all ≡ sends_in old ++ new
+  each : AreSentFor answers new
+
+-- where the part is whole
+abbrev SendsFor : List Action → List Answered → ServedPart Desk Talk → Type 0
+SendsFor old answers (Err why) = Unit {0}
+SendsFor old answers (Ok part) = IsSentBeside old answers part.value.0.work.actions
+
+nothing_new : (old all : List Action) (answers : List Answered) → sends_in all ≡ sends_in old → AreSentFor answers [] → IsSentBeside old answers all
+nothing_new old all answers same each = record { new = []; is = same ∙ sym (append-nil (sends_in old)); each = each }
+
+-- ---- a call that isn't judged is answered by one unit
+
+-- one unit more
+record SendsOne (old all : List Action) : Type 0 where
+  bytes : List ℕ
+  is : sends_in all ≡ sends_in old ++ bytes ∷ []
+
+sends_after : (old between : List Action) (link : ℕ) (bytes : List ℕ) → between ≡ old → SendsOne old (between ++ action.Send link bytes ∷ [])
+sends_after old between link bytes same =
+    record { bytes = bytes; is = one_more between link bytes ∙ ap (λ (actions : List Action). sends_in actions ++ bytes ∷ []) same }
+
+sends_one : (old : List Action) (link : ℕ) (bytes : List ℕ) → SendsOne old (old ++ action.Send link bytes ∷ [])
+sends_one old link bytes = sends_after old old link bytes refl
+
+pair_actions : (knows : Bool) (computer : List ℕ) (pair : Pending) (work : Work) → (put_pair_if knows computer pair work).actions ≡ work.actions
+pair_actions false computer pair work = refl
+pair_actions true computer pair work = refl
+
+drawn_one : (left : List (List ℕ)) (line : Line) (c : ChallengeCall) (talk : Talk) (d : Desk) → SendsFor d.work.actions (plain ∷ []) (draw_challenge left line c talk d)
+drawn_one [] line c talk d = tt
+drawn_one (server ∷ left) line c talk d =
+    let knows : Bool = knows_in d.table.accounts c.computer in
+    let pair : Pending = record { client = c.challenge; server = server } in
+    let one : SendsOne d.work.actions (answer_challenge d.table line c server d.work).actions =
+    sends_after d.work.actions (put_pair_if knows c.computer pair d.work).actions line.link _ (pair_actions knows c.computer pair d.work) in
+    record { new = one.bytes ∷ []; is = one.is; each = (tt, tt) }
+
+opened_one : (right : Bool) (channel : ChannelState) (line : Line) (c : AuthCall) (work : Work) → SendsOne work.actions (open_channel right channel line c work).actions
+opened_one false channel line c work = sends_one work.actions line.link _
+opened_one true channel line c work = sends_one work.actions line.link _
+
+pair_one : (pair : Option Pending) (account : Account) (line : Line) (c : AuthCall) (work : Work) → SendsOne work.actions (judge_pair pair account line c work).actions
+pair_one None account line c work = sends_one work.actions line.link _
+pair_one (Some pair) account line c work = opened_one (bytes_eq c.credential (cred_of (key_of_channel (channel_for account pair c)) pair.client)) (channel_for account pair c) line c work
+
+offer_one : (offers : Bool) (pair : Option Pending) (account : Account) (line : Line) (c : AuthCall) (work : Work) → SendsOne work.actions (judge_offer offers pair account line c work).actions
+offer_one false pair account line c work = sends_one work.actions line.link _
+offer_one true pair account line c work = pair_one pair account line c work
+
+account_one : (account : Option Account) (pair : Option Pending) (line : Line) (c : AuthCall) (work : Work) → SendsOne work.actions (judge_account account pair line c work).actions
+account_one None pair line c work = sends_one work.actions line.link _
+account_one (Some account) pair line c work = offer_one (has_flag c.flags rc4_flag) pair account line c work
+
+-- and isn't marked as a reply
+
+opened_carries : (unit : Option ℕ) (channel : Channel) (number : ℕ) (bytes : List ℕ) → CarriesReply (opened_mark unit channel number) None bytes
+opened_carries None channel number bytes = tt
+opened_carries (Some unit) channel number bytes = tt
+
+opening_sent : (channel : Option Channel) (w : Where) (number : ℕ) (bytes : List ℕ) → AreSentFor (opening channel w number ∷ []) (bytes ∷ [])
+opening_sent None w number bytes = (tt, tt)
+opening_sent (Some channel) w number bytes = (opened_carries w.unit channel number bytes, tt)
+
+-- ---- a Logon call
+
+reply_carries : (unit : Option ℕ) (channel : Channel) (j : Judging) (bytes : List ℕ) → j.unit ≡ unit → channel_if true j ≡ Some channel → has_passed j.how ≡ true → IsItsReply j bytes →
+    CarriesReply (reply_mark unit channel j.number) (Some j) bytes
+reply_carries None channel j bytes came is passed carries = tt
+reply_carries (Some unit) channel j bytes came is passed carries =
+    record { came = came; passed = ap (λ (b : Bool). channel_if b j) passed ∙ is; call = refl; carries = carries }
+
+passing_sent : (channel : Option Channel) (j : Judging) (bytes : List ℕ) → channel_if true j ≡ channel → has_passed j.how ≡ true → IsItsReply j bytes → AreSentFor (passing channel j ∷ []) (bytes ∷ [])
+passing_sent None j bytes is passed carries = (tt, tt)
+passing_sent (Some channel) j bytes is passed carries = (reply_carries j.unit channel j bytes refl is passed carries, tt)
+
+judging_sent : (passed : Bool) (j : Judging) (bytes : List ℕ) → has_passed j.how ≡ passed → (has_passed j.how ≡ true → IsItsReply j bytes) → AreSentFor (judging_by passed j ∷ []) (bytes ∷ [])
+judging_sent false j bytes is carries = (tt, tt)
+judging_sent true j bytes is carries = passing_sent (channel_in j.controller j.logon.computer j.computers) j bytes refl is (carries is)
+
+same_sent : (how other : Judged) (link at : ℕ) (bytes more : List ℕ) → action.Judged how ∷ action.Send link bytes ∷ [] ≡ action.Judged other ∷ action.Send at more ∷ [] → bytes ≡ more
+same_sent how other link at bytes more is = cc
+
+logon_sent : (w : Where) (line : Line) (c : LogonCall) (d : Desk) →
+    IsSentBeside d.work.actions (logon_answer (judging_of w line c d (Some (answer_logon c.computer c.authenticator w.name w.moment line c.info c.validation d))) ∷ [])
+    (answer_logon c.computer c.authenticator w.name w.moment line c.info c.validation d).work.actions
+logon_sent w line c d =
+    let after : Desk = answer_logon c.computer c.authenticator w.name w.moment line c.info c.validation d in
+    let j : Judging = judging_of w line c d (Some after) in
+    let told : Told d.work.actions after.work.actions d.work.computers c = by_names c.computer c.authenticator c w.name w.moment line d refl refl in
+    let two : new_actions (Some after) d ≡ action.Judged told.how ∷ action.Send told.link told.answer ∷ [] =
+    ap (λ (all : List Action). drop (length d.work.actions) all) told.is ∙ dropped d.work.actions (action.Judged told.how) (action.Send told.link told.answer) in
+    record {
+      new = told.answer ∷ [];
+      is = ap sends_in told.is
+          ∙ one_more (d.work.actions ++ action.Judged told.how ∷ []) told.link told.answer
+          ∙ ap (λ (sent : List (List ℕ)). sent ++ told.answer ∷ []) (none_more d.work.actions (action.Judged told.how) refl);
+      each = judging_sent (has_passed j.how) j told.answer refl (λ passed.
+          let sent : IsSentAsPassed j line (new_actions (Some after) d) = passed_sends w line c d passed in
+          record {
+            next = sent.next;
+            how = ap judged_in sent.actions;
+            context = line.context;
+            limit = line.limit;
+            frames = same_sent told.how _ told.link _ told.answer _ (sym two ∙ sent.actions);
+          });
+    }
+
+-- ---- a unit
+
+heard_sent : (what : Heard) (w : Where) (link : ℕ) (d : Desk) (left : List (List ℕ)) →
+    SendsFor d.work.actions (heard_answer what w d (work_after (by_heard what link w.name w.moment d left)) ∷ []) (by_heard what link w.name w.moment d left)
+heard_sent (heard.Close cause) w link d left = nothing_new d.work.actions _ _ (none_more d.work.actions (action.Close link cause) refl) tt
+heard_sent (heard.Answer bytes talk) w link d left = record { new = bytes ∷ []; is = one_more d.work.actions link bytes; each = (tt, tt) }
+heard_sent (heard.Waits talk) w link d left = nothing_new d.work.actions _ _ refl tt
+heard_sent (heard.Asked line (call.Challenge c) talk) w link d left = drawn_one left line c talk d
+heard_sent (heard.Asked line (call.Authenticate c) talk) w link d left =
+    let one : SendsOne d.work.actions (judge_account (account_for d.table c) (lookup same_name c.computer d.work.computers.pending) line c (take_pair c.computer d.work)).actions =
+    account_one (account_for d.table c) (lookup same_name c.computer d.work.computers.pending) line c (take_pair c.computer d.work) in
+    record { new = one.bytes ∷ []; is = one.is; each = opening_sent (opened_by w.controller c d) w line.call one.bytes }
+heard_sent (heard.Asked line (call.Logon c) talk) w link d left = logon_sent w line c d
+heard_sent (heard.Asked line (call.Logoff c) talk) w link d left = record { new = _; is = one_more d.work.actions line.link _; each = (tt, tt) }
+
+-- ---- the units of a stream
+
+joined : (sends : Bool) (one : Answered) (new more : List (List ℕ)) (answers : List Answered) → IsSentIf sends one new (λ (rest : List (List ℕ)). AreSentFor [] rest) → AreSentFor answers more →
+    IsSentIf sends one (new ++ more) (λ (rest : List (List ℕ)). AreSentFor answers rest)
+joined false one [] more answers is each = each
+joined false one (bytes ∷ new) more answers is each = absurd is
+joined true one [] more answers is each = absurd is
+joined true one (bytes ∷ []) more answers is each = (is.0, each)
+joined true one (bytes ∷ other ∷ new) more answers is each = absurd is.1
+
+further : (old between all : List Action) (one : Answered) (answers : List Answered) → IsSentBeside old (one ∷ []) between → IsSentBeside between answers all → IsSentBeside old (one ∷ answers) all
+further old between all one answers first then_more = record {
+  new = first.new ++ then_more.new;
+  is = then_more.is ∙ ap (λ (sent : List (List ℕ)). sent ++ then_more.new) first.is ∙ append_assoc (sends_in old) first.new then_more.new;
+  each = joined one.sends one first.new then_more.new answers first.each then_more.each;
+}
+
+further_part : (old between : List Action) (part : ServedPart Desk Talk) (one : Answered) (answers : List Answered) → IsSentBeside old (one ∷ []) between → SendsFor between answers part →
+    SendsFor old (one ∷ answers) part
+further_part old between (Err why) one answers first more = tt
+further_part old between (Ok part) one answers first more = further old between part.value.0.work.actions one answers first more
+
+abbrev all_answers : ℕ → Where → List (ServedUnit Desk Talk) → List Answered
+all_answers link w units = map (answer_on link w) units
+
+on_sent : (w : Where) (link : ℕ) (talk : Option Talk) (work : Desk) (left : List (List ℕ)) (old : List Action) (one : Answered) (later : Service Desk Talk)
+    (rest : Desk → Talk → List (List ℕ) → List (ServedUnit Desk Talk)) → IsSentBeside old (one ∷ []) work.work.actions →
+    ((work : Desk) (talk : Talk) (left : List (List ℕ)) → SendsFor work.work.actions (all_answers link w (rest work talk left)) (later work talk left)) →
+    SendsFor old (one ∷ all_answers link w (units_on work talk left rest)) (then_talk work talk left later)
+on_sent w link None work left old one later rest is each = is
+on_sent w link (Some talk) work left old one later rest is each =
+    further_part old work.work.actions (later work talk left) one (all_answers link w (rest work talk left)) is (each work talk left)
+
+part_sent : (w : Where) (link : ℕ) (part : ServedPart Desk Talk) (old : List Action) (one : Answered) (later : Service Desk Talk)
+    (rest : Desk → Talk → List (List ℕ) → List (ServedUnit Desk Talk)) → SendsFor old (one ∷ []) part →
+    ((work : Desk) (talk : Talk) (left : List (List ℕ)) → SendsFor work.work.actions (all_answers link w (rest work talk left)) (later work talk left)) →
+    SendsFor old (one ∷ all_answers link w (units_then part rest)) (then_open part later)
+part_sent w link (Err why) old one later rest is each = tt
+part_sent w link (Ok part) old one later rest is each = on_sent w link part.value.1 part.value.0 part.left old one later rest is each
+
+units_sent : (w : Where) (link : ℕ) (units : List (List ℕ)) (why : Option UnitRefused) (d : Desk) (talk : Talk) (left : List (List ℕ)) →
+    SendsFor d.work.actions (all_answers link w (served_units (controller_server w.name w.moment link) units d talk left))
+    (served_by (controller_server w.name w.moment link) units why d talk left)
+units_sent w link [] None d talk left = nothing_new d.work.actions _ [] refl tt
+units_sent w link [] (Some why) d talk left = nothing_new d.work.actions _ [] (none_more d.work.actions (action.Close link close.BadUnit) refl) tt
+units_sent w link (bytes ∷ units) why d talk left =
+    part_sent w link (by_heard (hear link bytes talk) link w.name w.moment d left) d.work.actions
+    (heard_answer (hear link bytes talk) w d (work_after (by_heard (hear link bytes talk) link w.name w.moment d left)))
+    (λ later said rest. served_by (controller_server w.name w.moment link) units why later said rest)
+    (λ later said rest. served_units (controller_server w.name w.moment link) units later said rest)
+    (heard_sent (hear link bytes talk) w link d left)
+    (λ later said rest. units_sent w link units why later said rest)
+
+-- ---- a step
+
+beside_nothing : (answers : List Answered) (all : List Action) → IsSentBeside [] answers all → AreSentFor answers (sends_in all)
+beside_nothing answers all beside = subst (λ (sent : List (List ℕ)). AreSentFor answers sent) (sym beside.is) beside.each
+
+-- the step, by what its units come to
+abbrev step_after : ControllerState → ServedPart Desk Talk → List ℕ → ℕ → LinkMap → StepPart
+step_after c part rest number others = then_part (after_units part rest number others) (λ after left. start_turn after left)
+
+bytes_sent : (w : Where) (link : ℕ) (c : ControllerState) (part : ServedPart Desk Talk) (units : List (ServedUnit Desk Talk)) (rest : List ℕ) (others : LinkMap) (left : List (List ℕ)) (actions : List Action) →
+    SendsFor [] (all_answers link w units) part →
+    (step_by (λ after. after.0.work.actions) (λ after. state_after c after) (halted c) left (step_after c part rest link others)).answer ≡ Ok actions →
+    AreSentFor (all_answers link w (units_if_taken (step_by (λ after. after.0.work.actions) (λ after. state_after c after) (halted c) left (step_after c part rest link others)).answer units)) (sends_in actions)
+bytes_sent w link c (Err why) units rest others left actions each is = absurd cc
+bytes_sent w link c (Ok part) units rest others left actions each is =
+    let same : part.value.0.work.actions ≡ actions = cc in
+    subst (λ (all : List Action). AreSentFor (all_answers link w units) (sends_in all)) same (beside_nothing (all_answers link w units) part.value.0.work.actions each)
+
+module _ (at controller : ℕ) (unit : Option ℕ) (link : ℕ) (piece : List ℕ) (c : ControllerState) (now : ℕ) (left : List (List ℕ)) (actions : List Action) where
+  link_sent_for : (found : Option (LinkState Talk)) (running : Running) →
+      let stepped = step_by (λ (after : Desk × LinkMap). after.0.work.actions) (λ (after : Desk × LinkMap). state_after c after) (halted c) left
+      (then_part (serve_on found link piece c.name now (first_desk c.table running) (take_out same_number link running.links) left) (λ (after : Desk × LinkMap) (rest : List (List ℕ)). start_turn after rest)) in
+      stepped.answer ≡ Ok actions →
+      AreSentFor (all_answers link (standing_at at controller unit c now) (units_if_taken stepped.answer (units_at found link piece c running now left))) (sends_in actions)
+  link_sent_for None running is =
+      let same : [] ≡ actions = cc in
+      subst (λ (all : List Action). AreSentFor [] (sends_in all)) same tt
+  link_sent_for (Some there) running is =
+      bytes_sent (standing_at at controller unit c now) link c
+      (served_cut (controller_server c.name now link) (cut_stream (there.rest ++ piece)) (first_desk c.table running) there.talk left)
+      (units_at (Some there) link piece c running now left) (cut_stream (there.rest ++ piece)).rest (take_out same_number link running.links) left actions
+      (units_sent (standing_at at controller unit c now) link (cut_stream (there.rest ++ piece)).units (cut_stream (there.rest ++ piece)).refused (first_desk c.table running) there.talk left) is
+
+  step_sent : (running : Option Running) → (step_on running c (event.Bytes link piece) now left).answer ≡ Ok actions →
+      AreSentFor (all_answers link (standing_at at controller unit c now) (units_if_taken (step_on running c (event.Bytes link piece) now left).answer (units_by running link piece c now left)))
+      (sends_in actions)
+  step_sent None is = absurd cc
+  step_sent (Some running) is = link_sent_for (lookup same_number link running.links) running is
+
+-- in every step each reply is sent as it was judged
+pub replies_sent : RepliesAreSentAsJudged
+replies_sent c at controller unit link piece now left actions is = step_sent at controller unit link piece c now left actions c.running is

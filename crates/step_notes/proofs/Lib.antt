@@ -1,0 +1,4 @@
+pub mod Channels
+mod ClientNoteLaws
+pub mod Controllers
+pub mod Members

@@ -1,0 +1,10 @@
+-- What a member takes, keeps, asks for and sends at one step.
+pub mod CallKeptLaws
+pub mod CallLogonLaws
+pub mod KeptLogonLaws
+pub mod RequestOrderLaws
+pub mod RestLaws
+pub mod SameLogonLaws
+pub mod TurnAnswerLaws
+pub mod TurnHeardLaws
+pub mod UnservedLaws

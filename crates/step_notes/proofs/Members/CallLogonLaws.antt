@@ -1,0 +1,275 @@
+-- Each Logon call that goes out at a member carries the logon that it keeps under the place of the turn.
+-- It serves `calls_carry_their_logon`.
+use Rattle.std.proofs.Common.{◌≡◌, ℕ, ◌==◌, Bool, true, false, List, [], ◌∷◌, ◌++◌, map, Option, Some, None, Result, Ok, Err, refl, sym, ap, ap₂, subst, ◌∙◌, if◌then◌else◌}
+use Rattle.std.specs.List.{AllByRecursion}
+use Rattle.wire_base.specs.Maps.{lookup, same_number}
+use Rattle.wire_base.proofs.NameLaws.{IsSameness-same_number}
+use Rattle.authenticators.specs.Channels.{Channel, channel_key}
+use Rattle.authenticators.specs.Sequences.{authenticator_of, next_seed}
+use Rattle.outside.specs.declared.action.Action.{Action}
+use Rattle.outside.specs.declared.action.StepRefused.{StepRefused}
+use Rattle.outside.specs.declared.event.Event.TheVariants as event
+use Rattle.rpc_units.specs.declared.refused.JoinRefused.{JoinRefused}
+use Rattle.rpc_units.specs.declared.refused.UnitRefused.{UnitRefused}
+use Rattle.rpc_units.specs.declared.unit.Body.{Body}
+use Rattle.rpc_units.specs.declared.unit.Body.TheVariants.{Bind, BindAck, BindNak, Auth3, Request, Response, Fault}
+use Rattle.rpc_units.specs.declared.unit.Unit.{Unit as RpcUnit}
+use Rattle.rpc_units.specs.Joining.{answer_of, open_after}
+use Rattle.rpc_units.specs.Reading.{unit_of}
+use Rattle.rpc_units.specs.Stream.{cut_stream}
+use Rattle.logon_stubs.specs.Calls.{reply_of}
+use Rattle.logon_stubs.specs.declared.calls.Call.{Call}
+use Rattle.logon_stubs.specs.declared.calls.Call.TheVariants as call
+use Rattle.logon_stubs.specs.declared.calls.LogonCall.{LogonCall}
+use Rattle.logon_stubs.specs.declared.calls.Reply.{Reply}
+use Rattle.logon_stubs.specs.declared.info.NetworkInfo.{NetworkInfo}
+use Rattle.logon_stubs.specs.declared.refused.StubRefused.{StubRefused}
+use Rattle.end_links.specs.Binding.{limit_of}
+use Rattle.end_links.specs.Links.{LinkState}
+use Rattle.channel_client.specs.declared.answers.Taken.TheVariants as taken
+use Rattle.channel_client.specs.declared.caller.Caller.{Caller}
+use Rattle.channel_client.specs.declared.hearing.Hearing.{Hearing}
+use Rattle.channel_client.specs.declared.hearing.Hearing.TheVariants as hearing
+use Rattle.channel_client.specs.declared.judging.Judgement.{Judgement}
+use Rattle.channel_client.specs.declared.judging.Judgement.TheVariants as judgement
+use Rattle.channel_client.specs.declared.state.Pending.{Pending}
+use Rattle.channel_client.specs.declared.state.Question.{Question}
+use Rattle.channel_client.specs.declared.state.Question.TheVariants as question
+use Rattle.channel_client.specs.declared.state.Standing.{Standing}
+use Rattle.channel_client.specs.declared.state.Standing.TheVariants as standing
+use Rattle.channel_client.specs.declared.state.Step.{Step}
+use Rattle.channel_client.specs.declared.state.Step.TheVariants as step
+use Rattle.channel_client.specs.declared.state.Waiting.{Waiting}
+use Rattle.channel_client.specs.Effects.{IsForFirst, MatchesStep, channel_of, seed_in, step_in}
+use Rattle.channel_client.specs.Machine.{act, hear, hear_ack, hear_body, hear_by, hear_reply, hear_stub, is_accepting, judge, logon_call, opnum_asked, place_of, question_of, settle, wait_for}
+use Rattle.channel_client.specs.Opened.{OpenState, after_call, open_key}
+use Rattle.channel_client.specs.State.{Requester}
+use Rattle.member_server.specs.declared.plan.MemberPlan.{MemberPlan}
+use Rattle.member_server.specs.declared.state.AtTurn.{AtTurn}
+use Rattle.member_server.specs.declared.state.Dialling.{Dialling}
+use Rattle.member_server.specs.declared.state.Dialling.TheVariants as dialling
+use Rattle.member_server.specs.declared.state.Logon.{Logon}
+use Rattle.member_server.specs.declared.state.Running.{Running}
+use Rattle.member_server.specs.declared.state.TurnTalk.{TurnTalk}
+use Rattle.member_server.specs.Laws.{is_dialled}
+use Rattle.member_server.specs.Machine.{at_turn, caller_of, step_of, work_of}
+use Rattle.member_server.specs.Turns.{TurnServed, do_taken, turn_by_join, turn_server, turn_unit}
+use Rattle.step_notes.specs.CallLogons.{AsksForKept, AsksUnlessStopped, CallsCarryTheirLogon, CarriesItsLogon, CarriesNoted, HasSecret, IsForItsLogon, IsStamped, IsStampedStep, call_for, info_at, waiting_for}
+use Rattle.step_notes.specs.ChannelNames.{AreFramesOf}
+use Rattle.step_notes.specs.MemberNotes.{asked_note, taken_note, taking_joined, taking_note, taking_read, timestamp_bound, turn_units_by, turn_units_in, turn_units_on}
+use Rattle.step_notes.specs.Served.{ServedUnit, served_units, units_if_taken, units_on}
+use Rattle.step_notes.proofs.Channels.ChannelNameLaws.{bound_at}
+use Rattle.step_notes.proofs.Members.CallKeptLaws.{TurnAsksBy, at_channel, fresh_asks, step_asks, turn_asks}
+
+-- ---- the request that is heard to go out
+
+-- it is that of the call of the turn
+abbrev pub IsOfTurn : Option Pending → ℕ → Hearing → Type 0
+IsOfTurn turn next hearing.Skip = Unit {0}
+IsOfTurn turn next (hearing.Next q frames) =
+    (number : ℕ) × (place : ℕ) × (c : Call) × (turn ≡ bound_at number place c) × (q ≡ question_of c) × AreFramesOf next c frames
+IsOfTurn turn next (hearing.Reply q r) = Unit {0}
+IsOfTurn turn next (hearing.Drop cause) = Unit {0}
+
+module _ (p : Pending) (next : ℕ) where
+  ack_of : (accepts : Bool) (st : Step) (receive : ℕ) → p.step ≡ st → IsOfTurn (Some p) next (hear_ack accepts st receive next)
+  ack_of false st receive is = tt
+  ack_of true (step.Bind c) receive is =
+      (p.number, p.place, c, ap (λ (st : Step). Some (record { number = p.number; place = p.place; step = st })) is, refl, (limit_of receive, refl))
+  ack_of true (step.Reply q) receive is = tt
+
+  reply_of_turn : (q : Question) (read : Result Reply StubRefused) → IsOfTurn (Some p) next (hear_reply q read)
+  reply_of_turn q (Err why) = tt
+  reply_of_turn q (Ok r) = tt
+
+  stub_of_turn : (st : Step) (stub : List ℕ) → IsOfTurn (Some p) next (hear_stub st stub)
+  stub_of_turn (step.Bind c) stub = tt
+  stub_of_turn (step.Reply q) stub = reply_of_turn q (reply_of (opnum_asked q) stub)
+
+  body_of_turn : (body : Body) → IsOfTurn (Some p) next (hear_body body p.step next)
+  body_of_turn (Bind send receive group contexts) = tt
+  body_of_turn (BindAck send receive group results) = ack_of (is_accepting results) p.step receive refl
+  body_of_turn (BindNak reason) = tt
+  body_of_turn Auth3 = tt
+  body_of_turn (Request hint context opnum stub) = tt
+  body_of_turn (Response hint context stub) = stub_of_turn p.step stub
+  body_of_turn (Fault hint context status) = tt
+
+  numbered_of_turn : (same : Bool) (unit : RpcUnit) → IsOfTurn (Some p) next (hear_by same p unit next)
+  numbered_of_turn false unit = tt
+  numbered_of_turn true unit = body_of_turn unit.body
+
+of_turn : (turn : Option Pending) (unit : RpcUnit) (next : ℕ) → IsOfTurn turn next (hear turn unit next)
+of_turn None unit next = tt
+of_turn (Some p) unit next = numbered_of_turn p next (unit.call == p.number) unit
+
+-- ---- the first logon that is kept
+
+found_if : (hit : Bool) (logon : Logon) (found : Option Logon) → hit ≡ true → (if hit then Some logon else found) ≡ Some logon
+found_if true logon found is = refl
+found_if false logon found is = absurd (let x = is in cc)
+
+abbrev pub HasLogon : ℕ → LogonCall → List (ℕ × Logon) → Type 0
+HasLogon place c asked = (logon : Logon) × (lookup same_number place asked ≡ Some logon) × (c.info ≡ info_at place logon)
+
+first_logon : (asked : List (ℕ × Logon)) (number place : ℕ) (c : LogonCall) → IsForFirst (bound_at number place (call.Logon c)) (map waiting_for asked) → HasLogon place c asked
+first_logon [] number place c first = absurd first
+first_logon (entry ∷ asked) number place c first = (
+  entry.1,
+  found_if (same_number place entry.0) entry.1 (lookup same_number place asked)
+      (ap (λ (n : ℕ). same_number place n) (sym first.0) ∙ IsSameness-same_number.reflexive place),
+  first.1 ∙ ap (λ (n : ℕ). info_at n entry.1) (sym first.0),
+)
+
+-- ---- a request that goes out
+
+-- the member at work, behind it
+abbrev pub asked_after : AtTurn → Option RpcUnit → Question → List (List ℕ) → Option AtTurn
+asked_after at joiner q frames =
+    Some (do_taken (taken.Next tt frames) joiner (at_channel at (wait_for at.work.logons.channel (place_of at.work.logons.channel.turn) (step.Reply q)))).0
+
+open_is : (one other : OpenState) → standing.Open one ≡ standing.Open other → one ≡ other
+open_is one other is = cc
+
+module _ (controller : ℕ) (at : AtTurn) (joiner : Option RpcUnit) (kept : AsksForKept true at.work.logons) (frames : List (List ℕ)) (number place : ℕ) where
+  -- a Logon call on the channel that stands
+  logon_goes : (c : LogonCall) (o : OpenState) → at.work.logons.channel.standing ≡ standing.Open o → at.work.logons.channel.turn ≡ bound_at number place (call.Logon c) →
+      AreFramesOf at.work.logons.channel.next_call (call.Logon c) frames →
+      IsForItsLogon controller at (asked_after at joiner question.Logon frames) (Some (place_of at.work.logons.channel.turn))
+      (channel_of controller at.work.logons.channel.caller.computer o) at.work.logons.channel.next_call (timestamp_bound (step_in at.work.logons.channel.turn))
+  logon_goes c o stands turn goes =
+      let s : Requester = at.work.logons.channel in
+      let plan : MemberPlan = at.work.logons.plan in
+      let channel : Channel = channel_of controller s.caller.computer o in
+      let first : HasLogon place c at.work.logons.asked = first_logon at.work.logons.asked number place c
+      (subst (λ (waiting : List Waiting). IsForFirst (bound_at number place (call.Logon c)) waiting) kept.waits
+      (subst (λ (t : Option Pending). IsForFirst t s.waiting) turn kept.coherent.first)) in
+      let stamped : IsStamped s.caller s.standing c = subst (λ (t : Option Pending). IsStampedStep s.caller s.standing (step_in t)) turn kept.own.stamped in
+      let earlier : OpenState = stamped.earlier in
+      let moved : o ≡ after_call earlier stamped.timestamp = open_is o (after_call earlier stamped.timestamp) (sym stands ∙ stamped.stands) in
+      let key : open_key earlier ≡ channel_key channel = ap open_key (sym moved) in
+      let one : call.Logon c ≡ logon_call (caller_of plan) earlier stamped.timestamp (info_at place first.0) =
+      stamped.is ∙ ap₂ (λ (caller : Caller) (info : NetworkInfo). logon_call caller earlier stamped.timestamp info) kept.caller first.2 in
+      let two : logon_call (caller_of plan) earlier stamped.timestamp (info_at place first.0) ≡ call_for plan (authenticator_of (channel_key channel) earlier.seed stamped.timestamp) place first.0 =
+      ap (λ (k : List ℕ). call_for plan (authenticator_of k earlier.seed stamped.timestamp) place first.0) key in
+      let when : timestamp_bound (step_in s.turn) ≡ stamped.timestamp =
+      ap (λ (t : Option Pending). timestamp_bound (step_in t)) turn ∙ ap (λ (x : Call). timestamp_bound (Some (step.Bind x))) stamped.is in
+      record {
+        frames = frames;
+        asks = record {
+          place = place;
+          logon = first.0;
+          kept = first.1;
+          with_controller = refl;
+          computer = ap (λ (caller : Caller). caller.computer) kept.caller;
+          secret = subst (λ (how : Standing). HasSecret s.caller.secret how) stands kept.own.secret ∙ ap (λ (caller : Caller). caller.secret) kept.caller;
+          seed = earlier.seed;
+          moved = subst (λ (t : ℕ). seed_in s.standing ≡ Some (next_seed earlier.seed t)) (sym when) (ap seed_in stamped.stands);
+          asks = subst (λ (t : ℕ). AreFramesOf s.next_call (call_for plan (authenticator_of (channel_key channel) earlier.seed t) place first.0) frames) (sym when)
+              (subst (λ (x : Call). AreFramesOf s.next_call x frames) (one ∙ two) goes);
+        };
+        called_is = ap (λ (t : Option Pending). Some (place_of t)) turn;
+        done = (do_taken (taken.Next tt frames) joiner (at_channel at (wait_for s (place_of s.turn) (step.Reply question.Logon)))).0;
+        comes = refl;
+        sends = refl;
+      }
+
+  asked_goes : (c : Call) (how : Standing) → at.work.logons.channel.standing ≡ how → at.work.logons.channel.turn ≡ bound_at number place c → AreFramesOf at.work.logons.channel.next_call c frames →
+      CarriesNoted
+      (asked_note (Some (step.Reply (question_of c))) how controller at.work.logons.channel (wait_for at.work.logons.channel (place_of at.work.logons.channel.turn) (step.Reply (question_of c))))
+      controller at (asked_after at joiner (question_of c) frames)
+  asked_goes (call.Challenge c) how stands turn goes = tt
+  asked_goes (call.Authenticate c) standing.Nothing stands turn goes = tt
+  asked_goes (call.Authenticate c) (standing.Half client server) stands turn goes = tt
+  asked_goes (call.Authenticate c) (standing.Open o) stands turn goes = tt
+  asked_goes (call.Logon c) standing.Nothing stands turn goes = tt
+  asked_goes (call.Logon c) (standing.Half client server) stands turn goes = tt
+  asked_goes (call.Logon c) (standing.Open o) stands turn goes = logon_goes c o stands turn goes
+  asked_goes (call.Logoff c) standing.Nothing stands turn goes = tt
+  asked_goes (call.Logoff c) (standing.Half client server) stands turn goes = tt
+  asked_goes (call.Logoff c) (standing.Open o) stands turn goes =
+      absurd (subst (λ (how : Standing). MatchesStep how (Some (step.Bind (call.Logoff c)))) stands
+      (subst (λ (t : Option Pending). MatchesStep at.work.logons.channel.standing (step_in t)) turn kept.coherent.matches))
+
+-- ---- a unit
+
+module _ (controller : ℕ) (at : AtTurn) (kept : AsksForKept true at.work.logons) where
+  settled_carries : (j : Judgement) (later : Option AtTurn) → CarriesNoted (taken_note (settle j at.work.logons.channel).taken controller at.work.logons.channel (settle j at.work.logons.channel).state) controller at later
+  settled_carries (judgement.Half client server) later = tt
+  settled_carries (judgement.Opened o) later = tt
+  settled_carries (judgement.Answer o v) later = tt
+  settled_carries (judgement.Drop cause) later = tt
+
+  acted_carries : (h : Hearing) (joiner : Option RpcUnit) → IsOfTurn at.work.logons.channel.turn at.work.logons.channel.next_call h →
+      CarriesNoted (taken_note (act h at.work.logons.channel).taken controller at.work.logons.channel (act h at.work.logons.channel).state) controller at
+      (Some (do_taken (act h at.work.logons.channel).taken joiner (at_channel at (act h at.work.logons.channel).state)).0)
+  acted_carries hearing.Skip joiner is = tt
+  acted_carries (hearing.Next q frames) joiner is =
+      let s : Requester = at.work.logons.channel in
+      subst (λ (asked : Question). CarriesNoted (asked_note (Some (step.Reply asked)) s.standing controller s (wait_for s (place_of s.turn) (step.Reply asked))) controller at (asked_after at joiner asked frames))
+      (sym is.4) (asked_goes controller at joiner kept frames is.0 is.1 is.2 s.standing refl is.3 is.5)
+  acted_carries (hearing.Reply q r) joiner is =
+      let s : Requester = at.work.logons.channel in settled_carries (judge q r s.standing s.caller.secret) _
+  acted_carries (hearing.Drop cause) joiner is = tt
+
+  joined_carries : (whole : Result (Option RpcUnit) JoinRefused) (after : Option RpcUnit) →
+      CarriesNoted (taking_note (taking_joined whole at.work.logons.channel) controller at.work.logons.channel) controller at (Some (turn_by_join whole after at).0)
+  joined_carries (Err why) after = tt
+  joined_carries (Ok None) after = tt
+  joined_carries (Ok (Some unit)) after =
+      let s : Requester = at.work.logons.channel in acted_carries (hear s.turn unit s.next_call) after (of_turn s.turn unit s.next_call)
+
+  read_carries : (read : Result RpcUnit UnitRefused) (joiner : Option RpcUnit) →
+      CarriesNoted (taking_note (taking_read read joiner at.work.logons.channel) controller at.work.logons.channel) controller at (Some (turn_unit read joiner at).0)
+  read_carries (Err why) joiner = tt
+  read_carries (Ok unit) joiner = joined_carries (answer_of joiner unit) (open_after joiner unit)
+
+-- ---- the units of the link of the turn
+
+abbrev pub AllCarry : ℕ → List (ServedUnit AtTurn TurnTalk) → Type 0
+AllCarry controller units = AllByRecursion (CarriesItsLogon controller) units
+
+said_carries : (controller : ℕ) (units : List (List ℕ)) →
+    ((at : AtTurn) (talk : TurnTalk) (left : List (List ℕ)) → AsksForKept true at.work.logons → AllCarry controller (served_units turn_server units at talk left)) →
+    (at : AtTurn) (said : Option TurnTalk) (left : List (List ℕ)) → TurnAsksBy said at.work.logons →
+    AllCarry controller (units_on at said left (λ next talk rest. served_units turn_server units next talk rest))
+said_carries controller units later at None left kept = tt
+said_carries controller units later at (Some talk) left kept = later at talk left kept
+
+units_carry : (controller : ℕ) (units : List (List ℕ)) (at : AtTurn) (talk : TurnTalk) (left : List (List ℕ)) → AsksForKept true at.work.logons →
+    AllCarry controller (served_units turn_server units at talk left)
+units_carry controller [] at talk left kept = tt
+units_carry controller (bytes ∷ units) at talk left kept =
+    let served : TurnServed = turn_unit (unit_of bytes) talk.joiner at in (
+      read_carries controller at kept (unit_of bytes) talk.joiner,
+      said_carries controller units (units_carry controller units) served.0 served.1 left (turn_asks (unit_of bytes) talk.joiner at kept),
+    )
+
+by_carries : (hit : Bool) (controller : ℕ) (said : LinkState TurnTalk) (number : ℕ) (piece : List ℕ) (running : Running) (left : List (List ℕ)) → AsksForKept true running.logons →
+    AllCarry controller (turn_units_by hit said number piece running left)
+by_carries false controller said number piece running left kept = tt
+by_carries true controller said number piece running left kept =
+    units_carry controller (cut_stream (said.rest ++ piece)).units (at_turn number (work_of running)) said.talk left kept
+
+on_carries : (how : Dialling) (controller number : ℕ) (piece : List ℕ) (running : Running) (left : List (List ℕ)) → AsksForKept (is_dialled how) running.logons →
+    AllCarry controller (turn_units_on how number piece running left)
+on_carries dialling.Nothing controller number piece running left kept = tt
+on_carries (dialling.Waits turn frames) controller number piece running left kept = tt
+on_carries (dialling.On other said) controller number piece running left kept = by_carries (other == number) controller said number piece running left kept
+
+in_carries : (r : Option Running) (controller number : ℕ) (piece : List ℕ) (left : List (List ℕ)) → AsksUnlessStopped r → AllCarry controller (turn_units_in r number piece left)
+in_carries None controller number piece left kept = tt
+in_carries (Some running) controller number piece left kept = on_carries running.dialling controller number piece running left kept
+
+if_carries : (answer : Result (List Action) StepRefused) (controller : ℕ) (units : List (ServedUnit AtTurn TurnTalk)) → AllCarry controller units → AllCarry controller (units_if_taken answer units)
+if_carries (Ok actions) controller units all = all
+if_carries (Err why) controller units all = tt
+
+-- each Logon call carries its logon
+pub calls_carry : CallsCarryTheirLogon
+calls_carry = record {
+  fresh = fresh_asks;
+  keeps = step_asks;
+  carries = λ controller m number piece now left kept.
+      if_carries (step_of m (event.Bytes number piece) now left).answer controller (turn_units_in m.running number piece left) (in_carries m.running controller number piece left kept);
+}

@@ -1,0 +1,172 @@
+-- What a member asks for in a Logon call (MS-NRPC 3.5.4.5.3): the logon that it keeps under the place of the turn. How
+-- it keeps logons is this project's own choice.
+use Rattle.std.specs.Prelude.{ℕ, ◌≡◌, Bool, true, false, List, [], ◌∷◌, ◌++◌, map, replicate, Option, Some, None, Ok}
+use Rattle.std.specs.List.{AllByRecursion}
+use Rattle.wire_base.specs.Maps.{lookup, same_number}
+use Rattle.wire_base.specs.declared.authenticator.Authenticator.{Authenticator}
+use Rattle.authenticators.specs.Channels.{Channel, channel_key}
+use Rattle.authenticators.specs.Sequences.{authenticator_of, next_seed}
+use Rattle.outside.specs.declared.action.Action.{Action}
+use Rattle.outside.specs.declared.action.Action.TheVariants as action
+use Rattle.outside.specs.declared.event.Event.{Event}
+use Rattle.outside.specs.declared.event.Event.TheVariants as event
+use Rattle.logon_stubs.specs.declared.calls.Call.{Call}
+use Rattle.logon_stubs.specs.declared.calls.Call.TheVariants as call
+use Rattle.logon_stubs.specs.declared.calls.LogonCall.{LogonCall}
+use Rattle.logon_stubs.specs.declared.info.NetworkInfo.{NetworkInfo}
+use Rattle.end_links.specs.Sending.{joined_frames}
+use Rattle.channel_client.specs.Effects.{IsCoherent, seed_in, step_in}
+use Rattle.channel_client.specs.Machine.{logon_call}
+use Rattle.channel_client.specs.Opened.{OpenState, after_call}
+use Rattle.channel_client.specs.State.{Requester}
+use Rattle.channel_client.specs.Turns.{is_out}
+use Rattle.channel_client.specs.declared.caller.Caller.{Caller}
+use Rattle.channel_client.specs.declared.state.Standing.{Standing}
+use Rattle.channel_client.specs.declared.state.Standing.TheVariants as standing
+use Rattle.channel_client.specs.declared.state.Step.{Step}
+use Rattle.channel_client.specs.declared.state.Step.TheVariants as step
+use Rattle.channel_client.specs.declared.state.Waiting.{Waiting}
+use Rattle.member_server.specs.Laws.{is_dialled}
+use Rattle.member_server.specs.Machine.{caller_of, fresh_member, step_of}
+use Rattle.member_server.specs.Messages.{info_of}
+use Rattle.member_server.specs.State.{State as MemberState}
+use Rattle.member_server.specs.declared.plan.MemberPlan.{MemberPlan}
+use Rattle.member_server.specs.declared.state.AtTurn.{AtTurn}
+use Rattle.member_server.specs.declared.state.Logon.{Logon}
+use Rattle.member_server.specs.declared.state.Logons.{Logons}
+use Rattle.member_server.specs.declared.state.Running.{Running}
+use Rattle.member_server.specs.declared.state.TurnTalk.{TurnTalk}
+use Rattle.channel_events.specs.Marks.{Calling, Mark}
+use Rattle.step_notes.specs.ChannelNames.{AreFramesOf}
+use Rattle.step_notes.specs.MemberNotes.{TurnNote, turn_note, turn_units}
+use Rattle.step_notes.specs.Served.{ServedUnit, work_after}
+
+-- ---- what a member keeps
+
+-- what is asked for a logon that is kept under a place: the names, the challenge and the responses of its message
+-- (MS-NLMP 3.2.5.1.2), and the place as the identity of the logon (MS-NRPC 2.2.1.4.15)
+abbrev pub info_at : ℕ → Logon → NetworkInfo
+info_at place logon = record (info_of logon.message logon.agreed logon.challenge) { logon_id = place }
+
+-- as it waits for its turn
+abbrev pub waiting_for : ℕ × Logon → Waiting
+waiting_for entry = record { place = entry.0; info = info_at entry.0 entry.1 }
+
+-- a channel that stands has that secret
+abbrev pub HasSecret : List ℕ → Standing → Type 0
+HasSecret secret standing.Nothing = Unit {0}
+HasSecret secret (standing.Half client server) = Unit {0}
+HasSecret secret (standing.Open o) = o.secret ≡ secret
+
+-- the call has the authenticator by which the channel that stands came to its seed
+pub record IsStamped (caller : Caller) (how : Standing) (c : LogonCall) : Type 0 where
+  pub earlier : OpenState
+  pub timestamp : ℕ
+  pub stands : how ≡ standing.Open (after_call earlier timestamp)
+  pub is : call.Logon c ≡ logon_call caller earlier timestamp c.info
+
+-- so has a Logon call that waits for its bind
+abbrev pub IsStampedStep : Caller → Standing → Option Step → Type 0
+IsStampedStep caller how (Some (step.Bind (call.Logon c))) = IsStamped caller how c
+IsStampedStep caller how _ = Unit {0}
+
+-- the channel and the call that waits are the caller's
+pub record IsOfCaller (s : Requester) : Type 0 where
+  pub secret : HasSecret s.caller.secret s.standing
+  pub stamped : IsStampedStep s.caller s.standing (step_in s.turn)
+
+-- What waits for its turn is what is asked for the logons that are kept, in their order; the turn is for the first of
+-- them. The argument: whether the dial of a turn waits or its link is open.
+pub record AsksForKept (dialled : Bool) (logons : Logons) : Type 0 where
+  pub caller : logons.channel.caller ≡ caller_of logons.plan
+  pub coherent : IsCoherent logons.channel
+  pub waits : logons.channel.waiting ≡ map waiting_for logons.asked
+  pub out : is_out logons.channel ≡ dialled
+  pub own : IsOfCaller logons.channel
+
+abbrev pub AsksUnlessStopped : Option Running → Type 0
+AsksUnlessStopped None = Unit {0}
+AsksUnlessStopped (Some running) = AsksForKept (is_dialled running.dialling) running.logons
+
+-- ---- a Logon call
+
+-- the NetrLogonSamLogon for a logon that is kept under a place, at level 3, with a returned authenticator of zeros
+abbrev pub call_for : MemberPlan → Authenticator → ℕ → Logon → Call
+call_for plan given place logon = call.Logon (record {
+  server = None;
+  computer = Some plan.computer;
+  authenticator = Some given;
+  returned = Some (record { credential = replicate 8 0; timestamp = 0 });
+  info = info_at place logon;
+  validation = 3;
+})
+
+-- Frames are the request of that number for a logon that is kept, with the computer's name of the member's plan, and an
+-- authenticator of that timestamp on the channel, at the seed from which that timestamp moved the channel that stands;
+-- and the channel is that of the plan, with that controller.
+pub record AreForLogon
+    (controller : ℕ) (logons : Logons) (channel : Channel) (number timestamp : ℕ) (frames : List (List ℕ)) : Type 0 where
+  pub place : ℕ
+  pub logon : Logon
+  pub kept : lookup same_number place logons.asked ≡ Some logon
+  pub with_controller : channel.controller ≡ controller
+  pub computer : channel.computer ≡ logons.plan.computer
+  pub secret : channel.secret ≡ logons.plan.secret
+  pub seed : List ℕ
+  pub moved : seed_in logons.channel.standing ≡ Some (next_seed seed timestamp)
+  pub asks : AreFramesOf number (call_for logons.plan (authenticator_of (channel_key channel) seed timestamp) place logon) frames
+
+-- What goes out on the link of the turn is such a request, for the logon that is kept under the place that is written
+-- down.
+pub record IsForItsLogon
+    (controller : ℕ) (before : AtTurn) (later : Option AtTurn) (called : Option ℕ) (channel : Channel) (number timestamp : ℕ) : Type 0 where
+  pub frames : List (List ℕ)
+  pub asks : AreForLogon controller before.work.logons channel number timestamp frames
+  pub called_is : called ≡ Some asks.place
+  pub done : AtTurn
+  pub comes : later ≡ Some done
+  pub sends : done.work.actions ≡ before.work.actions ++ action.Send before.link (joined_frames frames) ∷ []
+
+-- of the channel, the number and the timestamp of a mark, if it is that of a Logon call
+abbrev pub IfCalling : (Channel → ℕ → ℕ → Type 0) → Mark → Type 0
+IfCalling Holds (Calling channel number timestamp) = Holds channel number timestamp
+IfCalling Holds _ = Unit {0}
+
+abbrev pub CarriesNoted : TurnNote → ℕ → AtTurn → Option AtTurn → Type 0
+CarriesNoted note controller before later = IfCalling (IsForItsLogon controller before later note.called) note.mark
+
+-- of a unit that the member serves, where the channel is with that controller
+abbrev pub CarriesItsLogon : ℕ → ServedUnit AtTurn TurnTalk → Type 0
+CarriesItsLogon controller unit = CarriesNoted (turn_note controller unit) controller unit.work (work_after unit.part)
+
+-- ---- laws
+
+-- A member that was just made asks for what it keeps, each step of a member keeps that, and each Logon call that goes
+-- out when bytes come carries its logon.
+pub record CallsCarryTheirLogon : Type 0 where
+  pub fresh : (plan : MemberPlan) → AsksUnlessStopped (fresh_member plan).running
+  pub keeps : (m : MemberState) (what : Event) (now : ℕ) (left : List (List ℕ)) → AsksUnlessStopped m.running →
+      AsksUnlessStopped (step_of m what now left).state.running
+  pub carries : (controller : ℕ) (m : MemberState) (number : ℕ) (piece : List ℕ) (now : ℕ) (left : List (List ℕ)) →
+      AsksUnlessStopped m.running → AllByRecursion (CarriesItsLogon controller) (turn_units m number piece now left)
+
+-- ---- the order of what goes out
+
+-- by whether a unit lets a request out: that request is sent first, on the link of the turn, and then comes the rest
+abbrev pub IsFirstBy : Bool → AtTurn → Option AtTurn → List Action → (List Action → Type 0) → Type 0
+IsFirstBy false before later actions rest = rest actions
+IsFirstBy true before later actions rest =
+    (bytes : List ℕ) × (more : List Action) × (done : AtTurn) × (actions ≡ action.Send before.link bytes ∷ more) × (later ≡ Some done)
+    × (done.work.actions ≡ before.work.actions ++ action.Send before.link bytes ∷ []) × rest more
+
+-- the requests of the units that have one, in their order, and then whatever else
+abbrev pub AreFirst : ℕ → List (ServedUnit AtTurn TurnTalk) → List Action → Type 0
+AreFirst controller [] actions = Unit {0}
+AreFirst controller (unit ∷ units) actions =
+    IsFirstBy (turn_note controller unit).sends unit.work (work_after unit.part) actions (λ more. AreFirst controller units more)
+
+-- Whatever bytes come at a member, its step gives the requests of the units on the link of its turn first, in their
+-- order.
+pub record RequestsComeFirst : Type 0 where
+  pub first : (controller : ℕ) (m : MemberState) (number : ℕ) (piece : List ℕ) (now : ℕ) (left : List (List ℕ)) (actions : List Action) →
+      (step_of m (event.Bytes number piece) now left).answer ≡ Ok actions → AreFirst controller (turn_units m number piece now left) actions

@@ -1,0 +1,198 @@
+-- What is written down of the units that a controller serves (this project's own choice). What it heard, what it told
+-- and what it sent is read off its own machine; only which channel a call is checked on is found by the same cases
+-- again.
+use Rattle.std.specs.Prelude.{ℕ, Bool, true, false, List, [], ◌∷◌, ◌++◌, drop, length, bytes_eq, Option, Some, None}
+use Rattle.wire_base.specs.Maps.{lookup, same_number}
+use Rattle.wire_base.specs.Names.{same_name}
+use Rattle.ntlm_flags.specs.Flags.{has_flag}
+use Rattle.channel_keys.specs.Credentials.{cred_of}
+use Rattle.channel_keys.specs.Flags.{rc4_flag}
+use Rattle.authenticators.specs.Channels.{Channel}
+use Rattle.outside.specs.declared.action.Action.{Action}
+use Rattle.outside.specs.declared.action.Action.TheVariants as action
+use Rattle.outside.specs.declared.action.Judged.{Judged}
+use Rattle.outside.specs.declared.event.Event.TheVariants as event
+use Rattle.logon_stubs.specs.declared.calls.Call.{Call}
+use Rattle.logon_stubs.specs.declared.calls.Call.TheVariants as call
+use Rattle.logon_stubs.specs.declared.calls.AuthCall.{AuthCall}
+use Rattle.logon_stubs.specs.declared.calls.LogonCall.{LogonCall}
+use Rattle.account_table.specs.declared.account.Account.{Account}
+use Rattle.rpc_units.specs.Stream.{cut_stream}
+use Rattle.end_links.specs.Links.{LinkState}
+use Rattle.domain_controller.specs.Channels.{ChannelState, key_of_channel}
+use Rattle.domain_controller.specs.Hearing.{hear}
+use Rattle.domain_controller.specs.Laws.{is_passed}
+use Rattle.domain_controller.specs.Machine.{Desk, account_for, channel_for, controller_server}
+use Rattle.domain_controller.specs.State.{State as ControllerState}
+use Rattle.domain_controller.specs.Step.{first_desk, step_of}
+use Rattle.domain_controller.specs.declared.hearing.Heard.{Heard}
+use Rattle.domain_controller.specs.declared.hearing.Heard.TheVariants as heard
+use Rattle.domain_controller.specs.declared.line.Line.{Line}
+use Rattle.domain_controller.specs.declared.state.Computers.{Computers}
+use Rattle.domain_controller.specs.declared.state.Pending.{Pending}
+use Rattle.domain_controller.specs.declared.state.Running.{Running}
+use Rattle.domain_controller.specs.declared.state.Talk.{Talk}
+use Rattle.channel_events.specs.Marks.{Mark, Plain, Opened, ReplyTo}
+use Rattle.step_notes.specs.Records.{Judging}
+use Rattle.step_notes.specs.Served.{ServedUnit, served_units, units_if_taken, work_after}
+
+-- ---- the units
+
+abbrev pub units_at : Option (LinkState Talk) → ℕ → List ℕ → ControllerState → Running → ℕ → List (List ℕ) → List (ServedUnit Desk Talk)
+units_at None number piece c running now left = []
+units_at (Some link) number piece c running now left =
+    served_units (controller_server c.name now number) (cut_stream (link.rest ++ piece)).units (first_desk c.table running) link.talk left
+
+abbrev pub units_by : Option Running → ℕ → List ℕ → ControllerState → ℕ → List (List ℕ) → List (ServedUnit Desk Talk)
+units_by None number piece c now left = []
+units_by (Some running) number piece c now left = units_at (lookup same_number number running.links) number piece c running now left
+
+-- the units that the controller serves when these bytes come on the link
+abbrev pub units_of_controller : ControllerState → ℕ → List ℕ → ℕ → List (List ℕ) → List (ServedUnit Desk Talk)
+units_of_controller c number piece now left =
+    units_if_taken (step_of c (event.Bytes number piece) now left).answer (units_by c.running number piece c now left)
+
+-- ---- channels
+
+-- a channel as its controller keeps it, by which controller it is and the name of the computer
+abbrev pub channel_with : ℕ → List ℕ → ChannelState → Channel
+channel_with controller computer c = record {
+  controller = controller;
+  computer = computer;
+  secret = c.secret;
+  client = c.client;
+  server = c.server;
+  flags = c.flags;
+}
+
+abbrev pub channel_by : ℕ → List ℕ → Option ChannelState → Option Channel
+channel_by controller computer None = None
+channel_by controller computer (Some c) = Some (channel_with controller computer c)
+
+-- the channel of the computer that a call names
+abbrev pub channel_in : ℕ → Option (List ℕ) → Computers → Option Channel
+channel_in controller None computers = None
+channel_in controller (Some computer) computers = channel_by controller computer (lookup same_name computer computers.channels)
+
+-- the channel that an accepted NetrServerAuthenticate2 opens; the arguments are those of the controller's own cases
+abbrev pub opened_if : Bool → ChannelState → Option ChannelState
+opened_if false channel = None
+opened_if true channel = Some channel
+
+abbrev pub opened_client : ChannelState → AuthCall → Option ChannelState
+opened_client channel c = opened_if (bytes_eq c.credential (cred_of (key_of_channel channel) channel.client)) channel
+
+abbrev pub opened_pair : Option Pending → Account → AuthCall → Option ChannelState
+opened_pair None account c = None
+opened_pair (Some pair) account c = opened_client (channel_for account pair c) c
+
+abbrev pub opened_offer : Bool → Option Pending → Account → AuthCall → Option ChannelState
+opened_offer false pair account c = None
+opened_offer true pair account c = opened_pair pair account c
+
+abbrev pub opened_account : Option Account → Option Pending → AuthCall → Option ChannelState
+opened_account None pair c = None
+opened_account (Some account) pair c = opened_offer (has_flag c.flags rc4_flag) pair account c
+
+abbrev pub opened_by : ℕ → AuthCall → Desk → Option Channel
+opened_by controller c d =
+    channel_by controller c.computer (opened_account (account_for d.table c) (lookup same_name c.computer d.work.computers.pending) c)
+
+-- ---- a unit that is answered
+
+-- what a unit comes to: whether something is sent on its link, and what that was made for; the channel on which a
+-- credential passed; and the Logon call that was judged
+pub record Answered : Type 0 where
+  pub sends : Bool
+  pub mark : Mark
+  pub checked : Option Channel
+  pub judging : Option Judging
+
+abbrev pub silent : Answered
+silent = record { sends = false; mark = Plain; checked = None; judging = None }
+
+abbrev pub plain : Answered
+plain = record { sends = true; mark = Plain; checked = None; judging = None }
+
+-- the first judgement among actions
+abbrev pub judged_in : List Action → Option Judged
+judged_in [] = None
+judged_in (action.Judged how ∷ actions) = Some how
+judged_in (what ∷ actions) = judged_in actions
+
+abbrev pub has_passed : Option Judged → Bool
+has_passed None = false
+has_passed (Some how) = is_passed how
+
+-- the actions of the unit, beside those before it
+abbrev pub new_actions : Option Desk → Desk → List Action
+new_actions None before = []
+new_actions (Some after) before = drop (length before.work.actions) after.work.actions
+
+-- a reply goes into the bag where the call came in a unit of the bag
+abbrev pub reply_mark : Option ℕ → Channel → ℕ → Mark
+reply_mark None channel number = Plain
+reply_mark (Some unit) channel number = ReplyTo channel number unit
+
+-- a NetrLogonSamLogon that passed, by its channel
+abbrev pub passing : Option Channel → Judging → Answered
+passing None j = record { sends = true; mark = Plain; checked = None; judging = Some j }
+passing (Some channel) j =
+    record { sends = true; mark = reply_mark j.unit channel j.number; checked = Some channel; judging = Some j }
+
+-- the argument: whether it passed
+abbrev pub judging_by : Bool → Judging → Answered
+judging_by false j = record { sends = true; mark = Plain; checked = None; judging = Some j }
+judging_by true j = passing (channel_in j.controller j.logon.computer j.computers) j
+
+-- at which controller, in which unit of the bag, and after how many moves
+pub record Where : Type 0 where
+  pub at : ℕ
+  pub controller : ℕ
+  pub unit : Option ℕ
+  pub name : List ℕ
+  pub moment : ℕ
+
+-- the reply that accepts a NetrServerAuthenticate2 goes into the bag where the call came in a unit of the bag
+abbrev pub opened_mark : Option ℕ → Channel → ℕ → Mark
+opened_mark None channel number = Plain
+opened_mark (Some unit) channel number = Opened channel number unit
+
+-- such a call, by the channel that it opens, and its number
+abbrev pub opening : Option Channel → Where → ℕ → Answered
+opening None w number = plain
+opening (Some channel) w number =
+    record { sends = true; mark = opened_mark w.unit channel number; checked = Some channel; judging = None }
+
+abbrev pub judging_of : Where → Line → LogonCall → Desk → Option Desk → Judging
+judging_of w line c before after = record {
+  at = w.at;
+  controller = w.controller;
+  name = w.name;
+  unit = w.unit;
+  number = line.call;
+  logon = c;
+  table = before.table;
+  computers = before.work.computers;
+  moment = w.moment;
+  how = judged_in (new_actions after before);
+  reply = None;
+}
+
+abbrev pub logon_answer : Judging → Answered
+logon_answer j = judging_by (has_passed j.how) j
+
+abbrev pub call_answer : Call → Line → Where → Desk → Option Desk → Answered
+call_answer (call.Challenge c) line w before after = plain
+call_answer (call.Authenticate c) line w before after = opening (opened_by w.controller c before) w line.call
+call_answer (call.Logon c) line w before after = logon_answer (judging_of w line c before after)
+call_answer (call.Logoff c) line w before after = plain
+
+abbrev pub heard_answer : Heard → Where → Desk → Option Desk → Answered
+heard_answer (heard.Close cause) w before after = silent
+heard_answer (heard.Answer bytes talk) w before after = plain
+heard_answer (heard.Waits talk) w before after = silent
+heard_answer (heard.Asked line call talk) w before after = call_answer call line w before after
+
+abbrev pub answer_on : ℕ → Where → ServedUnit Desk Talk → Answered
+answer_on link w unit = heard_answer (hear link unit.bytes unit.talk) w unit.work (work_after unit.part)

@@ -1,0 +1,62 @@
+-- What a controller sends where it grants a Logon call (MS-NRPC 3.5.4.5.3; what is claimed is this project's own
+-- choice, in the standard's terms).
+use Rattle.std.specs.Prelude.{◌≡◌, List, [], ◌∷◌, Some}
+use Rattle.wire_base.specs.declared.authenticator.Authenticator.{Authenticator}
+use Rattle.authenticators.specs.Sequences.{return_of}
+use Rattle.outside.specs.declared.action.Action.{Action}
+use Rattle.outside.specs.declared.action.Action.TheVariants as action
+use Rattle.outside.specs.declared.action.Judged.TheVariants as judged
+use Rattle.rpc_units.specs.Calls.{bytes_of_call}
+use Rattle.logon_stubs.specs.declared.calls.LogonCall.{LogonCall}
+use Rattle.logon_stubs.specs.declared.calls.Reply.{Reply}
+use Rattle.logon_stubs.specs.declared.info.SamInfo.{SamInfo}
+use Rattle.logon_stubs.specs.Writing.{written_reply}
+use Rattle.account_table.specs.declared.account.Account.{Account}
+use Rattle.account_table.specs.LookUps.{account_in}
+use Rattle.sam_logon.specs.Granted.{granting_reply, sam_info_of}
+use Rattle.end_links.specs.Sending.{response_of}
+use Rattle.channel_client.specs.Hidden.{crypt_key}
+use Rattle.domain_controller.specs.Channels.{ChannelState, key_of_channel}
+use Rattle.domain_controller.specs.Laws.{IsNext}
+use Rattle.domain_controller.specs.Machine.{Desk, answer_logon}
+use Rattle.domain_controller.specs.declared.line.Line.{Line}
+use Rattle.step_notes.specs.ControllerNotes.{Where, judging_of, new_actions}
+use Rattle.step_notes.specs.Judged.{base_key_asked}
+use Rattle.step_notes.specs.Records.{Judging}
+
+-- ---- what is sent then
+
+-- what is granted to the account: its session base key is the one of its stored hash and of the response
+abbrev pub info_granted : Judging → Account → SamInfo
+info_granted j account = sam_info_of j.table j.name account (base_key_asked j j.logon.info) j.moment
+
+-- the reply on a channel whose authenticator passed, at the level that was asked for: that key stands in it under the
+-- session key of the channel
+abbrev pub reply_granted : Judging → Account → ChannelState → Authenticator → Reply
+reply_granted j account channel given =
+    granting_reply
+    (Some (record { credential = return_of (key_of_channel channel) channel.seed given.timestamp; timestamp = 0 }))
+    j.logon.validation (info_granted j account) (crypt_key (key_of_channel channel) (base_key_asked j j.logon.info)) 1 0
+
+-- the call's one judgement, and the frames of that reply
+abbrev pub actions_granting : Line → Reply → List Action
+actions_granting line answer =
+    action.Judged (judged.Passed 0)
+    ∷ action.Send line.link (bytes_of_call (response_of line.call line.context (written_reply answer)) line.limit)
+    ∷ []
+
+-- the step that granted the call did no more and no less than that, on the channel of the computer that the call names,
+-- for the account of the user's name
+pub record IsSentAsGranted (j : Judging) (line : Line) (new : List Action) : Type 0 where
+  pub next : IsNext j.computers j.logon
+  pub account : Account
+  pub stored : account_in j.table.accounts j.logon.info.user ≡ Some account
+  pub actions : new ≡ actions_granting line (reply_granted j account next.channel next.given)
+
+-- What a controller sends where it grants a Logon call: at whatever moment, and whatever stood before.
+abbrev pub GrantsCarryTheirKey : Type 0
+GrantsCarryTheirKey =
+    (w : Where) (line : Line) (c : LogonCall) (d after : Desk) →
+    after ≡ answer_logon c.computer c.authenticator w.name w.moment line c.info c.validation d →
+    (judging_of w line c d (Some after)).how ≡ Some (judged.Passed 0) →
+    IsSentAsGranted (judging_of w line c d (Some after)) line (new_actions (Some after) d)

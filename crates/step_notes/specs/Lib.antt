@@ -1,0 +1,15 @@
+pub mod CallLogons
+pub mod ChannelNames
+pub mod ClientNotes
+pub mod ControllerNotes
+pub mod EffectNotes
+pub mod GrantSends
+pub mod HeardWhole
+pub mod Judged
+pub mod KeptNotes
+pub mod Marking
+pub mod MemberNotes
+pub mod Records
+pub mod ReplySends
+pub mod Served
+pub mod TakenWhole

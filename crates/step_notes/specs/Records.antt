@@ -1,0 +1,143 @@
+-- What a run leaves behind, as plain records: what each unit was made for, which calls were judged, which messages were
+-- taken, what was told. Nothing here says how an end works. Moves, draws, links and units of the bag are numbered from
+-- 0.
+use Rattle.std.specs.Prelude.{ℕ, Bool, false, List, [], Option, Some, None}
+use Rattle.wire_base.specs.declared.authenticator.Authenticator.{Authenticator}
+use Rattle.authenticators.specs.Channels.{Channel}
+use Rattle.outside.specs.declared.action.Judged.{Judged}
+use Rattle.outside.specs.declared.action.Outcome.{Outcome}
+use Rattle.logon_stubs.specs.declared.calls.LogonCall.{LogonCall}
+use Rattle.account_table.specs.AccountTable.{AccountTable}
+use Rattle.domain_controller.specs.declared.state.Computers.{Computers}
+use Rattle.logon_client.specs.declared.plan.ClientPlan.{ClientPlan}
+use Rattle.member_server.specs.declared.state.Logon.{Logon}
+use Rattle.channel_events.specs.Marks.{Mark}
+
+-- ---- units of the bag
+
+-- a unit of the bag, and how many moves were made before the one at which it was sent
+pub record Sent : Type 0 where
+  pub mark : Mark
+  pub at : ℕ
+
+-- ---- at a controller
+
+-- the timestamp of an authenticator; 0 of none
+abbrev pub timestamp_in : Option Authenticator → ℕ
+timestamp_in None = 0
+timestamp_in (Some given) = given.timestamp
+
+-- A NetrLogonSamLogon that a controller heard, with all that its answer rests on.
+pub record Judging : Type 0 where
+  -- the moves made before it
+  pub at : ℕ
+  -- which controller, and its name
+  pub controller : ℕ
+  pub name : List ℕ
+  -- the unit of the bag that carried the call, where it came from an end of this world
+  pub unit : Option ℕ
+  -- the call's number, and its parameters
+  pub number : ℕ
+  pub logon : LogonCall
+  -- the accounts, the channels of computers, and the moment, before it was judged
+  pub table : AccountTable
+  pub computers : Computers
+  pub moment : ℕ
+  -- how it was judged, as the controller told
+  pub how : Option Judged
+  -- the unit of the bag that carries the reply, where it went to an end of this world
+  pub reply : Option ℕ
+
+-- A judgement that a controller told, whatever it is of.
+pub record JudgementTold : Type 0 where
+  pub at : ℕ
+  pub controller : ℕ
+  pub how : Judged
+
+-- ---- at a member
+
+-- A CHALLENGE that a member sent on an accepted link (MS-NLMP 3.2.5.1.1).
+pub record ChallengeSent : Type 0 where
+  pub at : ℕ
+  pub member : ℕ
+  pub link : ℕ
+  -- which draw of the run gave the challenge of 8 bytes, and the bytes of the message
+  pub draw : ℕ
+  pub challenge : List ℕ
+  pub bytes : List ℕ
+
+-- An AUTHENTICATE that a member took, for which a logon waits or waited (MS-NLMP 3.2.5.1.2).
+pub record MessageTaken : Type 0 where
+  pub at : ℕ
+  pub member : ℕ
+  pub link : ℕ
+  -- the bytes of the message
+  pub bytes : List ℕ
+  -- the link, its challenge, the message and the agreed flags, as the member keeps them, and the place of the logon
+  pub logon : Logon
+  pub place : ℕ
+  -- the unit of the bag that carries the Logon call of that place, once there is one
+  pub call : Option ℕ
+  -- the unit of the bag that the member took as the answer in the turn of that place, once it took one
+  pub reply : Option ℕ
+
+-- An outcome that a member told.
+pub record OutcomeTold : Type 0 where
+  pub at : ℕ
+  pub member : ℕ
+  pub link : ℕ
+  pub outcome : Outcome
+
+-- A Logon turn of a member: the channel and the timestamp of its authenticator.
+pub record LogonTurn : Type 0 where
+  pub member : ℕ
+  pub channel : Channel
+  pub timestamp : ℕ
+
+-- ---- at a client
+
+-- An AUTHENTICATE that a client made for the CHALLENGE that it heard (MS-NLMP 3.1.5.1.2).
+pub record MessageMade : Type 0 where
+  pub at : ℕ
+  pub client : ℕ
+  pub link : ℕ
+  pub plan : ClientPlan
+  -- the bytes of the CHALLENGE and of the AUTHENTICATE
+  pub challenge : List ℕ
+  pub bytes : List ℕ
+  -- the exported session key that it keeps
+  pub key : List ℕ
+
+-- ---- a run
+
+pub record Book : Type 0 where
+  -- one for each unit of the bag
+  pub sent : List Sent
+  -- the calls that were judged, and what controllers told of any, the newest first
+  pub judged : List Judging
+  pub judgements : List JudgementTold
+  -- the others in their order
+  pub challenges : List ChallengeSent
+  -- the link of each AUTHENTICATE that a member took, also of one for which no place was free
+  pub taken : List ℕ
+  pub messages : List MessageTaken
+  pub told : List OutcomeTold
+  pub turns : List LogonTurn
+  pub made : List MessageMade
+  -- a credential passed on a unit that was made for another channel, or for none
+  pub clash : Bool
+
+-- before the first move
+abbrev pub blank : Book
+blank = record {
+  sent = [];
+  judged = [];
+  judgements = [];
+  challenges = [];
+  taken = [];
+  messages = [];
+  told = [];
+  turns = [];
+  made = [];
+  clash = false;
+}

@@ -1,0 +1,103 @@
+-- What a controller sends when bytes come, as replies to the Logon calls that it judged (MS-NRPC 3.5.4.5.3; what is
+-- claimed is this project's own choice, in the standard's terms).
+use Rattle.std.specs.Prelude.{ℕ, ◌≡◌, Bool, true, false, List, [], ◌∷◌, Option, Some, None, Ok, map}
+use Rattle.authenticators.specs.Channels.{Channel}
+use Rattle.authenticators.specs.Sequences.{return_of}
+use Rattle.wire_base.specs.declared.authenticator.Authenticator.{Authenticator}
+use Rattle.outside.specs.declared.action.Action.{Action}
+use Rattle.outside.specs.declared.action.Judged.TheVariants as judged
+use Rattle.outside.specs.declared.event.Event.TheVariants as event
+use Rattle.rpc_units.specs.Calls.{bytes_of_call}
+use Rattle.logon_stubs.specs.declared.calls.Reply.{Reply}
+use Rattle.logon_stubs.specs.declared.calls.Reply.TheVariants as reply
+use Rattle.logon_stubs.specs.declared.info.Verdict.{Verdict}
+use Rattle.logon_stubs.specs.Writing.{written_reply}
+use Rattle.end_links.specs.Sending.{response_of}
+use Rattle.domain_controller.specs.Channels.{ChannelState, key_of_channel}
+use Rattle.domain_controller.specs.Laws.{IsNext}
+use Rattle.domain_controller.specs.Machine.{info_of, judge_info, status_of}
+use Rattle.domain_controller.specs.State.{State as ControllerState}
+use Rattle.domain_controller.specs.Step.{step_of as controller_step}
+use Rattle.channel_events.specs.Marks.{Mark, Plain, Opening, Opened, Calling, ReplyTo}
+use Rattle.step_notes.specs.ChannelNames.{sends_in}
+use Rattle.step_notes.specs.ControllerNotes.{Answered, Where, answer_on, units_of_controller}
+use Rattle.step_notes.specs.Judged.{passed_channel}
+use Rattle.step_notes.specs.Records.{Judging}
+
+-- ---- the reply to a call that passed
+
+-- what the call comes to by the accounts of its controller and at the moment of that step; a level other than 2 and
+-- 3 isn't served
+abbrev pub verdict_passed : Judging → Verdict
+verdict_passed j = (judge_info j.table j.name j.moment j.logon.info j.logon.validation).verdict
+
+-- the reply by the session key of the channel, the credential that is returned, the level that was asked for, and the
+-- verdict: what is granted has its key under that session key
+abbrev pub reply_with : List ℕ → List ℕ → ℕ → Verdict → Reply
+reply_with key credential level verdict = reply.Logon (record {
+  returned = Some (record { credential = credential; timestamp = 0 });
+  level = level;
+  info = info_of level key verdict;
+  authoritative = 1;
+  status = status_of verdict;
+})
+
+-- on a channel whose next authenticator the call has
+abbrev pub reply_passed : Judging → ChannelState → Authenticator → Reply
+reply_passed j channel given =
+    reply_with (key_of_channel channel) (return_of (key_of_channel channel) channel.seed given.timestamp) j.logon.validation
+    (verdict_passed j)
+
+-- The call passed, with the status of that reply, and these bytes are all frames of the reply, under the call's number.
+-- Which presentation context it names, and how long its frames are, isn't said.
+pub record IsItsReply (j : Judging) (bytes : List ℕ) : Type 0 where
+  pub next : IsNext j.computers j.logon
+  pub how : j.how ≡ Some (judged.Passed (status_of (verdict_passed j)))
+  pub context : ℕ
+  pub limit : ℕ
+  pub frames : bytes ≡ bytes_of_call (response_of j.number context (written_reply (reply_passed j next.channel next.given))) limit
+
+-- The call came in that unit of the bag, passed on that channel and had that number, and these bytes are its reply.
+pub record IsReplyOfCall (channel : Channel) (number request : ℕ) (j : Judging) (bytes : List ℕ) : Type 0 where
+  pub came : j.unit ≡ Some request
+  pub passed : passed_channel j ≡ Some channel
+  pub call : j.number ≡ number
+  pub carries : IsItsReply j bytes
+
+-- ---- at one step
+
+-- a unit that is marked as a reply carries that of the call that was judged
+abbrev pub CarriesReply : Mark → Option Judging → List ℕ → Type 0
+CarriesReply Plain j bytes = Unit {0}
+CarriesReply (Opening channel number) j bytes = Unit {0}
+CarriesReply (Opened channel number request) j bytes = Unit {0}
+CarriesReply (Calling channel number timestamp) j bytes = Unit {0}
+CarriesReply (ReplyTo channel number request) None bytes = ⊥
+CarriesReply (ReplyTo channel number request) (Some j) bytes = IsReplyOfCall channel number request j bytes
+
+-- the next of what was sent is for this unit where it sends something
+abbrev pub IsSentIf : Bool → Answered → List (List ℕ) → (List (List ℕ) → Type 0) → Type 0
+IsSentIf false one sent Later = Later sent
+IsSentIf true one [] Later = ⊥
+IsSentIf true one (bytes ∷ sent) Later = CarriesReply one.mark one.judging bytes × Later sent
+
+-- what was sent is, in order, what the units that send something come to, and nothing else
+abbrev pub AreSentFor : List Answered → List (List ℕ) → Type 0
+AreSentFor [] [] = Unit {0}
+AreSentFor [] (bytes ∷ sent) = ⊥
+AreSentFor (one ∷ answers) sent = IsSentIf one.sends one sent (λ (rest : List (List ℕ)). AreSentFor answers rest)
+
+-- where a controller stands as bytes come: after how many moves, at which controller, in which unit of the bag, under
+-- which name and at which moment
+abbrev pub standing_at : ℕ → ℕ → Option ℕ → ControllerState → ℕ → Where
+standing_at at controller unit c now = record { at = at; controller = controller; unit = unit; name = c.name; moment = now }
+
+-- Whatever bytes come at a controller, and whoever sent them: it sends one unit of bytes for each unit that is written
+-- down as answered, in their order, and each that is marked as a reply carries what its call came to.
+abbrev pub RepliesAreSentAsJudged : Type 0
+RepliesAreSentAsJudged =
+    (c : ControllerState) (at controller : ℕ) (unit : Option ℕ) (link : ℕ) (piece : List ℕ) (now : ℕ) (left : List (List ℕ)) (actions : List Action) →
+    (controller_step c (event.Bytes link piece) now left).answer ≡ Ok actions →
+    AreSentFor
+    (map (answer_on link (standing_at at controller unit c now)) (units_of_controller c link piece now left))
+    (sends_in actions)

@@ -1,0 +1,157 @@
+-- What an end's actions do in a world (this project's own choice).
+use Rattle.std.specs.Prelude.{ℕ, Bool, false, List, [], ◌∷◌, ◌++◌, map, not, filter, Option, Some, None, slice_get}
+use Rattle.wire_base.specs.Maps.{lookup, take_out, same_number}
+use Rattle.outside.specs.declared.action.Action.{Action}
+use Rattle.outside.specs.declared.action.Action.TheVariants.{Keep, Send, Dial, Close, Told, Judged}
+use Rattle.outside.specs.declared.event.Event.{Event}
+use Rattle.outside.specs.declared.event.Event.TheVariants as event
+use Rattle.world_moves.specs.declared.links.EndId.{EndId}
+use Rattle.world_moves.specs.declared.links.LinkKind.{LinkKind}
+use Rattle.world_moves.specs.declared.links.LinkKind.TheVariants as kind
+use Rattle.world_moves.specs.declared.links.OpenLink.{OpenLink}
+use Rattle.world_moves.specs.declared.links.Route.{Route}
+use Rattle.world_moves.specs.declared.state.State.{State}
+use Rattle.world_moves.specs.declared.state.Waiting.{Waiting}
+use Rattle.world_moves.specs.Counting.{add_counts, counts_of}
+use Rattle.world_moves.specs.Ends.{EndStep, end_step}
+use Rattle.world_moves.specs.Links.{forget_end, hearer_of, is_accepted_by, kind_of, other_hearer, same_end}
+
+-- ---- what a part of a move comes to: the world, and the actions that ends gave, in order, each with its end
+
+abbrev pub Given : Type 0
+Given = List (EndId × Action)
+
+pub record Acted : Type 0 where
+  pub state : State
+  pub given : Given
+
+abbrev pub nothing_done : State → Acted
+nothing_done s = record { state = s; given = [] }
+
+-- a part, and then another
+abbrev pub then_act : Acted → (State → Acted) → Acted
+then_act first later = record { state = (later first.state).state; given = first.given ++ (later first.state).given }
+
+abbrev pub given_by : EndId → List Action → Given
+given_by end actions = map (λ (what : Action). (end, what)) actions
+
+-- ---- an end hears something: the world with its state afterwards, and what it counted, and its actions, which aren't
+-- done yet
+
+pub record Heard : Type 0 where
+  pub state : State
+  pub actions : List Action
+
+abbrev pub heard_by : EndStep → State → Heard
+heard_by step s = record {
+  state = record s { ends = step.ends; chances = step.chances; counts = add_counts s.counts (counts_of step.actions) };
+  actions = step.actions;
+}
+
+abbrev pub hear : EndId → Event → State → Heard
+hear end what s = heard_by (end_step end what s.moment s.ends s.chances) s
+
+-- ---- actions that change nothing at other ends
+
+-- a unit goes into the bag, unless its link is a stranger's. The argument: whether the end that accepted the link sends
+-- it
+abbrev pub bag_unit : LinkKind → Bool → ℕ → List ℕ → State → State
+bag_unit kind.Stranger back link bytes s = s
+bag_unit k back link bytes s =
+    record s { bag = s.bag ++ record { bytes = bytes; link = link; kind = k; back = back; is_settled = false } ∷ [] }
+
+abbrev pub send_on : Option Route → EndId → ℕ → List ℕ → State → State
+send_on None end link bytes s = s
+send_on (Some route) end link bytes s = bag_unit (kind_of route) (is_accepted_by end route) link bytes s
+
+-- a dial waits behind the others
+abbrev pub dial : EndId → List ℕ → State → State
+dial end peer s = record s { dials = s.dials ++ record { end = end; peer = peer } ∷ [] }
+
+-- `Close` is passed over here
+abbrev pub perform_quietly : EndId → Action → State → State
+perform_quietly end (Keep bytes) s = s
+perform_quietly end (Send link bytes) s = send_on (slice_get s.links link) end link bytes s
+perform_quietly end (Dial peer) s = dial end peer s
+perform_quietly end (Close link cause) s = s
+perform_quietly end (Told link outcome) s = s
+perform_quietly end (Judged how) s = s
+
+abbrev pub perform_all_quietly : EndId → List Action → State → State
+perform_all_quietly end [] s = s
+perform_all_quietly end (what ∷ actions) s = perform_all_quietly end actions (perform_quietly end what s)
+
+-- ---- an end hears that a link was closed: what it does then closes nothing
+
+abbrev pub done_quietly : EndId → Heard → Acted
+done_quietly end heard = record {
+  state = perform_all_quietly end heard.actions heard.state;
+  given = given_by end heard.actions;
+}
+
+abbrev pub hear_closed : ℕ → EndId → State → Acted
+hear_closed link end s = done_quietly end (hear end (event.Closed link) s)
+
+abbrev pub closed_at : Option EndId → ℕ → State → Acted
+closed_at None link s = nothing_done s
+closed_at (Some end) link s = hear_closed link end s
+
+-- ---- actions
+
+-- the link is open no more
+abbrev pub shut_link : ℕ → State → State
+shut_link link s = record s { open_links = take_out same_number link s.open_links }
+
+-- the end at the other side hears of it
+abbrev pub close_open : Option OpenLink → EndId → ℕ → State → Acted
+close_open None end link s = nothing_done s
+close_open (Some there) end link s = closed_at (other_hearer end there) link (shut_link link s)
+
+abbrev pub close : EndId → ℕ → State → Acted
+close end link s = close_open (lookup same_number link s.open_links) end link s
+
+abbrev pub perform : EndId → Action → State → Acted
+perform end (Keep bytes) s = nothing_done (perform_quietly end (Keep bytes) s)
+perform end (Close link cause) s = close end link s
+perform end (Send link bytes) s = nothing_done (perform_quietly end (Send link bytes) s)
+perform end (Dial peer) s = nothing_done (perform_quietly end (Dial peer) s)
+perform end (Told link outcome) s = nothing_done (perform_quietly end (Told link outcome) s)
+perform end (Judged how) s = nothing_done (perform_quietly end (Judged how) s)
+
+-- in their order
+abbrev pub perform_all : EndId → List Action → State → Acted
+perform_all end [] s = nothing_done s
+perform_all end (what ∷ actions) s = then_act (perform end what s) (λ later. perform_all end actions later)
+
+-- an end hears something, and does what it then does
+abbrev pub done : EndId → Heard → Acted
+done end heard = record {
+  state = (perform_all end heard.actions heard.state).state;
+  given = given_by end heard.actions ++ (perform_all end heard.actions heard.state).given;
+}
+
+abbrev pub hears : EndId → Event → State → Acted
+hears end what s = done end (hear end what s)
+
+-- ---- what comes on a link, `back` to the end that dialled it: a side that isn't open hears nothing
+
+abbrev pub hears_if : Option EndId → Event → State → Acted
+hears_if None what s = nothing_done s
+hears_if (Some end) what s = hears end what s
+
+abbrev pub piece_comes : Bool → ℕ → List ℕ → State → Acted
+piece_comes back link piece s =
+    hears_if (hearer_of back (lookup same_number link s.open_links)) (event.Bytes link piece) s
+
+abbrev pub pieces_come : Bool → ℕ → List (List ℕ) → State → Acted
+pieces_come back link [] s = nothing_done s
+pieces_come back link (piece ∷ pieces) s =
+    then_act (piece_comes back link piece s) (λ later. pieces_come back link pieces later)
+
+-- ---- an end is forgotten: its links are open at its side no more, and its dials wait no more
+
+abbrev pub is_of_other : EndId → Waiting → Bool
+is_of_other end waiting = not (same_end waiting.end end)
+
+abbrev pub forget : EndId → State → State
+forget end s = record s { open_links = forget_end end s.open_links; dials = filter (is_of_other end) s.dials }

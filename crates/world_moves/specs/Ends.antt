@@ -1,0 +1,129 @@
+-- The ends of a world, and one step of one of them (this project's own choice). Ends are numbered from 0: controllers,
+-- then members, then clients.
+use Rattle.std.specs.Prelude.{ℕ, ◌+◌, ◌-◌, ◌++◌, nat_lt, List, [], length, Option, Some, None, Result, Ok, Err, slice_get, slice_set, if◌then◌else◌}
+use Rattle.outside.specs.Drawing.{Drawing}
+use Rattle.outside.specs.Machine.{Stepped}
+use Rattle.outside.specs.declared.action.Action.{Action}
+use Rattle.outside.specs.declared.action.StepRefused.{StepRefused}
+use Rattle.outside.specs.declared.event.Event.{Event}
+use Rattle.domain_controller.specs.State.{State as ControllerState}
+use Rattle.domain_controller.specs.Step.{first_state, step_of as controller_step_of}
+use Rattle.logon_client.specs.State.{State as ClientState}
+use Rattle.logon_client.specs.Machine.{fresh_client, step_of as client_step_of}
+use Rattle.logon_client.specs.declared.plan.ClientPlan.{ClientPlan}
+use Rattle.member_server.specs.State.{State as MemberState}
+use Rattle.member_server.specs.Machine.{fresh_member, step_of as member_step_of}
+use Rattle.member_server.specs.declared.plan.MemberPlan.{MemberPlan}
+use Rattle.world_moves.specs.declared.links.EndId.{EndId}
+use Rattle.world_moves.specs.declared.links.EndId.TheVariants.{Controller, Member, Client}
+
+pub record EndStates : Type 0 where
+  pub controllers : List ControllerState
+  pub members : List MemberState
+  pub clients : List ClientState
+
+-- ---- numbers of ends
+
+abbrev pub end_in : ℕ → ℕ → ℕ → ℕ → Option EndId
+end_in number controllers members clients =
+    if nat_lt number controllers then Some (Controller number)
+    else if nat_lt number (controllers + members) then Some (Member (number - controllers))
+    else if nat_lt number (controllers + members + clients) then Some (Client (number - (controllers + members)))
+    else None
+
+-- the end of that number
+abbrev pub end_at : ℕ → EndStates → Option EndId
+end_at number ends = end_in number (length ends.controllers) (length ends.members) (length ends.clients)
+
+-- how many ends take links, and how many ends there are
+abbrev pub acceptors_in : EndStates → ℕ
+acceptors_in ends = length ends.controllers + length ends.members
+
+abbrev pub count_of : EndStates → ℕ
+count_of ends = length ends.controllers + length ends.members + length ends.clients
+
+-- ---- one step
+
+-- what a step of an end comes to: all ends, the maker of challenges and the actions
+pub record EndStep : Type 0 where
+  pub ends : EndStates
+  pub chances : Drawing
+  pub actions : List Action
+
+abbrev pub no_step : EndStates → Drawing → EndStep
+no_step ends chances = record { ends = ends; chances = chances; actions = [] }
+
+-- the actions of a step that is taken
+abbrev pub actions_by : Result (List Action) StepRefused → List Action
+actions_by (Ok actions) = actions
+actions_by (Err why) = []
+
+-- the maker of challenges after these were drawn, where those are left
+abbrev pub drawn_on : Drawing → List (List ℕ) → List (List ℕ) → Drawing
+drawn_on chances drawn left = record chances { drawn = chances.drawn ++ drawn; left = left }
+
+abbrev pub controller_done : Stepped ControllerState → ℕ → EndStates → Drawing → EndStep
+controller_done step at ends chances = record {
+  ends = record ends { controllers = slice_set ends.controllers at step.state };
+  chances = drawn_on chances step.drawn step.left;
+  actions = actions_by step.answer;
+}
+
+abbrev pub member_done : Stepped MemberState → ℕ → EndStates → Drawing → EndStep
+member_done step at ends chances = record {
+  ends = record ends { members = slice_set ends.members at step.state };
+  chances = drawn_on chances step.drawn step.left;
+  actions = actions_by step.answer;
+}
+
+abbrev pub client_done : Stepped ClientState → ℕ → EndStates → Drawing → EndStep
+client_done step at ends chances = record {
+  ends = record ends { clients = slice_set ends.clients at step.state };
+  chances = drawn_on chances step.drawn step.left;
+  actions = actions_by step.answer;
+}
+
+abbrev pub controller_step : Option ControllerState → ℕ → Event → ℕ → EndStates → Drawing → EndStep
+controller_step None at what now ends chances = no_step ends chances
+controller_step (Some controller) at what now ends chances =
+    controller_done (controller_step_of controller what now chances.left) at ends chances
+
+abbrev pub member_step : Option MemberState → ℕ → Event → ℕ → EndStates → Drawing → EndStep
+member_step None at what now ends chances = no_step ends chances
+member_step (Some member) at what now ends chances =
+    member_done (member_step_of member what now chances.left) at ends chances
+
+abbrev pub client_step : Option ClientState → ℕ → Event → ℕ → EndStates → Drawing → EndStep
+client_step None at what now ends chances = no_step ends chances
+client_step (Some client) at what now ends chances =
+    client_done (client_step_of client what now chances.left) at ends chances
+
+-- the step of an end for an event at a moment
+abbrev pub end_step : EndId → Event → ℕ → EndStates → Drawing → EndStep
+end_step (Controller at) what now ends chances =
+    controller_step (slice_get ends.controllers at) at what now ends chances
+end_step (Member at) what now ends chances = member_step (slice_get ends.members at) at what now ends chances
+end_step (Client at) what now ends chances = client_step (slice_get ends.clients at) at what now ends chances
+
+-- ---- ends that are made anew
+
+-- a controller keeps its accounts as they stand, and its name
+abbrev pub renew_controller : Option ControllerState → ℕ → EndStates → EndStates
+renew_controller None at ends = ends
+renew_controller (Some c) at ends =
+    record ends { controllers = slice_set ends.controllers at (first_state c.table c.name) }
+
+-- members and clients are made from their plans
+abbrev pub with_member : ℕ → MemberState → EndStates → EndStates
+with_member at member ends = record ends { members = slice_set ends.members at member }
+
+abbrev pub renew_member : Option MemberPlan → ℕ → EndStates → EndStates
+renew_member None at ends = ends
+renew_member (Some plan) at ends = with_member at (fresh_member plan) ends
+
+abbrev pub with_client : ℕ → ClientState → EndStates → EndStates
+with_client at client ends = record ends { clients = slice_set ends.clients at client }
+
+abbrev pub renew_client : Option ClientPlan → ℕ → EndStates → EndStates
+renew_client None at ends = ends
+renew_client (Some plan) at ends = with_client at (fresh_client plan) ends

@@ -1,0 +1,15 @@
+pub mod Acting
+pub mod Bag
+pub mod Bounds
+pub mod Choosing
+pub mod Counting
+pub mod Draws
+pub mod Ends
+pub mod Forms
+pub mod Generator
+pub mod LinkIndexes
+pub mod Links
+pub mod Moving
+pub mod Running
+pub mod Telling
+pub mod World

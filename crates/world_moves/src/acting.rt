@@ -1,0 +1,316 @@
+//! What an end's actions do in a world.
+
+ghost use Rattle.std.specs.Prelude.{◌≡◌, ◌≢◌, ◌≤◌, ◌+◌, ◌*◌, [], Err, length, filter, IfOk, OnOk, IsSome, slice_get};
+ghost use Rattle.wire_base.specs.Maps.{lookup, same_number};
+ghost use Rattle.end_links.specs.Bounds.{AreShortSends, IsShortSend, send_limit};
+ghost use Rattle.world_moves.specs.Acting.{hear, bag_unit, send_on, perform_quietly, perform_all_quietly, hear_closed, closed_at, close, perform, perform_all, hears, piece_comes, pieces_come, forget, shut_link, is_of_other};
+ghost use Rattle.world_moves.specs.Bag.{AreShortPieces, piece_limit};
+ghost use Rattle.world_moves.specs.Bounds.{DrawsWithin, draws_at};
+ghost use Rattle.world_moves.specs.Links.{hearer_of};
+
+use crate::bag::{Bag, BagUnit};
+use crate::ends::Ends;
+use crate::links::{EndId, LinkKind, OpenLink, OpenLinks, forget_end, same_end};
+use crate::state::{State, Waiting};
+use outside::{Action, Actions, Event, StepRefused};
+use std::alloc::Global;
+use std::mem;
+use wire_base::{Blob, Frames, List, NoMemory, find_number, take_number};
+
+impl State {
+    /// The end hears the event: its actions, which aren't done yet.
+    pub(crate) fn hear(
+        &mut self,
+        alloc: Global,
+        end: EndId,
+        event: &Event,
+    ) -> Result<Actions, StepRefused>
+        ensures answer { IfOk result (λ actions. hear end event.now self.old
+            ≡ record { state = self.new; actions = actions }) }
+        ensures short { IfOk result (λ actions. AreShortSends actions) }
+        ensures spent { result ≡ Err StepRefused.Spent → self.new.chances.left ≡ [] }
+        ensures few { DrawsWithin (draws_at event.now) self.old self.new }
+        ensures runs { result ≢ Err StepRefused.Stopped }
+    {
+        let ends = mem::replace(&mut self.ends, Ends::none(alloc));
+        match ends.step(alloc, end, event, self.moment, &mut self.chances) {
+            Ok((ends, actions)) => {
+                self.ends = ends;
+                self.counts = self.counts.add(actions.items());
+                Ok(actions)
+            }
+            Err(why) => Err(why),
+        }
+    }
+
+    /// A unit goes into the bag, unless its link is a stranger's.
+    fn bag_unit(
+        &mut self,
+        alloc: Global,
+        kind: LinkKind,
+        back: bool,
+        link: u32,
+        bytes: Blob,
+    ) -> Result<(), NoMemory>
+        requires { length bytes ≤ send_limit }
+        ensures state { OnOk result (self.new ≡ bag_unit kind back link bytes self.old) }
+        ensures few { DrawsWithin 0 self.old self.new }
+    {
+        if matches!(kind, LinkKind::Stranger) {
+            return Ok(());
+        }
+        let unit = BagUnit {
+            bytes,
+            link,
+            kind,
+            back,
+            is_settled: false,
+        };
+        let bag = mem::replace(&mut self.bag, Bag::new(alloc));
+        self.bag = bag.add(unit)?;
+        Ok(())
+    }
+
+    /// An end sends on a link.
+    fn send_on(&mut self, alloc: Global, end: EndId, link: u32, bytes: Blob) -> Result<(), NoMemory>
+        requires { length bytes ≤ send_limit }
+        ensures state { OnOk result (self.new
+            ≡ send_on (slice_get self.old.links link) end link bytes self.old) }
+        ensures few { DrawsWithin 0 self.old self.new }
+    {
+        match self.links.get(link) {
+            Some(route) => self.bag_unit(
+                alloc,
+                route.kind(),
+                route.is_accepted_by(end),
+                link,
+                bytes,
+            ),
+            None => Ok(()),
+        }
+    }
+
+    /// An action is done, but for a close.
+    fn perform_quietly(&mut self, alloc: Global, end: EndId, action: Action) -> Result<(), NoMemory>
+        requires { IsShortSend action }
+        ensures state { OnOk result (self.new ≡ perform_quietly end action self.old) }
+        ensures few { DrawsWithin 0 self.old self.new }
+    {
+        match action {
+            Action::Send(link, bytes) => self.send_on(alloc, end, link, bytes),
+            Action::Dial(peer) => self.dials.push(Waiting { end, peer }),
+            Action::Keep(_) | Action::Close(_, _) | Action::Told(_, _) | Action::Judged(_) => {
+                Ok(())
+            }
+        }
+    }
+
+    /// Actions are done in their order, but for closes.
+    fn perform_all_quietly(
+        &mut self,
+        alloc: Global,
+        end: EndId,
+        actions: Actions,
+    ) -> Result<(), NoMemory>
+        requires { AreShortSends actions }
+        ensures state { OnOk result (self.new ≡ perform_all_quietly end actions self.old) }
+        ensures few { DrawsWithin 0 self.old self.new }
+    {
+        for action in actions.into_vec() {
+            match self.perform_quietly(alloc, end, action) {
+                Ok(()) => {}
+                Err(why) => return Err(why),
+            }
+        }
+        Ok(())
+    }
+
+    /// The end hears that the link was closed.
+    fn hear_closed(&mut self, alloc: Global, link: u32, end: EndId) -> Result<(), StepRefused>
+        ensures state { OnOk result (self.new ≡ (hear_closed link end self.old).state) }
+        ensures spent { result ≡ Err StepRefused.Spent → self.new.chances.left ≡ [] }
+        ensures few { DrawsWithin 3 self.old self.new }
+        ensures runs { result ≢ Err StepRefused.Stopped }
+    {
+        let actions = self.hear(alloc, end, &Event::Closed(link))?;
+        Ok(self.perform_all_quietly(alloc, end, actions)?)
+    }
+
+    /// The end, if there is one, hears that the link was closed.
+    pub(crate) fn closed_at(
+        &mut self,
+        alloc: Global,
+        end: Option<EndId>,
+        link: u32,
+    ) -> Result<(), StepRefused>
+        ensures state { OnOk result (self.new ≡ (closed_at end link self.old).state) }
+        ensures spent { result ≡ Err StepRefused.Spent → self.new.chances.left ≡ [] }
+        ensures few { DrawsWithin 3 self.old self.new }
+        ensures runs { result ≢ Err StepRefused.Stopped }
+    {
+        match end {
+            Some(end) => self.hear_closed(alloc, link, end),
+            None => Ok(()),
+        }
+    }
+
+    /// The link of that number, if it is open at a side.
+    pub(crate) fn open_link(&self, link: u32) -> Option<OpenLink>
+        ensures { result ≡ lookup same_number link self.now.open_links }
+    {
+        find_number(self.open_links.items(), link).copied()
+    }
+
+    /// The link is open no more.
+    pub(crate) fn shut_link(&mut self, alloc: Global, link: u32)
+        ensures state { self.new ≡ shut_link link self.old }
+        ensures fewer { length self.new.open_links ≤ length self.old.open_links }
+        ensures one { IsSome (lookup same_number link self.old.open_links) →
+            length self.new.open_links + 1 ≤ length self.old.open_links }
+    {
+        let open = mem::replace(&mut self.open_links, OpenLinks::new(alloc));
+        let (rest, _closed) = take_number(open, link);
+        self.open_links = rest;
+    }
+
+    /// An end closes a link: the end at the other side hears of it.
+    fn close(&mut self, alloc: Global, end: EndId, link: u32) -> Result<(), StepRefused>
+        ensures state { OnOk result (self.new ≡ (close end link self.old).state) }
+        ensures spent { result ≡ Err StepRefused.Spent → self.new.chances.left ≡ [] }
+        ensures few { DrawsWithin 0 self.old self.new }
+        ensures runs { result ≢ Err StepRefused.Stopped }
+    {
+        match self.open_link(link) {
+            Some(there) => {
+                self.shut_link(alloc, link);
+                self.closed_at(alloc, there.other_hearer(end), link)
+            }
+            None => Ok(()),
+        }
+    }
+
+    /// An action is done.
+    fn perform(&mut self, alloc: Global, end: EndId, action: Action) -> Result<(), StepRefused>
+        requires { IsShortSend action }
+        ensures state { OnOk result (self.new ≡ (perform end action self.old).state) }
+        ensures spent { result ≡ Err StepRefused.Spent → self.new.chances.left ≡ [] }
+        ensures few { DrawsWithin 0 self.old self.new }
+        ensures runs { result ≢ Err StepRefused.Stopped }
+    {
+        match action {
+            Action::Close(link, _) => self.close(alloc, end, link),
+            action => Ok(self.perform_quietly(alloc, end, action)?),
+        }
+    }
+
+    /// Actions are done in their order.
+    pub(crate) fn perform_all(
+        &mut self,
+        alloc: Global,
+        end: EndId,
+        actions: Actions,
+    ) -> Result<(), StepRefused>
+        requires { AreShortSends actions }
+        ensures state { OnOk result (self.new ≡ (perform_all end actions self.old).state) }
+        ensures spent { result ≡ Err StepRefused.Spent → self.new.chances.left ≡ [] }
+        ensures few { DrawsWithin 0 self.old self.new }
+        ensures runs { result ≢ Err StepRefused.Stopped }
+    {
+        for action in actions.into_vec() {
+            match self.perform(alloc, end, action) {
+                Ok(()) => {}
+                Err(why) => return Err(why),
+            }
+        }
+        Ok(())
+    }
+
+    /// The end hears the event, and does what it then does.
+    pub(crate) fn hears(
+        &mut self,
+        alloc: Global,
+        end: EndId,
+        event: &Event,
+    ) -> Result<(), StepRefused>
+        ensures state { OnOk result (self.new ≡ (hears end event.now self.old).state) }
+        ensures spent { result ≡ Err StepRefused.Spent → self.new.chances.left ≡ [] }
+        ensures few { DrawsWithin (draws_at event.now) self.old self.new }
+        ensures runs { result ≢ Err StepRefused.Stopped }
+    {
+        let actions = self.hear(alloc, end, event)?;
+        self.perform_all(alloc, end, actions)
+    }
+
+    /// A piece comes on the link: a side that isn't open hears nothing.
+    pub(crate) fn piece_comes(
+        &mut self,
+        alloc: Global,
+        back: bool,
+        link: u32,
+        piece: Blob,
+    ) -> Result<(), StepRefused>
+        requires { length piece ≤ piece_limit }
+        ensures state { OnOk result (self.new ≡ (piece_comes back link piece self.old).state) }
+        ensures spent { result ≡ Err StepRefused.Spent → self.new.chances.left ≡ [] }
+        ensures few { DrawsWithin 4463 self.old self.new }
+        ensures runs { result ≢ Err StepRefused.Stopped }
+    {
+        match self.hearer(back, link) {
+            Some(end) => self.hears(alloc, end, &Event::Bytes(link, piece)),
+            None => Ok(()),
+        }
+    }
+
+    /// The end that hears what goes on the link in that direction.
+    fn hearer(&self, back: bool, link: u32) -> Option<EndId>
+        ensures { result ≡ hearer_of back (lookup same_number link self.now.open_links) }
+    {
+        match self.open_link(link) {
+            Some(there) => there.hearer(back),
+            None => None,
+        }
+    }
+
+    /// Pieces come on the link, in their order.
+    pub(crate) fn pieces_come(
+        &mut self,
+        alloc: Global,
+        back: bool,
+        link: u32,
+        pieces: Frames,
+    ) -> Result<(), StepRefused>
+        requires { AreShortPieces pieces }
+        ensures state { OnOk result (self.new ≡ (pieces_come back link pieces self.old).state) }
+        ensures spent { result ≡ Err StepRefused.Spent → self.new.chances.left ≡ [] }
+        ensures few { DrawsWithin (4463 * length pieces) self.old self.new }
+        ensures runs { result ≢ Err StepRefused.Stopped }
+    {
+        for piece in pieces.into_vec() {
+            match self.piece_comes(alloc, back, link, piece) {
+                Ok(()) => {}
+                Err(why) => return Err(why),
+            }
+        }
+        Ok(())
+    }
+
+    /// The end is forgotten: its links are open at its side no more, and its dials wait no more.
+    pub(crate) fn forget(&mut self, alloc: Global, end: EndId) -> Result<(), NoMemory>
+        ensures state { OnOk result (self.new ≡ forget end self.old) }
+        ensures few { DrawsWithin 0 self.old self.new }
+    {
+        self.open_links = forget_end(alloc, end, &self.open_links)?;
+        let dials = mem::replace(&mut self.dials, List::new(alloc));
+        self.dials = dials_of_others(end, dials);
+        Ok(())
+    }
+}
+
+/// The dials of other ends.
+fn dials_of_others(end: EndId, dials: List<Waiting>) -> List<Waiting>
+    ensures { result ≡ filter (is_of_other end) dials }
+{
+    let mut dials = dials.into_vec();
+    dials.retain(|waiting| !same_end(waiting.end, end));
+    List::from_vec(dials)
+}

@@ -1,0 +1,11 @@
+//! What holds of runs of a world.
+
+ghost use Rattle.std.specs.Prelude.{◌≡◌, List};
+ghost use Rattle.world_moves.specs.declared.moves.Move.{Move};
+ghost use Rattle.world_moves.specs.World.{World, last_of, run, run_of};
+
+/// The last state of a run is the world after its moves.
+#[tactic(auto, using(crate::proofs::RunLaws::run_ends))]
+pub fn a_run_ends_in_its_last_state()
+    ensures { (moves : List Move) (w : World) → last_of (run_of moves w) w ≡ run moves w }
+{}

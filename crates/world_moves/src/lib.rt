@@ -1,0 +1,25 @@
+//! The world: controllers, members and clients beside each other, with all links between them, driven by a list of
+//! moves. A move delivers, loses or repeats what was sent, restarts an end, or lets a stranger in; nothing else
+//! happens.
+#![tactic(auto)]
+
+mod acting;
+mod bag;
+mod choosing;
+mod counting;
+mod ends;
+mod laws;
+mod links;
+mod maker;
+mod making;
+mod moves;
+mod moving;
+mod plan;
+mod state;
+mod world;
+
+pub use counting::Report;
+pub use laws::a_run_ends_in_its_last_state;
+pub use moves::{Move, Moves, moves_from};
+pub use plan::{ClientPlans, MemberPlans, Plan, Tables};
+pub use world::{World, WorldRefused};

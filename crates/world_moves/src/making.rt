@@ -1,0 +1,136 @@
+//! A world as it is made from its plan.
+
+ghost use Rattle.std.specs.Prelude.{◌≡◌, ◌+◌, ◌<◌, ◌^◌, true, map, length, All, IfOk};
+ghost use Rattle.logon_client.specs.Machine.{fresh_client};
+ghost use Rattle.logon_client.specs.Plans.{CanLogOn};
+ghost use Rattle.member_server.specs.Machine.{fresh_member};
+ghost use Rattle.world_moves.specs.World.{IsPlan, first_world, first_controllers};
+
+use crate::bag::Bag;
+use crate::counting::Counts;
+use crate::ends::Ends;
+use crate::links::{OpenLinks, WorldLinks};
+use crate::maker::Maker;
+use crate::plan::{ClientPlans, ClientTask, ClientTasks, MemberPlans, Plan, Tables};
+use crate::state::State;
+use domain_controller::Controller;
+use logon_client::Client;
+use member_server::Member;
+use std::alloc::Global;
+use wire_base::{List, Names, NoMemory};
+
+/// The state of a world in which no move was made.
+pub(crate) fn first_state(alloc: Global, plan: Plan) -> Result<State, NoMemory>
+    requires { IsPlan plan }
+    ensures { IfOk result (λ state. state ≡ (first_world plan).state) }
+{
+    let Plan {
+        tables,
+        controllers,
+        members,
+        clients,
+        now,
+        seed,
+    } = plan;
+    let client_plans = tasks_of(alloc, clients)?;
+    let ends = first_ends(alloc, tables, controllers, &members, &client_plans)?;
+    Ok(State {
+        ends,
+        member_plans: members,
+        client_plans,
+        links: WorldLinks::new(alloc),
+        open_links: OpenLinks::new(alloc),
+        bag: Bag::new(alloc),
+        dials: List::new(alloc),
+        moment: now,
+        chances: Maker::new(seed),
+        counts: Counts::new(),
+    })
+}
+
+/// The ends, by their plans. There is no memory for so many that they can't be numbered.
+#[tactic(auto, using(crate::proofs::RunningLaws::fresh_running))]
+fn first_ends(
+    alloc: Global,
+    tables: Tables,
+    names: Names,
+    members: &MemberPlans,
+    clients: &ClientTasks,
+) -> Result<Ends, NoMemory>
+    ensures { IfOk result (λ ends. ends ≡ record {
+      controllers = first_controllers tables names;
+      members = map fresh_member members.now;
+      clients = map fresh_client clients.now;
+    }) }
+{
+    let controllers = first_controllers(alloc, tables, names)?;
+    let members = first_members(alloc, members)?;
+    let clients = first_clients(alloc, clients)?;
+    if !can_be_numbered(controllers.len(), members.len(), clients.len()) {
+        return Err(NoMemory);
+    }
+    Ok(Ends::new(controllers, members, clients))
+}
+
+/// Whether so many ends can be numbered.
+fn can_be_numbered(controllers: usize, members: usize, clients: usize) -> bool
+    ensures { result ≡ true → controllers + members + clients < 2 ^ 64 }
+{
+    match controllers.checked_add(members) {
+        Some(acceptors) => acceptors.checked_add(clients).is_some(),
+        None => false,
+    }
+}
+
+/// The controllers: each takes its table and its name.
+fn first_controllers(
+    alloc: Global,
+    tables: Tables,
+    names: Names,
+) -> Result<Vec<Controller>, NoMemory>
+    ensures { IfOk result (λ controllers. controllers.items ≡ first_controllers tables names) }
+{
+    let mut controllers = Vec::new(alloc);
+    let mut names = names.into_vec().into_iter();
+    for table in tables.into_vec() {
+        match names.next() {
+            Some(name) => controllers.push(Controller::new(alloc, table, name)?)?,
+            None => return Ok(controllers),
+        }
+    }
+    Ok(controllers)
+}
+
+/// The members, by their plans.
+fn first_members(alloc: Global, plans: &MemberPlans) -> Result<Vec<Member>, NoMemory>
+    ensures { IfOk result (λ members. members.items ≡ map fresh_member plans.now) }
+{
+    let mut members = Vec::new(alloc);
+    for plan in plans.items() {
+        members.push(Member::new(alloc, plan.copy(alloc)?)?)?;
+    }
+    Ok(members)
+}
+
+/// The plans, each as one that a client can follow.
+fn tasks_of(alloc: Global, plans: ClientPlans) -> Result<ClientTasks, NoMemory>
+    requires { All CanLogOn plans }
+    ensures { IfOk result (λ tasks. tasks ≡ plans) }
+{
+    let mut tasks = ClientTasks::new(alloc);
+    for plan in plans.into_vec() {
+        tasks.push(ClientTask::new(plan))?;
+    }
+    Ok(tasks)
+}
+
+/// The clients, by their plans.
+fn first_clients(alloc: Global, tasks: &ClientTasks) -> Result<Vec<Client>, NoMemory>
+    ensures { IfOk result (λ clients. clients.items ≡ map fresh_client tasks.now) }
+{
+    let mut clients = Vec::new(alloc);
+    for task in tasks.items() {
+        clients.push(task.client(alloc)?)?;
+    }
+    Ok(clients)
+}

@@ -1,0 +1,71 @@
+//! What a world is made from.
+
+ghost use Rattle.std.specs.Prelude.{◌≡◌, IfOk};
+ghost use Rattle.logon_client.specs.Machine.{fresh_client};
+ghost use Rattle.logon_client.specs.Plans.{CanLogOn};
+
+use account_table::Table;
+use logon_client::{Client, ClientPlan};
+use member_server::MemberPlan;
+use std::alloc::Global;
+use std::marker::Model;
+use wire_base::{List, Names, NoMemory};
+
+/// Account tables, in order.
+pub type Tables = List<Table>;
+
+/// Plans of members, in order.
+pub type MemberPlans = List<MemberPlan>;
+
+/// Plans of clients, in order.
+pub type ClientPlans = List<ClientPlan>;
+
+/// The ends of a world, its first moment in units of 100 ns since 1601-01-01, and the seed of the maker of challenges
+/// from which all ends draw (this project's own choice). There are as many tables as controllers. Ends are numbered
+/// from 0: controllers, members, clients; an address is the number of an end as one byte.
+#[derive(Drop)]
+pub struct Plan {
+    pub tables: Tables,
+    pub controllers: Names,
+    pub members: MemberPlans,
+    pub clients: ClientPlans,
+    pub now: u64,
+    pub seed: [u8; 32],
+}
+
+/// A plan that a client can follow, seen as the plan.
+#[derive(Drop)]
+pub struct ClientTask {
+    plan: ClientPlan,
+}
+
+impl Model for ClientTask {
+    ghost use Rattle.logon_client.specs.declared.plan.ClientPlan.{ClientPlan as AnyPlan};
+    ghost use Rattle.logon_client.specs.Plans.{CanLogOn};
+
+    ghost Value = { AnyPlan };
+
+    ghost view = { λ t. t.plan };
+
+    ghost invariant = { λ t. CanLogOn t.plan };
+}
+
+impl ClientTask {
+    /// The task of a plan. It takes no memory.
+    pub(crate) fn new(plan: ClientPlan) -> ClientTask
+        requires { CanLogOn plan }
+        ensures { result ≡ plan }
+    {
+        ClientTask { plan }
+    }
+
+    /// A client of the plan, which hasn't begun.
+    pub(crate) fn client(&self, alloc: Global) -> Result<Client, NoMemory>
+        ensures { IfOk result (λ client. client ≡ fresh_client self.now) }
+    {
+        Ok(Client::new(self.plan.copy(alloc)?))
+    }
+}
+
+/// Plans that clients can follow.
+pub(crate) type ClientTasks = List<ClientTask>;

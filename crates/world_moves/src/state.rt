@@ -1,0 +1,33 @@
+//! What a world keeps beside its counters of moves.
+
+use crate::bag::Bag;
+use crate::counting::Counts;
+use crate::ends::Ends;
+use crate::links::{EndId, OpenLinks, WorldLinks};
+use crate::maker::Maker;
+use crate::plan::{ClientTasks, MemberPlans};
+use wire_base::{Blob, List};
+
+/// A dial that waits: who dialled, and the address.
+#[derive(Debug, Drop)]
+pub struct Waiting {
+    pub end: EndId,
+    pub peer: Blob,
+}
+
+/// The state of a world: the ends, the plans from which members and clients are made, all links that were made, those
+/// that are open at a side, the bag, the dials that wait, the moment in units of 100 ns since 1601-01-01, the maker of
+/// challenges, and the counts.
+#[derive(Drop)]
+pub struct State {
+    pub ends: Ends,
+    pub member_plans: MemberPlans,
+    pub client_plans: ClientTasks,
+    pub links: WorldLinks,
+    pub open_links: OpenLinks,
+    pub bag: Bag,
+    pub dials: List<Waiting>,
+    pub moment: u64,
+    pub chances: Maker,
+    pub counts: Counts,
+}
