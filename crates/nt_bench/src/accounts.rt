@@ -14,7 +14,8 @@ pub struct Accounts {
 }
 
 impl Drop for Accounts {
-    // As it would be derived: written out, it is one call wherever these are let go, which keeps the proofs of those places short.
+    // As it would be derived: written out, it is one call wherever these are let go, which keeps the proofs of those
+    // places short.
     fn drop(self) {
         let Accounts {
             text: _text,

@@ -34,7 +34,8 @@ pub struct Bench {
 }
 
 impl Drop for Bench {
-    // As it would be derived: written out, it is one call wherever one is let go, which keeps the proofs of those places short.
+    // As it would be derived: written out, it is one call wherever one is let go, which keeps the proofs of those
+    // places short.
     fn drop(self) {
         let Bench {
             long: _long,

@@ -22,7 +22,8 @@ const OPENING: [&str; 3] = [
     "05000003100000005c000000020000004400000000000f0000000000070000000000000007000000460049004c0045003100240000000200060000000000000006000000460049004c004500310000002fa843ef602ff7beff410000",
 ];
 
-/// A request to log the user on. Its authenticator's timestamp is 2^32 - 1, so that it leaves the channel's seed as it was, and passes again.
+/// A request to log the user on. Its authenticator's timestamp is 2^32 - 1, so that it leaves the channel's seed as it
+/// was, and passes again.
 const LOGON: &str =
     "0500000310000000fa00000002000000e2000000000002000000000000000200060000000000000006000000460049004c0045003100000004000200d04799782f7e3621ffffffff08000200000000000000000000000000020002000c0002000800080010000200000000000700000000000000060006001400020004000400180002000123456789abcdef180018001c000200000000000000000004000000000000000400000043004f005200500003000000000000000300000061006e006e00000002000000000000000200000057005300180000000000000018000000176724fef3cefd31176724fef3cefd31f905acd82f73dc920200";
 
@@ -34,7 +35,8 @@ pub struct Calls {
 }
 
 impl Drop for Calls {
-    // As it would be derived: written out, it is one call wherever these are let go, which keeps the proofs of those places short.
+    // As it would be derived: written out, it is one call wherever these are let go, which keeps the proofs of those
+    // places short.
     fn drop(self) {
         let Calls {
             end: _end,

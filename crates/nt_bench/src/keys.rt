@@ -18,8 +18,8 @@ const HASH: [u8; 16] = [
 
 const CHALLENGE: [u8; 8] = [0x01, 0x23, 0x45, 0x67, 0x89, 0xab, 0xcd, 0xef];
 
-/// The credential of the authenticator at the seed `CHALLENGE` with the last timestamp, under the fixed key. That timestamp and one are 2^32,
-/// so the seed comes back to itself, and the authenticator passes at each turn.
+/// The credential of the authenticator at the seed `CHALLENGE` with the last timestamp, under the fixed key. That
+/// timestamp and one are 2^32, so the seed comes back to itself, and the authenticator passes at each turn.
 const CREDENTIAL: [u8; 8] = [0x53, 0x24, 0xb4, 0x5a, 0x6c, 0x1e, 0xb4, 0xcb];
 
 /// The NTLMv1 response of the hash to the challenge.
@@ -28,7 +28,8 @@ const RESPONSE_V1: &str = "67c43011f30298a2ad35ece64f16331c44bdbed927841f94";
 /// The NTLMv2 proof of the hash, the names and the challenge over the bytes 0, 1, 2 and so on to 276 of them.
 const PROOF_V2: &str = "d384a02bf52a89bfa7a553c5b75fc197";
 
-/// A schedule and the block that is enciphered next under it, a channel's sequence, and responses to judge with the names that they are made of.
+/// A schedule and the block that is enciphered next under it, a channel's sequence, and responses to judge with the
+/// names that they are made of.
 pub struct Keys {
     schedule: Schedule,
     block: [u8; 8],
@@ -40,7 +41,8 @@ pub struct Keys {
 }
 
 impl Drop for Keys {
-    // As it would be derived: written out, it is one call wherever these are let go, which keeps the proofs of those places short.
+    // As it would be derived: written out, it is one call wherever these are let go, which keeps the proofs of those
+    // places short.
     fn drop(self) {
         let Keys {
             schedule: _schedule,

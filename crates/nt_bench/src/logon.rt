@@ -5,7 +5,7 @@ ghost use Rattle.logon_stubs.specs.Writing.{CanWriteSamInfo, CanWriteReply};
 
 use crate::bench::{Outcome, end_of};
 use anyhow::bail;
-use logon_stubs::{Call, LogonReply, Reply, SamInfo, read_call, write_reply};
+use logon_stubs::{Call, ExtraSids, LogonReply, Reply, SamInfo, read_call, write_reply};
 use std::alloc::Global;
 use wire_base::{Authenticator, Blob, Groups, NoMemory, Sid, Units};
 
@@ -83,7 +83,8 @@ fn no_text(alloc: Global) -> Units
 
 /// What is granted to a user in one group, of the domain 21-1-2-3.
 fn granted_info(alloc: Global) -> Result<SamInfo, NoMemory>
-    ensures { IfOk result (λ info. CanWriteSamInfo info) }
+    ensures writable { IfOk result (λ info. CanWriteSamInfo info) }
+    ensures none { IfOk result (λ info. info.extra ≡ []) }
 {
     let sid = Sid::new(alloc, 5, &[21, 1, 2, 3])?;
     let mut groups = Groups::new(alloc);
@@ -114,5 +115,6 @@ fn granted_info(alloc: Global) -> Result<SamInfo, NoMemory>
         server,
         domain,
         sid,
+        extra: ExtraSids::new(alloc),
     })
 }

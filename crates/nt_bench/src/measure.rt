@@ -8,7 +8,8 @@ use std::time::Instant;
 /// The nanoseconds that the rounds of one operation take together, about.
 const TIME: u128 = 500_000_000;
 
-/// The nanoseconds that one round takes at least: few, so that some round is undisturbed on a machine that does other work too.
+/// The nanoseconds that one round takes at least: few, so that some round is undisturbed on a machine that does other
+/// work too.
 const ROUND: u128 = 200_000;
 
 /// The most rounds of one operation.

@@ -45,7 +45,8 @@ pub enum Operation {
     WriteLogonReply,
     /// A request to log on at a controller, from its bytes to those of the reply that grants it.
     ControllerLogon,
-    /// A logon at a member beside its controller, from the client's bind to the member's word that it is in, over an open channel.
+    /// A logon at a member beside its controller, from the client's bind to the member's word that it is in, over an
+    /// open channel.
     MemberLogon,
     /// Sealing a range of 1,024 bytes at one side, and opening it at the other.
     Seal,

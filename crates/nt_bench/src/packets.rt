@@ -24,7 +24,8 @@ pub struct Packets {
 }
 
 impl Drop for Packets {
-    // As it would be derived: written out, it is one call wherever these are let go, which keeps the proofs of those places short.
+    // As it would be derived: written out, it is one call wherever these are let go, which keeps the proofs of those
+    // places short.
     fn drop(self) {
         let Packets {
             message: _message,

@@ -1,5 +1,5 @@
-//! Views of a unit and of a message without contracts, to compare the library's with. They aren't inlined, as the library's aren't: so each lends all of
-//! its parts, whatever the caller uses.
+//! Views of a unit and of a message without contracts, to compare the library's with. They aren't inlined, as the
+//! library's aren't: so each lends all of its parts, whatever the caller uses.
 
 use ntlm_flags::{NTLMSSP_NEGOTIATE_UNICODE, NTLMSSP_NEGOTIATE_VERSION};
 use ntlm_messages::AuthenticateView;

@@ -9,7 +9,7 @@ use Rattle.wire_base.specs.Decimal.{decimal_of}
 use Rattle.wire_base.specs.Names.{name_of, same_name, upper_of}
 use Rattle.wire_base.specs.Sid.{sid_of}
 use Rattle.account_table.specs.AccountTable.{AccountTable}
-use Rattle.account_table.specs.Document.{table_of, document_of, table_in, needed, optional, new_name, identity_of, restrictions_of, moments_of, user_of, machine_of}
+use Rattle.account_table.specs.Document.{document_of, identity_of, machine_of, moments_of, needed, new_name, optional, policy_of, restrictions_of, table_in, table_of, user_of}
 use Rattle.account_table.specs.declared.refused.TableRefused.{TableRefused}
 use Rattle.account_table.specs.declared.refused.TableRefused.TheVariants.{Memory}
 use Rattle.logon_client.specs.Plans.{CanLogOn, is_level}
@@ -17,9 +17,9 @@ use Rattle.logon_client.specs.declared.plan.AuthKind.{AuthKind}
 use Rattle.logon_client.specs.declared.plan.AuthKind.TheVariants.{V1}
 use Rattle.domain_world.specs.Generator.{Making, made, move_by, moves_of, next_seed, rare_by, value_of}
 use Rattle.domain_world.specs.World.{IsMove, IsPlan, World, first_world, report_of_run, run}
-use Rattle.domain_world.specs.declared.counting.Report.{Report}
-use Rattle.domain_world.specs.declared.moves.Move.{Move}
-use Rattle.domain_world.specs.declared.plan.Plan.{Plan}
+use Rattle.world_moves.specs.declared.counting.Report.{Report}
+use Rattle.world_moves.specs.declared.moves.Move.{Move}
+use Rattle.world_moves.specs.declared.plan.Plan.{Plan}
 use Rattle.nt_words.proofs.KindLaws.{named}
 use Rattle.nt_top.specs.Drill.{drill_client, drill_clients, drill_plan, drill_table, drill_text, report_text}
 
@@ -30,7 +30,7 @@ drill_document =
     codes "domain = 'CORP'\nsid = 'S-1-5-21-1-2-3'\n[[user]]\nname = 'ann'\nrid = 1001\nhash = '11111111111111111111111111111111'\n[[user]]\nname = 'bob'\nrid = 1002\nhash = '22222222222222222222222222222222'\n[[user]]\nname = 'eve'\nrid = 1003\nhash = '33333333333333333333333333333333'\n[[machine]]\nname = 'FILE1$'\nkind = 'workstation'\nhash = '41414141414141414141414141414141'\n[[machine]]\nname = 'FILE2$'\nkind = 'workstation'\nhash = '42424242424242424242424242424242'\n"
 
 pub accounts_are : table_of drill_document ≡ Ok drill_table
-unfolding toml_on_literals hex_on_literals is_utf8 chars decimal_of sid_of name_of same_name upper_of table_of document_of table_in needed optional new_name identity_of restrictions_of moments_of user_of machine_of
+unfolding toml_on_literals hex_on_literals is_utf8 chars decimal_of sid_of name_of same_name upper_of table_of document_of table_in needed optional new_name identity_of restrictions_of moments_of user_of machine_of policy_of
 accounts_are = refl
 
 ok_is : {a b : AccountTable} → ◌≡◌ {A = Result AccountTable TableRefused} (Ok a) (Ok b) → b ≡ a

@@ -269,6 +269,7 @@ spent_law plan seed boot before after exit logon comes =
 -- ---- what is put: a client puts no line while it runs
 
 no_line : (what : Action) → puts client_machine what ≡ []
+no_line (action.Keep bytes) = refl
 no_line (action.Send link bytes) = refl
 no_line (action.Dial peer) = refl
 no_line (action.Close link cause) = refl

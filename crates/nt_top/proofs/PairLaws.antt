@@ -1,11 +1,12 @@
--- Two runs that one outside shows: where both are whole they come to the same, and where one of them was spent the other wasn't whole.
+-- Two runs that one outside shows: where both are whole they come to the same, and where one of them was spent the
+-- other wasn't whole.
 use Rattle.std.proofs.Common.{◌≡◌, ℕ, Bool, true, false, List, [], ◌∷◌, ◌++◌, Ok, Err, sym, ap, subst, ◌∙◌, append_assoc}
 use Rattle.std.specs.List.{flat_map}
 use Rattle.outside.specs.declared.event.Event.{Event}
 use Rattle.outside.specs.declared.event.Happening.{Happening}
 use Rattle.outside.specs.declared.event.Happening.TheVariants as happening
 use Rattle.outside.specs.declared.action.Action.{Action}
-use Rattle.outside.specs.declared.action.Action.TheVariants.{Send, Dial, Close, Told, Judged}
+use Rattle.outside.specs.declared.action.Action.TheVariants.{Keep, Send, Dial, Close, Told, Judged}
 use Rattle.outside.specs.declared.action.StepRefused.TheVariants as refusals
 use Rattle.outside.specs.Machine.{Machine, Stepped}
 use Rattle.end_loop.specs.Acts.{Does, SendsOn, Performs, failed_link, has_link, made_events}
@@ -27,6 +28,7 @@ sends_same true link bytes n m l k a b e = none_same n m l k a b e
 sends_same false link bytes n m l k a b e = single_same _ _ n m l k a.1 b.1 e
 
 does_same : (failed : List ℕ) (x : Action) (n m l k : List Happening) → Does failed x n → Does failed x m → n ++ l ≡ m ++ k → (n ≡ m) × (l ≡ k)
+does_same failed (Keep bytes) n m l k a b e = none_same n m l k a b e
 does_same failed (Send link bytes) n m l k a b e = sends_same (has_link failed link) link bytes n m l k a b e
 does_same failed (Dial peer) n m l k a b e = single_same _ _ n m l k a.1 b.1 e
 does_same failed (Close link cause) n m l k a b e = single_same _ _ n m l k a b e

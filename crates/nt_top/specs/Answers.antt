@@ -1,5 +1,5 @@
--- What the words of a command line come to (this project's own choice): an answer, or an exit at which nothing is put. Words are lists
--- of bytes.
+-- What the words of a command line come to (this project's own choice): an answer, or an exit at which nothing is put.
+-- Words are lists of bytes.
 use Rattle.std.specs.Prelude.{ℕ, List, Option, Some, None, Result, Ok, Err}
 use Rattle.nt_words.specs.Roles.{job_of, job_at_once}
 use Rattle.nt_words.specs.declared.job.Job.{Job}

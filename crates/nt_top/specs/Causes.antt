@@ -24,7 +24,8 @@ Comes due exit = (exit ≡ due) ⊎ (exit ≡ NoMemory)
 
 -- ---- `Done` and `Refused`
 
--- A check put `accepted` and the response verifies, a show put all the lines of its message, or a drill those of its run.
+-- A check put `accepted` and the response verifies, a show put all the lines of its message, or a drill those of its
+-- run.
 abbrev pub IsDone : Role → List (List ℕ) → SinkChange → Type 0
 IsDone role words s =
     (AskedAccepted role words × Appends s.before s.now (codes "accepted\n"))

@@ -1,4 +1,5 @@
--- The command `check`: whether the response of an AUTHENTICATE message is that of a hash to a challenge (this project's own choice).
+-- The command `check`: whether the response of an AUTHENTICATE message is that of a hash to a challenge (this project's
+-- own choice).
 use Rattle.std.specs.Prelude.{◌≡◌, ℕ, Bool, true, false, List, [], ◌∷◌, Option, Some, None, Result, Ok, Err, codes}
 use Rattle.hex.specs.Hex.{decode_of, decode_sized}
 use Rattle.ntlm_messages.specs.Authenticate.{authenticate_of, IsAuthenticate}
@@ -12,8 +13,8 @@ use Rattle.nt_words.specs.declared.job.Role.{Role}
 use Rattle.nt_words.specs.declared.job.Role.TheVariants.{Member}
 use Rattle.nt_top.specs.Needs.{needs}
 
--- whether the NT response is the one of the hash, under the message's names, to the challenge that its flags and responses make
--- of this one (MS-NLMP 3.3.1, 3.3.2)
+-- whether the NT response is the one of the hash, under the message's names, to the challenge that its flags and
+-- responses make of this one (MS-NLMP 3.3.1, 3.3.2)
 abbrev pub accepts_of : List ℕ → List ℕ → Authenticate → Bool
 accepts_of hash challenge message = message_verifies hash message.flags challenge message
 
@@ -45,7 +46,8 @@ unless_read number (Err refused) later = Some (BadInput number)
 abbrev pub texts_at_once : List ℕ → List ℕ → Option Exit
 texts_at_once hash challenge = unless_read 1 (decode_sized hash 16) (unless_read 2 (decode_sized challenge 8) None)
 
--- The words ask this program, a member server, to check these: a hash, a challenge and a message that the third word holds.
+-- The words ask this program, a member server, to check these: a hash, a challenge and a message that the third word
+-- holds.
 pub record AsksCheck (role : Role) (words : List (List ℕ)) (hash challenge : List ℕ) (message : Authenticate) : Type 0 where
   pub member : role ≡ Member
   pub hash_text : List ℕ

@@ -1,5 +1,5 @@
--- The command `drill`: a run of a world by the moves that a number makes, and what it counted (this project's own choice). Names and texts are lists of bytes or
--- of 16-bit units; a secret and a hash have 16 bytes.
+-- The command `drill`: a run of a world by the moves that a number makes, and what it counted (this project's own
+-- choice). Names and texts are lists of bytes or of 16-bit units; a secret and a hash have 16 bytes.
 use Rattle.std.specs.Prelude.{◌≡◌, ℕ, false, List, [], ◌∷◌, ◌++◌, replicate, codes, Result, Ok}
 use Rattle.std.specs.Fmt.{decimal}
 use Rattle.account_table.specs.AccountTable.{AccountTable}
@@ -13,8 +13,8 @@ use Rattle.logon_client.specs.declared.plan.ClientPlan.{ClientPlan}
 use Rattle.member_server.specs.declared.plan.MemberPlan.{MemberPlan}
 use Rattle.domain_world.specs.Generator.{moves_of}
 use Rattle.domain_world.specs.World.{report_of_run}
-use Rattle.domain_world.specs.declared.counting.Report.{Report}
-use Rattle.domain_world.specs.declared.plan.Plan.{Plan}
+use Rattle.world_moves.specs.declared.counting.Report.{Report}
+use Rattle.world_moves.specs.declared.plan.Plan.{Plan}
 use Rattle.nt_words.specs.Roles.{job_of}
 use Rattle.nt_words.specs.declared.job.Job.TheVariants as jobs
 use Rattle.nt_words.specs.declared.job.Role.{Role}
@@ -24,7 +24,8 @@ use Rattle.nt_top.specs.declared.exit.Exit.{Exit}
 
 -- ---- the accounts of every drill
 
--- an account of the group of all users of the domain, which nothing keeps from logging on; each byte of its hash is that one
+-- an account of the group of all users of the domain, which nothing keeps from logging on; each byte of its hash is
+-- that one
 abbrev pub drill_account : Kind → List ℕ → ℕ → ℕ → Account
 drill_account kind name rid byte = record {
   name = name;
@@ -40,20 +41,27 @@ drill_account kind name rid byte = record {
   password_set = 0;
   password_expires = 0;
   workstations = [];
+  extra_sids = [];
+  bad_count = 0;
+  controllers = [];
+  changed = false;
   kind = kind;
 }
 
--- the domain CORP: users ann, bob and eve, and the computers FILE1 and FILE2
+-- the domain CORP, in which nobody is locked out, each response is taken and no other domain is trusted: users ann, bob
+-- and eve, and the computers FILE1 and FILE2
 abbrev pub drill_table : AccountTable
 drill_table = record {
   domain = codes "CORP";
   sid = record { authority = 5; numbers = 21 ∷ 1 ∷ 2 ∷ 3 ∷ [] };
+  policy = record { lockout = 0; ntlmv2_only = false };
   accounts =
       drill_account User (codes "ann") 1001 0x11 ∷
       drill_account User (codes "bob") 1002 0x22 ∷
       drill_account User (codes "eve") 1003 0x33 ∷
       drill_account Workstation (codes "FILE1$") 0 0x41 ∷
       drill_account Workstation (codes "FILE2$") 0 0x42 ∷ [];
+  trusts = [];
 }
 
 -- ---- its plan: a controller, two members and three clients, of whom the last has a wrong hash

@@ -21,10 +21,11 @@ change_of taken faults old new = record { before = taken old; now = taken new; f
 abbrev pub IsSaid : List ℕ → SinkChange → Type 0
 IsSaid text s = Appends s.before s.now text ⊎ (Rose s.faults_before s.faults × AppendsFront s.before s.now text)
 
--- Where the words come to an exit alone, that is the exit, and nothing is put. Where they come to an answer, all of its lines are
--- put, and the exit is `Done`, or `Refused` with its cause; in place of that may come `SinkFault`, only where the sink's count of
--- faults rose, and then a front of the lines is put. Want of memory may come in place of each, and then nothing is put: the lines are made
--- before the first of them is put. What is put is said where the sink tells what it took.
+-- Where the words come to an exit alone, that is the exit, and nothing is put. Where they come to an answer, all of its
+-- lines are put, and the exit is `Done`, or `Refused` with its cause; in place of that may come `SinkFault`, only where
+-- the sink's count of faults rose, and then a front of the lines is put. Want of memory may come in place of each, and
+-- then nothing is put: the lines are made before the first of them is put. What is put is said where the sink tells
+-- what it took.
 abbrev pub Ends : Result Answer Exit → SinkChange → Exit → Type 0
 Ends (Err refusal) s exit = ((exit ≡ NoMemory) ⊎ (exit ≡ refusal)) × Tells s.before s.now (λ before now. now ≡ before)
 Ends (Ok answer) s Done = (answer.refused ≡ None) × Appends s.before s.now answer.lines

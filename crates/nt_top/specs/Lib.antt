@@ -4,7 +4,6 @@ pub mod Check
 pub mod Drill
 pub mod Ends
 pub mod Exits
-pub mod Lines
 pub mod Logon
 pub mod LogonExits
 pub mod Needs

@@ -1,5 +1,5 @@
--- The command `logon`: a client of the plan that the words and the files make dials the server and runs to its outcome, whose lines are put
--- then (this project's own choice). Texts are lists of 16-bit units, a line is a list of bytes.
+-- The command `logon`: a client of the plan that the words and the files make dials the server and runs to its outcome,
+-- whose lines are put then (this project's own choice). Texts are lists of 16-bit units, a line is a list of bytes.
 use Rattle.std.specs.Prelude.{ℕ, ◌≡◌, ◌⊎◌, ◌==◌, ◌++◌, Bool, true, false, List, [], Option, Some, None, codes}
 use Rattle.std.specs.Fmt.{decimal}
 use Rattle.outside.specs.Telling.{Appends, AppendsFront}
@@ -18,7 +18,7 @@ use Rattle.nt_words.specs.Files.{SecretFiles}
 use Rattle.nt_words.specs.Jobs.{LogonJob}
 use Rattle.nt_top.specs.declared.exit.Exit.{Exit}
 use Rattle.nt_top.specs.declared.exit.Exit.TheVariants.{Done, Refused, SinkFault, NoMemory, NoAnswer, BadPeer}
-use Rattle.nt_top.specs.Lines.{shown_text}
+use Rattle.wire_base.specs.Names.{printable_text}
 use Rattle.nt_top.specs.Serve.{halt_exit}
 
 -- ---- the client
@@ -63,14 +63,14 @@ echo_line true echoed = []
 echo_line false echoed = codes "echo " ++ decimal echoed ++ codes "\n"
 
 unfoldable pub in_lines : List ℕ → ℕ → List ℕ
-in_lines name echoed = codes "in " ++ shown_text name ++ codes "\n" ++ echo_line (echoed == 0) echoed
+in_lines name echoed = codes "in " ++ printable_text name ++ codes "\n" ++ echo_line (echoed == 0) echoed
 
 abbrev pub outcome_lines : Option ClientOutcome → List ℕ
 outcome_lines (Some (outcomes.In name key echoed)) = in_lines name echoed
 outcome_lines _ = []
 
--- How an outcome is said, by what the sink tells before and after: all of its lines are put, and the exit is the outcome's; the sink failed,
--- and a front of the lines was put; or no memory was found, and none was.
+-- How an outcome is said, by what the sink tells before and after: all of its lines are put, and the exit is the
+-- outcome's; the sink failed, and a front of the lines was put; or no memory was found, and none was.
 abbrev pub Says : Option ClientOutcome → Option (List ℕ) → Option (List ℕ) → Exit → Type 0
 Says outcome before now SinkFault = AppendsFront before now (outcome_lines outcome)
 Says outcome before now NoMemory = now ≡ before

@@ -31,13 +31,13 @@ use Rattle.nt_top.specs.Serve.{GivesFewer}
 
 -- ---- the runs that the outside tells
 
--- where a client stands once its first actions were performed: what they made waits, and the challenges are left that were drawn later and
--- those that still are
+-- where a client stands once its first actions were performed: what they made waits, and the challenges are left that
+-- were drawn later and those that still are
 abbrev pub start_of : ClientPlan → List Happening → Drawing → Standing State
 start_of plan happened drawing = record { state = client_that_dials plan; queue = made_events happened; left = drawing.drawn ++ drawing.left }
 
--- The outside tells that the client's first actions were performed, that it made these steps, and that this happened at the port and these
--- moments were given after them.
+-- The outside tells that the client's first actions were performed, that it made these steps, and that this happened at
+-- the port and these moments were given after them.
 pub record TellsRun (plan : ClientPlan) (before after : Sight) (steps : List Step) (last : Standing State) (later : List Happening)
     (moments_later : List ℕ) : Type 0 where
   pub story : List Happening
@@ -89,7 +89,8 @@ Puts _ before now = Appends before now []
 
 -- ---- what an exit shows of the run
 
--- The challenges were started, and the client ran to its end, with that outcome or none; after that the sink alone was used.
+-- The challenges were started, and the client ran to its end, with that outcome or none; after that the sink alone was
+-- used.
 pub record RanTo (plan : ClientPlan) (seed : List ℕ) (boot : ℕ) (before after : Sight) (outcome : Option ClientOutcome) : Type 0 where
   pub opened : Sight
   pub opens : Opens seed boot before opened []
@@ -119,7 +120,8 @@ pub record HasNoAnswer (plan : ClientPlan) (seed : List ℕ) (boot : ℕ) (befor
   pub ran : RanTo plan seed boot before after outcome
   pub exit_is : outcome_exit outcome ≡ NoAnswer cause
 
--- Each exit comes only so: an outcome's where the client ran to it, and that of the port or of the challenges where its run halted for that.
+-- Each exit comes only so: an outcome's where the client ran to it, and that of the port or of the challenges where its
+-- run halted for that.
 abbrev pub ComesBy : Exit → ClientPlan → List ℕ → ℕ → Sight → Sight → Type 0
 ComesBy Done plan seed boot before after = IsIn plan seed boot before after
 ComesBy (Refused cause) plan seed boot before after = RanTo plan seed boot before after (Some (outcomes.Refused cause))
@@ -139,8 +141,8 @@ IsOfClients _ = Unit {0}
 
 -- ---- a dial that fails
 
--- Why a client finds its dial failed: the first that happened at the port is the dial of its server, which gave no link, and the count of link
--- faults rose.
+-- Why a client finds its dial failed: the first that happened at the port is the dial of its server, which gave no
+-- link, and the count of link faults rose.
 pub record FailsToDial (server : List ℕ) (before after : Sight) : Type 0 where
   pub rose : Rose before.link_faults after.link_faults
   pub happened : List Happening
@@ -148,7 +150,8 @@ pub record FailsToDial (server : List ℕ) (before after : Sight) : Type 0 where
 
 -- ---- a link that is lost
 
--- the event shows that the link is gone that the client waits for: it was closed, or another was opened under its number
+-- the event shows that the link is gone that the client waits for: it was closed, or another was opened under its
+-- number
 abbrev pub is_gone : Event → Option ℕ → Bool
 is_gone (event.Closed link) (Some own) = link == own
 is_gone (event.Opened link) (Some own) = link == own
@@ -169,8 +172,8 @@ abbrev pub fails_to_send : Happening → Bool
 fails_to_send (happening.Sent link bytes failed) = failed
 fails_to_send _ = false
 
--- Why a client finds its link closed: by what happened at the port, which gave an event that shows it, or `Stop`, or as many events as a logon
--- takes; or a send failed there, and the count of link faults rose.
+-- Why a client finds its link closed: by what happened at the port, which gave an event that shows it, or `Stop`, or as
+-- many events as a logon takes; or a send failed there, and the count of link faults rose.
 pub data LosesLink (before after : Sight) : Type 0 where
   Gone : (happened : List Happening) → Appends before.story after.story happened → list_any tells_gone happened ≡ true → LosesLink before after
   SendFailed : (happened : List Happening) → Appends before.story after.story happened → list_any fails_to_send happened ≡ true →
@@ -192,8 +195,8 @@ IsAnswered _ = ⊥
 
 -- ---- laws of `LogonEnds`
 
--- What the outside tells decides the exit; each exit comes only of its run; what was put; that a dial failed, why the link was lost, or what the port gave
--- where it failed, where that is the exit; and which exits come.
+-- What the outside tells decides the exit; each exit comes only of its run; what was put; that a dial failed, why the
+-- link was lost, or what the port gave where it failed, where that is the exit; and which exits come.
 pub record LogonLaws : Type 0 where
   pub outcome : (plan : ClientPlan) (seed : List ℕ) (boot : ℕ) (before after : Sight) (exit : Exit) (outcome : Option ClientOutcome) →
       LogonEnds plan seed boot before after exit → ComesTo plan before after outcome → (exit ≡ outcome_exit outcome) ⊎ IsExcuse exit

@@ -1,4 +1,5 @@
--- Words that must be of a form (this project's own choice). Words are lists of bytes, numbered from 1 after the command.
+-- Words that must be of a form (this project's own choice). Words are lists of bytes, numbered from 1 after the
+-- command.
 use Rattle.std.specs.Prelude.{ℕ, Result, Ok, Err}
 use Rattle.nt_top.specs.declared.exit.Exit.{Exit}
 use Rattle.nt_top.specs.declared.exit.Exit.TheVariants.{BadInput}

@@ -1,4 +1,5 @@
--- The exit where words, files or the bytes of a word were refused (this project's own choice): want of memory stays want of memory.
+-- The exit where words, files or the bytes of a word were refused (this project's own choice): want of memory stays
+-- want of memory.
 use Rattle.std.specs.Prelude.{ℕ}
 use Rattle.ntlm_messages.specs.declared.pairs.PairsRefused.{PairsRefused}
 use Rattle.ntlm_messages.specs.declared.pairs.PairsRefused.TheVariants as pairs

@@ -1,4 +1,5 @@
--- An end that is served (this project's own choice): the challenges are started, the port listens, and the end's machine runs.
+-- An end that is served (this project's own choice): the challenges are started, the port listens, and the end's
+-- machine runs.
 use Rattle.std.specs.Prelude.{◌≡◌, ◌⊎◌, ◌<◌, ℕ, false, List, [], length, Result, Ok, Err}
 use Rattle.std.specs.List.{list_any}
 use Rattle.outside.specs.Machine.{Machine}
@@ -25,7 +26,8 @@ abbrev pub service_exit : {T : Type 0} → Result T Halt → Exit
 service_exit (Ok x) = Done
 service_exit (Err halt) = halt_exit halt
 
--- Where a service ends so, the end's machine, from this state on, ran to its end, with this address, seed, number of the boot and most events; or it halted so.
+-- Where a service ends so, the end's machine, from this state on, ran to its end, with this address, seed, number of
+-- the boot and most events; or it halted so.
 abbrev pub ServesTo : {S : Type 0} → Machine S → S → List ℕ → List ℕ → ℕ → ℕ → Sight → Sight → Exit → Type 0
 ServesTo machine old address seed boot most before after Done = (new : _) × Served machine old new address seed boot most before after
 ServesTo machine old address seed boot most before after PortFault = ServedUntil machine old address seed boot most before after halts.PortFault

@@ -16,8 +16,8 @@ use Rattle.nt_top.specs.Serve.{GivesFewer, MayServe}
 abbrev pub rest_at : {S : Type 0} → S → List (List ℕ) → Standing S
 rest_at state left = record { state = state; queue = []; left = left }
 
--- The outside tells that the port listened at the address, that the end made these steps, and that this happened at the port and these
--- moments were given after them.
+-- The outside tells that the port listened at the address, that the end made these steps, and that this happened at the
+-- port and these moments were given after them.
 pub record TellsService {S : Type 0} (machine : Machine S) (old : S) (address : List ℕ) (before after : Sight) (steps : List Step)
     (last : Standing S) (later : List Happening) (moments_later : List ℕ) : Type 0 where
   pub story : List Happening
@@ -47,7 +47,8 @@ pub record TellsSpent {S : Type 0} (machine : Machine S) (old : S) (address : Li
   pub chooses : Chooses machine last.state last.queue step waiting
   pub spent : (machine.step last.state step.event step.moment last.left).answer ≡ Err refusals.Spent
 
--- What the outside tells decides the exit of a service; and a failure of the port is the exit only where it gave no `Stop` and too few events.
+-- What the outside tells decides the exit of a service; and a failure of the port is the exit only where it gave no
+-- `Stop` and too few events.
 pub record ServiceLaws {S : Type 0} (machine : Machine S) : Type 0 where
   pub done : (old : S) (address seed : List ℕ) (boot most : ℕ) (before after : Sight) (exit : Exit) →
       MayServe machine old address seed boot most before after exit → TellsEnd machine old address most before after → (exit ≡ Done) ⊎ IsExcuse exit

@@ -1,5 +1,5 @@
--- The commands that use the port (this project's own choice): the words are judged, then the files that they name are read and judged, and then
--- the end that words and files make is served, or logs on.
+-- The commands that use the port (this project's own choice): the words are judged, then the files that they name are
+-- read and judged, and then the end that words and files make is served, or logs on.
 use Rattle.std.specs.Prelude.{ℕ, ◌≡◌, Bool, true, false, List, Option, Some, Result, Ok, Err, IfOk, codes}
 use Rattle.outside.specs.Drawing.{Drawing}
 use Rattle.outside.specs.declared.event.Happening.{Happening}
@@ -30,7 +30,8 @@ use Rattle.nt_top.specs.Serve.{IsLeft, IsServed, MayServe}
 
 -- ---- which commands these are
 
--- whether the words name a command that uses the port: a controller has no other, a member server has `serve`, and a logon client `logon`
+-- whether the words name a command that uses the port: a controller has no other, a member server has `serve`, and a
+-- logon client `logon`
 abbrev pub uses_port : Role → List (List ℕ) → Bool
 uses_port Controller asked = true
 uses_port Member asked = is_led_by (codes "serve") asked
@@ -46,13 +47,14 @@ IsRefusal asked = (refused : WordsRefused) × (asked ≡ Err refused)
 
 -- ---- the ends
 
--- a member server of the words' computer and domain, with the file's secret, whose logons the controller at the words' address judges
+-- a member server of the words' computer and domain, with the file's secret, whose logons the controller at the words'
+-- address judges
 abbrev pub member_plan : MemberJob → SecretFiles → MemberPlan
 member_plan job files = record { computer = job.computer; domain = job.domain; secret = files.secret; controller = job.controller }
 
--- The end of the job is served: a controller of the words' name over the file's table, or a member server. It is served at the words' address, with the file's
--- seed and the words' number of the boot, for as many events as they say. A logon client of the words and the file's hash comes to its exit. No other job has
--- an end.
+-- The end of the job is served: a controller of the words' name over the file's table, or a member server. It is served
+-- at the words' address, with the file's seed and the words' number of the boot, for as many events as they say. A
+-- logon client of the words and the file's hash comes to its exit. No other job has an end.
 abbrev pub ServiceBy : Setup → Sight → Sight → Exit → Type 0
 ServiceBy (setups.Controller job files) before after exit =
     MayServe controller_machine (first_state files.table job.name) job.listen files.seed job.boot job.events before after exit
@@ -90,10 +92,10 @@ pub record ServiceRuns (role : Role) (asked : List (List ℕ)) (shelf shelf_afte
 
 -- What a command that uses the port does, by what the outside tells, by the meanings of its traits, before and after.
 abbrev pub ServiceActs : {P F S C Q : Type 0} → Role → List (List ℕ) → (P → Option (List Happening)) → (P → ℕ) →
-    (F → ℕ) → (F → Option (List (List ℕ × List ℕ))) → (F → Option (List (List ℕ × Bool))) → (S → Option (List ℕ)) → (C → Option (List ℕ)) → (Q → Drawing) →
+    (F → ℕ) → (F → Option (List (List ℕ × List ℕ))) → (F → Option (List (List ℕ × Bool))) → (F → Option (List (List ℕ × List ℕ × Bool))) → (S → Option (List ℕ)) → (C → Option (List ℕ)) → (Q → Drawing) →
     P → F → S → C → Q → P → F → S → C → Q → Exit → Type 0
-ServiceActs role asked story link_faults faults contents reads taken moments drawing port files out clock chances port_after files_after out_after clock_after chances_after exit =
-    uses_port role asked ≡ true → ServiceRuns role asked (shelf_of faults contents reads files) (shelf_of faults contents reads files_after)
+ServiceActs role asked story link_faults faults contents reads writes taken moments drawing port files out clock chances port_after files_after out_after clock_after chances_after exit =
+    uses_port role asked ≡ true → ServiceRuns role asked (shelf_of faults contents reads writes files) (shelf_of faults contents reads writes files_after)
     (sight_of story link_faults moments drawing taken port clock chances out)
     (sight_of story link_faults moments drawing taken port_after clock_after chances_after out_after) exit
 
@@ -116,8 +118,8 @@ IsServedBy _ exit = IsServed exit
 
 -- ---- refused files in their own terms
 
--- The words ask for such a command and are of its form, what files hold is told, and it comes to that refusal: of the first file that isn't there, is too long
--- or isn't of its form.
+-- The words ask for such a command and are of its form, what files hold is told, and it comes to that refusal: of the
+-- first file that isn't there, is too long or isn't of its form.
 pub record IsBadOfFiles (role : Role) (asked : List (List ℕ)) (contents : Option (List (List ℕ × List ℕ))) (refused : FilesRefused) : Type 0 where
   pub uses : uses_port role asked ≡ true
   pub job : Job

@@ -87,7 +87,8 @@ show_answer text = needs 1 (decode_of text) (λ bytes. shown_lines (lines_from (
 abbrev pub InfoPairs : List ℕ → List (ℕ × List ℕ) → Type 0
 InfoPairs info pairs = ((info ≡ []) × (pairs ≡ [])) ⊎ IsPairs info pairs
 
--- The bytes are a message of one of the three types, a CHALLENGE's target information being empty or pairs, and these are its lines.
+-- The bytes are a message of one of the three types, a CHALLENGE's target information being empty or pairs, and these
+-- are its lines.
 abbrev pub ShowsAs : List ℕ → List ℕ → Type 0
 ShowsAs bytes lines =
     ((message : Negotiate) × IsNegotiate bytes message × (lines ≡ negotiate_lines message))

@@ -15,8 +15,8 @@ use ntlm_responses::{challenge_for, verify};
 use std::alloc::Global;
 use wire_base::{Blob, NoMemory};
 
-/// What `check` comes to for a hash, a challenge and a message in hex: word 1 has 32 hex digits, word 2 has 16, and word 3 is an
-/// AUTHENTICATE message (MS-NLMP 2.2.1.3).
+/// What `check` comes to for a hash, a challenge and a message in hex: word 1 has 32 hex digits, word 2 has 16, and
+/// word 3 is an AUTHENTICATE message (MS-NLMP 2.2.1.3).
 #[tactic(auto, unfolding(crate::specs::Check::check_answer))]
 pub(crate) fn check(
     alloc: Global,

@@ -18,8 +18,8 @@ use wire_base::NoMemory;
 
 /// Starts the challenges, listens, and serves the controller of the words' name over the table.
 ///
-/// `PortFault`, `SinkFault` and `Spent` are those of the service; `Done` where the port gave `Stop` or as many events as the words say. `NoMemory` may come
-/// at any time.
+/// `PortFault`, `SinkFault` and `Spent` are those of the service; `Done` where the port gave `Stop` or as many events
+/// as the words say. `NoMemory` may come at any time.
 pub(crate) fn serve_controller<P: Port, S: Sink, C: Clock, Q: Chances>(
     alloc: Global,
     words: &ControllerWords,

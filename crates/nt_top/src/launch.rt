@@ -11,8 +11,8 @@ use std::env;
 use std::io::ErrorKind;
 use std::rt::Env;
 
-/// Runs the command of this process's arguments, as this program. Output goes to standard output, and the line of the exit, where it
-/// isn't empty and memory for it is found, to `errors`, which is standard error. Gives the exit status.
+/// Runs the command of this process's arguments, as this program. Output goes to standard output, and the line of the
+/// exit, where it isn't empty and memory for it is found, to `errors`, which is standard error. Gives the exit status.
 ///
 /// The port, the files, the clock and the maker of challenges are the caller's.
 pub fn start<R, E, P, F, C, Q>(

@@ -5,17 +5,20 @@ ghost use Rattle.nt_top.specs.ServeExits.{ServiceLaws};
 
 use end_loop::End;
 
-/// Where the outside tells the client's run, it decides the exit of `logon`: that of its outcome, or `Spent`, unless a fault of the sink or want of memory
-/// comes in its place. Each of these exits comes only of such a run, and `PortFault` of one that would ask for one more event, where the port gave no `Stop`
-/// and too few events. At `Done` its lines were put, at a fault of the sink a front of them, else nothing. The client finds its dial failed only where
-/// its server's dial gave no link and the count of link faults rose, and its link closed only where that was shown. No other exit comes.
+/// Where the outside tells the client's run, it decides the exit of `logon`: that of its outcome, or `Spent`, unless a
+/// fault of the sink or want of memory comes in its place. Each of these exits comes only of such a run, and
+/// `PortFault` of one that would ask for one more event, where the port gave no `Stop` and too few events. At `Done`
+/// its lines were put, at a fault of the sink a front of them, else nothing. The client finds its dial failed only
+/// where its server's dial gave no link and the count of link faults rose, and its link closed only where that was
+/// shown. No other exit comes.
 pub fn what_is_told_decides_the_exit()
     ensures { LogonLaws }
 {}
 
-/// Where the outside tells the run of an end that is served, it decides the exit: `Done` where the port gave `Stop` or as many events as are taken, and `Spent`
-/// where a step draws more challenges than were left, unless a fault of the sink or want of memory comes in its place. `PortFault` comes only where the port
-/// gave no `Stop`, and no event or fewer than are taken.
+/// Where the outside tells the run of an end that is served, it decides the exit: `Done` where the port gave `Stop` or
+/// as many events as are taken, and `Spent` where a step draws more challenges than were left, unless a fault of the
+/// sink or want of memory comes in its place. `PortFault` comes only where the port gave no `Stop`, and no event or
+/// fewer than are taken.
 pub fn what_is_told_decides_how_a_service_ends<E: End>(_end: &E)
     ensures { ServiceLaws E.machine }
 {}

@@ -8,7 +8,6 @@ mod drill;
 mod exit;
 mod launch;
 mod laws;
-mod lines;
 mod logon;
 mod member_serving;
 mod serve;

@@ -8,19 +8,19 @@ ghost use Rattle.nt_top.specs.Serve.{halt_exit};
 ghost use Rattle.nt_top.specs.Logon.{ClientEnds, LogonEnds, Says, echo_line, in_lines, plan_of};
 
 use crate::exit::Exit;
-use crate::lines::put_text;
 use end_loop::{Halt, begin_with, put_all};
 use logon_client::{Client, ClientOutcome, ClientPlan, NoAnswerCause};
 use nt_words::{LogonWords, SecretSetup};
 use outside::{Chances, Clock, Failed, Port, Sink};
 use std::alloc::{AllocError, Global};
-use wire_base::{Blob, NoMemory, Units};
+use wire_base::{Blob, NoMemory, Units, put_printable};
 
-/// Logs a user on at a member server, as the words say (this project's own choice): starts the challenges, dials the server, and runs a client
-/// to its outcome.
+/// Logs a user on at a member server, as the words say (this project's own choice): starts the challenges, dials the
+/// server, and runs a client to its outcome.
 ///
-/// `Done` where the outcome is In, and then its lines were put; `Refused`, `NoAnswer` and `BadPeer` where it is that; `NoAnswer(LinkClosed)`
-/// also where the port gave no more, or as many events as a logon takes, before there was an outcome. At these three nothing is put.
+/// `Done` where the outcome is In, and then its lines were put; `Refused`, `NoAnswer` and `BadPeer` where it is that;
+/// `NoAnswer(LinkClosed)` also where the port gave no more, or as many events as a logon takes, before there was an
+/// outcome. At these three nothing is put.
 pub(crate) fn logon<P: Port, S: Sink, C: Clock, Q: Chances>(
     alloc: Global,
     words: &LogonWords,
@@ -185,7 +185,7 @@ fn in_lines(alloc: Global, name: &Units, echoed: u32) -> Result<Blob, NoMemory>
 {
     let mut line = Vec::new(alloc);
     line.extend_from_slice(b"in ")?;
-    put_text(&mut line, name.units())?;
+    put_printable(&mut line, name.units())?;
     line.push(b'\n')?;
     put_echo(&mut line, echoed)?;
     Ok(Blob::from_vec(line))

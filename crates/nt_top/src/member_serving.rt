@@ -18,8 +18,8 @@ use wire_base::{Blob, NoMemory};
 
 /// Starts the challenges, listens, and serves a member server of the words and the secret.
 ///
-/// `PortFault`, `SinkFault` and `Spent` are those of the service; `Done` where the port gave `Stop` or as many events as the words say. `NoMemory` may come
-/// at any time.
+/// `PortFault`, `SinkFault` and `Spent` are those of the service; `Done` where the port gave `Stop` or as many events
+/// as the words say. `NoMemory` may come at any time.
 pub(crate) fn serve_member<P: Port, S: Sink, C: Clock, Q: Chances>(
     alloc: Global,
     words: &MemberWords,

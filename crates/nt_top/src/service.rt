@@ -1,8 +1,9 @@
 //! The commands that use the port.
 
-ghost use Rattle.std.specs.Prelude.{◌≡◌, ◌≤◌, IfSome, map, true};
+ghost use Rattle.std.specs.Prelude.{◌≡◌, ◌≤◌, [], IfSome, map, true};
 ghost use Rattle.std.specs.String.{string_bytes};
 ghost use Rattle.outside.specs.Causes.{Rose};
+ghost use Rattle.outside.specs.Telling.{Appends};
 ghost use Rattle.end_loop.specs.Seen.{Between};
 ghost use Rattle.nt_words.specs.Files.{shelf_of};
 ghost use Rattle.nt_words.specs.Jobs.{is_led_by};
@@ -54,7 +55,7 @@ pub(crate) fn run_service<P: Port, F: Files, S: Sink, C: Clock, Q: Chances>(
     chances: &mut Q,
 ) -> Exit
     requires { uses_port role (map string_bytes words.now) ≡ true }
-    ensures runs { let shelf = shelf_of F.faults F.contents F.reads in Between
+    ensures runs { let shelf = shelf_of F.faults F.contents F.reads F.writes in Between
         P.story P.link_faults C.moments Q.drawing S.taken
         port.old clock.old chances.old out.old port.new clock.new chances.new out.new
         (λ before after. ServiceRuns role (map string_bytes words.now)
@@ -68,6 +69,7 @@ pub(crate) fn run_service<P: Port, F: Files, S: Sink, C: Clock, Q: Chances>(
     ensures port_cause { result ≡ Exit.PortFault → Rose (P.faults port.old) (P.faults port.new) }
     ensures sink_cause { result ≡ Exit.SinkFault → Rose (S.faults out.old) (S.faults out.new) }
     ensures files { F.faults files.old ≤ F.faults files.new }
+    ensures writes { Appends (F.writes files.old) (F.writes files.new) [] }
     ensures port { P.faults port.old ≤ P.faults port.new }
     ensures links { P.link_faults port.old ≤ P.link_faults port.new }
     ensures sink { S.faults out.old ≤ S.faults out.new }
@@ -88,7 +90,8 @@ fn exit_of_words(refused: WordsRefused) -> Exit
     Exit::from(refused)
 }
 
-/// Reads the files of the job, in the order of its options, and serves its end. Files that are refused are the exit, and then nothing else is done.
+/// Reads the files of the job, in the order of its options, and serves its end. Files that are refused are the exit,
+/// and then nothing else is done.
 fn read_and_serve<P: Port, F: Files, S: Sink, C: Clock, Q: Chances>(
     alloc: Global,
     job: Job,
@@ -98,7 +101,7 @@ fn read_and_serve<P: Port, F: Files, S: Sink, C: Clock, Q: Chances>(
     clock: &mut C,
     chances: &mut Q,
 ) -> Exit
-    ensures reads { let shelf = shelf_of F.faults F.contents F.reads in Between
+    ensures reads { let shelf = shelf_of F.faults F.contents F.reads F.writes in Between
         P.story P.link_faults C.moments Q.drawing S.taken
         port.old clock.old chances.old out.old port.new clock.new chances.new out.new
         (λ before after. ServiceReads job.entry
@@ -107,6 +110,7 @@ fn read_and_serve<P: Port, F: Files, S: Sink, C: Clock, Q: Chances>(
     ensures port_cause { result ≡ Exit.PortFault → Rose (P.faults port.old) (P.faults port.new) }
     ensures sink_cause { result ≡ Exit.SinkFault → Rose (S.faults out.old) (S.faults out.new) }
     ensures files { F.faults files.old ≤ F.faults files.new }
+    ensures writes { Appends (F.writes files.old) (F.writes files.new) [] }
     ensures port { P.faults port.old ≤ P.faults port.new }
     ensures links { P.link_faults port.old ≤ P.link_faults port.new }
     ensures sink { S.faults out.old ≤ S.faults out.new }

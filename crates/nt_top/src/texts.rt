@@ -11,7 +11,8 @@ use outside::{Failed, Sink};
 use std::alloc::Global;
 use wire_base::{Blob, NoMemory};
 
-/// The line that is printed on standard error for an exit, without its newline: empty for `Done` (this project's own choice).
+/// The line that is printed on standard error for an exit, without its newline: empty for `Done` (this project's own
+/// choice).
 pub fn exit_line(alloc: Global, exit: &Exit) -> Result<Blob, NoMemory>
     ensures { IfOk result (λ value. value ≡ line_of exit.now) }
 {
@@ -59,8 +60,8 @@ fn with_newline(line: Blob) -> Result<Blob, NoMemory>
     Ok(Blob::from_vec(bytes))
 }
 
-/// Reports how a command ended: puts the text of its exit into the sink of errors, and gives the status. Where the sink fails a front of
-/// the text is put, and the status alone tells how the command ended. It takes no memory.
+/// Reports how a command ended: puts the text of its exit into the sink of errors, and gives the status. Where the sink
+/// fails a front of the text is put, and the status alone tells how the command ended. It takes no memory.
 pub fn report<S: Sink>(exit: &Exit, text: &[u8], errors: &mut S) -> u8
     requires { text.now ≡ said_of exit.now }
     ensures status { result ≡ status_of exit.now }

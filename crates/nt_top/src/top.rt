@@ -1,8 +1,9 @@
 //! The top call of every program.
 
-ghost use Rattle.std.specs.Prelude.{◌≡◌, ◌≤◌, ℕ, List, Ok, Err, Some, IfSome, true, false, map};
+ghost use Rattle.std.specs.Prelude.{◌≡◌, ◌≤◌, ℕ, List, [], Ok, Err, Some, IfSome, true, false, map};
 ghost use Rattle.std.specs.String.{string_bytes};
 ghost use Rattle.outside.specs.Causes.{Rose};
+ghost use Rattle.outside.specs.Telling.{Appends};
 ghost use Rattle.wire_base.specs.Memory.{UpToMemory};
 ghost use Rattle.end_loop.specs.Seen.{Between};
 ghost use Rattle.nt_words.specs.Roles.{job_of};
@@ -31,16 +32,20 @@ use nt_words::{Job, Role, job_of};
 use outside::{Chances, Clock, Failed, Files, Port, Sink};
 use std::alloc::Global;
 
-/// Runs the command that the words name, as this program, over the outside. The words are those after the program's name.
+/// Runs the command that the words name, as this program, over the outside. The words are those after the program's
+/// name.
 ///
-/// A domain controller and a member server have `serve`: the files are read and judged, the challenges are started, the port listens, and the end is served, until
-/// the port gives `Stop` or as many events as the words say. A logon client has `logon`: its files are read and judged, the challenges are started, the server is
-/// dialled, and a client runs to its outcome, which is the exit. A member server has `check HASH CHALLENGE MESSAGE`, a logon client `show MESSAGE`, all
-/// in hex. A logon client has `drill --number N --moves M` besides, which puts what the run of a world by M moves of N counted. Every other command line is `BadWords(0)`.
-/// `BadInput(n)` is the first word, or the first option's file, that isn't of its form, `BadTable` a table that isn't. `Refused(Response)` is a response that
-/// isn't that of the hash; a logon's `Refused`, `NoAnswer` and `BadPeer` are its outcome.
-/// `FileFault`, `PortFault` and `SinkFault` come only where a count of that kind rose in this call, `Spent` where the end draws more challenges than are
-/// left, `NoMemory` where no memory was found; `check`, `show` and `drill` have put nothing then, and use neither port, files, clock nor challenges.
+/// A domain controller and a member server have `serve`: the files are read and judged, the challenges are started, the
+/// port listens, and the end is served, until the port gives `Stop` or as many events as the words say. A logon client
+/// has `logon`: its files are read and judged, the challenges are started, the server is dialled, and a client runs to
+/// its outcome, which is the exit. A member server has `check HASH CHALLENGE MESSAGE`, a logon client `show MESSAGE`,
+/// all in hex. A logon client has `drill --number N --moves M` besides, which puts what the run of a world by M moves
+/// of N counted. Every other command line is `BadWords(0)`. `BadInput(n)` is the first word, or the first option's
+/// file, that isn't of its form, `BadTable` a table that isn't. `Refused(Response)` is a response that isn't that of
+/// the hash; a logon's `Refused`, `NoAnswer` and `BadPeer` are its outcome. `FileFault`, `PortFault` and `SinkFault`
+/// come only where a count of that kind rose in this call, `Spent` where the end draws more challenges than are left,
+/// `NoMemory` where no memory was found; `check`, `show` and `drill` have put nothing then, and use neither port,
+/// files, clock nor challenges.
 pub fn run<P: Port, F: Files, S: Sink, C: Clock, Q: Chances>(
     alloc: Global,
     role: Role,
@@ -54,7 +59,7 @@ pub fn run<P: Port, F: Files, S: Sink, C: Clock, Q: Chances>(
     // A domain controller or a member server is served, and a logon client logs on, by what the words
     // and the files say, or the words are refused.
     ensures service { ServiceActs role (map string_bytes words.now) P.story P.link_faults
-        F.faults F.contents F.reads S.taken C.moments Q.drawing port.old files.old out.old
+        F.faults F.contents F.reads F.writes S.taken C.moments Q.drawing port.old files.old out.old
         clock.old chances.old port.new files.new out.new clock.new chances.new result }
     // What the other commands do is told by their words: the exit is that of what the words come
     // to, and what is put is told by it.
@@ -140,6 +145,8 @@ pub fn run<P: Port, F: Files, S: Sink, C: Clock, Q: Chances>(
         result ≡ Exit.NoMemory → out.new ≡ out.old }
     ensures faults { S.faults out.old ≤ S.faults out.new }
     ensures file_faults { F.faults files.old ≤ F.faults files.new }
+    // No command writes a file.
+    ensures writes { Appends (F.writes files.old) (F.writes files.new) [] }
     ensures port_faults { P.faults port.old ≤ P.faults port.new }
     ensures link_faults { P.link_faults port.old ≤ P.link_faults port.new }
     ensures port { ActsByWords role (map string_bytes words.now) →

@@ -1,4 +1,5 @@
--- What the values of a command's options are, where each is of its kind (this project's own choice). Texts are lists of bytes.
+-- What the values of a command's options are, where each is of its kind (this project's own choice). Texts are lists of
+-- bytes.
 use Rattle.std.specs.Prelude.{◌≡◌, ◌≤◌, length, IsTrue}
 use Rattle.clap.specs.Words.{Text}
 use Rattle.wire_base.specs.Names.{IsName}

@@ -1,5 +1,6 @@
--- The jobs of the commands with options (this project's own choice): what their words ask for, or the number of the option whose value isn't
--- of its kind; 0 where the words aren't those of the command. Texts are lists of bytes, numbers have 32 bits.
+-- The jobs of the commands with options (this project's own choice): what their words ask for, or the number of the
+-- option whose value isn't of its kind; 0 where the words aren't those of the command. Texts are lists of bytes,
+-- numbers have 32 bits.
 use Rattle.std.specs.Prelude.{ℕ, Bool, true, false, List, [], ◌∷◌, Option, Some, None, Result, Ok, Err, codes, if◌then◌else◌}
 use Rattle.std.specs.Str.{bytes_eq}
 use Rattle.clap.specs.Words.{Row, Text, first_of, matches_of, fault_of}
@@ -43,7 +44,8 @@ abbrev pub is_led_by : Text → List Text → Bool
 is_led_by name [] = false
 is_led_by name (word ∷ words) = bytes_eq word name
 
--- The values of the options: the command word is judged first, then the words by `clap`, then each value in the order of the options.
+-- The values of the options: the command word is judged first, then the words by `clap`, then each value in the order
+-- of the options.
 abbrev pub rows_by : Form → List Text → Result (List Row) WordsRefused
 rows_by form words = named_rows (is_led_by form.name words) form words
 

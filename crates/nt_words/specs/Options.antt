@@ -1,4 +1,5 @@
--- The options of a command: their names, and of what kind their values are (this project's own choice). Texts are lists of bytes.
+-- The options of a command: their names, and of what kind their values are (this project's own choice). Texts are lists
+-- of bytes.
 use Rattle.std.specs.Prelude.{ℕ, ◌^◌, ◌≡◌, ◌&&◌, ◌||◌, ◌+◌, ◌++◌, Bool, true, false, not, List, [], ◌∷◌, Option, Some, None, length, nat_le, nat_lt, codes, if◌then◌else◌}
 use Rattle.std.specs.Char.{is_ascii_digit}
 use Rattle.std.specs.Int.{is_in_range}
@@ -40,7 +41,8 @@ abbrev pub is_text : Text → Option Text → Bool
 is_text text None = false
 is_text text (Some other) = bytes_eq other text
 
--- Whether a text is a value of the kind, beside the values of the other options: `v1` goes with the level `connect` alone.
+-- Whether a text is a value of the kind, beside the values of the other options: `v1` goes with the level `connect`
+-- alone.
 abbrev pub fits : List Row → Kind → Text → Bool
 fits rows Address text = is_in_range 1 255 (length text)
 fits rows Name text = is_in_range 1 64 (length text) && is_name text

@@ -1,4 +1,5 @@
--- What the words of a command line ask for (this project's own choice). The first word is the command, and is judged first.
+-- What the words of a command line ask for (this project's own choice). The first word is the command, and is judged
+-- first.
 use Rattle.std.specs.Prelude.{◌≡◌, ◌≢◌, ℕ, Bool, true, false, List, [], ◌∷◌, Option, Some, None, Result, Ok, Err, codes}
 use Rattle.clap.specs.Words.{Text, fault_of, matches_of}
 use Rattle.nt_words.specs.Jobs.{Form, controller_form, controller_job, member_form, member_job, logon_form, logon_job, drill_form, drill_job, is_led_by}
@@ -75,14 +76,15 @@ pub data IsFormOf : Role → Form → Type 0 where
   OfLogon : IsFormOf Logon logon_form
   OfDrill : IsFormOf Logon drill_form
 
--- The command leads the words, and `clap` finds no fault in them; the number is that of the first of its options whose value isn't right.
+-- The command leads the words, and `clap` finds no fault in them; the number is that of the first of its options whose
+-- value isn't right.
 pub record IsMisfit (form : Form) (words : List Text) (number : ℕ) : Type 0 where
   pub led : is_led_by form.name words ≡ true
   pub whole : fault_of (app_with form.name form.choices) words ≡ []
   pub first : IsFirstMisfit 1 form.choices (matches_of (app_with form.name form.choices) words) number
 
--- Words that are refused with another number than 0 are those of a command of the program, and it is the number of its first option whose
--- value isn't right.
+-- Words that are refused with another number than 0 are those of a command of the program, and it is the number of its
+-- first option whose value isn't right.
 abbrev pub BadWordsNumberAMisfit : Type 0
 BadWordsNumberAMisfit = (role : Role) (words : List Text) (number : ℕ) → job_of role words ≡ Err (BadWords number) → number ≢ 0 →
     (form : Form) × IsFormOf role form × IsMisfit form words number

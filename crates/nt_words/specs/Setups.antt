@@ -1,5 +1,5 @@
--- What a job starts from (this project's own choice): the files that its options name, in the order of the options, and what is due of
--- what they hold.
+-- What a job starts from (this project's own choice): the files that its options name, in the order of the options, and
+-- what is due of what they hold.
 use Rattle.std.specs.Prelude.{◌≡◌, ℕ, List, [], ◌∷◌, Option, Some, None, Result, Ok, IfOk}
 use Rattle.clap.specs.Words.{Row, Text}
 use Rattle.nt_words.specs.Files.{and_then, controller_files, secret_files, table_number}
@@ -53,7 +53,8 @@ abbrev pub files_named : List Row → List (ℕ × Text) → List (ℕ × List �
 files_named rows [] = []
 files_named rows (option ∷ more) = (option.0, text_at rows option.1) ∷ files_named rows more
 
--- The files of a job are those that the options of its command name whose values are files, in the order of the options.
+-- The files of a job are those that the options of its command name whose values are files, in the order of the
+-- options.
 pub record FilesAreOfOptions : Type 0 where
   pub controller : (rows : List Row) → IfOk (controller_job_from (Ok rows)) (λ job. file_names (jobs.Controller job) ≡ files_named rows (file_options 1 controller_form.choices))
   pub member : (rows : List Row) → IfOk (member_job_from (Ok rows)) (λ job. file_names (jobs.Member job) ≡ files_named rows (file_options 1 member_form.choices))

@@ -88,7 +88,7 @@ pub(crate) fn read_controller_files<F: Files>(
     table: &str,
     seed: &str,
 ) -> Result<ControllerSetup, FilesRefused>
-    ensures { let shelf = shelf_of F.faults F.contents F.reads in
+    ensures { let shelf = shelf_of F.faults F.contents F.reads F.writes in
         ReadsFiles ((3, table.now) ∷ (4, seed.now) ∷ []) (controller_files table.now seed.now)
         result (shelf files.old) (shelf files.new) }
 {
@@ -111,7 +111,7 @@ pub(crate) fn read_secret_files<F: Files>(
     later: u32,
     seed: &str,
 ) -> Result<SecretSetup, FilesRefused>
-    ensures { let shelf = shelf_of F.faults F.contents F.reads in
+    ensures { let shelf = shelf_of F.faults F.contents F.reads F.writes in
         ReadsFiles ((number, secret.now) ∷ (later, seed.now) ∷ [])
         (secret_files number secret.now later seed.now)
         result (shelf files.old) (shelf files.new) }
@@ -128,7 +128,7 @@ pub(crate) fn read_secret_files<F: Files>(
 
 /// The account table that the file of this name holds.
 fn read_table<F: Files>(alloc: Global, files: &mut F, name: &str) -> Result<Table, FilesRefused>
-    ensures { let shelf = shelf_of F.faults F.contents F.reads in
+    ensures { let shelf = shelf_of F.faults F.contents F.reads F.writes in
         ReadsFiles ((3, name.now) ∷ []) (file_due 3 name.now table_in)
         result (shelf files.old) (shelf files.new) }
 {
@@ -145,7 +145,7 @@ fn read_secret<F: Files>(
     number: u32,
     name: &str,
 ) -> Result<[u8; 16], FilesRefused>
-    ensures { let shelf = shelf_of F.faults F.contents F.reads in
+    ensures { let shelf = shelf_of F.faults F.contents F.reads F.writes in
         ReadsFiles ((number, name.now) ∷ []) (file_due number name.now (secret_in number))
         result (shelf files.old) (shelf files.new) }
 {
@@ -162,7 +162,7 @@ fn read_seed<F: Files>(
     number: u32,
     name: &str,
 ) -> Result<[u8; 32], FilesRefused>
-    ensures { let shelf = shelf_of F.faults F.contents F.reads in
+    ensures { let shelf = shelf_of F.faults F.contents F.reads F.writes in
         ReadsFiles ((number, name.now) ∷ []) (file_due number name.now (seed_in number))
         result (shelf files.old) (shelf files.new) }
 {
@@ -179,7 +179,7 @@ fn read_file<F: Files>(
     number: u32,
     name: &str,
 ) -> Result<Blob, FilesRefused>
-    ensures { let shelf = shelf_of F.faults F.contents F.reads in
+    ensures { let shelf = shelf_of F.faults F.contents F.reads F.writes in
         ReadsFiles ((number, name.now) ∷ []) (content_due number name.now)
         result (shelf files.old) (shelf files.new) }
 {

@@ -1,6 +1,8 @@
-//! What the words of a command line ask for, and what the files that they name hold: each is judged in the order of the command's options.
+//! What the words of a command line ask for, and what the files that they name hold: each is judged in the order of the
+//! command's options.
 //!
-//! A command with options is a name and a list of options. Its words are read by `clap`, and its values are judged by that list.
+//! A command with options is a name and a list of options. Its words are read by `clap`, and its values are judged by
+//! that list.
 #![tactic(auto)]
 
 mod controller;

@@ -18,7 +18,7 @@ impl ControllerWords<'_> {
         alloc: Global,
         files: &mut F,
     ) -> Result<ControllerSetup, FilesRefused>
-        ensures { let shelf = shelf_of F.faults F.contents F.reads in
+        ensures { let shelf = shelf_of F.faults F.contents F.reads F.writes in
             ReadsFiles ((3, self.now.table) ∷ (4, self.now.seed) ∷ [])
             (controller_files self.now.table self.now.seed)
             result (shelf files.old) (shelf files.new) }
@@ -34,7 +34,7 @@ impl MemberWords<'_> {
         alloc: Global,
         files: &mut F,
     ) -> Result<SecretSetup, FilesRefused>
-        ensures { let shelf = shelf_of F.faults F.contents F.reads in
+        ensures { let shelf = shelf_of F.faults F.contents F.reads F.writes in
             ReadsFiles ((4, self.now.secret) ∷ (6, self.now.seed) ∷ [])
             (secret_files 4 self.now.secret 6 self.now.seed)
             result (shelf files.old) (shelf files.new) }

@@ -32,13 +32,14 @@ pub enum Setup<'a> {
     Drill(DrillWords),
 }
 
-/// Reads the files of a job, in the order of its options. Where it has none nothing is read, and no memory is looked for.
+/// Reads the files of a job, in the order of its options. Where it has none nothing is read, and no memory is looked
+/// for.
 pub fn set_up<'a, F: Files>(
     alloc: Global,
     files: &mut F,
     job: Job<'a>,
 ) -> Result<Setup<'a>, FilesRefused>
-    ensures files { let shelf = shelf_of F.faults F.contents F.reads in
+    ensures files { let shelf = shelf_of F.faults F.contents F.reads F.writes in
         ReadsFiles (file_names job.entry) (setup_due job.entry) result
         (shelf files.old) (shelf files.new) }
     // It is the set-up of that job, also where the files' contents aren't told.

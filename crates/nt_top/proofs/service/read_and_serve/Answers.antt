@@ -16,3 +16,9 @@ returns-in-Err-clause-reads g c = record {
   is_of_job = c.set_up.ensures.words;
   follows = follows_err c.set_up.result _ _ _ c.in-Err.is c.exit_of_files.ensures.exit;
 }
+
+pub returns-in-Ok-clause-writes : goal.returns-in-Ok-clause-writes
+returns-in-Ok-clause-writes g c = c.set_up.ensures.files.writes
+
+pub returns-in-Err-clause-writes : goal.returns-in-Err-clause-writes
+returns-in-Err-clause-writes g c = c.set_up.ensures.files.writes

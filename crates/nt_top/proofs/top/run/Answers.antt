@@ -1,5 +1,6 @@
 use Rattle.std.proofs.Common.{map, subst, sym}
 use Rattle.std.specs.String.{string_bytes}
+use Rattle.outside.proofs.TellingLaws.{Appends-nothing}
 use Rattle.nt_top.specs.Causes.{IsOfTheCommands}
 use Rattle.nt_top.proofs.EndLaws.{accepted_ends, refused_ends, shown_ends, drilled_ends, done_is, refused_is, bad_words_come, words_only, bad_input_comes, input_only, others, fault_rose, work_done}
 use Rattle.nt_top.proofs.ServeLaws.{dial_fault, files_come, link_lost, serve_done}
@@ -75,3 +76,6 @@ returns-then-uses_port-clause-dial_failed g c is = dial_fault c.args.role _ _ _ 
 
 pub returns-then-uses_port-clause-link_lost : goal.returns-then-uses_port-clause-link_lost
 returns-then-uses_port-clause-link_lost g c is = link_lost c.args.role _ _ _ _ _ _ c.run_service.ensures.runs is
+
+pub returns-clause-writes : goal.returns-clause-writes
+returns-clause-writes g c = Appends-nothing _
