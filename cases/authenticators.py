@@ -1,8 +1,9 @@
 """Cases of authenticators.
 
-`sequence.run KEY SEED STEP..`, whose steps are `make=TIMESTAMP`, `judge=TIMESTAMP:CREDENTIAL`, `return=CREDENTIAL`, `awaits` and `key`.
-The answers stand with `;` between them. `sequence.channel SECRET CLIENT SERVER FLAGS STEP..` is the same on a new channel, whose seed is the
-client's credential. `sequence.timestamp NOW`: the timestamp of a moment in units of 100 ns since 1601.
+`sequence.run KEY SEED STEP..`, whose steps are `make=TIMESTAMP`, `judge=TIMESTAMP:CREDENTIAL`, `return=CREDENTIAL`,
+`awaits` and `key`. The answers stand with `;` between them. `sequence.channel SECRET CLIENT SERVER FLAGS STEP..` is the
+same on a new channel, whose seed is the client's credential. `sequence.timestamp NOW`: the timestamp of a moment in
+units of 100 ns since 1601.
 """
 
 import datetime
@@ -34,7 +35,8 @@ def scenario(sequence, steps):
 
 
 def made(step):
-    """The maker's part in a step: it makes, awaits, refuses another credential, takes the right one, and then awaits none."""
+    """The maker's part in a step: it makes, awaits, refuses another credential, takes the right one, and then awaits
+    none."""
     returned = step["awaited_return"]
     return [
         (f"make={step['timestamp']}", authenticator(step)),
@@ -80,7 +82,8 @@ def of_moments():
 
 
 def of_live_link():
-    """The three logons of a recorded link between Samba's client and its controller, as each end makes and judges them."""
+    """The three logons of a recorded link between Samba's client and its controller, as each end makes and judges
+    them."""
     asked, answered, offered, _, *logons = [case["fields"] for case in live_calls()]
     steps = [
         call["authenticator"] | {"awaited_return": reply["returned"]["credential"]}
@@ -105,7 +108,8 @@ def cases():
     out = []
     for sequence in sequences:
         steps, last = sequence["steps"], sequence["then_refused"]
-        # The maker's end, the judge's end, and the judge's end once more with a refused step before each, which changes nothing.
+        # The maker's end, the judge's end, and the judge's end once more with a refused step before each, which changes
+        # nothing.
         key = ("key", sequence["key"])
         out.append(
             scenario(sequence, [key, ("awaits", "None"), key] + [part for step in steps for part in made(step)])
@@ -121,11 +125,13 @@ def cases():
         # Without the return credentials: the last one made is awaited.
         each = [(f"make={step['timestamp']}", authenticator(step)) for step in steps]
         out.append(scenario(sequence, each + [("awaits", option(steps[-1]["awaited_return"], array))]))
-    # Timestamps, each plus one, that sum to 2^32 leave the seed where it stood: what passed passes again (MS-NRPC 3.1.4.5).
+    # Timestamps, each plus one, that sum to 2^32 leave the seed where it stood: what passed passes again (MS-NRPC
+    # 3.1.4.5).
     second = sequences[1]["steps"]
     half = [step for step in second if step["timestamp"] == 2147483647]
     out.append(scenario(sequences[1], [judged(step) for step in second] + [judged(step) for step in half]))
-    # 2^32 - 1 twice: the same bytes pass twice. 0 twice: the second is refused, and the credential of its seed is awaited.
+    # 2^32 - 1 twice: the same bytes pass twice. 0 twice: the second is refused, and the credential of its seed is
+    # awaited.
     last, again, none = second[0], second[1], second[2]
     assert last == again and none["timestamp"] == 0
     out.append(

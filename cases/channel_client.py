@@ -1,14 +1,15 @@
 """Cases of channel_client.
 
-`turns.run SECRET COMPUTER ACCOUNT KIND STEP ..`: a channel of the account with this secret, and its steps one after the other. COMPUTER is an ASCII
-text in hex, ACCOUNT one of 16-bit units, KIND a number. The steps:
-`ask/DOMAIN/USER/WORKSTATION/CHALLENGE/NT/LM` (texts of 16-bit units): the place of the logon, or the refusal; `fill/COUNT`: so many logons without
-names and responses, and the answer to the last; `can`: whether a turn can start, and whether it draws a challenge; `start/TIMESTAMP/CHALLENGE`:
-the bytes of each frame, or `none`; `take/BYTES`: what the unit of these bytes comes to; `lose`: the place.
-A step that wants a right that isn't out is answered with `no turn`.
+`turns.run SECRET COMPUTER ACCOUNT KIND STEP ..`: a channel of the account with this secret, and its steps one after the
+other. COMPUTER is an ASCII text in hex, ACCOUNT one of 16-bit units, KIND a number. The steps:
+`ask/DOMAIN/USER/WORKSTATION/CHALLENGE/NT/LM` (texts of 16-bit units): the place of the logon, or the refusal;
+`fill/COUNT`: so many logons without names and responses, and the answer to the last; `can`: whether a turn can start,
+and whether it draws a challenge; `start/TIMESTAMP/CHALLENGE`: the bytes of each frame, or `none`; `take/BYTES`: what
+the unit of these bytes comes to; `lose`: the place. A step that wants a right that isn't out is answered with `no
+turn`.
 
-The frames and the answers are worked out here by the text of docs/FORMATS.md ("The shared channel") and MS-NRPC 3.1.4, with replies written by
-Samba and impacket among those that are taken.
+The frames and the answers are worked out here by the text of docs/FORMATS.md ("The shared channel") and MS-NRPC 3.1.4,
+with replies written by Samba and impacket among those that are taken.
 """
 
 import hashlib
@@ -157,7 +158,7 @@ class Requester:
         made = credential(self.key(), plus(self.seed, timestamp)), timestamp
         self.seed = plus(self.seed, timestamp + 1)
         self.awaited = credential(self.key(), self.seed)
-        return LOGON, {"server": None, "computer": computer, "authenticator": made, "returned": (ZEROS, 0), "info": info, "validation": 2}
+        return LOGON, {"server": None, "computer": computer, "authenticator": made, "returned": (ZEROS, 0), "info": info, "validation": 3}
 
     def start(self, timestamp=1_700_000_000, challenge="1011121314151617"):
         answer = "none"
@@ -208,7 +209,7 @@ class Requester:
             return "opened"
         if reply["returned"] is None or reply["returned"][0] != self.awaited:
             raise Dropped("NotNext")
-        if reply["status"] == 0 and (reply["level"] != 2 or reply["info"] is None):
+        if reply["status"] == 0 and (reply["level"] != 3 or reply["info"] is None):
             raise Dropped("BadReply")
         self.awaited, self.turn, self.waiting = None, None, self.waiting[1:]
         if reply["status"]:
@@ -269,7 +270,7 @@ class Requester:
 
     def verdict(self, **fields):
         """The reply to Logon with the return credential that is awaited, which refuses it."""
-        return {"returned": (self.awaited, 0), "level": 2, "info": None, "authoritative": 1, "status": 0xC000006A} | fields
+        return {"returned": (self.awaited, 0), "level": 3, "info": None, "authoritative": 1, "status": 0xC000006A} | fields
 
 
 def ack_of(call, receive, results, trailer=None):
@@ -328,6 +329,10 @@ def path_cases():
         out.append(end.reply(end.verdict(status=0, info=plain_sam(key=key))).case())
         end = Requester().ask().opened().start().ack()
         out.append(end.reply(end.verdict(status=0xC0000234, info=plain_sam(key=key))).case())
+    # what is granted has the identifiers beside the groups
+    for extra in ([((5, [32, 544]), 7)], [((5, [32, 544]), 7), ((18, [1]), 7)]):
+        end = Requester().ask().opened().start().ack()
+        out.append(end.reply(end.verdict(status=0, info=plain_sam(user_flags=0x20, extra=extra))).case())
     # requests in fragments, by the size that the peer receives
     for receive in (0, 1432, 2000, 5840, 65535):
         end = Requester().ask("d" * 300, "u" * 300, "w" * 300, "ff" * 8, "01" * 4000, "02" * 3000).opened().start()
@@ -344,7 +349,8 @@ def path_cases():
 
 
 def published_cases():
-    """Channels of published secrets and challenges: the client's credential goes out, and the server's opens the channel."""
+    """Channels of published secrets and challenges: the client's credential goes out, and the server's opens the
+    channel."""
     check_formulas()
     out = []
     for channel in values("netlogon")["channels"]:
@@ -417,7 +423,7 @@ def cause_cases():
         out.append(end.reply(end.verdict(returned=(given, 0))).case())
     for returned in ("awaited", None, (ZEROS, 0), (ZEROS, 5)):
         for status in (0, 1, ACCESS_DENIED, 0xC000006A):
-            for level, info in ((2, None), (2, plain_sam()), (3, None), (0, None)):
+            for level, info in ((3, None), (3, plain_sam()), (2, None), (2, plain_sam()), (0, None)):
                 end = asked(BEFORE[2])
                 fields = {} if returned == "awaited" else {"returned": returned}
                 out.append(end.reply(end.verdict(status=status, level=level, info=info, **fields)).can().case())

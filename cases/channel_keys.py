@@ -1,8 +1,11 @@
 """Cases of channel_keys.
 
-`channel.session_key SECRET CLIENT SERVER FLAGS`, `channel.strong_key SECRET CLIENT SERVER`, `channel.des_key SECRET CLIENT SERVER`,
-`channel.cred KEY INPUT`, `channel.cred_key KEY INPUT` (the kept key, and the credential), `channel.cred_back KEY OUTPUT`,
-`channel.credentials SECRET CLIENT SERVER FLAGS` (the client's and the server's), `channel.flag NAME` (the number, and whether this project offers it), `channel.granted SUPPORTED OFFERED`, `channel.type NAME`.
+`channel.session_key SECRET CLIENT SERVER FLAGS`, `channel.strong_key SECRET CLIENT SERVER`, `channel.des_key SECRET
+CLIENT SERVER`,
+`channel.cred KEY INPUT`, `channel.cred_key KEY INPUT` (the kept key, and the credential), `channel.cred_back KEY
+OUTPUT`,
+`channel.credentials SECRET CLIENT SERVER FLAGS` (the client's and the server's), `channel.flag NAME` (the number, and
+whether this project offers it), `channel.granted SUPPORTED OFFERED`, `channel.type NAME`.
 """
 
 from forms import LIVE_SECRET, line, live_calls, values

@@ -1,7 +1,8 @@
 """Cases of des_cipher.
 
-`des.block8 KEY BLOCK`, `des.block KEY BLOCK`, `des.back KEY BLOCK`, `des.spread KEY`; the same with `plain_` before, which are the bodies
-on bits; `des.schedule KEY BLOCK` and `des.schedule_back KEY BLOCK` (what a kept schedule makes of the block, and back again).
+`des.block8 KEY BLOCK`, `des.block KEY BLOCK`, `des.back KEY BLOCK`, `des.spread KEY`; the same with `plain_` before,
+which are the bodies on bits; `des.schedule KEY BLOCK` and `des.schedule_back KEY BLOCK` (what a kept schedule makes of
+the block, and back again).
 """
 
 from forms import line, values
@@ -22,7 +23,8 @@ def both(operation, words, answer):
 
 
 def without_parity(key):
-    """The seven upper bits of each of the 8 bytes of a key, as the key of 7 bytes whose spread form it is but for parity (FIPS 46-3)."""
+    """The seven upper bits of each of the 8 bytes of a key, as the key of 7 bytes whose spread form it is but for
+    parity (FIPS 46-3)."""
     bits = "".join(f"{byte >> 1:07b}" for byte in bytes.fromhex(key))
     return f"{int(bits, 2):014x}"
 

@@ -1,7 +1,7 @@
 """Cases of digest_parts.
 
-`digest.md4 MESSAGE`, `digest.hmac KEY MESSAGE`; `digest.md4_pieces SIZE MESSAGE` and `digest.hmac_pieces SIZE KEY MESSAGE` take the
-message in pieces of a size, and must give the same.
+`digest.md4 MESSAGE`, `digest.hmac KEY MESSAGE`; `digest.md4_pieces SIZE MESSAGE` and `digest.hmac_pieces SIZE KEY
+MESSAGE` take the message in pieces of a size, and must give the same.
 """
 
 from forms import line, values

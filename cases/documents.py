@@ -10,6 +10,8 @@ EVE = {"name": "eve", "rid": 1003, "hash": "33" * 16}
 FILE1 = {"name": "FILE1$", "kind": "workstation", "hash": "41" * 16}
 FILE2 = {"name": "FILE2$", "kind": "workstation", "hash": "42" * 16}
 PDC2 = {"name": "PDC2$", "kind": "backup", "hash": "43" * 16}
+NORTH = {"name": "NORTH$", "kind": "trust", "hash": "44" * 16, "controllers": ["NDC1", "NDC2"]}
+WEST = {"domain": "WEST", "hash": "55" * 16, "address": "10.0.0.9:135"}
 
 # What a key is where it isn't there.
 USER_DEFAULTS = {
@@ -23,6 +25,7 @@ USER_DEFAULTS = {
     "password_set": 0,
     "password_expires": 0,
     "workstations": [],
+    "extra_sids": [],
 }
 
 
@@ -38,10 +41,10 @@ def toml(value):
     return f"'{value}'"
 
 
-def document(users=(), machines=(), head=None):
-    """A document of these users and machines, as bytes."""
+def document(users=(), machines=(), head=None, trusts=()):
+    """A document of these users, machines and trusted domains, as bytes."""
     lines = [f"{key} = {toml(value)}" for key, value in (HEAD if head is None else head).items()]
-    for name, entries in [("user", users), ("machine", machines)]:
+    for name, entries in [("user", users), ("machine", machines), ("trust", trusts)]:
         for entry in entries:
             lines.append(f"[[{name}]]")
             lines += [f"{key} = {toml(value)}" for key, value in entry.items()]
@@ -77,5 +80,9 @@ def account(entry, kind):
         password_set=fields["password_set"],
         password_expires=fields["password_expires"],
         workstations=items(name(each) for each in fields["workstations"]),
+        extra_sids=items(sid(each) for each in fields["extra_sids"]),
+        bad_count=0,
+        controllers=items(name(each) for each in fields.get("controllers", []) if kind == "Trust"),
+        changed="false",
         kind=kind,
     )

@@ -1,13 +1,18 @@
 """Cases of domain_controller.
 
-`controller.run DOCUMENT NAME CHALLENGES STEP ..`: a controller of this table and name, the challenges that may be drawn (16 hex digits each, joined
-by commas, or `-`), and its events one after the other: `opened/LINK`, `bytes/LINK/BYTES`, `closed/LINK`, `dialled/LINK`, `failed`, `stop`; `at/MOMENT`
-sets the moment, which is 0 before. An event is answered with its actions in order, joined by commas, `-` where there are none, or with the
-refusal; a moment with `-`. The last answer is the number of challenges that are left. `controller.line DOCUMENT NAME ACTION`: the line that the
-controller puts for an action, as text: a call that passed with this status (8 hex digits), `barred`, `none`, `send`, `dial`, `close` or `told`.
+`controller.run DOCUMENT NAME CHALLENGES STEP ..`: a controller of this table and name, the challenges that may be drawn
+(16 hex digits each, joined by commas, or `-`), and its events one after the other: `opened/LINK`, `bytes/LINK/BYTES`,
+`closed/LINK`, `dialled/LINK`, `failed`, `stop`; `at/MOMENT` sets the moment, which is 0 before. An event is answered
+with its actions in order, joined by commas, `-` where there are none, or with the refusal; a moment with `-`. The last
+answer is the number of challenges that are left. `controller.counts` with the same words: the counts of bad passwords
+of the accounts as they stand after the steps, users first. `controller.line DOCUMENT NAME ACTION`: the line that the
+controller puts for an action, as text: a call that passed with this status (8 hex digits), `forwarded`,
+`answered/STATUS`, `barred`, `none`, `keep`,
+`send`, `dial`, `close` or `told`.
 
-The actions are worked out here by the rules of docs/FORMATS.md ("The controller"), MS-NRPC 3.1.4 and 3.5.4 and the layouts of C706 12.6; calls
-of the recorded link between Samba's client and its controller are among those that are answered.
+The actions are worked out here by the rules of docs/FORMATS.md ("The controller"), MS-NRPC 3.1.4 and 3.5.4 and the
+layouts of C706 12.6; calls of the recorded link between Samba's client and its controller are among those that are
+answered.
 """
 
 from channel_client import credential, crypted, frames_of, plus, strong_key
@@ -18,7 +23,8 @@ from forms import LIVE_SECRET, agree, line, live_calls, values
 from logon_stubs import AUTHENTICATE, CHALLENGE, LOGOFF, LOGON, BadArm, plain_sam, read, write
 from md4 import md4
 from ndr_codec import Refused as NdrRefused
-from rpc_units import ACK, AUTH3, BIND, FAULT, LIMIT, NAK, NDR, NETLOGON, REQUEST, RESPONSE, Joiner, Refused, header, short, whole
+from rpc_units import ACK, AUTH3, BIND, FAULT, LIMIT, NAK, NDR, NETLOGON, PLAIN_BIND, REFUSED_BINDS, REQUEST, RESPONSE, Joiner, Refused, header
+from rpc_units import short, whole
 from rpc_units import read as read_unit
 from rpc_units import write as write_unit
 from sam_logon import NEVER, STATUS, hmac_md5, respond_v2
@@ -31,6 +37,8 @@ LINKS = 256
 ZEROS = bytes(8)
 NOW = 133_000_000_000_000_000
 CHANNELS = {"workstation": 2, "backup": 6}
+# The validation levels that are served, and LOGON_EXTRA_SIDS (MS-NRPC 2.2.1.4.11).
+LEVELS, EXTRA_SIDS = (2, 3), 0x20
 
 
 def utf16(text):
@@ -44,6 +52,12 @@ def upper(units):
 
 def same(one, other):
     return upper(one) == upper(other)
+
+
+def sid_of(text):
+    """The authority and the numbers of an identifier's text."""
+    authority, *numbers = text.split("-")[2:]
+    return int(authority), [int(number) for number in numbers]
 
 
 # ---- keys and responses
@@ -96,12 +110,17 @@ class Controller:
         self.users, self.machines, self.name = users, machines, name
         self.draws, self.now, self.stopped = [bytes.fromhex(text) for text in challenges], 0, False
         self.pending, self.channels, self.links = {}, {}, {}
+        self.counts = [0] * len(users)
         self.actions = []
         text = document(users, machines, self.head)
         self.words, self.answers = [text, name.encode(), ",".join(challenges) or "-"], []
 
     def case(self):
         return line("controller.run", *self.words), steps(self.answers + [str(len(self.draws))])
+
+    def counts_case(self):
+        counts = self.counts + [0] * len(self.machines)
+        return line("controller.counts", *self.words), ",".join(str(count) for count in counts)
 
     # the table
 
@@ -117,39 +136,43 @@ class Controller:
         return any(same(utf16(entry["name"]), computer + utf16("$")) for entry in self.machines)
 
     def verdict(self, info):
-        """The NTSTATUS, and what is granted."""
+        """The NTSTATUS, and what is granted; the count of bad passwords changes where the password decides."""
         if info["domain"] and not same(info["domain"], utf16(self.head["domain"])):
             return STATUS["no such domain"], None
         for entry in self.machines:
             if same(info["user"], utf16(entry["name"])):
                 return STATUS["workstation account" if entry["kind"] == "workstation" else "server account"], None
-        found = [entry for entry in self.users if same(info["user"], utf16(entry["name"]))]
-        if not found:
+        place = next((place for place, entry in enumerate(self.users) if same(info["user"], utf16(entry["name"]))), None)
+        if place is None:
             return STATUS["no such user"], None
-        entry = USER_DEFAULTS | found[0]
+        entry, count = USER_DEFAULTS | self.users[place], self.counts[place]
         key = base_key(bytes.fromhex(entry["hash"]), info)
         listed = [utf16(name) for name in entry["workstations"]]
-        for why, holds in [
-            ("locked", entry["locked"]),
-            ("wrong password", key is None),
-            ("disabled", entry["disabled"]),
-            ("expired", entry["expires"] and self.now >= entry["expires"]),
-            ("workstation", listed and not any(same(info["workstation"], name) for name in listed)),
-            ("must change", entry["must_change"]),
-            ("password expired", entry["password_expires"] and self.now >= entry["password_expires"]),
+        limit = self.head.get("lockout", 0)
+        for why, counts, holds in [
+            ("locked", False, entry["locked"] or limit and count >= limit),
+            ("wrong password", False, self.head.get("ntlmv2_only") and len(info["nt"]) == 24),
+            ("wrong password", True, key is None),
+            ("disabled", False, entry["disabled"]),
+            ("expired", False, entry["expires"] and self.now >= entry["expires"]),
+            ("workstation", False, listed and not any(same(info["workstation"], name) for name in listed)),
+            ("must change", False, entry["must_change"]),
+            ("password expired", False, entry["password_expires"] and self.now >= entry["password_expires"]),
         ]:
             if holds:
+                self.counts[place] = min(count + counts, 65535)
                 return STATUS[why], None
-        return 0, self.granted(entry, key)
+        self.counts[place] = 0
+        return 0, self.granted(entry, key, count)
 
-    def granted(self, entry, key):
-        authority, *numbers = self.head["sid"].split("-")[2:]
+    def granted(self, entry, key, count):
+        extra = [(sid_of(sid), 7) for sid in entry.get("extra_sids", [])]
         return plain_sam(
             logon_time=self.now, logoff_time=NEVER, kickoff_time=NEVER, password_set=entry["password_set"],
             password_can_change=entry["password_set"], password_must_change=entry["password_expires"] or NEVER,
             effective_name=utf16(entry["name"]), full_name=utf16(entry["full_name"]), user_id=entry["rid"], group_id=entry["group"],
             groups=[(group, 7) for group in entry["groups"]], key=key, server=utf16(self.name), domain=utf16(self.head["domain"]),
-            sid=(int(authority), [int(number) for number in numbers]),
+            sid=sid_of(self.head["sid"]), bad_count=count, extra=extra, user_flags=EXTRA_SIDS if extra else 0,
         )
 
     # calls
@@ -191,10 +214,12 @@ class Controller:
             self.actions.append("judged Barred")
             return denied
         channel["seed"] = plus(channel["seed"], given[1] + 1)
-        status, info = self.verdict(call["info"]) if call["validation"] == 2 else (INVALID_INFO_CLASS, None)
+        status, info = self.verdict(call["info"]) if call["validation"] in LEVELS else (INVALID_INFO_CLASS, None)
         self.actions.append(f"judged Passed({status})")
         if info:
             info["key"] = crypted(key, info["key"])
+            if call["validation"] == 2:
+                info |= {"extra": [], "user_flags": info["user_flags"] & ~EXTRA_SIDS}
         return denied | {"returned": (credential(key, channel["seed"]), 0), "info": info, "status": status}
 
     # units
@@ -275,14 +300,14 @@ class Controller:
 
     def event(self, word, run=lambda: None):
         self.words.append(word)
-        self.actions = []
+        self.actions, counts = [], list(self.counts)
         if self.stopped:
             self.answers.append("Err(Stopped)")
             return self
         try:
             run()
         except Spent:
-            self.stopped = True
+            self.stopped, self.counts = True, counts
             self.answers.append("Err(Spent)")
             return self
         self.answers.append(",".join(self.actions) or "-")
@@ -350,7 +375,7 @@ class Controller:
         info |= fields.pop("info", {})
         channel = self.channels.get(upper(utf16(computer)))
         made = (credential(key_of(channel), plus(channel["seed"], timestamp)), timestamp) if channel else (b"\x33" * 8, timestamp)
-        return {"server": None, "computer": utf16(computer), "authenticator": made, "returned": (ZEROS, 0), "info": info, "validation": 2} | fields
+        return {"server": None, "computer": utf16(computer), "authenticator": made, "returned": (ZEROS, 0), "info": info, "validation": 3} | fields
 
     def logs_on(self, user="ann", link=1, number=2, **fields):
         return self.call(LOGON, self.logon_call(user, **fields), link, number)
@@ -383,11 +408,7 @@ def with_referent(call, referent):
 
 TRAILER = (10, 2, 0, bytes(16))
 DRAWS = ["1011121314151617", "2021222324252627", "3031323334353637", "4041424344454647"]
-# A bind as it stands in the worked example of docs/FORMATS.md, and its answer.
-PLAIN_BIND = bytes.fromhex(
-    "05000b031000000048000000" "01000000" "d016d0160000000001000000" "00000100785634123412cdabef0001234567cffb01000000"
-    "045d888aeb1cc9119fe808002b10486002000000"
-)
+# The answer to the bind of the worked example of docs/FORMATS.md.
 PLAIN_ACK = (
     "05000c031000000038000000" "01000000" "d016d01601000000" "0100000001000000" "00000000045d888aeb1cc9119fe808002b10486002000000"
 )
@@ -427,8 +448,9 @@ def link_cases():
     out.append(Controller().bound().bytes(PLAIN_BIND).bytes(PLAIN_BIND).case())
     out.append(Controller().bound().bytes(write_unit(bind(trailer=TRAILER))).case())
     # units that are refused
-    for place, byte in ((0, 4), (4, 0), (8, 0x0F), (2, 1), (10, 1), (3, 1), (24, 2), (9, 0x17)):
+    for place, byte in [(place, byte) for place, byte, _ in REFUSED_BINDS] + [(10, 1), (9, 0x17)]:
         broken = changed(PLAIN_BIND, place, bytes([byte]))
+        assert Controller().opened().bytes(broken).answers[1] == "close 1 BadUnit"
         out.append(Controller().opened().bytes(broken).bytes(PLAIN_BIND).case())
         out.append(Controller().bound().bytes(broken).bytes(PLAIN_BIND).case())
         out.append(Controller().opened().bytes(broken[:15]).bytes(broken[15:]).case())
@@ -607,10 +629,10 @@ def logon_cases():
     end = Controller(challenges=DRAWS).bound().channel_open("FILE1").channel_open("FILE2")
     out.append(end.call(LOGON, end.logon_call(computer="FILE1") | {"computer": utf16("FILE2")}).logs_on(computer="FILE2").logs_on().case())
     # levels of validation
-    for validation in (2, 3, 0, 1, 6, 65535):
+    for validation in (2, 3, 0, 1, 4, 6, 65535):
         end = Controller(challenges=DRAWS).bound().channel_open()
         out.append(end.logs_on(validation=validation).logs_on("nobody", validation=validation, timestamp=1).logs_on(timestamp=2).case())
-    return out + verdict_cases()
+    return out + verdict_cases() + count_cases()
 
 
 def verdict_cases():
@@ -635,9 +657,111 @@ def verdict_cases():
     return out
 
 
+WRONG = {"nt": b"\x11" * 24}
+
+
+def statuses(end):
+    """The NTSTATUS values that were told, in order."""
+    words = [word for answer in end.answers for word in answer.split(",") if word.startswith("judged Passed(")]
+    return [int(word[len("judged Passed("):-1]) for word in words]
+
+
+def counting(head=None, users=(ANN, BOB), **fields):
+    """A controller of this table's head on whose link a channel stands."""
+    return Controller(users=users, challenges=DRAWS, head=HEAD | (head or {}), **fields).at(NOW).bound().channel_open()
+
+
+def count_cases():
+    out = []
+    # lockout over several logons: a wrong, a wrong and a right response
+    locked = counting({"lockout": 2})
+    for timestamp, info in enumerate((WRONG, WRONG, {})):
+        locked.logs_on(info=info, timestamp=timestamp)
+    assert statuses(locked) == [0xC000006A, 0xC000006A, 0xC0000234]
+    out += [locked.logs_on("bob", timestamp=9).case(), locked.counts_case()]
+    # with 3 the third is granted, and what is granted has the count as it stood; behind it the count is 0
+    three = counting({"lockout": 3})
+    for timestamp, info in enumerate((WRONG, WRONG, {}, {})):
+        three.logs_on(info=info, timestamp=timestamp)
+        out.append(three.counts_case())
+    assert statuses(three) == [0xC000006A, 0xC000006A, 0, 0]
+    granted = [read("reply", LOGON, read_unit(bytes.fromhex(answer.split(" ")[-1]))["stub"])[0]["info"]["bad_count"] for answer in three.answers[-2:]]
+    assert granted == [2, 0]
+    out.append(three.case())
+    for lockout, wrong in ((0, 4), (1, 2), (1000, 4)):
+        end = counting({"lockout": lockout})
+        for timestamp in range(wrong):
+            end.logs_on(info=WRONG, timestamp=timestamp)
+        out += [end.logs_on(timestamp=77).case(), end.counts_case()]
+    # a response of 24 bytes is refused and doesn't count, right or wrong; another one is judged
+    only = counting({"ntlmv2_only": True, "lockout": 1})
+    only.logs_on().logs_on(info=WRONG, timestamp=1)
+    assert statuses(only) == [0xC000006A, 0xC000006A] and only.counts == [0, 0]
+    out.append(only.counts_case())
+    nt, _ = respond_v2(ANN, "ann", "CORP", "0123456789abcdef", time=NOW)
+    out += [only.logs_on(info={"nt": bytes.fromhex(nt)}, timestamp=2).logs_on(info={"nt": b"\x11" * 44}, timestamp=3).case(), only.counts_case()]
+    # a disabled account: a right response leaves the count, a wrong one raises it; none counts for a locked one, for
+    # another level or name
+    users = [ANN | {"disabled": True}, BOB | {"locked": True}]
+    end = counting(users=users).logs_on(info=WRONG).logs_on(timestamp=1).logs_on("bob", info=WRONG, timestamp=2)
+    end.logs_on("nobody", info=WRONG, timestamp=3).logs_on(info=WRONG, timestamp=4, validation=6)
+    assert end.counts == [1, 0]
+    out += [end.case(), end.counts_case()]
+    # a call that doesn't pass isn't judged by the table
+    end = counting({"lockout": 1}).logs_on(info=WRONG, authenticator=(ZEROS, 1)).logs_on(info=WRONG, computer="FILE2")
+    out += [end.counts_case(), end.logs_on(timestamp=5).case()]
+    # identifiers beside the groups: at level 3 they are carried, at level 2 neither they nor their flag
+    extra = [ANN | {"extra_sids": ["S-1-5-32-544"]}, BOB | {"extra_sids": ["S-1-5-32-544", "S-1-18-1"]}]
+    end = counting(users=extra)
+    for timestamp, (user, level) in enumerate((user, level) for user in ("ann", "bob") for level in LEVELS):
+        end.logs_on(user, validation=level, timestamp=timestamp)
+    carried = "02000000" "0102000000000005" "20000000" "20020000"
+    assert [carried in answer for answer in end.answers[-4:]] == [False, True, False, True]
+    out.append(end.case())
+    return out + event_cases()
+
+
+def event_cases():
+    """Several calls of one event."""
+    out = []
+
+    def logons(end, count, **fields):
+        """The frames of so many logons in a row, each with the authenticator that is next then."""
+        channel, data = end.channels[upper(utf16("FILE1"))], b""
+        before = channel["seed"]
+        for timestamp in range(count):
+            stub = write("call", LOGON, end.logon_call(timestamp=timestamp, **fields)).stub
+            data += b"".join(frames_of(request_of(LOGON, stub, 10 + timestamp), LIMIT))
+            channel["seed"] = plus(channel["seed"], timestamp + 1)
+        channel["seed"] = before
+        return data
+
+    def challenge():
+        stub = write("call", CHALLENGE, {"primary": None, "computer": utf16("FILE2"), "challenge": bytes(8)}).stub
+        return b"".join(frames_of(request_of(CHALLENGE, stub, 99), LIMIT))
+
+    # a logon sees the counts of those before it
+    for lockout, count in ((2, 4), (3, 3), (0, 3)):
+        end = counting({"lockout": lockout})
+        end.bytes(logons(end, count, info=WRONG))
+        out += [end.case(), end.counts_case()]
+    assert statuses(end) == [0xC000006A] * 3 and end.counts == [3, 0]
+    # a challenge behind a logon: with one that is left both are done, without one neither is
+    for draws, counts in ((DRAWS[:2], [1, 0]), (DRAWS[:1], [0, 0])):
+        end = Controller(challenges=draws, head=HEAD | {"lockout": 1}).at(NOW).bound().channel_open()
+        end.bytes(logons(end, 1, info=WRONG) + challenge())
+        assert end.counts == counts
+        out += [end.case(), end.counts_case(), end.opened(2).case()]
+    # nor is what a logon before it freed
+    end = Controller(challenges=DRAWS[:1]).at(NOW).bound().channel_open().logs_on(info=WRONG)
+    end.bytes(logons(end, 1) + challenge())
+    assert end.counts == [1, 0]
+    return out + [end.case(), end.counts_case()]
+
+
 def recorded_cases():
-    """The recorded link: the client's calls, behind a bind of Samba's, with the challenge that its controller drew. What is answered here has its
-    credentials, return credentials and verdicts."""
+    """The recorded link: the client's calls, behind a bind of Samba's, with the challenge that its controller drew.
+    What is answered here has its credentials, return credentials and verdicts."""
     calls = live_calls()
     bind_unit = next(bytes.fromhex(case["unit"]) for case in values("units")["units"] if case["name"].startswith("bind without trailer"))
     end = Controller(challenges=[calls[1]["fields"]["challenge"]]).at(NOW).opened().bytes(bind_unit)
@@ -677,7 +801,9 @@ def line_cases():
     out = []
     for status in ["00000000", "c000006a", "C0000234", "0000000a"]:
         out.append((line("controller.line", *words, status), f'"passed {status.lower()}\\n"'))
-    for action, text in [("barred", "barred\\n"), ("none", "no channel\\n"), ("send", ""), ("dial", ""), ("close", ""), ("told", "")]:
+        out.append((line("controller.line", *words, f"answered/{status}"), f'"answered {status.lower()}\\n"'))
+    judged = [("forwarded", "forwarded\\n"), ("barred", "barred\\n"), ("none", "no channel\\n")]
+    for action, text in judged + [(name, "") for name in ["keep", "send", "dial", "close", "told"]]:
         out.append((line("controller.line", *words, action), f'"{text}"'))
     return out
 

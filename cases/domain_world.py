@@ -1,16 +1,19 @@
 """Cases of domain_world.
 
-`world.run WORD ..`: a world of the plan of the words `controller/DOCUMENT/NAME`, `member/COMPUTER/DOMAIN/SECRET/CONTROLLER`,
-`client/SERVER/DOMAIN/USER/WORKSTATION/HASH/LEVEL/KIND/ECHO` (as in `controller.run`, `member.run` and `client.run`) and `now/MOMENT`, whose seed is 32 zeros, and its
-moves: `start/NUMBER`, `stranger/NUMBER`, `connect`, `fail`, `onward`, `lose`, `deliver/UNIT/LINK`, `hand/LINK/WAY/BYTES` (WAY `back` or `forward`), `shut/NUMBER`,
+`world.run WORD ..`: a world of the plan of the words `controller/DOCUMENT/NAME`,
+`member/COMPUTER/DOMAIN/SECRET/CONTROLLER`,
+`client/SERVER/DOMAIN/USER/WORKSTATION/HASH/LEVEL/KIND/ECHO` (as in `controller.run`, `member.run` and `client.run`) and
+`now/MOMENT`, whose seed is 32 zeros, and its moves: `start/NUMBER`, `stranger/NUMBER`, `connect`, `fail`, `onward`,
+`lose`, `deliver/UNIT/LINK`, `hand/LINK/WAY/BYTES` (WAY `back` or `forward`), `shut/NUMBER`,
 `restart/NUMBER`, `tick/NUMBER`. The answer is the report, and the outcomes of the clients at the first four places.
 
 `world.drill NUMBER COUNT WORD ..`: the same of so many moves that the number makes.
 
 `world.moves NUMBER COUNT`: so many moves that the number makes.
 
-The rules are those of docs/FORMATS.md ("The world"), over the ends of `domain_controller`, `member_server` and `logon_client`, which stand here by their own
-rules, in Python. Of the first scenarios the counts are worked out by hand, and held against the run (`WANTED`).
+The rules are those of docs/FORMATS.md ("The world"), over the ends of `domain_controller`, `member_server` and
+`logon_client`, which stand here by their own rules, in Python. Of the first scenarios the counts are worked out by
+hand, and held against the run (`WANTED`).
 """
 
 import domain_controller
@@ -509,7 +512,8 @@ def broken_scripts():
 
 
 def address_scripts():
-    """Dials of a controller by a client, of a member by a member, of no end, and of addresses that have not one byte."""
+    """Dials of a controller by a client, of a member by a member, of no end, and of addresses that have not one
+    byte."""
     scripts = []
     for server in (b"\0", b"\2", b"\3", b"", b"\1\0"):
         world = one_logon()
@@ -570,7 +574,8 @@ def controller_restarts():
 
 
 def strangers():
-    """A stranger hands a controller and a member a bind each, and then bytes that are none; and 256 strangers keep a member busy."""
+    """A stranger hands a controller and a member a bind each, and then bytes that are none; and 256 strangers keep a
+    member busy."""
     unit = with_moves(one_logon(), ("start", 0), ("connect",)).world.bag[0]["bytes"]
     first = with_moves(one_logon(), ("stranger", 0), ("stranger", 1), ("hand", 0, False, unit), ("hand", 1, False, unit), ("hand", 0, True, unit), ("hand", 1, False, bytes(16)), ("shut", 0))
     busy = with_moves(one_logon(), *[("stranger", 1)] * 256, ("start", 0), ("connect",))
@@ -616,9 +621,11 @@ def logon_scripts():
     return [granted, refused]
 
 
-# ---- logons that come one at a time: each client that can succeed does (`EachSucceeds` of docs/ARCHITECTURE.md), and near misses of its premises
+# ---- logons that come one at a time: each client that can succeed does (`EachSucceeds` of docs/ARCHITECTURE.md), and
+# near misses of its premises
 
-# Of each client its user, the number of its member's end, the level, the kind of response, its hash and how many bytes come back.
+# Of each client its user, the number of its member's end, the level, the kind of response, its hash and how many bytes
+# come back.
 ONE_AT_A_TIME = (
     (("ann", 1, 6, "v2", "11", 4096), ("bob", 2, 5, "v1ess", "22", 16), ("eve", 1, 2, "v1", "33", 0)),
     (("ann", 2, 5, "v2", "11", 0), ("bob", 1, 6, "v1ess", "22", 4096), ("eve", 2, 2, "v2", "33", 16)),
@@ -663,7 +670,8 @@ def with_outcomes(script, *wanted):
 
 
 def near_misses():
-    """Where one premise fails: the hash, the user's account, the computer's account, the member's secret, or the computers' names."""
+    """Where one premise fails: the hash, the user's account, the computer's account, the member's secret, or the
+    computers' names."""
     ann, bob, eve = ONE_AT_A_TIME[0]
     return [
         with_outcomes(in_turn(two_members(clients=(ann[:4] + ("12",) + ann[5:], bob, eve))), False, True, True),

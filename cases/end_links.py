@@ -1,18 +1,23 @@
 """Cases of end_links.
 
-`links.answer INTERFACE BIND ID ..`: the bytes of the answer to a bind, given by its bytes, to the interface that is served, the limit of fragments that
-it agrees on, and whether it accepts each of these contexts. An interface is its UUID, a point and its version.
+`links.answer INTERFACE BIND ID ..`: the bytes of the answer to a bind, given by its bytes, to the interface that is
+served, the limit of fragments that it agrees on, and whether it accepts each of these contexts. An interface is its
+UUID, a point and its version.
 `links.limit RECEIVE`: the limit for a peer that receives so many bytes.
 `links.nak CALL`, `links.bind INTERFACE CALL`, `links.fault CALL CONTEXT STATUS`: the bytes of the unit.
-`links.request LIMIT CALL CONTEXT OPNUM STUB`, `links.response LIMIT CALL CONTEXT STUB`: the frames of a whole call or reply, and whether they are
-its bytes when joined.
-`links.map STEP ..`: accepted links, by steps: `put/NUMBER/BYTES` (a link on which so many bytes are held), `fill/FROM/TO` (links of these numbers, on
-which none are), `take/NUMBER/0` (first whether there was one). Nothing is put where there are 256. Each step is answered with the number
-of links, whether there is no room, the bytes held, and whether there is a link of the number afterwards.
-`links.hear PIECE ..`: the units that an end hears on a link of these pieces, the bytes that wait behind them or `closed`, and the refusal.
-`links.cuts STREAM`: the same of a stream in one piece, and at how many of its places it may be cut so that the end hears the same.
+`links.request LIMIT CALL CONTEXT OPNUM STUB`, `links.response LIMIT CALL CONTEXT STUB`: the frames of a whole call or
+reply, and whether they are its bytes when joined.
+`links.map STEP ..`: accepted links, by steps: `put/NUMBER/BYTES` (a link on which so many bytes are held),
+`fill/FROM/TO` (links of these numbers, on which none are), `take/NUMBER/0` (first whether there was one). Nothing is
+put where there are 256. Each step is answered with the number of links, whether there is no room, the bytes held, and
+whether there is a link of the number afterwards.
+`links.hear PIECE ..`: the units that an end hears on a link of these pieces, the bytes that wait behind them or
+`closed`, and the refusal.
+`links.cuts STREAM`: the same of a stream in one piece, and at how many of its places it may be cut so that the end
+hears the same.
 
-The rules are this project's own choices on top of C706 12.6.3 and 12.6.4 (docs/FORMATS.md); the answers are worked out here from their text.
+The rules are this project's own choices on top of C706 12.6.3 and 12.6.4 (docs/FORMATS.md); the answers are worked out
+here from their text.
 """
 
 import random

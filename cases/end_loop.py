@@ -3,9 +3,11 @@
     loop.serve EVENTS FAILING FAILING_PUTS DRAWS MOMENT MOST     `serve_at`
     loop.begin EVENTS FAILING FAILING_PUTS DRAWS MOMENT MOST     `begin_with` a first dial
 
-The answers are worked out here by the rules of the loop (docs/FORMATS.md, "Serving") and of the small end: a link that is opened gets the next
-challenge, and `opened` is put; what comes is sent back twice and dialled; a link that was dialled gets `on`; a dial that failed puts `barred`;
-the end is over when the link that it dialled last is closed. Calls of the port are counted from 0, `listen` among them.
+The answers are worked out here by the rules of the loop (docs/FORMATS.md, "Serving") and of the small end: a link that
+is opened gets the next challenge, and `opened` is put; what comes is to be kept, which the loop passes over, is sent
+back twice and dialled; a link that was dialled gets
+`on`; a dial that failed puts `barred`; the end is over when the link that it dialled last is closed. Calls of the port
+are counted from 0, `listen` among them.
 """
 
 from forms import line
@@ -70,7 +72,7 @@ class Run:
             return [("line", b"opened\n"), ("send", event[1], self.draws.pop(0))]
         if kind == "bytes":
             self.waiting += 1
-            return [("send", event[1], event[2]), ("send", event[1], event[2]), ("dial",)]
+            return [("keep", event[2]), ("send", event[1], event[2]), ("send", event[1], event[2]), ("dial",)]
         if kind == "closed" and event[1] == self.link:
             self.link, self.over = None, True
             return [("line", b"over\n")]
@@ -87,6 +89,8 @@ class Run:
         for action in actions:
             if action[0] == "line":
                 self.put(action[1])
+            elif action[0] == "keep":
+                continue
             elif action[0] == "dial":
                 self.queue.append(self.port.dial())
             elif action[1] not in failed and not self.port.send(action[1], action[2]):

@@ -12,7 +12,8 @@ def values(name):
     return json.loads((VALUES / f"{name}.json").read_text(encoding="utf-8"))
 
 
-# Whether what is published twice is held against each other, which `make.py --check` asks for. Else a value that is changed changes its own lines alone.
+# Whether what is published twice is held against each other, which `make.py --check` asks for. Else a value that is
+# changed changes its own lines alone.
 is_checking = False
 
 
@@ -23,7 +24,8 @@ def agree(worked_out, published, name):
 
 
 def live_calls():
-    """The calls and replies of the recorded link between Samba's client and its controller, in their order (`live call, ..`)."""
+    """The calls and replies of the recorded link between Samba's client and its controller, in their order (`live call,
+    ..`)."""
     return [case for case in values("stubs")["stubs"] if case["name"].startswith("live call")]
 
 
@@ -32,7 +34,8 @@ LIVE_SECRET = "41" * 16
 
 
 def line(operation, *words):
-    """A line of cases: the operation and its values. Bytes are written in hex, numbers as they stand, and `-` for what is empty."""
+    """A line of cases: the operation and its values. Bytes are written in hex, numbers as they stand, and `-` for what
+    is empty."""
     return " ".join([operation] + [word_of(word) for word in words])
 
 

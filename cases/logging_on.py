@@ -1,7 +1,10 @@
-"""Cases of the command `logon`, as `nt_top` runs it over the outside in memory: the operation `serves.run` of `serving.py`.
+"""Cases of the command `logon`, as `nt_top` runs it over the outside in memory: the operation `serves.run` of
+`serving.py`.
 
-Call 0 of the port is the dial, which gives link 1000, and call 1 the send of the bind. What is sent, the exit and the lines are worked out by the client of
-`logon_client.py`, beside its server, at the moment 0 of the clock in memory. The units that are written here byte by byte are those of C706 12.6.4.4 and 12.6.4.5.
+Call 0 of the port is the dial, which gives link 1000, and call 1 the send of the bind. What is sent, the exit and the
+lines are worked out by the client of
+`logon_client.py`, beside its server, at the moment 0 of the clock in memory. The units that are written here byte by
+byte are those of C706 12.6.4.4 and 12.6.4.5.
 """
 
 from documents import ANN, BOB
@@ -206,7 +209,8 @@ def of_the_files():
 
 
 def of_words():
-    """The response of version 1 has no place above the level connect, and no more than 4,096 bytes are echoed. Nothing is read then."""
+    """The response of version 1 has no place above the level connect, and no more than 4,096 bytes are echoed. Nothing
+    is read then."""
     out = []
     for options, number in [({"auth": "v1", "level": "integrity"}, 7), ({"auth": "v1"}, 7), ({"echo": "4097"}, 8), ({"boot": "x"}, 10), ({"level": "none"}, 6)]:
         out.append(played(bound(echo=0), ending("BadWords", number), sent="-", reads="0", failing="0", **options))
@@ -214,7 +218,8 @@ def of_words():
 
 
 def carried(users=(ANN, BOB), **plan):
-    """A client whose bytes are carried to a member and back, while those of the member's turns are carried to a controller and back."""
+    """A client whose bytes are carried to a member and back, while those of the member's turns are carried to a
+    controller and back."""
     client, member, controller = bound(**plan), Member(), controller_of(users)
     member.opened(1).bytes(client.sent(), 1)
     on(client, member.sent(1))
@@ -229,7 +234,8 @@ def carried(users=(ANN, BOB), **plan):
 
 
 def of_the_domain():
-    """Logons at a member and its controller, by their rules: a user who may log on, one who is disabled, one who isn't there, and a wrong password."""
+    """Logons at a member and its controller, by their rules: a user who may log on, one who is disabled, one who isn't
+    there, and a wrong password."""
     out = [played(carried(echo=4096, secret=ANN["hash"]))]
     for plan in PLANS:
         out.append(played(carried(echo=16, secret=ANN["hash"], **plan)))

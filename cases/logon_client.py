@@ -1,13 +1,17 @@
 """Cases of logon_client.
 
-`client.run SERVER DOMAIN USER WORKSTATION HASH LEVEL KIND ECHO CHALLENGES STEP ..`: a client of this plan (texts of 16-bit units, KIND `v1`, `v1ess` or
-`v2`), the challenges that may be drawn (16 hex digits each, joined by commas, or `-`), and its events one after the other: `opened/LINK`,
-`bytes/LINK/BYTES`, `closed/LINK`, `dialled/LINK`, `failed`, `stop`; `at/MOMENT` sets the moment, which is 0 before. The first answer is what it begins
-with. An event is answered with its actions in order, joined by commas, `-` where there are none, or with the refusal; a moment with `-`. The last
-answers are its outcome and the number of challenges that are left.
+`client.run SERVER DOMAIN USER WORKSTATION HASH LEVEL KIND ECHO CHALLENGES STEP ..`: a client of this plan (texts of
+16-bit units, KIND `v1`, `v1ess` or
+`v2`), the challenges that may be drawn (16 hex digits each, joined by commas, or `-`), and its events one after the
+other: `opened/LINK`,
+`bytes/LINK/BYTES`, `closed/LINK`, `dialled/LINK`, `failed`, `stop`; `at/MOMENT` sets the moment, which is 0 before. The
+first answer is what it begins with. An event is answered with its actions in order, joined by commas, `-` where there
+are none, or with the refusal; a moment with `-`. The last answers are its outcome and the number of challenges that are
+left.
 
-The actions are worked out here by the rules of docs/FORMATS.md ("The client"), MS-NLMP 3.1.5 and 3.3 and the layouts of C706 12.6, beside a
-server that answers by the same rules; each of its answers is also changed in each way that makes it wrong.
+The actions are worked out here by the rules of docs/FORMATS.md ("The client"), MS-NLMP 3.1.5 and 3.3 and the layouts of
+C706 12.6, beside a server that answers by the same rules; each of its answers is also changed in each way that makes it
+wrong.
 """
 
 import hashlib
@@ -585,8 +589,9 @@ def finished(client, peer):
 
 
 def free_cases():
-    """What isn't judged of an answer: the size that the member sends; of a bind_ack's trailer the type, the level and the context, and which transfer syntax a context was accepted
-    with; of a response its context, and of its trailer the type and the context; whether a fault or a bind_nak has a trailer."""
+    """What isn't judged of an answer: the size that the member sends; of a bind_ack's trailer the type, the level and
+    the context, and which transfer syntax a context was accepted with; of a response its context, and of its trailer
+    the type and the context; whether a fault or a bind_nak has a trailer."""
     out = []
     for send, receive in ((1432, LIMIT), (LIMIT, 1432), (0, 2000)):
         for plan in ({"level": 2}, {"level": 5}, {"level": 6}):
@@ -616,7 +621,8 @@ def free_cases():
 
 
 def order_cases():
-    """Where several causes hold of a bind_ack: a refused list of pairs comes before flags that aren't enough, and a refused result before both."""
+    """Where several causes hold of a bind_ack: a refused list of pairs comes before flags that aren't enough, and a
+    refused result before both."""
     out = []
     for results in (((0, 0, NDR),), ((2, 1, NONE),), ()):
         for info in (END_PAIR[:3], END_PAIR):

@@ -1,10 +1,11 @@
 """Cases of logon_stubs.
 
-`stubs.call OPNUM STUB`, `stubs.reply OPNUM STUB`: the parameters that are read of a request or a reply; `stubs.call_again OPNUM STUB`,
+`stubs.call OPNUM STUB`, `stubs.reply OPNUM STUB`: the parameters that are read of a request or a reply;
+`stubs.call_again OPNUM STUB`,
 `stubs.reply_again OPNUM STUB`: the stub written of them. An opnum is a decimal number.
 
-Fields of foreign stubs are the published ones. Of changed stubs and of written forms they are worked out here by the layouts of MS-NRPC 3.5.4,
-2.2.1.4 and C706 14.2 and 14.3 and the rules of docs/FORMATS.md.
+Fields of foreign stubs are the published ones. Of changed stubs and of written forms they are worked out here by the
+layouts of MS-NRPC 3.5.4, 2.2.1.4 and C706 14.2 and 14.3 and the rules of docs/FORMATS.md.
 """
 
 from forms import agree, blob, err, items, line, ok, option, struct, units_of, values
@@ -39,30 +40,51 @@ def network_info(reader):
             "challenge": challenge, "nt": reader.bytes(*nt), "lm": reader.bytes(*lm)}
 
 
-def sam_info(reader):
-    info = {name: reader.halves() for name in TIMES}
-    heads = {name: reader.head(2) for name in NAMES}
-    info.update(logon_count=reader.short(), bad_count=reader.short(), user_id=reader.long(), group_id=reader.long())
+def entries_head(reader):
+    """The count of an array and whether it is there; it may be missing only where the count is 0."""
     place = reader.start(4)
     count = reader.long()
     if count > 256:
         raise Refused("BadPart", place)
     place = reader.start(4)
-    groups = reader.pointer()
-    if count and not groups:
+    there = reader.pointer()
+    if count and not there:
         raise Refused("BadPart", place)
+    return count, there
+
+
+def array_count(reader, count):
+    """The count of an array again, in front of it."""
+    place = reader.start(4)
+    if reader.long() != count:
+        raise Refused("BadPart", place)
+
+
+def sam_info(reader, level):
+    """NETLOGON_VALIDATION_SAM_INFO, and at level 3 NETLOGON_VALIDATION_SAM_INFO2, with identifiers beside the
+    groups."""
+    info = {name: reader.halves() for name in TIMES}
+    heads = {name: reader.head(2) for name in NAMES}
+    info.update(logon_count=reader.short(), bad_count=reader.short(), user_id=reader.long(), group_id=reader.long())
+    group_count, groups = entries_head(reader)
     info.update(user_flags=reader.long(), key=reader.take(16))
     server, domain = reader.head(2), reader.head(2)
     reader.some_pointer()
     reader.reserved(10)
+    extra_count, extra = entries_head(reader) if level == 3 else (0, False)
     info.update((name, reader.units(*heads[name])) for name in NAMES)
-    info["groups"] = []
+    info["groups"], info["extra"] = [], []
     if groups:
-        place = reader.start(4)
-        if reader.long() != count:
-            raise Refused("BadPart", place)
-        info["groups"] = [(reader.long(), reader.long()) for _ in range(count)]
+        array_count(reader, group_count)
+        info["groups"] = [(reader.long(), reader.long()) for _ in range(group_count)]
     info.update(server=reader.units(*server), domain=reader.units(*domain), sid=reader.sid())
+    if extra:
+        array_count(reader, extra_count)
+        attributes = []
+        for _ in range(extra_count):
+            reader.some_pointer()
+            attributes.append(reader.long())
+        info["extra"] = [(reader.sid(), each) for each in attributes]
     return info
 
 
@@ -101,9 +123,9 @@ def read(kind, opnum, stub, reads=Reader):
         if opnum == LOGON:
             fields["level"] = reader.short()
             there = reader.pointer()
-            if there and fields["level"] != 2:
+            if there and fields["level"] not in (2, 3):
                 raise BadArm(fields["level"])
-            fields["info"] = sam_info(reader) if there else None
+            fields["info"] = sam_info(reader, fields["level"]) if there else None
             fields["authoritative"] = reader.byte()
         fields["status"] = reader.long()
     return fields, reader
@@ -138,7 +160,7 @@ def write_network(writer, info):
         writer.bytes(info[name])
 
 
-def write_sam(writer, info):
+def write_sam(writer, info, level):
     for name in TIMES:
         writer.halves(info[name])
     for name in NAMES:
@@ -155,6 +177,9 @@ def write_sam(writer, info):
     writer.units_head(info["domain"])
     writer.pointer(True)
     writer.reserved(10)
+    if level == 3:
+        writer.long(len(info["extra"]))
+        writer.pointer(bool(info["extra"]))
     for name in NAMES:
         writer.units(info[name])
     if info["groups"]:
@@ -165,6 +190,13 @@ def write_sam(writer, info):
     writer.units(info["server"])
     writer.units(info["domain"])
     writer.sid(info["sid"])
+    if info["extra"]:
+        writer.long(len(info["extra"]))
+        for _, attributes in info["extra"]:
+            writer.pointer(True)
+            writer.long(attributes)
+        for sid, _ in info["extra"]:
+            writer.sid(sid)
 
 
 def write(kind, opnum, fields, writes=Writer):
@@ -204,7 +236,7 @@ def write(kind, opnum, fields, writes=Writer):
         write_unique(writer, fields["returned"], lambda value: write_authenticator(writer, value))
         if opnum == LOGON:
             writer.short(fields["level"])
-            write_unique(writer, fields["info"], lambda value: write_sam(writer, value))
+            write_unique(writer, fields["info"], lambda value: write_sam(writer, value, fields["level"]))
             writer.byte(fields["authoritative"])
         writer.long(fields["status"])
     return writer
@@ -237,7 +269,8 @@ def sam_shown(info):
     fields.update((name, info[name]) for name in ("logon_count", "bad_count", "user_id", "group_id"))
     fields["groups"] = items([f"({group}, {attributes})" for group, attributes in info["groups"]])
     return struct("SamInfo", **fields, user_flags=info["user_flags"], key=lent(info["key"]), server=text(info["server"]),
-                  domain=text(info["domain"]), sid=sid_shown(info["sid"]))
+                  domain=text(info["domain"]), sid=sid_shown(info["sid"]),
+                  extra=items([f"({sid_shown(sid)}, {attributes})" for sid, attributes in info["extra"]]))
 
 
 def shown(kind, opnum, fields):
@@ -297,6 +330,12 @@ def utf16(value):
     return None if value is None else value.encode("utf-16-le", "surrogatepass")
 
 
+def sid_parts(text):
+    """The authority and the numbers of a security identifier."""
+    parts = text.split("-")
+    return int(parts[2]), [int(part) for part in parts[3:]]
+
+
 def published(case):
     """The published fields in the form that `read` gives."""
     fields = dict(case["fields"])
@@ -320,9 +359,9 @@ def published(case):
             if name in info:
                 info[name] = bytes.fromhex(info[name])
         if "sid" in info:
-            parts = info["sid"].split("-")
-            info["sid"] = int(parts[2]), [int(part) for part in parts[3:]]
+            info["sid"] = sid_parts(info["sid"])
             info["groups"] = [tuple(group) for group in info["groups"]]
+            info["extra"] = [(sid_parts(sid), attributes) for sid, attributes in info.get("extra", [])]
         fields["info"] = info
     return fields
 
@@ -373,7 +412,8 @@ def foreign_cases():
 
 
 def worked_cases():
-    """Stubs worked out by hand: a request for FILE1 without a primary name, and a reply whose level has no arm and whose pointer is null."""
+    """Stubs worked out by hand: a request for FILE1 without a primary name, and a reply whose level has no arm and
+    whose pointer is null."""
     out = []
     for kind, opnum, data, fields in [
         ("call", CHALLENGE, "00000000060000000000000006000000460049004c004500310000000102030405060708",
@@ -385,7 +425,8 @@ def worked_cases():
         out.append((line(f"stubs.{kind}", opnum, data), ok(shown(kind, opnum, fields))))
         out.append((line(f"stubs.{kind}_again", opnum, data), data))
     out.append((line("stubs.call", 5, "00000000060000000000000006000000460049004c004500310000000102030405060708"), err("NoSuchCall(5)")))
-    # Samba's granted replies with six times apart, two counts, and not authoritative, and with the maxima of two names that are their lengths
+    # Samba's granted replies with six times apart, two counts, and not authoritative, and with the maxima of two names
+    # that are their lengths
     granted = stub_named("logon granted, one group, by Samba")
     fields = read("reply", LOGON, granted)[0]
     info = dict(fields["info"], **{name: 0x1D40000000000000 + place for place, name in enumerate(TIMES)}, logon_count=0x1234, bad_count=3)
@@ -457,8 +498,8 @@ def change_cases():
     """Changes that meet a rule of the layout, or just don't."""
     out = []
     stub = stub_named("logon, 24-byte responses, by Samba")
-    # Its level is at 64, its tag at 66, the pointer to the structure at 68, the structure at 72, its targets from 132 on, the domain's first, and
-    # the validation level at 260.
+    # Its level is at 64, its tag at 66, the pointer to the structure at 68, the structure at 72, its targets from 132
+    # on, the domain's first, and the validation level at 260.
     for at, new in [
         # referents and padding are free
         (0, le(0, 4)), (4, le(1, 4)), (4, le(0x20000, 4)), (4, le(2**32 - 1, 4)), (4, le(0, 4)), (32, le(1, 4)), (32, le(0x20000, 4)),
@@ -491,9 +532,10 @@ def change_cases():
         if found[1].startswith("Err"):
             out.append(found)
     granted = stub_named("logon granted, one group, by Samba")
-    # Its level is at 16, the pointer to the structure at 20, the heads of the texts from 72 on, that of the home drive at 112, the counts at 120, the
-    # group count at 132, the pointer to the groups at 136, the key at 144, the heads of server and domain at 160 and 168, the pointer to the
-    # identifier at 176, ten reserved numbers from 180 on, the name's target at 220, the groups' at 240.
+    # Its level is at 16, the pointer to the structure at 20, the heads of the texts from 72 on, that of the home drive
+    # at 112, the counts at 120, the group count at 132, the pointer to the groups at 136, the key at 144, the heads of
+    # server and domain at 160 and 168, the pointer to the identifier at 176, ten reserved numbers from 180 on, the
+    # name's target at 220, the groups' at 240.
     for at, new in [
         (0, le(0, 4)), (0, le(7, 4)), (16, le(3, 2)), (16, le(0, 2)), (16, le(1, 2)), (16, le(6, 2)), (16, le(65535, 2)), (18, b"\xff\xff"),
         (20, le(0, 4)), (20, le(1, 4)),
@@ -508,6 +550,30 @@ def change_cases():
         (297, b"\5"), (298, b"\xff" * 6), (304, b"\xff" * 16), (320, b"\0"), (320, b"\xff"), (321, b"\xff\xff\xff"), (324, b"\xff" * 4),
     ]:
         out.append(read_case("reply", LOGON, changed(granted, at, new)))
+    return out
+
+
+def extra_cases():
+    """Changes of identifiers beside the groups."""
+    out = []
+    stub = stub_named("logon granted at level 3, two identifiers beside the groups, by Samba")
+    fields, _ = read("reply", LOGON, stub)
+    assert fields["level"] == 3 and len(fields["info"]["extra"]) == 2
+    # The level is at 16; the count of identifiers at 220, and the pointer to them at 224, behind ten reserved numbers.
+    # The array behind the domain's identifier has its count, a pointer and attributes of each, and then the
+    # identifiers.
+    for place, new in [
+        (16, le(2, 2)), (16, le(4, 2)), (16, le(6, 2)), (16, le(0x103, 2)),
+        (220, le(257, 4)), (220, le(256, 4)), (220, le(1, 4)), (220, le(3, 4)), (220, le(0, 4)), (220, le(2**32 - 1, 4)),
+        (224, le(0, 4)), (224, le(1, 4)), (220, bytes(8)), (220, le(257, 4) + le(0, 4)),
+    ]:
+        out.append(read_case("reply", LOGON, changed(stub, place, new)))
+    for size in range(216, len(stub)):
+        out.append(read_case("reply", LOGON, stub[:size]))
+    for place in range(216, len(stub)):
+        found = read_case("reply", LOGON, flipped(stub, place, 0x01))
+        if found[1].startswith("Err") or place % 8 == 0:
+            out.append(found)
     return out
 
 
@@ -526,7 +592,7 @@ def plain_sam(**fields):
     info = {name: 0x7FFFFFFFFFFFFFFF for name in TIMES}
     info.update((name, b"") for name in NAMES)
     info.update(logon_count=0, bad_count=0, user_id=1001, group_id=513, groups=[(513, 7)], user_flags=0, key=bytes(range(16)),
-                server=utf16("PDC"), domain=utf16("CORP"), sid=(5, [21, 1, 2, 3]))
+                server=utf16("PDC"), domain=utf16("CORP"), sid=(5, [21, 1, 2, 3]), extra=[])
     return dict(info, **fields)
 
 
@@ -579,6 +645,16 @@ def value_cases():
         for count in (0, 1, 2, 3, 16, 23, 24, 25, 84, 301):
             add("call", LOGON, plain_logon(info=plain_info(**{field: b"\x5c" * count})))
     add("call", LOGON, plain_logon(info=plain_info(domain=b"", user=b"", workstation=b"", nt=b"", lm=b"")))
+    # identifiers beside the groups, at level 3 alone
+    aliases = (5, [32, 544])
+    for extra in ([], [(aliases, 7)], [(aliases, 7), ((18, [1]), 7)], [((0, [0]), 0), ((2**48 - 1, [top32] * 15), top32), (aliases, 7)],
+                  [((5, [21, 1, 2, place]), 7) for place in range(16)], [((5, [place]), 7) for place in range(256)]):
+        add("reply", LOGON, plain_reply(level=3, info=plain_sam(extra=extra, user_flags=0x20 if extra else 0)), printed=len(extra) < 17)
+    add("reply", LOGON, plain_reply(level=3, info=plain_sam(groups=[], extra=[(aliases, 7)])))
+    # S-1-5-32-544: its count of numbers in front, revision 1 and 2 numbers, authority 5, and the numbers (MS-DTYP
+    # 2.4.2.2)
+    stub = write("reply", LOGON, plain_reply(level=3, info=plain_sam(extra=[(aliases, 7)]))).stub
+    assert bytes.fromhex("02000000" "0102000000000005" "20000000" "20020000") in stub
     for number in (0, 1, 2**31, 2**32 - 1, 2**32, 2**63, top64):
         add("call", LOGON, plain_logon(info=plain_info(logon_id=number, control=number & top32), validation=number & top16))
         for name in TIMES:
@@ -615,4 +691,4 @@ def value_cases():
 
 def cases():
     """Each line and its answer."""
-    return foreign_cases() + worked_cases() + number_cases() + byte_cases() + change_cases() + value_cases()
+    return foreign_cases() + worked_cases() + number_cases() + byte_cases() + change_cases() + extra_cases() + value_cases()

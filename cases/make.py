@@ -2,12 +2,13 @@
 """Writes what the case programs are run on, and what they must answer.
 
     python3 cases/make.py           writes crates/PROGRAM/stdin and crates/PROGRAM/stdout of each program
-    python3 cases/make.py --check   says which of those files are not what it would write; status 1 where any isn't, or where two published
+    python3 cases/make.py --check   says which of those files are not what it would write; status 1 where any isn't, or
+    where two published
                                     values contradict each other
 
-Each library has a module here (`cases/LIBRARY.py`) with a function `cases()`, which gives pairs of a line and its answer. Answers
-come from published values (`values/`), from literals that name their source, or from Python's own libraries: never from a program of
-this repository. Nothing is built here, and no program of this repository is run.
+Each library has a module here (`cases/LIBRARY.py`) with a function `cases()`, which gives pairs of a line and its
+answer. Answers come from published values (`values/`), from literals that name their source, or from Python's own
+libraries: never from a program of this repository. Nothing is built here, and no program of this repository is run.
 """
 
 import importlib
@@ -29,6 +30,8 @@ PROGRAMS = {
         "authenticators",
         "ntlm_responses",
         "ntlm_seal",
+        "netlogon_seal",
+        "secret_change",
     ],
     "wire_cases": [
         "wire_base",
@@ -36,11 +39,14 @@ PROGRAMS = {
         "rpc_units",
         "ndr_codec",
         "logon_stubs",
+        "interactive_logon",
         "memo_stubs",
+        "set_stubs",
     ],
     "account_cases": [
         "account_table",
         "sam_logon",
+        "logon_sessions",
         "outside",
     ],
     "end_cases": [

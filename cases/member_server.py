@@ -1,12 +1,15 @@
 """Cases of member_server.
 
-`member.run COMPUTER DOMAIN SECRET CONTROLLER CHALLENGES STEP ..`: a member of this plan (names in ASCII), the challenges that may be drawn (16 hex digits
-each, joined by commas, or `-`), and its events one after the other: `opened/LINK`, `bytes/LINK/BYTES`, `closed/LINK`, `dialled/LINK`, `failed`, `stop`;
-`at/MOMENT` sets the moment, which is 0 before; `wants` is answered with the link of the turn. An event is answered with its actions in order, joined
-by commas, `-` where there are none, or with the refusal; a moment with `-`. The last answer is the number of challenges that are left.
+`member.run COMPUTER DOMAIN SECRET CONTROLLER CHALLENGES STEP ..`: a member of this plan (names in ASCII), the
+challenges that may be drawn (16 hex digits each, joined by commas, or `-`), and its events one after the other:
+`opened/LINK`, `bytes/LINK/BYTES`, `closed/LINK`, `dialled/LINK`, `failed`, `stop`;
+`at/MOMENT` sets the moment, which is 0 before; `wants` is answered with the link of the turn. An event is answered with
+its actions in order, joined by commas, `-` where there are none, or with the refusal; a moment with `-`. The last
+answer is the number of challenges that are left.
 
-The actions are worked out here by the rules of docs/FORMATS.md ("The member", "The shared channel"), MS-NLMP 3.2.5, 3.3 and 3.4, MS-NRPC 3.1.4
-and the layouts of C706 12.6, beside a controller and clients that answer by the same rules, and with messages that other implementations wrote.
+The actions are worked out here by the rules of docs/FORMATS.md ("The member", "The shared channel"), MS-NLMP 3.2.5, 3.3
+and 3.4, MS-NRPC 3.1.4 and the layouts of C706 12.6, beside a controller and clients that answer by the same rules, and
+with messages that other implementations wrote.
 """
 
 import channel_client
@@ -463,7 +466,8 @@ def client_of(link, **plan):
 
 
 def authenticate(member, link=1, client=None, receive=LIMIT, **plan):
-    """A client's bind and its AUTHENTICATE message, without what follows it; and the rest that it sends. The client receives fragments of that size."""
+    """A client's bind and its AUTHENTICATE message, without what follows it; and the rest that it sends. The client
+    receives fragments of that size."""
     client = client_of(link, **plan) if client is None else client
     member.opened(link).bytes(changed(client.sent(), 18, le(receive, 2)), link)
     client.bytes(member.sent(link), link)
@@ -490,7 +494,8 @@ PLANS = logon_client.PLANS
 
 
 def carried(users, machines=(FILE1,), **plan):
-    """The lines of a member, a client and a controller, between which each send is carried until the client has its outcome."""
+    """The lines of a member, a client and a controller, between which each send is carried until the client has its
+    outcome."""
     member, controller = begun(), controller_of(users, machines).at(NOW)
     client, rest = let_in(member, controller, **plan)
     while rest:
@@ -535,7 +540,8 @@ def turn_cases():
         member.bytes(rest, number)
         client.bytes(member.sent(number), number)
     out += [member.case(), controller.case()]
-    # held requests: two whole ones, one in two fragments, answered in their order after In, and by as many faults as units after Out
+    # held requests: two whole ones, one in two fragments, answered in their order after In, and by as many faults as
+    # units after Out
     for users in ((ANN,), ()):
         for plan in ({"level": 2}, {"level": 5}, {"level": 6}):
             member, controller = begun(), controller_of(users).at(NOW)
@@ -627,7 +633,8 @@ def order_cases():
 
 
 def still_cases():
-    """Events that change nothing: `Stop`, an empty piece, and events on links that aren't open; in front of a logon, within it and behind it."""
+    """Events that change nothing: `Stop`, an empty piece, and events on links that aren't open; in front of a logon,
+    within it and behind it."""
     member, controller = begun(), controller_of().at(NOW)
     member.stop().bytes(b"").bytes(b"x").closed().dialled(1).failed().wants().opened().bytes(b"").stop().wants()
     assert set(member.answers[1:]) == {"-", "None"}
@@ -790,7 +797,8 @@ def message_cases():
 
 
 def foreign_cases():
-    """Clients of other implementations, beside a controller with their accounts: their NEGOTIATE and AUTHENTICATE messages, at each level."""
+    """Clients of other implementations, beside a controller with their accounts: their NEGOTIATE and AUTHENTICATE
+    messages, at each level."""
     out = []
     found = values("messages")
     offers = {case["name"].removeprefix("NEGOTIATE of "): bytes.fromhex(case["message"]) for case in found["negotiate"]}
@@ -849,7 +857,8 @@ def request_cases():
                 member, client = ready()
                 unit = whole(REQUEST, call=3, hint=0, context=0, opnum=0, stub=b"", trailer=trailer)
                 out.append(member.bytes(write_unit(unit)).case())
-        # a request in fragments, and its reply in as many as the client's size makes it; and fragments out of their places
+        # a request in fragments, and its reply in as many as the client's size makes it; and fragments out of their
+        # places
         stub = le(4000, 4) + bytes(place % 251 for place in range(4000))
         for receive in (0, 1432, 2000, 5840):
             member, client = ready(receive=receive)

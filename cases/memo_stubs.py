@@ -1,11 +1,15 @@
 """Cases of memo_stubs.
 
-`memo.who STUB`, `memo.echo_request STUB`, `memo.echo_reply STUB`: what is read of the reply of WhoAmI, of the request and of the reply of Echo;
-`memo.who_of UNITS`, `memo.echo_request_of BYTES`, `memo.echo_reply_of BYTES`: the stub written, where it may be written; `memo.who_again STUB`,
-`memo.echo_request_again STUB`, `memo.echo_reply_again STUB`: the stub written of what is read. Units are UTF-16LE in hex.
+`memo.who STUB`, `memo.echo_request STUB`, `memo.echo_reply STUB`: what is read of the reply of WhoAmI, of the request
+and of the reply of Echo;
+`memo.who_of UNITS`, `memo.echo_request_of BYTES`, `memo.echo_reply_of BYTES`: the stub written, where it may be
+written; `memo.who_again STUB`,
+`memo.echo_request_again STUB`, `memo.echo_reply_again STUB`: the stub written of what is read. Units are UTF-16LE in
+hex.
 
-The memo interface is this project's own choice, and so are its layouts: a `string` (C706 14.3.4.2) and a status of 0; a count of at most 4,096 and so
-many bytes; the same and a status of 0, aligned to 4. All are worked out here from the rules of docs/FORMATS.md.
+The memo interface is this project's own choice, and so are its layouts: a `string` (C706 14.3.4.2) and a status of 0; a
+count of at most 4,096 and so many bytes; the same and a status of 0, aligned to 4. All are worked out here from the
+rules of docs/FORMATS.md.
 """
 
 from forms import blob, err, line, ok, units_of

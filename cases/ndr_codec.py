@@ -1,15 +1,18 @@
 """Cases of ndr_codec.
 
-`ndr.read STUB STEP ..`: what a reader gives at each step, and where it then stands: `byte`, `short`, `long`, `pointer`, `text`, `sid`, `take/COUNT`,
-`counted/LENGTH`, `counted_bytes/LENGTH`; a length is the one that the head of a counted string tells, in bytes. Parts of several items are steps
-too: `some_pointer`, `unique_text`, `halves`, `reserved/COUNT`, `head/SIZE` of items of so many bytes, and the targets of a head, `units/LENGTH/THERE`
-and `bytes/LENGTH/THERE`, where THERE is 1 or 0.
-`ndr.write STEP ..`: the stub of these items: `byte/NUMBER`, `short/NUMBER`, `long/NUMBER`, `raw/BYTES`, `pointer/1` or `pointer/0`, `text/UNITS`,
-`counted/UNITS`, `counted_bytes/BYTES`, `sid/TEXT`; units are UTF-16LE in hex. Parts: `unique_text/UNITS` or `unique_text/null`, `halves/NUMBER`,
+`ndr.read STUB STEP ..`: what a reader gives at each step, and where it then stands: `byte`, `short`, `long`, `pointer`,
+`text`, `sid`, `take/COUNT`,
+`counted/LENGTH`, `counted_bytes/LENGTH`; a length is the one that the head of a counted string tells, in bytes. Parts
+of several items are steps too: `some_pointer`, `unique_text`, `halves`, `reserved/COUNT`, `head/SIZE` of items of so
+many bytes, and the targets of a head, `units/LENGTH/THERE` and `bytes/LENGTH/THERE`, where THERE is 1 or 0.
+`ndr.write STEP ..`: the stub of these items: `byte/NUMBER`, `short/NUMBER`, `long/NUMBER`, `raw/BYTES`, `pointer/1` or
+`pointer/0`, `text/UNITS`,
+`counted/UNITS`, `counted_bytes/BYTES`, `sid/TEXT`; units are UTF-16LE in hex. Parts: `unique_text/UNITS` or
+`unique_text/null`, `halves/NUMBER`,
 `reserved/COUNT`, `units_head/UNITS`, `bytes_head/BYTES`, `units/UNITS`, `bytes/BYTES`.
 
-Walks through foreign stubs are worked out by the layouts of C706 14.2 and 14.3, MS-DTYP 2.3.10 and 2.4.2.3 from the published fields, and so are
-refusals, by the rules of docs/FORMATS.md.
+Walks through foreign stubs are worked out by the layouts of C706 14.2 and 14.3, MS-DTYP 2.3.10 and 2.4.2.3 from the
+published fields, and so are refusals, by the rules of docs/FORMATS.md.
 """
 
 import random
@@ -206,8 +209,8 @@ class PartReader(Reader):
 
 
 class Writer:
-    """Writes items of a stub one after the other, and keeps the steps. Padding is zeros, a maximum the actual count, and referents are 0x00020000 and
-    4 more for each next one."""
+    """Writes items of a stub one after the other, and keeps the steps. Padding is zeros, a maximum the actual count,
+    and referents are 0x00020000 and 4 more for each next one."""
 
     def __init__(self):
         self.stub, self.pointers, self.words = b"", 0, []
@@ -313,7 +316,8 @@ class PartWriter(Writer):
         self.part(f"bytes/{compact(data)}", lambda: Writer.bytes(self, data))
 
 
-# Refused items worked out by hand: the bytes in front, the step, the stub, and the refusal with the place where the item begins.
+# Refused items worked out by hand: the bytes in front, the step, the stub, and the refusal with the place where the
+# item begins.
 REFUSED = [
     (0, ("byte",), "", "Ends(0)"),
     (3, ("byte",), "010203", "Ends(3)"),
@@ -347,7 +351,8 @@ REFUSED = [
     (0, ("counted", 3), "0100000000000000010000004100", "BadCount(0)"),
 ]
 
-# The end of a logon reply of Samba from the server's name on, the same from the identifier on, and the end of a reply of Samba's controller.
+# The end of a logon reply of Samba from the server's name on, the same from the identifier on, and the end of a reply
+# of Samba's controller.
 ENDS = [
     ("040000000000000003000000500044004300000005000000000000000400000043004f0052005000040000000104000000000005150000000100000002000000030000000100000000000000", [("counted", 6), ("counted", 8), ("sid",), ("byte",), ("long",)]),
     ("040000000104000000000005150000000100000002000000030000000100000000000000", [("sid",), ("byte",), ("long",)]),

@@ -1,12 +1,14 @@
 """Cases of nt_top.
 
-`top.run ROLE FAILING WORD..` (the exit, its status, its line, what was put as text, and that all that the outside in memory kept is still
-told; `-` is an empty word), `top.narrow ROLE FAILING WORD..` (the same over a sink that takes at most three bytes of a piece),
-`top.exit NAME NUMBER` (the exit, its status and its line), `top.say FAILING NAME NUMBER` (the status of the exit that is reported to a sink of
-errors, and what was put). FAILING are the numbers of the sink's calls that fail.
+`top.run ROLE FAILING WORD..` (the exit, its status, its line, what was put as text, and that all that the outside in
+memory kept is still told; `-` is an empty word), `top.narrow ROLE FAILING WORD..` (the same over a sink that takes at
+most three bytes of a piece),
+`top.exit NAME NUMBER` (the exit, its status and its line), `top.say FAILING NAME NUMBER` (the status of the exit that
+is reported to a sink of errors, and what was put). FAILING are the numbers of the sink's calls that fail.
 
-The commands, exits and lines are this project's own choice (docs/FORMATS.md, "Commands, exits and what is printed"); whether a response
-stands is a published value. What a drill counts is what the world of `domain_world` counts, which is Python's.
+The commands, exits and lines are this project's own choice (docs/FORMATS.md, "Commands, exits and what is printed");
+whether a response stands is a published value. What a drill counts is what the world of `domain_world` counts, which is
+Python's.
 """
 
 import struct
@@ -27,7 +29,8 @@ MEMBER, LOGON, CONTROLLER = "member", "logon", "controller"
 
 
 def authenticate(flags, lm, nt, domain, user, workstation, key=b""):
-    """An AUTHENTICATE message (MS-NLMP 2.2.1.3) without version and checksum: the names, the responses and the key, without gaps."""
+    """An AUTHENTICATE message (MS-NLMP 2.2.1.3) without version and checksum: the names, the responses and the key,
+    without gaps."""
     fields = {"domain": domain, "user": user, "workstation": workstation, "lm": lm, "nt": nt, "key": key}
     places, at = {}, 64
     for name, value in fields.items():
@@ -133,7 +136,8 @@ def of_checks():
         (check(MESSAGE_V2), ACCEPTED),
         (check(MESSAGE_V2, "0123456789abcdee"), REFUSED),
         (check(MESSAGE_V2, nt_hash=altered(HASH)), REFUSED),
-        # The response with extended session security counts so only under the flag and beside an LM response of 24 bytes.
+        # The response with extended session security counts so only under the flag and beside an LM response of 24
+        # bytes.
         (check(of_user(PLAIN, ESS_LM, ESS)), REFUSED),
         (check(of_user(EXTENDED, "", ESS)), REFUSED),
         # An empty response, and one byte too much.
@@ -198,7 +202,8 @@ def fields_of(found, *names):
 
 
 def of_recorded_links():
-    """The messages of two recorded links between Samba's client and its controller: the response answers that link's challenge alone."""
+    """The messages of two recorded links between Samba's client and its controller: the response answers that link's
+    challenge alone."""
     out = []
     for session in values("units")["sessions"]:
         messages = recorded_messages(session)
@@ -311,16 +316,21 @@ def of_sinks():
     # The refusal of a response comes to its exit only where its line was put.
     wrong = ["check", HASH, "0123456789abcdee", MESSAGE]
     out.append((run(MEMBER, *wrong, operation="top.narrow"), REFUSED))
-    out.append((run(MEMBER, *wrong, failing="2", operation="top.narrow"), end("SinkFault", put="refuse")))
+    for call in range(3):
+        out.append((run(MEMBER, *wrong, failing=str(call), operation="top.narrow"), end("SinkFault", put="refused\n"[: 3 * call])))
     # Nothing is put where the words aren't of their form, so that no fault of the sink comes.
     out.append((run(MEMBER, "check", failing="0"), end("BadWords", 0)))
     out.append((run(LOGON, "show", "", failing="0"), end("BadInput", 1)))
     of_message = shown(1, "00008207", [("domain", ""), ("workstation", "")])
     shows = ["show", "4e544c4d535350000100000007820000"]
-    for call in [0, 1, 7, (len(of_message) - 1) // 3]:
+    for call in range(-(-len(of_message) // 3)):
         answer = end("SinkFault", put=of_message[: 3 * call])
         out.append((run(LOGON, *shows, failing=str(call), operation="top.narrow"), answer))
     out.append((run(LOGON, *shows, operation="top.narrow"), end("Done", put=of_message)))
+    # Over a sink that takes all of a piece, each put of the message's lines.
+    for call in range(2):
+        done = call > 0
+        out.append((run(LOGON, *shows, failing=str(call)), end("Done" if done else "SinkFault", put=of_message if done else "")))
     return out
 
 
@@ -354,7 +364,7 @@ def of_drills():
     # A sink that takes three bytes at a time has a front of the lines where it fails.
     words = ["drill", "--number", "1", "--moves", "1"]
     out.append((run(LOGON, *words, operation="top.narrow"), end("Done", put=none)))
-    for call in [0, 1, 7, (len(none) - 1) // 3]:
+    for call in range(-(-len(none) // 3)):
         out.append((run(LOGON, *words, failing=str(call), operation="top.narrow"), end("SinkFault", put=none[: 3 * call])))
     return out
 

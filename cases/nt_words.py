@@ -1,11 +1,12 @@
 """Cases of nt_words.
 
-`jobs.job ROLE WORD..` (what the words ask for, or why they aren't of the form; `-` is an empty word, and `COUNT*TEXT` so many times the
-text), `jobs.files ROLE FAILING FILES WORD..` (what the files of the words' job come to, over files in memory of `NAME=BYTES` between commas,
-of which the calls FAILING fail: a controller's domain and seed, a secret and a seed, or the exit, its status and its line; and that all that
-was kept is still told).
+`jobs.job ROLE WORD..` (what the words ask for, or why they aren't of the form; `-` is an empty word, and `COUNT*TEXT`
+so many times the text), `jobs.files ROLE FAILING FILES WORD..` (what the files of the words' job come to, over files in
+memory of `NAME=BYTES` between commas, of which the calls FAILING fail: a controller's domain and seed, a secret and a
+seed, or the exit, its status and its line; and that all that was kept is still told).
 
-The commands, their options and the forms of files are this project's own choice (docs/FORMATS.md, "Commands, exits and what is printed").
+The commands, their options and the forms of files are this project's own choice (docs/FORMATS.md, "Commands, exits and
+what is printed").
 """
 
 from documents import ANN, FILE1, document, name
@@ -386,8 +387,9 @@ def of_no_files():
 
 
 def of_runs():
-    """The top call judges the words of the commands, and puts nothing where they aren't of their form: a sink that fails isn't asked. The words of a
-    controller, of a member server and of a logon run, and the first of their files isn't there. A drill runs, and the sink fails."""
+    """The top call judges the words of the commands, and puts nothing where they aren't of their form: a sink that
+    fails isn't asked. The words of a controller, of a member server and of a logon run, and the first of their files
+    isn't there. A drill runs, and the sink fails."""
     out = [(run(LOGON, "drill", "--number", "1", "--moves", "100001", failing="0"), end("BadWords", 2))]
     for role, first, usual, options in COMMANDS.values():
         short = {**usual, "moves": "1"} if first == "drill" else usual

@@ -1,17 +1,20 @@
 """Cases of ntlm_messages.
 
-For each of `negotiate`, `challenge` and `authenticate`: `messages.KIND BYTES`: the message that is read; `messages.KIND_view BYTES`: the same as
-a view that lends its parts; `messages.KIND_again BYTES`: the bytes written of the message that is read.
-`messages.negotiate_of FLAGS DOMAIN WORKSTATION VERSION`, `messages.challenge_of FLAGS TARGET CHALLENGE INFO VERSION` and
-`messages.authenticate_of FLAGS LM NT DOMAIN USER WORKSTATION KEY VERSION MIC`: the bytes written of these fields, where they may be written; flags
-are 8 hex digits, and a version or a message integrity code that isn't there is `-`.
-`messages.pairs BYTES`: the AV_PAIRs that are read; `messages.pairs_again BYTES`: the bytes written of them; `messages.pairs_of ID=BYTES ..`: the
-bytes written of these pairs, where they may be written. `messages.pair_value ID BYTES`: the value of the first pair of an id, of pairs that are
-read; `messages.timestamp BYTES`: the time in them.
-`messages.text FLAGS BYTES`: a text field as units; `messages.read_text FLAGS BYTES`: the same of a message that was read, whose texts are even.
+For each of `negotiate`, `challenge` and `authenticate`: `messages.KIND BYTES`: the message that is read;
+`messages.KIND_view BYTES`: the same as a view that lends its parts; `messages.KIND_again BYTES`: the bytes written of
+the message that is read.
+`messages.negotiate_of FLAGS DOMAIN WORKSTATION VERSION`, `messages.challenge_of FLAGS TARGET CHALLENGE INFO VERSION`
+and
+`messages.authenticate_of FLAGS LM NT DOMAIN USER WORKSTATION KEY VERSION MIC`: the bytes written of these fields, where
+they may be written; flags are 8 hex digits, and a version or a message integrity code that isn't there is `-`.
+`messages.pairs BYTES`: the AV_PAIRs that are read; `messages.pairs_again BYTES`: the bytes written of them;
+`messages.pairs_of ID=BYTES ..`: the bytes written of these pairs, where they may be written. `messages.pair_value ID
+BYTES`: the value of the first pair of an id, of pairs that are read; `messages.timestamp BYTES`: the time in them.
+`messages.text FLAGS BYTES`: a text field as units; `messages.read_text FLAGS BYTES`: the same of a message that was
+read, whose texts are even.
 
-Fields of foreign messages are the published ones. Of changed messages and of written forms they are worked out here by the layouts of MS-NLMP
-2.2.1, 2.2.1.1 to 2.2.1.3, 2.2.2.1 and the rules of docs/FORMATS.md.
+Fields of foreign messages are the published ones. Of changed messages and of written forms they are worked out here by
+the layouts of MS-NLMP 2.2.1, 2.2.1.1 to 2.2.1.3, 2.2.2.1 and the rules of docs/FORMATS.md.
 """
 
 import random
@@ -22,7 +25,8 @@ from wire import changed, compact, flipped, le, lent, long, short
 SIGNATURE = b"NTLMSSP\0"
 UNICODE, DOMAIN_SUPPLIED, WORKSTATION_SUPPLIED, VERSION = 0x1, 0x1000, 0x2000, 0x02000000
 
-# A message's type, its fixed header, the place of its flags, its fields in the header's order with their places, and the texts among them.
+# A message's type, its fixed header, the place of its flags, its fields in the header's order with their places, and
+# the texts among them.
 KINDS = {
     "negotiate": (1, 16, 12, [("Domain", 16), ("Workstation", 24)], []),
     "challenge": (2, 48, 20, [("Target", 12), ("Info", 40)], ["Target"]),
@@ -42,7 +46,8 @@ class Refused(Exception):
 
 
 def read(kind, data):
-    """The fields of a message, or `Refused`: a short header, the signature, the type, the first field outside, the first odd text."""
+    """The fields of a message, or `Refused`: a short header, the signature, the type, the first field outside, the
+    first odd text."""
     number, least, flags_at, fields, texts = KINDS[kind]
     if len(data) < least:
         raise Refused("ShortHeader")
@@ -161,7 +166,8 @@ def foreign_cases():
 
 
 def recorded_messages(session):
-    """The NEGOTIATE, CHALLENGE and AUTHENTICATE of a recorded link: the values of the trailers of bind, bind_ack and auth3 (C706 13.2.6.1)."""
+    """The NEGOTIATE, CHALLENGE and AUTHENTICATE of a recorded link: the values of the trailers of bind, bind_ack and
+    auth3 (C706 13.2.6.1)."""
     units = [bytes.fromhex(unit["unit"]) for unit in session["units"][:3]]
     return [unit[len(unit) - short(unit, 10):] for unit in units]
 
@@ -178,8 +184,8 @@ def recorded_cases():
     return out
 
 
-# An NTLMv1 AUTHENTICATE of domain `Domain`, user `User` and workstation `COMPUTER`, without an LM response: the NT response is that of MS-NLMP
-# 4.2.2.2.1.
+# An NTLMv1 AUTHENTICATE of domain `Domain`, user `User` and workstation `COMPUTER`, without an LM response: the NT
+# response is that of MS-NLMP 4.2.2.2.1.
 NTLMV1 = write("authenticate", {
     "flags": 0x8201, "Lm": b"", "Nt": bytes.fromhex("67c43011f30298a2ad35ece64f16331c44bdbed927841f94"),
     "Domain": "Domain".encode("utf-16-le"),
@@ -347,7 +353,8 @@ def change_cases():
 
 
 def odd_cases():
-    """Texts of odd length: the first of domain, user and workstation is named where texts are UTF-16LE; responses and keys may have any length."""
+    """Texts of odd length: the first of domain, user and workstation is named where texts are UTF-16LE; responses and
+    keys may have any length."""
     out = []
     plain = {"flags": 0x8201, "Lm": b"l", "Nt": b"n", "Domain": b"", "User": b"", "Workstation": b"", "Key": b"k", "version": None,
              "mic": None}
@@ -368,7 +375,8 @@ def odd_cases():
 
 
 def gap_cases():
-    """Where the first field that isn't empty begins, and whether the version and the message integrity code are there."""
+    """Where the first field that isn't empty begins, and whether the version and the message integrity code are
+    there."""
     out = []
     for kind, size in (("negotiate", 32), ("challenge", 48), ("authenticate", 64)):
         _, _, flags_at, fields, _ = KINDS[kind]
@@ -404,8 +412,8 @@ def words_of(kind, found):
 
 
 def may_be_written(kind, found):
-    """A version only with its flag, a message integrity code only with a version, texts of even length where they are UTF-16LE, and names of
-    NEGOTIATE only with their flags."""
+    """A version only with its flag, a message integrity code only with a version, texts of even length where they are
+    UTF-16LE, and names of NEGOTIATE only with their flags."""
     flags = found["flags"]
     if found["version"] is not None and not flags & VERSION:
         return False

@@ -1,8 +1,10 @@
 """Cases of ntlm_responses.
 
 `responses.nt_hash PASSWORD` (units), `responses.lm_hash PASSWORD` (bytes), `responses.nt_key_v2 HASH USER DOMAIN`,
-`responses.respond_v1 HASH CHALLENGE`, `responses.hashed_challenge CHALLENGE CLIENT`, `responses.respond_v1_ess HASH CHALLENGE CLIENT`,
-`responses.respond_v2 HASH USER DOMAIN CHALLENGE TIME CLIENT PAIRS`, `responses.verify HASH USER DOMAIN CHALLENGE NT` (the base key, or
+`responses.respond_v1 HASH CHALLENGE`, `responses.hashed_challenge CHALLENGE CLIENT`, `responses.respond_v1_ess HASH
+CHALLENGE CLIENT`,
+`responses.respond_v2 HASH USER DOMAIN CHALLENGE TIME CLIENT PAIRS`, `responses.verify HASH USER DOMAIN CHALLENGE NT`
+(the base key, or
 `none`), `responses.challenge_for FLAGS CHALLENGE LM NT`, `responses.exchange_key BASE FLAGS CHALLENGE LM NT` and
 `responses.exported_key EXCHANGE FLAGS KEY` (the key, or `none`).
 """
@@ -97,8 +99,8 @@ def of_v1_ess(case):
     for session in ess["sessions"]:
         key, exported = session["encrypted_session_key"], session["exported_key"]
         out += of_logon(case, ess, session["flags"], key, exported, lm, hashed)
-    # Without the flag, or with an LM response that hasn't 24 bytes, the server's challenge is answered, and the exchange key is the
-    # base key.
+    # Without the flag, or with an LM response that hasn't 24 bytes, the server's challenge is answered, and the
+    # exchange key is the base key.
     flags = ess["sessions"][0]["flags"]
     without = f"{int(flags, 16) & ~EXTENDED_SESSIONSECURITY:08x}"
     for other_flags, other_lm in [(without, lm), (flags, ""), (flags, lm[:-2]), (flags, lm + "00")]:
@@ -157,7 +159,8 @@ def of_lengths(case):
 
 
 def of_message(case):
-    """The responses and keys of another client's message (MS-NLMP 3.3 and 3.4.5.1): the base and exchange keys by Python's HMAC-MD5."""
+    """The responses and keys of another client's message (MS-NLMP 3.3 and 3.4.5.1): the base and exchange keys by
+    Python's HMAC-MD5."""
     fields, nt_hash = case["fields"], case["nt_hash"]
     # Names are UTF-16LE under flag NTLMSSP_NEGOTIATE_UNICODE, and ASCII else.
     is_unicode = int(fields["flags"], 16) & 1

@@ -1,8 +1,8 @@
 """Cases of ntlm_seal.
 
 `seal.run EXPORTED FLAGS SIDE STEP..`, whose steps are `sign,UNIT` (the signature), `check,UNIT,SIGNATURE` (the answer),
-`seal,UNIT,FROM,TO` (the signature and the sealed unit) and `open,UNIT,FROM,TO,SIGNATURE` (the answer and what the unit then is). The
-answers stand with `;` between them.
+`seal,UNIT,FROM,TO` (the signature and the sealed unit) and `open,UNIT,FROM,TO,SIGNATURE` (the answer and what the unit
+then is). The answers stand with `;` between them.
 """
 
 from forms import err, line, ok, values
@@ -83,7 +83,8 @@ def of_session(session):
 
 
 def of_refusals(session):
-    """A unit that comes twice, out of order, with another version or another checksum; each refusal breaks the session."""
+    """A unit that comes twice, out of order, with another version or another checksum; each refusal breaks the
+    session."""
     first, second = session["client_sealed"]
     version = altered(first["signature"], 0)
     checksum = altered(first["signature"], 4)
@@ -114,7 +115,8 @@ def of_refusals(session):
 
 
 def of_message(case):
-    """The units that another client sealed after its message, whole: as it sealed them, and as the server opens them."""
+    """The units that another client sealed after its message, whole: as it sealed them, and as the server opens
+    them."""
     units = [
         {
             "unit": each["plain"],

@@ -1,11 +1,13 @@
 """Cases of outside: the implementations in memory, a scenario a line.
 
-`outside.sink FAILING PIECE..`, `outside.sure_sink PIECE..` (each answer, then the bytes kept), `outside.clock FIRST LATER COUNT` (so many
-moments), `outside.list_chances DRAWS STEP..` and `outside.counter_chances STEP..` (`next` or `start,SEED,BOOT`),
-`outside.files FILES FAILING NAME..` (files as `NAME:CONTENT`), `outside.port EVENTS FAILING STEP..` (steps
-`listen,ADDRESS`, `next`, `next,WANT`, `dial,PEER`, `send,LINK,BYTES`, `close,LINK`; then the sends kept), `outside.sure_port EVENTS
-STEP..`, `outside.event EVENT` (its copy). FAILING are the numbers of the calls that fail, lists stand between commas. The last answer of each scenario says that what was
-kept is still told.
+`outside.sink FAILING PIECE..`, `outside.sure_sink PIECE..` (each answer, then the bytes kept), `outside.clock FIRST
+LATER COUNT` (so many moments), `outside.list_chances DRAWS STEP..` and `outside.counter_chances STEP..` (`next` or
+`start,SEED,BOOT`),
+`outside.files FILES FAILING STEP..` (files as `NAME:CONTENT`, a step `NAME` to read or `NAME=CONTENT` to write),
+`outside.port EVENTS FAILING STEP..` (steps
+`listen,ADDRESS`, `next`, `next,WANT`, `dial,PEER`, `send,LINK,BYTES`, `close,LINK`; then the sends kept),
+`outside.sure_port EVENTS STEP..`, `outside.event EVENT` (its copy). FAILING are the numbers of the calls that fail,
+lists stand between commas. The last answer of each scenario says that what was kept is still told.
 
 What each does is this project's own choice (the crate's own text); the challenge maker's draws are published values.
 """
@@ -119,6 +121,41 @@ def of_files():
         reads = [hexed(name) for name in names]
         out.append((line("outside.files", words, listed, *reads), answers(*told, TOLD)))
     out.append((line("outside.files", "", "", hexed("a")), answers(FAILED, TOLD)))
+    return out + of_writes()
+
+
+def of_writes():
+    """A write replaces the first file of its name, or is a new file; a listed call fails and leaves every file; calls
+    of both kinds are counted together."""
+    files = [("a", "1"), ("b", "2"), ("a", "3")]
+    words = ",".join(f"{hexed(name)}:{hexed(content)}" for name, content in files)
+    out = []
+    for failing, steps in [
+        ([], [("a", "new"), "a", "b", ("b", ""), "b", "a"]),
+        ([], ["c", ("c", "more"), "c", ("c", "most"), "c", ("", "of no name"), ""]),
+        ([0, 2], [("a", "lost"), "a", "a", "a", ("a", "kept"), "a"]),
+        ([1], [("c", "kept"), ("c", "lost"), "c"]),
+    ]:
+        first = [list(file) for file in files]
+        told, asked = [], []
+        for number, step in enumerate(steps):
+            name = step if isinstance(step, str) else step[0]
+            places = [at for at, (each, _) in enumerate(first) if each == name]
+            if isinstance(step, str):
+                asked.append(hexed(name) or "-")
+                fails = number in failing or not places
+                told.append(FAILED if fails else ok(blob(first[places[0]][1].encode().hex())))
+                continue
+            asked.append(f"{hexed(name) or '-'}={hexed(step[1]) or '-'}")
+            told.append(FAILED if number in failing else ok("()"))
+            if number in failing:
+                continue
+            if places:
+                first[places[0]][1] = step[1]
+            else:
+                first.append([name, step[1]])
+        listed = ",".join(str(number) for number in failing)
+        out.append((line("outside.files", words, listed, *asked), answers(*told, TOLD)))
     return out
 
 
@@ -176,7 +213,8 @@ def of_ports():
     ]:
         out.append((line("outside.port", listed, "", *steps), answers(*told, TOLD)))
         out.append((line("outside.sure_port", listed, *steps), answers(*told, TOLD)))
-    # Events that a script doesn't have: links from 1000 on are those that dials give, and dials are answered where they are made.
+    # Events that a script doesn't have: links from 1000 on are those that dials give, and dials are answered where they
+    # are made.
     for listed in ["opened:1000", "opened:1,opened:4294967295", "dialled:7", "dial_failed", "stop,dialled:1000"]:
         out.append((line("outside.port", listed, "", "next"), "not to be listed"))
         out.append((line("outside.sure_port", listed, "next"), "not to be listed"))

@@ -1,7 +1,7 @@
 """Cases of rc4_stream.
 
-`rc4.apply KEY USED TEXT`: what the key's stream makes of a text after as many bytes of it are used; `rc4.twice KEY AT TEXT`: the same
-from the stream's begin, in two parts that meet at a place.
+`rc4.apply KEY USED TEXT`: what the key's stream makes of a text after as many bytes of it are used; `rc4.twice KEY AT
+TEXT`: the same from the stream's begin, in two parts that meet at a place.
 """
 
 from forms import line, values

@@ -1,26 +1,30 @@
 """Cases of rpc_units.
 
-`units.read BYTES`: the unit that is read; `units.view BYTES`: the same as a view that lends its parts; `units.copy BYTES`: that view copied; `units.again BYTES`: the bytes written of
-the unit that is read, where it may be written; `units.range BYTES`: the range that is sealed; `units.value BYTES VALUE`: the unit with another
-authentication value.
+`units.read BYTES`: the unit that is read; `units.view BYTES`: the same as a view that lends its parts; `units.copy
+BYTES`: that view copied; `units.again BYTES`: the bytes written of the unit that is read, where it may be written;
+`units.range BYTES`: the range that is sealed; `units.value BYTES VALUE`: the unit with another authentication value.
 `units.of UNIT`: the bytes written of a unit, where it may be written.
 `units.cut LIMIT UNIT`: the fragments of a whole call: FIRST and LAST, the bytes of the stub, and the unit written.
-`units.join UNIT ..`: what a joiner gives of each unit, one after the other; `units.join_read BYTES ..`: the same of units that are read;
-`units.join_view BYTES ..`: the same of views; `units.cut_and_join LIMIT UNIT`: the same of the fragments of a whole call.
-A step of a joiner is answered with the bytes of the stub that is open behind it.
-`units.stream PIECE ..`: what comes on a stream of these pieces, each unit with its bytes, up to a refusal. `units.whole PIECE ..`: its units and the
-refusal of what is behind them.
-`units.flow STEP ..`: the calls of a stream one by one: `fill/BYTES` how many bytes are taken, `next` what is in front, `take` the same and the unit
-taken out, `value/BYTES` the same with the unit's value replaced where it lies, `held` how many bytes are held.
+`units.join UNIT ..`: what a joiner gives of each unit, one after the other; `units.join_read BYTES ..`: the same of
+units that are read;
+`units.join_view BYTES ..`: the same of views; `units.cut_and_join LIMIT UNIT`: the same of the fragments of a whole
+call. A step of a joiner is answered with the bytes of the stub that is open behind it.
+`units.stream PIECE ..`: what comes on a stream of these pieces, each unit with its bytes, up to a refusal. `units.whole
+PIECE ..`: its units and the refusal of what is behind them.
+`units.flow STEP ..`: the calls of a stream one by one: `fill/BYTES` how many bytes are taken, `next` what is in front,
+`take` the same and the unit taken out, `value/BYTES` the same with the unit's value replaced where it lies, `held` how
+many bytes are held.
 
-A unit is a word of fields, joined by commas: the kind, the flags (1 FIRST, 2 LAST), the call, the trailer (`-`, or kind, level, context and value,
-joined by `/`), and then of `request`: hint, context, opnum, stub; `response`: hint, context, stub; `fault`: hint, context, status; `nak`: reason;
-`auth3`: nothing; `bind`: send and receive size, group, contexts; `ack`: the same with results. Contexts and results are `-` or joined by `:`, each
-with `COUNT*` in front where it stands more than once: id, abstract syntax and transfer syntaxes, or result, reason and syntax, joined by `/`. A
-syntax is its UUID in hex, a point and its version. A whole call that was joined is answered as such a word.
+A unit is a word of fields, joined by commas: the kind, the flags (1 FIRST, 2 LAST), the call, the trailer (`-`, or
+kind, level, context and value, joined by `/`), and then of `request`: hint, context, opnum, stub; `response`: hint,
+context, stub; `fault`: hint, context, status; `nak`: reason;
+`auth3`: nothing; `bind`: send and receive size, group, contexts; `ack`: the same with results. Contexts and results are
+`-` or joined by `:`, each with `COUNT*` in front where it stands more than once: id, abstract syntax and transfer
+syntaxes, or result, reason and syntax, joined by `/`. A syntax is its UUID in hex, a point and its version. A whole
+call that was joined is answered as such a word.
 
-Fields of foreign units are the published ones. Of changed units and of written forms they are worked out here by the layouts of C706 12.6.3 and
-12.6.4, MS-RPCE 2.2.2 and the table of refusals in docs/FORMATS.md.
+Fields of foreign units are the published ones. Of changed units and of written forms they are worked out here by the
+layouts of C706 12.6.3 and 12.6.4, MS-RPCE 2.2.2 and the table of refusals in docs/FORMATS.md.
 """
 
 import random
@@ -165,7 +169,8 @@ def written_body(unit):
 
 
 def may_be_written(unit):
-    """A unit that comes in one piece has FIRST and LAST, a context at most 255 transfer syntaxes, and a trailer a value."""
+    """A unit that comes in one piece has FIRST and LAST, a context at most 255 transfer syntaxes, and a trailer a
+    value."""
     if unit["kind"] not in (REQUEST, RESPONSE) and not (unit["first"] and unit["last"]):
         return False
     if unit["trailer"] is not None and not unit["trailer"][3]:
@@ -358,6 +363,26 @@ REFUSED = [
 ]
 
 
+# A bind as it stands in the worked example of docs/FORMATS.md.
+PLAIN_BIND = bytes.fromhex(
+    "05000b031000000048000000" "01000000" "d016d0160000000001000000" "00000100785634123412cdabef0001234567cffb01000000"
+    "045d888aeb1cc9119fe808002b10486002000000"
+)
+
+# A place of that bind, the byte that stands there instead, and the refusal by the table of docs/FORMATS.md: another
+# version, numbers whose high byte comes first, a fragment length of 15, a kind that there is not, an authentication
+# value of 255 bytes where 44 follow the shortest body, two contexts where one is, and no LAST.
+REFUSED_BINDS = [
+    (0, 0x04, "BadVersion"),
+    (4, 0x00, "BadRepresentation"),
+    (8, 0x0F, "BadLength"),
+    (2, 0x01, "BadType(1)"),
+    (10, 0xFF, "BadTrailer"),
+    (24, 0x02, "BadBody"),
+    (3, 0x01, "BadBody"),
+]
+
+
 # ---- cases of one unit
 
 
@@ -449,7 +474,8 @@ def foreign_cases():
                 bounds = case["sealed_from"], case["sealed_to"]
                 agree(lambda: sealed_range(data), bounds, session["name"])
                 out.append((line("units.range", compact(data)), f"Some({bounds})"))
-                # The plain unit with the value of the sealed one behind it has the same range, and its stub is the plain one.
+                # The plain unit with the value of the sealed one behind it has the same range, and its stub is the
+                # plain one.
                 plain = bytes.fromhex(case["plain_unit_before_value"]) + data[-16:]
                 stub = bytes.fromhex(case["plain_stub"])
                 agree(lambda: read(plain)["stub"], stub, session["name"])
@@ -467,6 +493,10 @@ def worked_cases():
         assert read_case(bytes.fromhex(data))[1] == err(refused), name
         out.append((line("units.read", data), err(refused)))
         out.append((line("units.view", data), err(refused)))
+    for place, byte, refused in REFUSED_BINDS:
+        data = changed(PLAIN_BIND, place, bytes([byte]))
+        assert read_case(data)[1] == err(refused), refused
+        out += [(line("units.read", data), err(refused)), (line("units.view", data), err(refused))]
     # a bind for Netlogon and its answer
     for unit in (bind([(0, NETLOGON, [NDR])]), ack([(0, 0, NDR)])):
         data = write(unit)
@@ -999,7 +1029,8 @@ def stream_cases():
     three = binds + sealed + fault
     for pieces in ([three], in_pieces(three, 1), in_pieces(three, 3), [b"", three], [three[:50], b"", three[50:]], [b""], [b"", b""]):
         out.append(stream_case(pieces))
-    # a refused unit ends the stream however it is cut; by its header as soon as 16 bytes are there, by what follows once it is whole
+    # a refused unit ends the stream however it is cut; by its header as soon as 16 bytes are there, by what follows
+    # once it is whole
     bad = {
         "version": b"\x04" + fault[1:], "minor": changed(fault, 1, b"\x02"), "representation": changed(fault, 4, b"\x00"),
         "length 15": changed(fault, 8, le(15, 2)),

@@ -1,13 +1,15 @@
 """Cases of the commands that serve, as `nt_top` runs them over the outside in memory.
 
-`serves.run EVENTS FAILING FAILING_READS FAILING_PUTS DRAWS FILES ROLE WORD..`: the exit, its status and its line; what was put as text; what was sent,
-`LINK:BYTES`; and that all that the outside in memory kept is still told. Calls of the port are counted from 0, `listen` among them, and those of files and
-sink each from 0.
+`serves.run EVENTS FAILING FAILING_READS FAILING_PUTS DRAWS FILES ROLE WORD..`: the exit, its status and its line; what
+was put as text; what was sent,
+`LINK:BYTES`; and that all that the outside in memory kept is still told. Calls of the port are counted from 0, `listen`
+among them, and those of files and sink each from 0.
 
-The bind is one of C706 12.6.4.3 for Netlogon's interface (MS-NRPC 3.5), and its answer and the fault are units of C706 12.6.4.4 and 12.6.4.7, written here byte by byte. What is
-sent and put for calls is worked out by the controller of `domain_controller.py`, from the rules of docs/FORMATS.md, MS-NRPC 3.1.4 and 3.5.4 and the layouts of C706 12.6. What a
-member sends and puts is worked out by the member of `member_server.py`, beside that controller and clients of `logon_client.py`: bytes are carried between them, and the member's
-events are given to the program.
+The bind is one of C706 12.6.4.3 for Netlogon's interface (MS-NRPC 3.5), and its answer and the fault are units of C706
+12.6.4.4 and 12.6.4.7, written here byte by byte. What is sent and put for calls is worked out by the controller of
+`domain_controller.py`, from the rules of docs/FORMATS.md, MS-NRPC 3.1.4 and 3.5.4 and the layouts of C706 12.6. What a
+member sends and puts is worked out by the member of `member_server.py`, beside that controller and clients of
+`logon_client.py`: bytes are carried between them, and the member's events are given to the program.
 """
 
 import re
@@ -120,7 +122,8 @@ def line_put(action):
 
 
 def played(end, exit_text=DONE, done=None, puts=""):
-    """A case of a served controller, by what `domain_controller.py` says of its events: of its actions that many are done, or all."""
+    """A case of a served controller, by what `domain_controller.py` says of its events: of its actions that many are
+    done, or all."""
     events = ",".join([word.replace("/", ":") for word in end.words[3:]] + ["stop"])
     actions = [action for answer in end.answers for action in answer.split(",")][:done]
     sent = ",".join(action[5:].replace(" ", ":") for action in actions if action.startswith("send ")) or "-"
@@ -141,11 +144,13 @@ def stopped(end, put):
 
 
 def of_challenges():
-    """A challenge is drawn for each first call of a channel and for nothing else, and the step that finds none left ends the service."""
+    """A challenge is drawn for each first call of a channel and for nothing else, and the step that finds none left
+    ends the service."""
     spent = ending("Spent")
     one = DRAWS[:1]
     return [
-        # What was answered before stands: no body that draws before it serves, or draws without being asked, gives these.
+        # What was answered before stands: no body that draws before it serves, or draws without being asked, gives
+        # these.
         played(Controller(challenges=one).bound().asks().asks(), spent),
         played(Controller(challenges=one).bound().asks()),
         played(Controller(challenges=[]).bound().asks(), spent),
@@ -155,7 +160,8 @@ def of_challenges():
 
 
 def of_lines():
-    """A line is put for each logon call that is judged, before its reply is sent; where the sink fails nothing later is done."""
+    """A line is put for each logon call that is judged, before its reply is sent; where the sink fails nothing later is
+    done."""
     none = lambda: Controller(challenges=DRAWS).bound().logs_on()
     logons = lambda: Controller(challenges=DRAWS).bound().channel_open().logs_on().logs_on("nobody", timestamp=1).logs_on(timestamp=5, info={"nt": b"\x11" * 24})
     barred = Controller(challenges=DRAWS).bound().channel_open()
@@ -188,8 +194,9 @@ def member_line(given, failing="", reads="", puts="", draws="", files=None, **op
 
 
 class Served(Member):
-    """A member over a scripted port: the events of its dials, and of its sends that fail, are made and not given. What is done has the number of its call of the
-    port, of which `listen` is 0 and the `next` of each event given the one before its actions."""
+    """A member over a scripted port: the events of its dials, and of its sends that fail, are made and not given. What
+    is done has the number of its call of the port, of which `listen` is 0 and the `next` of each event given the one
+    before its actions."""
 
     def __init__(self, **plan):
         super().__init__(**{"draws": MEMBER_DRAWS, **plan})
@@ -245,7 +252,8 @@ def line_told(link, outcome):
 
 
 def served(member, exit_text=DONE, done=None, puts="", **how):
-    """A case of a served member, by what `member_server.py` says of its events: of its actions that many are done, or all."""
+    """A case of a served member, by what `member_server.py` says of its events: of its actions that many are done, or
+    all."""
     failing = ",".join(map(str, member.failing))
     put = text(member.puts(done).replace("\\", "\\\\"))
     draws = member.words[4]
@@ -273,7 +281,8 @@ def logs_on(member, controller, link=1, dialled=1000, **plan):
 
 
 def of_member_logons():
-    """Whole logons at each level: with the right password, with a wrong one, of a user who may not, and where nobody is known."""
+    """Whole logons at each level: with the right password, with a wrong one, of a user who may not, and where nobody is
+    known."""
     out = []
     for level, kind in [(6, "v2"), (5, "v1ess"), (2, "v1")]:
         for users, secret in [((ANN,), ANN["hash"]), ((ANN,), "22" * 16), ((ANN | {"disabled": True},), ANN["hash"]), ((), ANN["hash"])]:
@@ -305,7 +314,8 @@ def finished(member, controller, request):
 
 
 def three_at_once():
-    """Three links that ask before the first reply comes: one Challenge, one Authenticate, three Logons, in five dials."""
+    """Three links that ask before the first reply comes: one Challenge, one Authenticate, three Logons, in five
+    dials."""
     member = Served()
     authenticate(member, 1, Client(secret=ANN["hash"]).dialled(1))
     bind = member.dialled(1000).sent(1000)
@@ -317,7 +327,8 @@ def three_at_once():
 
 
 def of_member_turns():
-    """Logons that wait for others, and turns that are lost: at the dial, and at a send that fails; and a send to a client that fails."""
+    """Logons that wait for others, and turns that are lost: at the dial, and at a send that fails; and a send to a
+    client that fails."""
     out = [served(three_at_once())]
     lost = Served()
     authenticate(lost)
@@ -348,7 +359,8 @@ def of_member_turns():
 
 
 def of_member_challenges():
-    """A challenge is drawn for each bind that is answered with one, and for each first call of a channel; the step that finds none left ends the service."""
+    """A challenge is drawn for each bind that is answered with one, and for each first call of a channel; the step that
+    finds none left ends the service."""
     spent = ending("Spent")
     bind = Client().dialled(1).sent()
     out = []
@@ -364,7 +376,8 @@ def of_member_challenges():
 
 
 def of_member_sinks():
-    """A line is put for each outcome, in front of what its step does later; where the sink fails nothing later is done."""
+    """A line is put for each outcome, in front of what its step does later; where the sink fails nothing later is
+    done."""
     out = [sink_fails(three_at_once(), put) for put in range(3)]
     lost = Served()
     authenticate(lost)

@@ -1,4 +1,5 @@
-"""NTLM's keys and sessions, by MS-NLMP 3.3, 3.4 and 3.4.5, for values that follow from a logon; and units of RPC under them (MS-RPCE 2.2.2.11)."""
+"""NTLM's keys and sessions, by MS-NLMP 3.3, 3.4 and 3.4.5, for values that follow from a logon; and units of RPC under
+them (MS-RPCE 2.2.2.11)."""
 
 import hashlib
 import hmac
@@ -133,7 +134,8 @@ class Session:
 
 
 def protected(session, level, context, unit, kind=NTLMSSP):
-    """The bytes of a unit that is sent at the level: signed or sealed with a trailer, of that type and context, or plain without one."""
+    """The bytes of a unit that is sent at the level: signed or sealed with a trailer, of that type and context, or
+    plain without one."""
     if level not in (INTEGRITY, PRIVACY):
         return write_unit(unit)
     unit = unit | {"trailer": (kind, level, context, bytes(16))}

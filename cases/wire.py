@@ -20,7 +20,8 @@ def long(data, at):
 
 
 def compact(data):
-    """Bytes as a word: hex in which a run of 32 equal bytes or more is `COUNT*HEX`, all parts joined by `+`; `-` where there are none."""
+    """Bytes as a word: hex in which a run of 32 equal bytes or more is `COUNT*HEX`, all parts joined by `+`; `-` where
+    there are none."""
     parts = []
     at = 0
     plain = b""

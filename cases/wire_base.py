@@ -2,18 +2,21 @@
 
 `base.u16 BYTES PLACE`, `base.u32 ..`, `base.u64 ..`: the little-endian number at the place.
 `base.blob BYTES`: the bytes copied, then the bytes given back as a vector. `base.blob_back BYTES`: the latter alone.
-`base.list NUMBER ..`: of a list of the numbers, pushed one after the other: whether it is empty before the first and after the last, how many
-there are, each by its place, the one behind the last, and a copy.
+`base.list NUMBER ..`: of a list of the numbers, pushed one after the other: whether it is empty before the first and
+after the last, how many there are, each by its place, the one behind the last, and a copy.
 `base.upper UNIT`: the ASCII upper case of a unit.
-`base.units BYTES`: the text of UTF-16LE bytes, then a duplicate's bytes and its units. `base.units_back BYTES`: the duplicate's bytes alone.
+`base.units BYTES`: the text of UTF-16LE bytes, then a duplicate's bytes and its units. `base.units_back BYTES`: the
+duplicate's bytes alone.
 `base.name BYTES`: the name, then its copy's bytes and its units.
 `base.same BYTES BYTES`: whether two names are the same.
-`base.same_units BYTES UNITS`: whether a name and a text of UTF-16LE are the same name. `base.same_texts UNITS UNITS`: whether two texts are.
+`base.same_units BYTES UNITS`: whether a name and a text of UTF-16LE are the same name. `base.same_texts UNITS UNITS`:
+whether two texts are.
 `base.sid TEXT`: the security identifier that the text writes, then its authority, its numbers and a copy.
 `base.sid_of AUTHORITY NUMBER ..`: the identifier of these parts, where they are in range.
-`base.numbers STEP ..`: a map by numbers: `add/KEY/VALUE` an entry behind the others, `put/KEY/VALUE` the entry in place of the first of its key,
-`take/KEY` the value of the first of the key and the map without it, `find/KEY` the value. `base.names STEP ..`: the same by names, which are texts
-of UTF-16LE, without `find`.
+`base.numbers STEP ..`: a map by numbers: `add/KEY/VALUE` an entry behind the others, `put/KEY/VALUE` the entry in place
+of the first of its key,
+`take/KEY` the value of the first of the key and the map without it, `find/KEY` the value. `base.names STEP ..`: the
+same by names, which are texts of UTF-16LE, without `find`.
 """
 
 import random
@@ -109,7 +112,8 @@ def unit_cases():
 
 
 def name_of(data):
-    """The first refusal of a name, or none: more than 64 bytes, then the first byte outside 0x20 to 0x7E (this project's own choice)."""
+    """The first refusal of a name, or none: more than 64 bytes, then the first byte outside 0x20 to 0x7E (this
+    project's own choice)."""
     if len(data) > 64:
         return "TooLong"
     for place, byte in enumerate(data):
@@ -157,8 +161,8 @@ def same_cases():
 
 
 def sid_of(text):
-    """The parts of `S-1-`, an authority below 2^48 and 1 to 15 numbers below 2^32, in decimal without leading zeros (this project's own choice of
-    MS-DTYP 2.4.2.1); none where the text has another form."""
+    """The parts of `S-1-`, an authority below 2^48 and 1 to 15 numbers below 2^32, in decimal without leading zeros
+    (this project's own choice of MS-DTYP 2.4.2.1); none where the text has another form."""
     if not text.startswith(b"S-1-"):
         return None
     parts = [decimal_of(part) for part in text[4:].split(b"-")]

@@ -1,4 +1,5 @@
-//! Cases of `outside`: what each step of a line is answered in memory, and at its end what was kept and whether it is still told.
+//! Cases of `outside`: what each step of a line is answered in memory, and at its end what was kept and whether it is
+//! still told.
 
 use case_words::{
     add_answer, add_debug, answer_steps, blob, bytes, debug_text, eight_list, no_case, number,
@@ -150,14 +151,29 @@ fn read(alloc: Global, files: &mut MapFiles, name: &str) -> anyhow::Result<Strin
     debug_text(alloc, files.read(alloc, &name))
 }
 
-/// What is read of each name, and whether all is told.
+/// What is answered to a write.
+fn write(alloc: Global, files: &mut MapFiles, name: &str, content: &str) -> anyhow::Result<String> {
+    let name = bytes(alloc, name)?;
+    let content = bytes(alloc, content)?;
+    debug_text(alloc, files.write(&name, &content))
+}
+
+/// What a step gives: `NAME` reads, `NAME=CONTENT` writes.
+fn file_step(alloc: Global, files: &mut MapFiles, step: &str) -> anyhow::Result<String> {
+    match step.split_once('=') {
+        Some((name, content)) => write(alloc, files, name, content),
+        None => read(alloc, files, step),
+    }
+}
+
+/// What each step gives, and whether all is told.
 fn text_of_files(alloc: Global, files: &mut MapFiles, words: &[&str]) -> anyhow::Result<String> {
-    let mut answers = answer_steps(alloc, words, 3, files, read)?;
+    let mut answers = answer_steps(alloc, words, 3, files, file_step)?;
     add_answer(&mut answers, told(files.tells()))?;
     Ok(answers)
 }
 
-/// `files FILES FAILING NAME..`: what is read of each name.
+/// `files FILES FAILING STEP..`: what each read and write of a name gives.
 fn files(alloc: Global, words: &[&str]) -> anyhow::Result<String> {
     let failing = number_list(alloc, word(words, 2))?;
     let texts = texts(alloc, word(words, 1))?;

@@ -1,8 +1,12 @@
 //! Cases of `account_table`: documents as bytes in hex, names as 16-bit units in hex.
 
-use account_table::Table;
+ghost use Rattle.std.specs.Prelude.{◌≡◌, true, false, slice_get, IsSomeAnd};
+ghost use Rattle.account_table.specs.Changes.{is_user};
+
+use account_table::{Change, Kind, Table, TableChange, TableChanges};
 use case_words::{
-    answer_steps, bytes, debug_text, no_case, number, number16, size, text_units, word,
+    answer_steps, bytes, debug_text, no_case, number, number16, sixteen, size, text, text_units,
+    word,
 };
 use std::alloc::Global;
 
@@ -81,7 +85,9 @@ fn answer_of(
     words: &[&str],
 ) -> anyhow::Result<String> {
     match operation {
+        "policy" => debug_text(alloc, table.policy()),
         "account" => debug_text(alloc, table.account(number(word(words, 2))?)),
+        "trust" => debug_text(alloc, table.trust(number(word(words, 2))?)),
         "find" => find(alloc, table, word(words, 2)),
         "machine" => machine(alloc, table, words),
         "knows" => knows(alloc, table, word(words, 2)),
@@ -90,8 +96,8 @@ fn answer_of(
     }
 }
 
-/// What an operation on the table of a line gives: `account DOCUMENT AT`, `find DOCUMENT USER`, `machine DOCUMENT ACCOUNT CHANNEL COMPUTER`,
-/// `knows DOCUMENT COMPUTER`, `route DOCUMENT DOMAIN`.
+/// What an operation on the table of a line gives: `policy DOCUMENT`, `account DOCUMENT AT`, `trust DOCUMENT AT`, `find
+/// DOCUMENT USER`, `machine DOCUMENT ACCOUNT CHANNEL COMPUTER`, `knows DOCUMENT COMPUTER`, `route DOCUMENT DOMAIN`.
 fn answer_of_word(alloc: Global, operation: &str, words: &[&str]) -> anyhow::Result<String> {
     let table = table(alloc, word(words, 1))?;
     answer_of(alloc, operation, &table, words)
@@ -131,20 +137,150 @@ fn find_among(alloc: Global, words: &[&str]) -> anyhow::Result<String> {
     answer_steps(alloc, words, 2, &mut table, find_step)
 }
 
-/// A document of a machine and so many users, all without keys.
-fn document_without_keys(alloc: Global, count: usize) -> anyhow::Result<String> {
-    let mut document = String::from_str(alloc, "machine = [{}]\nuser = [")?;
+/// Puts a list of so many tables without keys behind a document.
+fn put_list(document: &mut String, name: &str, count: usize) -> anyhow::Result<()> {
+    document.push_str(name)?;
+    document.push_str(" = [")?;
     for _ in 0..count {
         document.push_str("{},")?;
     }
-    document.push_str("]\n")?;
-    Ok(document)
+    Ok(document.push_str("]\n")?)
 }
 
-/// `read_without_keys COUNT`: the refusal of a machine and so many users, all without keys.
+/// `read_without_keys USERS MACHINES TRUSTS`: what is read of so many users, machines and trusted domains, all without
+/// keys.
 fn read_without_keys(alloc: Global, words: &[&str]) -> anyhow::Result<String> {
-    let document = document_without_keys(alloc, size(word(words, 1))?)?;
+    let mut document = String::new(alloc);
+    put_list(&mut document, "user", size(word(words, 1))?)?;
+    put_list(&mut document, "machine", size(word(words, 2))?)?;
+    put_list(&mut document, "trust", size(word(words, 3))?)?;
     text_of_document(alloc, document.as_bytes())
+}
+
+// ---- what changes
+
+/// A table, and changes that are to be made.
+#[derive(Drop)]
+struct Changing {
+    table: Table,
+    changes: TableChanges,
+}
+
+/// The answer to a step that its condition forbids.
+fn not_to_be_done(alloc: Global) -> anyhow::Result<String> {
+    Ok("not to be done".to_string(alloc)?)
+}
+
+/// The answer to a step that gives nothing.
+fn done(alloc: Global) -> anyhow::Result<String> {
+    Ok("done".to_string(alloc)?)
+}
+
+/// Sets a count.
+fn set_count(alloc: Global, table: &mut Table, parts: &[&str]) -> anyhow::Result<String> {
+    let at = number(word(parts, 1))?;
+    let count = number16(word(parts, 2))?;
+    if table.account(at).is_none() {
+        return not_to_be_done(alloc);
+    }
+    table.set_bad_count(at, count);
+    done(alloc)
+}
+
+/// Whether an account at a place is a computer's or a trust's.
+fn is_computer(table: &Table, at: u32) -> bool
+    ensures { result ≡ true → IsSomeAnd (slice_get table.now.accounts at)
+        (λ account. is_user account.kind ≡ false) }
+{
+    match table.account(at) {
+        Some(account) => !matches!(account.kind, Kind::User),
+        None => false,
+    }
+}
+
+/// Sets a hash.
+fn set_hash(alloc: Global, table: &mut Table, parts: &[&str]) -> anyhow::Result<String> {
+    let at = number(word(parts, 1))?;
+    let hash = sixteen(word(parts, 2))?;
+    if !is_computer(table, at) {
+        return not_to_be_done(alloc);
+    }
+    table.set_hash(at, hash);
+    done(alloc)
+}
+
+/// The text of secrets.
+fn secrets(alloc: Global, table: &Table) -> anyhow::Result<String> {
+    let secrets = table.secrets(alloc)?;
+    text(alloc, secrets.bytes())
+}
+
+/// Sets the secrets of a text.
+fn apply(alloc: Global, table: &mut Table, secrets: &str) -> anyhow::Result<String> {
+    let secrets = bytes(alloc, secrets)?;
+    debug_text(alloc, table.apply(alloc, &secrets))
+}
+
+/// The hash of the account at a place, and whether it was set.
+fn hash(alloc: Global, table: &Table, at: &str) -> anyhow::Result<String> {
+    match table.account(number(at)?) {
+        Some(account) => Ok(format!(in alloc; "{:?} {}", account.hash, account.changed)?),
+        None => Ok("None".to_string(alloc)?),
+    }
+}
+
+/// Collects a change of a count.
+fn collect_change(
+    alloc: Global,
+    changes: &mut TableChanges,
+    parts: &[&str],
+) -> anyhow::Result<String> {
+    let place = number(word(parts, 1))?;
+    let count = number16(word(parts, 2))?;
+    let change = TableChange {
+        place,
+        change: Change::Count(count),
+    };
+    changes.push(change)?;
+    done(alloc)
+}
+
+/// Makes the changes.
+fn commit(alloc: Global, changing: &mut Changing) -> anyhow::Result<String> {
+    changing.table.commit(&changing.changes);
+    changing.changes = TableChanges::new(alloc);
+    done(alloc)
+}
+
+/// What a step gives: `set_count,AT,COUNT`, `set_hash,AT,HASH`, `count,AT`, `hash,AT`, `secrets`, `apply,TEXT`; and of
+/// changes `change,AT,COUNT`, `count_with,AT`, `commit`.
+fn change_step(alloc: Global, changing: &mut Changing, step: &str) -> anyhow::Result<String> {
+    let parts: Vec<&str> = step.split(',').collect(alloc)?;
+    match word(&parts, 0) {
+        "set_count" => set_count(alloc, &mut changing.table, &parts),
+        "set_hash" => set_hash(alloc, &mut changing.table, &parts),
+        "count" => debug_text(alloc, changing.table.bad_count(number(word(&parts, 1))?)),
+        "hash" => hash(alloc, &changing.table, word(&parts, 1)),
+        "secrets" => secrets(alloc, &changing.table),
+        "apply" => apply(alloc, &mut changing.table, word(&parts, 1)),
+        "change" => collect_change(alloc, &mut changing.changes, &parts),
+        "count_with" => debug_text(
+            alloc,
+            changing
+                .table
+                .bad_count_with(&changing.changes, number(word(&parts, 1))?),
+        ),
+        "commit" => commit(alloc, changing),
+        _ => no_case(alloc),
+    }
+}
+
+/// `steps DOCUMENT STEP..`: what each step gives.
+fn steps(alloc: Global, words: &[&str]) -> anyhow::Result<String> {
+    let table = table(alloc, word(words, 1))?;
+    let changes = TableChanges::new(alloc);
+    let mut changing = Changing { table, changes };
+    answer_steps(alloc, words, 2, &mut changing, change_step)
 }
 
 /// What an operation gives.
@@ -153,6 +289,7 @@ pub(crate) fn answer(alloc: Global, operation: &str, words: &[&str]) -> anyhow::
         "read" => read(alloc, words),
         "find_among" => find_among(alloc, words),
         "read_without_keys" => read_without_keys(alloc, words),
+        "steps" => steps(alloc, words),
         _ => answer_of_word(alloc, operation, words),
     }
 }

@@ -28,8 +28,8 @@ pub fn hmac_of_two(key: &[u8], first: &[u8], second: &[u8]) -> [u8; 16]
     hmac.finish()
 }
 
-/// The HMAC-MD5 (RFC 2104), 16 bytes, of three pieces under a key of 16 bytes: of a challenge of eight bytes, and of a response in two parts, as
-/// MS-NLMP 3.3.2 takes it.
+/// The HMAC-MD5 (RFC 2104), 16 bytes, of three pieces under a key of 16 bytes: of a challenge of eight bytes, and of a
+/// response in two parts, as MS-NLMP 3.3.2 takes it.
 pub fn hmac_of_three(key: &[u8; 16], first: &[u8; 8], second: &[u8], third: &[u8]) -> [u8; 16]
     ensures { result ≡ hmac_of key.now (first.now ++ second.now ++ third.now) }
 {

@@ -1,5 +1,5 @@
-//! The status with which a process ends, and what it says on standard error: no contract of the toolchain says what a process's arguments are, and
-//! standard error tells nothing that a clause could speak of.
+//! The status with which a process ends, and what it says on standard error: no contract of the toolchain says what a
+//! process's arguments are, and standard error tells nothing that a clause could speak of.
 
 use nt_top::{Role, start};
 use outside::{CounterChances, DiskFiles, SocketPort, SystemClock};

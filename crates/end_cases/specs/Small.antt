@@ -1,10 +1,11 @@
--- A small end, to try the loop with (this project's own choice). It sends a challenge on each link that is opened, sends twice what comes and
--- dials it as a peer, waits for the link that it dialled last, and is over when that link is closed.
+-- A small end, to try the loop with (this project's own choice). It sends a challenge on each link that is opened,
+-- keeps what comes, sends it twice and dials it as a peer, waits for the link that it dialled last, and is over when
+-- that link is closed.
 use Rattle.std.specs.Prelude.{ℕ, ◌+◌, ◌-◌, ◌^◌, ◌%◌, ◌==◌, min, Bool, true, false, List, [], ◌∷◌, Option, Some, None, Ok, codes}
 use Rattle.outside.specs.declared.event.Event.{Event}
 use Rattle.outside.specs.declared.event.Event.TheVariants as event
 use Rattle.outside.specs.declared.action.Action.{Action}
-use Rattle.outside.specs.declared.action.Action.TheVariants.{Send, Dial, Judged}
+use Rattle.outside.specs.declared.action.Action.TheVariants.{Keep, Send, Dial, Judged}
 use Rattle.outside.specs.declared.action.Judged.TheVariants as judged
 use Rattle.outside.specs.Machine.{Machine, Stepped, spent_step}
 use Rattle.end_cases.specs.declared.small.Small.{Small}
@@ -43,7 +44,7 @@ close_step s true left = drawless_step (record s { link = None; over = true }) (
 abbrev pub small_step : Small → Event → ℕ → List (List ℕ) → Stepped Small
 small_step s (event.Opened link) now left = open_step s link now left
 small_step s (event.Bytes link bytes) now left =
-    drawless_step (record s { waiting = min (s.waiting + 1) (2 ^ 32 - 1) }) (Send link bytes ∷ Send link bytes ∷ Dial bytes ∷ []) left
+    drawless_step (record s { waiting = min (s.waiting + 1) (2 ^ 32 - 1) }) (Keep bytes ∷ Send link bytes ∷ Send link bytes ∷ Dial bytes ∷ []) left
 small_step s (event.Closed link) now left = close_step s (is_own s.link link) left
 small_step s (event.Dialled link) now left = dial_step s link (s.waiting == 0) left
 small_step s event.DialFailed now left = dial_failure_step s (s.waiting == 0) left

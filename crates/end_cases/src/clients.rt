@@ -38,7 +38,8 @@ fn numbers(words: &[&str]) -> anyhow::Result<([u8; 16], u8, u32)> {
     Ok((hash, level, echo))
 }
 
-/// The plan of a line: the server's address, the names, the hash, the level, the kind of response, and the bytes of the echo.
+/// The plan of a line: the server's address, the names, the hash, the level, the kind of response, and the bytes of the
+/// echo.
 pub(crate) fn plan(alloc: Global, words: &[&str]) -> anyhow::Result<ClientPlan> {
     let (hash, level, echo) = numbers(words)?;
     let server = blob(alloc, word(words, 1))?;
@@ -115,8 +116,8 @@ fn play_plan(
     play_all(alloc, &mut end, chances, steps)
 }
 
-/// `client.run SERVER DOMAIN USER WORKSTATION HASH LEVEL KIND ECHO CHALLENGES STEP ..`: what the client begins with, the answers to the steps, its
-/// outcome, and the number of challenges that are left.
+/// `client.run SERVER DOMAIN USER WORKSTATION HASH LEVEL KIND ECHO CHALLENGES STEP ..`: what the client begins with,
+/// the answers to the steps, its outcome, and the number of challenges that are left.
 pub(crate) fn run(alloc: Global, words: &[&str]) -> anyhow::Result<String> {
     let Some(steps) = words.get(10..) else {
         return no_case(alloc);

@@ -3,7 +3,7 @@
 use crate::members::name;
 use crate::scenes::{chances, play_and_count};
 use account_table::Table;
-use case_words::{bytes, debug_text, flags, no_case, word};
+use case_words::{add_part, bytes, debug_text, flags, list_text, no_case, word};
 use domain_controller::Controller;
 use end_loop::End;
 use outside::{Action, CloseCause, DropCause, Judged, Outcome};
@@ -23,7 +23,8 @@ fn controller(alloc: Global, words: &[&str]) -> anyhow::Result<Controller> {
     Ok(Controller::new(alloc, table, name)?)
 }
 
-/// `controller.run DOCUMENT NAME CHALLENGES STEP ..`: the answers to the steps, and the number of challenges that are left.
+/// `controller.run DOCUMENT NAME CHALLENGES STEP ..`: the answers to the steps, and the number of challenges that are
+/// left.
 fn run(alloc: Global, words: &[&str]) -> anyhow::Result<String> {
     let Some(steps) = words.get(4..) else {
         return no_case(alloc);
@@ -31,6 +32,35 @@ fn run(alloc: Global, words: &[&str]) -> anyhow::Result<String> {
     let mut chances = chances(alloc, word(words, 3))?;
     let mut end = controller(alloc, words)?;
     play_and_count(alloc, &mut end, &mut chances, steps)
+}
+
+/// A text that is to be kept.
+fn keep(alloc: Global) -> anyhow::Result<Action> {
+    Ok(Action::Keep(Blob::copy(alloc, b"text")?))
+}
+
+/// The counts of bad passwords of the accounts, of at most 1,000.
+fn counts_text(alloc: Global, table: &Table) -> anyhow::Result<String> {
+    let mut all = String::new(alloc);
+    for place in 0..1000 {
+        match table.bad_count(place) {
+            Some(count) => add_part(&mut all, &debug_text(alloc, count)?)?,
+            None => return list_text(alloc, all),
+        }
+    }
+    list_text(alloc, all)
+}
+
+/// `controller.counts DOCUMENT NAME CHALLENGES STEP ..`: the counts of bad passwords of the accounts after the steps.
+fn counts(alloc: Global, words: &[&str]) -> anyhow::Result<String> {
+    let Some(steps) = words.get(4..) else {
+        return no_case(alloc);
+    };
+    let mut chances = chances(alloc, word(words, 3))?;
+    let mut end = controller(alloc, words)?;
+    play_and_count(alloc, &mut end, &mut chances, steps)?;
+    let (table, _) = end.into_parts();
+    counts_text(alloc, &table)
 }
 
 /// Bytes that are sent.
@@ -43,18 +73,29 @@ fn dial(alloc: Global) -> anyhow::Result<Action> {
     Ok(Action::Dial(Blob::copy(alloc, b"peer")?))
 }
 
-/// How the call of a name was judged: eight hex digits are the status of one that passed.
+/// A call that passed with a status of eight hex digits, or, behind `answered/`, what one that was asked of another
+/// controller came to.
+fn judged_with(name: &str) -> anyhow::Result<Judged> {
+    match name.strip_prefix("answered/") {
+        Some(status) => Ok(Judged::Answered(flags(status)?)),
+        None => Ok(Judged::Passed(flags(name)?)),
+    }
+}
+
+/// How the call of a name was judged.
 fn judged(name: &str) -> anyhow::Result<Action> {
     match name {
         "barred" => Ok(Action::Judged(Judged::Barred)),
         "none" => Ok(Action::Judged(Judged::NoChannel)),
-        status => Ok(Action::Judged(Judged::Passed(flags(status)?))),
+        "forwarded" => Ok(Action::Judged(Judged::Forwarded)),
+        name => Ok(Action::Judged(judged_with(name)?)),
     }
 }
 
 /// The action of a name: another name than these is one that `judged` has.
 fn action(alloc: Global, name: &str) -> anyhow::Result<Action> {
     match name {
+        "keep" => keep(alloc),
         "send" => send(alloc),
         "dial" => dial(alloc),
         "close" => Ok(Action::Close(1, CloseCause::CallDone)),
@@ -80,6 +121,7 @@ fn line(alloc: Global, words: &[&str]) -> anyhow::Result<String> {
 pub(crate) fn answer(alloc: Global, operation: &str, words: &[&str]) -> anyhow::Result<String> {
     match operation {
         "run" => run(alloc, words),
+        "counts" => counts(alloc, words),
         "line" => line(alloc, words),
         _ => no_case(alloc),
     }

@@ -93,16 +93,14 @@ fn answer_to_bind(
     bytes: &[u8],
     words: &[&str],
 ) -> anyhow::Result<String> {
-    match read_unit(alloc, bytes) {
-        Ok(unit) => match &unit.body {
-            Body::Bind {
-                receive,
-                contexts,
-                ..
-            } => bound_text(alloc, served, unit.call, *receive, contexts, words),
-            _ => no_case(alloc),
-        },
-        Err(_) => no_case(alloc),
+    let unit = read_unit(alloc, bytes)?;
+    match &unit.body {
+        Body::Bind {
+            receive,
+            contexts,
+            ..
+        } => bound_text(alloc, served, unit.call, *receive, contexts, words),
+        _ => no_case(alloc),
     }
 }
 

@@ -1,7 +1,7 @@
 //! Cases of ends, of what their links have in common, of the loop that serves ends, and of worlds of ends.
 //!
-//! Each line of the input is an operation, as `loop.serve`, and its values, as `case_words` has them; each line of the output is what the
-//! operation gives.
+//! Each line of the input is an operation, as `loop.serve`, and its values, as `case_words` has them; each line of the
+//! output is what the operation gives.
 #![tactic(auto)]
 
 mod clients;

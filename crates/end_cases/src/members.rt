@@ -26,7 +26,8 @@ pub(crate) fn plan(alloc: Global, words: &[&str]) -> anyhow::Result<MemberPlan> 
     })
 }
 
-/// `member.run COMPUTER DOMAIN SECRET CONTROLLER CHALLENGES STEP ..`: the answers to the steps, and the number of challenges that are left.
+/// `member.run COMPUTER DOMAIN SECRET CONTROLLER CHALLENGES STEP ..`: the answers to the steps, and the number of
+/// challenges that are left.
 pub(crate) fn run(alloc: Global, words: &[&str]) -> anyhow::Result<String> {
     let Some(steps) = words.get(6..) else {
         return no_case(alloc);

@@ -49,15 +49,23 @@ fn judged_text(alloc: Global, how: &Judged) -> anyhow::Result<String> {
     Ok(format!(in alloc; "judged {how:?}")?)
 }
 
-/// An action as a word: `send LINK BYTES`, `dial PEER`, `close LINK CAUSE`, `told LINK OUTCOME`, `judged HOW`.
+/// An action as a word: `keep BYTES`, `send LINK BYTES`, `dial PEER`, `close LINK CAUSE`, `told LINK OUTCOME`, `judged
+/// HOW`.
 fn action_text(alloc: Global, action: &Action) -> anyhow::Result<String> {
     match action {
+        Action::Keep(bytes) => keep_text(alloc, bytes.bytes()),
         Action::Send(link, bytes) => send_text(alloc, *link, bytes.bytes()),
         Action::Dial(peer) => dial_text(alloc, peer.bytes()),
         Action::Close(link, cause) => numbered_text(alloc, "close", *link, cause),
         Action::Told(link, outcome) => numbered_text(alloc, "told", *link, outcome),
         Action::Judged(how) => judged_text(alloc, how),
     }
+}
+
+/// What is to be kept, as a word.
+fn keep_text(alloc: Global, bytes: &[u8]) -> anyhow::Result<String> {
+    let bytes = text(alloc, bytes)?;
+    Ok(format!(in alloc; "keep {bytes}")?)
 }
 
 /// What is sent, as a word.

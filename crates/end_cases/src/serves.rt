@@ -42,7 +42,8 @@ struct Memory {
 }
 
 impl Drop for Memory {
-    // As it would be derived: written out, it is one call wherever one is let go, which keeps the proofs of those places short.
+    // As it would be derived: written out, it is one call wherever one is let go, which keeps the proofs of those
+    // places short.
     fn drop(self) {
         let Memory {
             port: _port,
@@ -61,7 +62,8 @@ fn add_sent(alloc: Global, answers: &mut String, memory: &Memory) -> anyhow::Res
     add_answer(answers, &lines)
 }
 
-/// What is seen after a run: how it ended, what was sent, the lines put, the end, and whether port, sink and clock still tell all.
+/// What is seen after a run: how it ended, what was sent, the lines put, the end, and whether port, sink and clock
+/// still tell all.
 fn seen(
     alloc: Global,
     done: Result<(), Halt>,
@@ -176,7 +178,8 @@ fn begin_over(
     seen(alloc, done, memory, &end)
 }
 
-/// `loop.begin EVENTS FAILING FAILING_PUTS DRAWS MOMENT MOST`: the small end, where a dial waits, is served from a first dial on.
+/// `loop.begin EVENTS FAILING FAILING_PUTS DRAWS MOMENT MOST`: the small end, where a dial waits, is served from a
+/// first dial on.
 fn begin(alloc: Global, words: &[&str]) -> anyhow::Result<String> {
     let most = number(word(words, 6))?;
     let first = first_dial(alloc)?;

@@ -23,12 +23,13 @@ pub struct Small {
     pub stopped: bool,
 }
 
-/// Sends the bytes twice on the link, and dials them as a peer.
+/// Keeps the bytes, sends them twice on the link, and dials them as a peer.
 fn answer(alloc: Global, link: u32, bytes: &[u8]) -> Result<Actions, NoMemory>
-    ensures { IfOk result (λ actions. actions ≡ Action.Send link bytes.now
+    ensures { IfOk result (λ actions. actions ≡ Action.Keep bytes.now ∷ Action.Send link bytes.now
         ∷ Action.Send link bytes.now ∷ Action.Dial bytes.now ∷ []) }
 {
     let mut actions = Actions::new(alloc);
+    actions.push(Action::Keep(Blob::copy(alloc, bytes)?))?;
     actions.push(Action::Send(link, Blob::copy(alloc, bytes)?))?;
     actions.push(Action::Send(link, Blob::copy(alloc, bytes)?))?;
     actions.push(Action::Dial(Blob::copy(alloc, bytes)?))?;

@@ -122,8 +122,9 @@ fn hand(alloc: Global, parts: &[&str]) -> anyhow::Result<Option<Move>> {
     }))
 }
 
-/// The move of a word: `start/NUMBER`, `stranger/NUMBER`, `connect`, `fail`, `onward`, `lose`, `deliver/UNIT/LINK`, `hand/LINK/WAY/BYTES` (the way `back` or
-/// another), `shut/NUMBER`, `restart/NUMBER`, `tick/NUMBER`. None where it is no move.
+/// The move of a word: `start/NUMBER`, `stranger/NUMBER`, `connect`, `fail`, `onward`, `lose`, `deliver/UNIT/LINK`,
+/// `hand/LINK/WAY/BYTES` (the way `back` or another), `shut/NUMBER`, `restart/NUMBER`, `tick/NUMBER`. None where it is
+/// no move.
 fn read_move(alloc: Global, parts: &[&str]) -> anyhow::Result<Option<Move>> {
     match word(parts, 0) {
         "hand" => hand(alloc, parts),
@@ -205,7 +206,8 @@ fn play_if(alloc: Global, plan: Plan, moves: &Moves) -> anyhow::Result<String> {
     play(alloc, plan, moves)
 }
 
-/// `world.run WORD ..`: the plan's words and the moves: the report, and the outcomes of the clients at the first four places.
+/// `world.run WORD ..`: the plan's words and the moves: the report, and the outcomes of the clients at the first four
+/// places.
 fn run(alloc: Global, words: &[&str]) -> anyhow::Result<String> {
     let moves = read_moves(alloc, words)?;
     let plan = read_plan(alloc, words)?;

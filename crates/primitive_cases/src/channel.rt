@@ -57,8 +57,8 @@ fn cred_back_of(alloc: Global, words: &[&str]) -> anyhow::Result<String> {
     text(alloc, &cred_back(key, output))
 }
 
-/// `credentials SECRET CLIENT SERVER FLAGS`: the client's and the server's credential, each of its own challenge, under the session key of a
-/// channel with these flags.
+/// `credentials SECRET CLIENT SERVER FLAGS`: the client's and the server's credential, each of its own challenge, under
+/// the session key of a channel with these flags.
 fn credentials(alloc: Global, words: &[&str]) -> anyhow::Result<String> {
     let secret = sixteen(word(words, 1))?;
     let client = eight(word(words, 2))?;

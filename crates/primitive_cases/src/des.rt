@@ -31,7 +31,8 @@ fn spread(alloc: Global, words: &[&str]) -> anyhow::Result<String> {
     text(alloc, &spread_key(key))
 }
 
-/// `schedule KEY BLOCK`: the block under a kept schedule of a key of 7 bytes, and what the same schedule makes of that again.
+/// `schedule KEY BLOCK`: the block under a kept schedule of a key of 7 bytes, and what the same schedule makes of that
+/// again.
 fn schedule(alloc: Global, words: &[&str]) -> anyhow::Result<String> {
     let key = seven(word(words, 1))?;
     let block = eight(word(words, 2))?;
@@ -42,8 +43,8 @@ fn schedule(alloc: Global, words: &[&str]) -> anyhow::Result<String> {
     Ok(format!(in alloc; "{enciphered};{back}")?)
 }
 
-/// `schedule_back KEY BLOCK`: the block deciphered under a kept schedule of a key of 7 bytes, and what the same schedule makes of that
-/// again.
+/// `schedule_back KEY BLOCK`: the block deciphered under a kept schedule of a key of 7 bytes, and what the same
+/// schedule makes of that again.
 fn schedule_back(alloc: Global, words: &[&str]) -> anyhow::Result<String> {
     let key = seven(word(words, 1))?;
     let block = eight(word(words, 2))?;

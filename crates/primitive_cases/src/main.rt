@@ -1,15 +1,17 @@
 //! Cases of the primitives: DES, digests, RC4, channel keys, authenticators, responses and sessions.
 //!
-//! Each line of the input is an operation, as `des.block8`, and its values, as `case_words` has them; each line of the output is what the
-//! operation gives.
+//! Each line of the input is an operation, as `des.block8`, and its values, as `case_words` has them; each line of the
+//! output is what the operation gives.
 #![tactic(auto)]
 
 mod channel;
 mod des;
 mod digests;
+mod netlogon;
 mod rc4;
 mod responses;
 mod seal;
+mod secrets;
 mod sequence;
 
 use case_words::{answer_lines, no_case, word};
@@ -26,6 +28,8 @@ fn answer(alloc: Global, words: &[&str]) -> anyhow::Result<String> {
         "sequence" => sequence::answer(alloc, operation, words),
         "responses" => responses::answer(alloc, operation, words),
         "seal" => seal::run(alloc, words),
+        "netlogon" => netlogon::run(alloc, words),
+        "secrets" => secrets::answer(alloc, operation, words),
         _ => no_case(alloc),
     }
 }

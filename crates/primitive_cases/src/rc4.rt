@@ -6,8 +6,8 @@ use case_words::{bytes, no_case, size, text, word};
 use rc4_stream::Rc4;
 use std::alloc::Global;
 
-/// `apply KEY USED TEXT`: what the stream of the key makes of a text, after as many bytes of it have been used. The key has 1 to 256
-/// bytes, and the text and what is used before it at most 65,536 each.
+/// `apply KEY USED TEXT`: what the stream of the key makes of a text, after as many bytes of it have been used. The key
+/// has 1 to 256 bytes, and the text and what is used before it at most 65,536 each.
 fn apply(alloc: Global, words: &[&str]) -> anyhow::Result<String> {
     let key = bytes(alloc, word(words, 1))?;
     let used = size(word(words, 2))?;
@@ -22,8 +22,8 @@ fn apply(alloc: Global, words: &[&str]) -> anyhow::Result<String> {
     text(alloc, &bytes)
 }
 
-/// `twice KEY AT TEXT`: the same from the stream's begin, of the text's part before a place and of the part after it, one after the
-/// other.
+/// `twice KEY AT TEXT`: the same from the stream's begin, of the text's part before a place and of the part after it,
+/// one after the other.
 fn twice(alloc: Global, words: &[&str]) -> anyhow::Result<String> {
     let key = bytes(alloc, word(words, 1))?;
     let at = size(word(words, 2))?;

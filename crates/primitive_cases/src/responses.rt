@@ -1,5 +1,5 @@
-//! Cases of `ntlm_responses`: hashes, challenges, responses and keys in hex, names and passwords as 16-bit units in hex, flags in
-//! eight hex digits, times in sixteen.
+//! Cases of `ntlm_responses`: hashes, challenges, responses and keys in hex, names and passwords as 16-bit units in
+//! hex, flags in eight hex digits, times in sixteen.
 
 use case_words::{bytes, eight, flags, no_case, sixteen, text, text_units, word};
 use ntlm_responses::{

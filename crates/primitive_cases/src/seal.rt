@@ -80,7 +80,8 @@ fn side(name: &str) -> Side {
     }
 }
 
-/// `seal.run EXPORTED FLAGS SIDE STEP..`: what each step gives. The flag of extended session security is among the flags.
+/// `seal.run EXPORTED FLAGS SIDE STEP..`: what each step gives. The flag of extended session security is among the
+/// flags.
 pub(crate) fn run(alloc: Global, words: &[&str]) -> anyhow::Result<String> {
     let exported = sixteen(word(words, 1))?;
     let flags = flags(word(words, 2))?;

@@ -77,8 +77,8 @@ fn run(alloc: Global, words: &[&str]) -> anyhow::Result<String> {
     steps(alloc, &mut Sequence::new(key, seed), words, 3)
 }
 
-/// `channel SECRET CLIENT SERVER FLAGS STEP..`: the same on a new channel of this secret, these challenges and these flags, whose seed is
-/// the client's credential.
+/// `channel SECRET CLIENT SERVER FLAGS STEP..`: the same on a new channel of this secret, these challenges and these
+/// flags, whose seed is the client's credential.
 fn channel(alloc: Global, words: &[&str]) -> anyhow::Result<String> {
     let secret = sixteen(word(words, 1))?;
     let client = eight(word(words, 2))?;

@@ -88,8 +88,8 @@ fn text_of_job(
     }
 }
 
-/// `files ROLE FAILING FILES WORD..`: what the files of the words' job come to, where these calls of the files fail; and whether all that
-/// was kept is still told.
+/// `files ROLE FAILING FILES WORD..`: what the files of the words' job come to, where these calls of the files fail;
+/// and whether all that was kept is still told.
 fn files_case(alloc: Global, words: &[&str]) -> anyhow::Result<String> {
     let command = command_line(alloc, words, 4)?;
     let mut files = files(alloc, word(words, 3), word(words, 2))?;

@@ -1,7 +1,8 @@
-//! Cases of the top call: what a command line comes to over an outside in memory, what its words ask for, and what its files come to.
+//! Cases of the top call: what a command line comes to over an outside in memory, what its words ask for, and what its
+//! files come to.
 //!
-//! Each line of the input is an operation, as `top.run`, and its values, as `case_words` has them; each line of the output is what the
-//! operation gives.
+//! Each line of the input is an operation, as `top.run`, and its values, as `case_words` has them; each line of the
+//! output is what the operation gives.
 #![tactic(auto)]
 
 mod in_memory;

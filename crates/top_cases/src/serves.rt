@@ -114,8 +114,8 @@ fn text_of_run(
     Ok(answers)
 }
 
-/// `run EVENTS FAILING FAILING_READS FAILING_PUTS DRAWS FILES ROLE WORD..`: how the command ends over a port of these events, whose calls of these numbers
-/// fail, over these files and challenges.
+/// `run EVENTS FAILING FAILING_READS FAILING_PUTS DRAWS FILES ROLE WORD..`: how the command ends over a port of these
+/// events, whose calls of these numbers fail, over these files and challenges.
 fn run_case(alloc: Global, words: &[&str]) -> anyhow::Result<String> {
     let command = command_line(alloc, words, 8)?;
     let mut out = sink(alloc, word(words, 4))?;

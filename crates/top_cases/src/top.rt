@@ -92,7 +92,8 @@ fn text_of_report(alloc: Global, exit: &Exit, errors: &mut VecSink) -> anyhow::R
     Ok(text)
 }
 
-/// `say FAILING NAME NUMBER`: the status of the exit that is reported to a sink of which these calls fail, and what was put.
+/// `say FAILING NAME NUMBER`: the status of the exit that is reported to a sink of which these calls fail, and what was
+/// put.
 fn say_case(alloc: Global, words: &[&str]) -> anyhow::Result<String> {
     let number = number(word(words, 3))?;
     let mut errors = sink(alloc, word(words, 1))?;

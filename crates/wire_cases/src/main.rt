@@ -1,11 +1,12 @@
-//! Cases of what stands on the wire: numbers, texts, names, NTLM's messages, RPC's units, NDR's items and the stubs of Netlogon and of the memo
-//! interface.
+//! Cases of what stands on the wire: numbers, texts, names, NTLM's messages, RPC's units, NDR's items and the stubs of
+//! Netlogon and of the memo interface.
 //!
-//! Each line of the input is an operation, as `units.read`, and its values, as `case_words` has them; each line of the output is what the
-//! operation gives.
+//! Each line of the input is an operation, as `units.read`, and its values, as `case_words` has them; each line of the
+//! output is what the operation gives.
 #![tactic(auto)]
 
 mod base;
+mod interactive;
 mod joining;
 mod maps;
 mod memo;
@@ -14,6 +15,7 @@ mod ndr;
 mod ndr_writing;
 mod outcomes;
 mod pairs;
+mod set;
 mod streams;
 mod stubs;
 mod unit_words;
@@ -31,7 +33,9 @@ fn answer(alloc: Global, words: &[&str]) -> anyhow::Result<String> {
         "units" => units::answer(alloc, operation, words),
         "ndr" => ndr::answer(alloc, operation, words),
         "stubs" => stubs::answer(alloc, operation, words),
+        "interactive" => interactive::answer(alloc, operation, words),
         "memo" => memo::answer(alloc, operation, words),
+        "set" => set::answer(alloc, operation, words),
         _ => no_case(alloc),
     }
 }

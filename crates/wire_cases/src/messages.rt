@@ -95,7 +95,8 @@ fn authenticate_again(alloc: Global, bytes: &[u8]) -> anyhow::Result<String> {
     written_text(alloc, write_authenticate(alloc, &read))
 }
 
-/// What an operation on bytes gives: `negotiate`, `negotiate_view`, `negotiate_again`, and the same of the other messages.
+/// What an operation on bytes gives: `negotiate`, `negotiate_view`, `negotiate_again`, and the same of the other
+/// messages.
 fn answer_to_bytes(alloc: Global, operation: &str, bytes: &[u8]) -> anyhow::Result<String> {
     match operation {
         "negotiate" => debug_text(alloc, read_negotiate(alloc, bytes)),

@@ -2,7 +2,7 @@
 
 ghost use Rattle.std.specs.Prelude.{◌≡◌, true};
 ghost use Rattle.ndr_codec.specs.Parts.{FitsText, IfThere};
-ghost use Rattle.logon_stubs.specs.Writing.{CanWriteNetworkInfo, CanWriteSamInfo, CanWriteCall, CanWriteReply};
+ghost use Rattle.logon_stubs.specs.Writing.{CanWriteNetworkInfo, CanWriteSamInfo, CanWriteCall, CanWriteReply, HasLevel};
 
 use crate::outcomes::not_to_be_written;
 use case_words::{bytes, debug_text, long_text, no_case, number16, word};
@@ -20,7 +20,7 @@ pub(crate) fn fits(units: &Units) -> bool
 }
 
 /// Whether a text that may be absent may be written.
-fn fits_option(units: &Option<Units>) -> bool
+pub(crate) fn fits_option(units: &Option<Units>) -> bool
     ensures { result ≡ true → IfThere FitsText units.now }
 {
     match units {
@@ -53,6 +53,14 @@ fn fits_sam(info: &SamInfo) -> bool
         && info.groups.len() <= 256
         && fits(&info.server)
         && fits(&info.domain)
+        && info.extra.len() <= 256
+}
+
+/// Whether a user's information may be written at a level: at 3, and at 2 without identifiers beside the groups.
+fn fits_level(level: u16, info: &SamInfo) -> bool
+    ensures { result ≡ true → HasLevel level info.now }
+{
+    level == 3 || (level == 2 && info.extra.items().is_empty())
 }
 
 /// Whether the parameters of a request may be written.
@@ -79,7 +87,7 @@ fn fits_reply(reply: &Reply) -> bool
 {
     match reply {
         Reply::Logon(it) => match &it.info {
-            Some(info) => it.level == 2 && fits_sam(info),
+            Some(info) => fits_level(it.level, info) && fits_sam(info),
             None => true,
         },
         _ => true,

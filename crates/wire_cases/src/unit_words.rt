@@ -1,4 +1,5 @@
-//! Units of RPC as words of a line: fields joined by commas, the kind, the flags (1 FIRST, 2 LAST), the call and the trailer first.
+//! Units of RPC as words of a line: fields joined by commas, the kind, the flags (1 FIRST, 2 LAST), the call and the
+//! trailer first.
 
 use anyhow::anyhow;
 use case_words::{
@@ -78,7 +79,8 @@ fn put_context(alloc: Global, contexts: &mut Contexts, part: &str) -> anyhow::Re
     Ok(contexts.push(context)?)
 }
 
-/// The part of a list and how often it stands. A count belongs to the whole part only where it comes before the first `/`.
+/// The part of a list and how often it stands. A count belongs to the whole part only where it comes before the first
+/// `/`.
 fn listed(part: &str) -> anyhow::Result<(u64, &str)> {
     match part.split_once('/') {
         Some((front, _)) if front.contains('*') => counted(part),
