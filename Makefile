@@ -7,8 +7,8 @@ PROGRAMS = nt_controller nt_member nt_logon
 demo: programs
 	@demo/run.sh bin
 
-# How long each operation takes on this machine: lines `ours OPERATION NANOSECONDS`, and where their headers are there, the same of OpenSSL and
-# nettle for the operations on DES.
+# How long each operation takes on this machine: lines `ours OPERATION NANOSECONDS`, and where their headers are there,
+# the same of OpenSSL and nettle for the operations on DES.
 bench:
 	@cd crates/nt_bench && rt run -- measure ours
 	@mkdir -p bin
@@ -20,7 +20,8 @@ programs: $(PROGRAMS)
 cases:
 	@python3 cases/make.py
 
-# A program is proved, built and run on its stored arguments, which end with its stored status or 0, before it is copied.
+# A program is proved, built and run on its stored arguments, which end with its stored status or 0, before it is
+# copied.
 $(PROGRAMS):
 	@mkdir -p bin
 	@cd crates/$@ && { rt run -- $$(cat args) > /dev/null; test $$? -eq $$(cat status 2>/dev/null || echo 0); }

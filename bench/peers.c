@@ -1,5 +1,6 @@
-/* How long OpenSSL and nettle take for the operations on DES of nt_bench, on the same input: lines `LIBRARY OPERATION NANOSECONDS`, the best
- * of several rounds within half a second. Both libraries' calls of DES itself are used, without a context of a general cipher around them. */
+/* How long OpenSSL and nettle take for the operations on DES of nt_bench, on the same input: lines
+ * `LIBRARY OPERATION NANOSECONDS`, the best of several rounds within half a second. Both libraries' calls of DES itself
+ * are used, without a context of a general cipher around them. */
 #define OPENSSL_SUPPRESS_DEPRECATED
 #include <nettle/des.h>
 #include <nettle/md4.h>

@@ -1,22 +1,26 @@
 #!/bin/sh
-# A domain on the loopback address: a controller, a member server and two logons, one with the right password and one with a wrong one.
+# A domain on the loopback address: a controller, a member server and two logons, one with the right password and one
+# with a wrong one.
 #
 # usage: demo/run.sh [FOLDER]      FOLDER has the three programs, bin/ where none is named
 #
-# It makes a table, seeds and a secret in a folder of its own, starts nt_controller and nt_member on two free ports, logs a user on with a sealed
-# echo of 16 bytes, and lets a logon with a wrong password be refused. It ends with status 0 only where each program printed what it should and
-# each logon had its status, and with 1 else; each wait has an end, and both servers are stopped before it ends.
+# It makes a table, seeds and a secret in a folder of its own and starts nt_controller and nt_member on two free ports.
+# A peer that stays silent has a link to each of them all the while (by bash, which opens TCP links). It logs a user on
+# with a sealed echo of 16 bytes, and lets a logon with a wrong password be refused. It ends with status 0 only where
+# each program printed what it should and each logon had its status, and with 1 else; each wait has an end, and both
+# servers are stopped before it ends.
 set -u
 
 bin=${1:-bin}
 folder=$(mktemp -d) || exit 1
 controller=
 member=
+silent=
 failed=0
 
 finish() {
-    for server in $member $controller; do
-        kill "$server" 2>/dev/null
+    for process in $silent $member $controller; do
+        kill "$process" 2>/dev/null
     done
     wait 2>/dev/null
     rm -rf "$folder"
@@ -35,6 +39,23 @@ wait_for() {
     tries=100
     while [ $tries -gt 0 ] && kill -0 "$1" 2>/dev/null; do
         listens "$2" && return 0
+        sleep 0.1
+        tries=$((tries - 1))
+    done
+    return 1
+}
+
+# whether a link from this machine is open at the port
+is_linked() { grep -qi "0100007F:$(printf %04x "$1") 0100007F:[0-9a-f]* 01" /proc/net/tcp; }
+
+# opens a link to the port on which nothing is sent but the front of a unit, for two minutes at most, and waits until it
+# is open, 10 seconds at most
+keep_silent() {
+    bash -c 'exec 3<> "/dev/tcp/127.0.0.1/$0" && printf "\005\000\013" >&3 && exec sleep 120' "$1" &
+    silent="$silent $!"
+    tries=100
+    while [ $tries -gt 0 ]; do
+        is_linked "$1" && return 0
         sleep 0.1
         tries=$((tries - 1))
     done
@@ -93,6 +114,8 @@ controller=$!
 member=$!
 wait_for $controller "$controller_port" || { echo "nt_controller doesn't listen"; cat "$folder/controller.err"; exit 1; }
 wait_for $member "$member_port" || { echo "nt_member doesn't listen"; cat "$folder/member.err"; exit 1; }
+
+keep_silent "$controller_port" && keep_silent "$member_port" || { echo "no silent link"; exit 1; }
 
 # logs ann on with the hash in a file: FILE BOOT OUTPUT. Gives the status, 124 where it lasts more than 30 seconds
 log_on() {

@@ -3,9 +3,10 @@
 
 usage: controller.py PROGRAM [ARGUMENT..]
 
-Starts the program (bin/nt_controller) on the sample table and a free port of the loopback address, opens a secure channel for FILE1$ by
-NetrServerReqChallenge and NetrServerAuthenticate2, and asks for the logons of `ann` with the right response, with a wrong one, and with an authenticator that
-passed before. Compares each status, the lines that the program printed and its exit status, and ends with 0 where all are as wanted."""
+Starts the program (bin/nt_controller) on the sample table and a free port of the loopback address, opens a secure
+channel for FILE1$ by NetrServerReqChallenge and NetrServerAuthenticate2, and asks for the logons of `ann` with the
+right response, with a wrong one, and with an authenticator that passed before. Compares each status, the lines that the
+program printed and its exit status, and ends with 0 where all are as wanted."""
 import os, socket, subprocess, sys, tempfile, time
 
 from impacket import ntlm
