@@ -26,9 +26,10 @@ pub fn controllers_pass_the_next()
 {}
 
 /// In every run, over all moves from a plan on, a controller tells of a Logon call that it passed with status 0, which
-/// is a grant, exactly where its authenticator is the next one of its channel, it asks for validation level 2, the
+/// is a grant, exactly where its authenticator is the next one of its channel, it asks for validation level 2 or 3, the
 /// account may log on at that moment, and the response is the written function of the stored hash (MS-NRPC 3.5.4.5.3),
-/// whoever sent the call. The accounts are those that the plan gives that controller.
+/// whoever sent the call. The accounts are as they stand at that step: those that the plan gives that controller, but
+/// for their counts of bad passwords.
 #[tactic(auto, using(crate::proofs::Judgements::GrantLaws::grants_who_may))]
 pub fn controllers_grant_who_may_log_on()
     ensures { (plan : Plan) (moves : List Move) → GrantsWhoMayLogOn (past plan moves) }

@@ -130,13 +130,19 @@ impl<T: Read + Write + AsRawFd + Drop> Link<T> {
         read(alloc, &mut self.stream, room, is_ended)
     }
 
-    /// What comes where the socket gave bytes just now and nothing was told of it since.
-    pub(crate) fn read_on(&mut self, alloc: Global, room: &mut [u8]) -> Result<Came, NoMemory>
+    /// What comes where nothing was told of the socket.
+    pub(crate) fn read_on(
+        &mut self,
+        alloc: Global,
+        room: &mut [u8],
+        now: u64,
+    ) -> Result<Came, NoMemory>
         ensures { IfOk result HasFew }
     {
         if self.is_left() {
             return Ok(Came::Nothing);
         }
+        self.used = now;
         read(alloc, &mut self.stream, room, false)
     }
 

@@ -181,7 +181,7 @@ impl<N: Net + Clock> Sockets<N> {
         let Some(watch) = &mut self.watch else {
             return Ok(None);
         };
-        let came = link.read_on(self.alloc, &mut watch.room)?;
+        let came = link.read_on(self.alloc, &mut watch.room, self.now)?;
         if matches!(came, Came::Nothing) {
             self.pieces_until_ahead = PIECES_UNTIL_AHEAD;
         }
@@ -313,13 +313,13 @@ impl<N: Net + Clock> Sockets<N> {
         self.links.insert(number, link).is_ok()
     }
 
-    /// Ends one link that was silent too long, where there is one, or else waits for a socket that is ready.
+    /// Gives up one link that was silent too long, where there is one, or else waits for a socket that is ready.
     fn wait(&mut self, net: &N, want: Option<u32>) -> Result<Option<Event>, PortRefused>
         ensures { IfOk result MayBeGiven }
     {
         if self.now != self.looked {
             if let Some(number) = self.over(want) {
-                return Ok(self.end(number));
+                return self.give_up(number);
             }
             self.looked = self.now;
             if self.rests {
@@ -338,6 +338,24 @@ impl<N: Net + Clock> Sockets<N> {
         }
         self.read_clock(net);
         Ok(None)
+    }
+
+    /// Ends the link whose time is over, unless something came on it that wasn't read: this program itself may have
+    /// stood still.
+    fn give_up(&mut self, number: u32) -> Result<Option<Event>, PortRefused>
+        ensures { IfOk result MayBeGiven }
+    {
+        let Some(link) = self.links.get_mut(&number) else {
+            return Ok(None);
+        };
+        let Some(watch) = &mut self.watch else {
+            return Ok(None);
+        };
+        let came = link.read_on(self.alloc, &mut watch.room, self.now)?;
+        if matches!(came, Came::Nothing) {
+            return Ok(self.end(number));
+        }
+        Ok(self.event_of(number, came))
     }
 
     /// A link whose time is over.

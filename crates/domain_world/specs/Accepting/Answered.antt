@@ -1,6 +1,6 @@
 -- What has to hold of a run beside what is proved of it, so that a member accepts only what its controller granted, and
 -- all of it, and client and member then hold one key (`Claims`): each fact is about the two ends of one unit that was
--- heard whole. Which are proved is said in docs/ARCHITECTURE.md.
+-- heard whole. Which are proved is said in docs/CLAIMS.md.
 use Rattle.std.specs.Prelude.{ℕ, ◌≡◌, ◌≢◌, Bool, true, false, List, Some, slice_get, AllPairs}
 use Rattle.std.specs.List.{AllByRecursion}
 use Rattle.authenticators.specs.Channels.{Channel, channel_key}
