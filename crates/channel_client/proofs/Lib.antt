@@ -2,3 +2,4 @@ pub mod CauseLaws
 pub mod EffectLaws
 pub mod StubLaws
 pub mod TurnLaws
+pub mod WholeLaws

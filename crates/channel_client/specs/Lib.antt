@@ -5,6 +5,7 @@ pub mod Machine
 pub mod Opened
 pub mod State
 pub mod Turns
+pub mod Whole
 pub use Rattle.authenticators.specs.Channels
 pub use Rattle.authenticators.specs.Sequences
 pub use Rattle.channel_keys.specs.Credentials

@@ -3,6 +3,7 @@
 ghost use Rattle.channel_client.specs.Causes.{CausesInOrder};
 ghost use Rattle.channel_client.specs.Effects.{StepsHaveEffects};
 ghost use Rattle.channel_client.specs.Turns.{OneTurn};
+ghost use Rattle.channel_client.specs.Whole.{RequestersSendWhole};
 
 /// One turn is out at a time: a right to it is given where none is out, and is given back exactly where its turn is
 /// still out.
@@ -24,4 +25,11 @@ pub fn causes_come_in_order()
 #[tactic(auto, using(crate::proofs::EffectLaws::steps_have_effects))]
 pub fn each_step_has_its_effect()
     ensures { StepsHaveEffects }
+{}
+
+/// What is sent is whole: a bind and a request are each the bytes of one whole unit, in one fragment or more, with room
+/// in one piece of a link, where names, numbers and what is told of logons are in their ranges; each step leaves them so.
+#[tactic(auto, using(crate::proofs::WholeLaws::requesters_send_whole))]
+pub fn requesters_send_whole()
+    ensures { RequestersSendWhole }
 {}

@@ -32,7 +32,7 @@ joined_map : (units : List RpcUnit) → joined_frames (map written units) ≡ fl
 joined_map [] = refl
 joined_map (unit ∷ units) = ap (λ (more : List ℕ). written unit ++ more) (joined_map units)
 
-frames_joined : (unit : RpcUnit) (limit : ℕ) → joined_frames (frames_of unit limit) ≡ bytes_of_call unit limit
+pub frames_joined : (unit : RpcUnit) (limit : ℕ) → joined_frames (frames_of unit limit) ≡ bytes_of_call unit limit
 unfolding frames_of
 frames_joined unit limit = joined_map (cut_of unit limit)
 

@@ -4,3 +4,4 @@ pub mod Bounds
 pub mod Links
 pub mod Sending
 pub mod Serving
+pub mod Whole

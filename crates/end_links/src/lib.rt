@@ -11,7 +11,9 @@ mod serving;
 mod short_actions;
 
 pub use binding::{Binding, bind, bind_ack, bind_nak, fragment_limit};
-pub use laws::{contexts_are_answered, steps_are_bounded, units_are_served_in_order};
+pub use laws::{
+    contexts_are_answered, sends_are_whole, steps_are_bounded, units_are_served_in_order,
+};
 pub use link::Link;
 pub use links::{LINK_LIMIT, Links, SaysHeld};
 pub use sending::{
