@@ -15,3 +15,6 @@ mod StepLaws
 mod StepRules
 mod TurnLaws
 mod UnitSteps
+pub mod WholeLaws
+mod WholeParts
+mod WholeUnits

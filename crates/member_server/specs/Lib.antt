@@ -16,5 +16,6 @@ pub mod Sealing
 pub mod State
 pub mod Turns
 pub mod Units
+pub mod Whole
 pub mod Work
 pub use Rattle.authenticators.specs.Timestamps

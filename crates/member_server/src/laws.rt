@@ -3,6 +3,7 @@
 ghost use Rattle.member_server.specs.Laws.{AsksWhatWaits, ClosesNothing, KeepsRequests, LeavesOtherLinks, LetsInTheGranted, ReachesItsLink, ServesOneMessage, StepsTheChannel};
 ghost use Rattle.member_server.specs.Pending.{Settles};
 ghost use Rattle.member_server.specs.ChannelSteps.{ChannelStepsKnown};
+ghost use Rattle.member_server.specs.Whole.{MembersSendWhole};
 
 /// The events that the step for a closed or dialled link makes, with those that may come of it, are no more than
 /// before: two for each logon that waits, two where a turn can start, one for a dial that waits, and one for each
@@ -71,4 +72,12 @@ pub fn what_is_kept_waits()
 #[tactic(auto, using(crate::proofs::ChannelStepLaws::channel_steps))]
 pub fn channel_steps_are_known()
     ensures { ChannelStepsKnown }
+{}
+
+/// What is sent goes out on a link that the member accepted, or on the link of the turn; and there it is the bytes of
+/// one whole unit, in one fragment or more, and has at most 65,536, where what the member has and what comes are in
+/// their ranges. A step leaves the ranges so, and they are so at first, where the computer's name is a name.
+#[tactic(auto, using(crate::proofs::WholeLaws::members_send_whole))]
+pub fn what_turns_send_is_whole()
+    ensures { MembersSendWhole }
 {}
