@@ -1,6 +1,6 @@
 -- What is told of a logon, read from an AUTHENTICATE in one unit, is in its ranges: for the law
 -- `what_turns_send_is_whole`.
-use Rattle.std.proofs.Common.{◌≡◌, ℕ, zero, suc, ◌+◌, ◌*◌, ◌<◌, ◌≤◌, ◌^◌, Bool, true, false, List, [], ◌∷◌, length, take, drop, Option, Some, None, Result, Ok, Err, refl, sym, ap, subst, arith, inl, inr, if◌then◌else◌}
+use Rattle.std.proofs.Common.{◌≡◌, ℕ, ◌+◌, ◌≤◌, Bool, true, false, List, [], ◌∷◌, length, drop, Option, Some, None, Result, Ok, Err, refl, sym, ap, subst, arith, inl, inr, if◌then◌else◌}
 use Rattle.std.specs.Result.{result_unwrap_or}
 use Rattle.std.proofs.lemmas.List.{length-drop}
 use Rattle.wire_base.specs.Numbers.{AreBytes}
@@ -10,11 +10,11 @@ use Rattle.wire_base.proofs.NumberLaws.{AreBytes-drop, AreBytes-nil, AreBytes-ta
 use Rattle.wire_base.proofs.UnitLaws.{AreUnits-units_of, whole_units_from-units_of}
 use Rattle.ntlm_flags.specs.Flags.{has_flag, negotiate_unicode}
 use Rattle.ntlm_messages.specs.Authenticate.{IsAuthenticate, authenticate_of}
-use Rattle.ntlm_messages.specs.Fields.{IsField, IsPart, offset_at}
+use Rattle.ntlm_messages.specs.Fields.{IsField, offset_at}
 use Rattle.ntlm_messages.specs.Text.{units_of_text}
 use Rattle.ntlm_messages.specs.declared.messages.Authenticate.{Authenticate}
 use Rattle.ntlm_messages.proofs.AuthenticateLaws.{authenticate_found}
-use Rattle.ntlm_responses.specs.Responses.{challenge_by, challenge_for_of, client_challenge_of, hashed_challenge_of}
+use Rattle.ntlm_responses.specs.Responses.{challenge_by, client_challenge_of, hashed_challenge_of}
 use Rattle.ntlm_responses.proofs.ResponseLaws.{All-hashed_challenge_of, length-hashed_challenge_of}
 use Rattle.rpc_units.specs.declared.kind.Kind.{Kind}
 use Rattle.rpc_units.specs.declared.unit.Trailer.{Trailer}

@@ -1,17 +1,19 @@
 -- A unit on an accepted link: what is sent goes out on that link, and what the member has stays in its ranges. For the
 -- law `what_turns_send_is_whole`.
-use Rattle.std.proofs.Common.{◌≡◌, ℕ, ◌+◌, ◌≤◌, ◌==◌, Bool, true, false, List, [], ◌∷◌, ◌++◌, Option, Some, None, Result, Ok, Err, inl, refl, sym, subst, nat_le, length}
+use Rattle.std.proofs.Common.{◌≡◌, ℕ, ◌+◌, ◌≤◌, ◌==◌, Bool, true, false, List, [], ◌∷◌, ◌++◌, Option, Some, None, Result, Ok, Err, inl, refl, nat_le, length}
+use Rattle.std.specs.List.{AllByRecursion}
+use Rattle.wire_base.specs.Numbers.{AreBytes}
+use Rattle.ntlm_flags.specs.Flags.{agreed_flags}
 use Rattle.ntlm_messages.specs.declared.messages.Authenticate.{Authenticate}
 use Rattle.ntlm_messages.specs.declared.refused.MessageRefused.{MessageRefused}
 use Rattle.ntlm_messages.specs.Authenticate.{authenticate_of}
-use Rattle.ntlm_flags.specs.Flags.{agreed_flags}
 use Rattle.ntlm_seal.specs.Sessions.{SessionState}
-use Rattle.logon_stubs.specs.declared.info.NetworkInfo.{NetworkInfo}
 use Rattle.outside.specs.declared.action.Action.TheVariants as action
 use Rattle.outside.specs.declared.action.CloseCause.{CloseCause}
 use Rattle.outside.specs.declared.action.CloseCause.TheVariants as close
 use Rattle.outside.specs.declared.action.DropCause.TheVariants as drop_cause
 use Rattle.outside.specs.declared.action.Outcome.TheVariants as outcome
+use Rattle.outside.specs.declared.action.Action.{Action}
 use Rattle.rpc_units.specs.declared.refused.JoinRefused.{JoinRefused}
 use Rattle.rpc_units.specs.declared.refused.JoinRefused.TheVariants as join
 use Rattle.rpc_units.specs.declared.refused.UnitRefused.{UnitRefused}
@@ -23,11 +25,19 @@ use Rattle.rpc_units.specs.Joining.{answer_of, open_after}
 use Rattle.rpc_units.specs.Calls.{bytes_of_call}
 use Rattle.rpc_units.specs.Reading.{unit_of}
 use Rattle.rpc_units.specs.Writing.{written}
+use Rattle.rpc_units.specs.Numbers.{ntlm_provider}
+use Rattle.rpc_units.specs.declared.unit.Syntax.{Syntax}
+use Rattle.logon_stubs.specs.declared.info.NetworkInfo.{NetworkInfo}
+use Rattle.logon_stubs.specs.Ranges.{IsBlock}
 use Rattle.end_links.specs.Agreed.{accepts}
 use Rattle.end_links.specs.Sending.{fault_of, response_of}
+use Rattle.end_links.specs.Binding.{nak_of}
+use Rattle.end_links.specs.Serving.{ServedPart, served_by, then_open, then_talk}
 use Rattle.channel_client.specs.declared.answers.AskRefused.{AskRefused}
 use Rattle.channel_client.specs.declared.answers.AskRefused.TheVariants as ask_refused
 use Rattle.channel_client.specs.Machine.{ask_of}
+use Rattle.channel_client.specs.Whole.{InRangeLogon, InRangeRequester}
+use Rattle.channel_client.proofs.WholeLaws.{requesters_send_whole}
 use Rattle.member_server.specs.declared.memo.Answer.{Answer}
 use Rattle.member_server.specs.declared.memo.Answer.TheVariants as answer
 use Rattle.member_server.specs.declared.state.AtLink.{AtLink}
@@ -39,23 +49,11 @@ use Rattle.member_server.specs.declared.state.Phase.TheVariants as phase
 use Rattle.member_server.specs.declared.state.Talk.{Talk}
 use Rattle.member_server.specs.Held.{held_limit, held_size}
 use Rattle.member_server.specs.Levels.{is_plain}
-use Rattle.rpc_units.specs.Numbers.{ntlm_provider}
 use Rattle.member_server.specs.Memo.{call_answer}
 use Rattle.member_server.specs.Messages.{ask_by, info_of, is_fit, take_auth3, take_message, take_trailer, wait_by, with_channel}
 use Rattle.member_server.specs.Requests.{answer_call, body_asked, body_out, hold_by, join_by, join_if, join_request, join_unit, open_unit, reply, seal_reply, send_reply, send_sealed, signed_cause, signed_unit, talk_in, unit_asked, unit_in, unit_out, with_session}
 use Rattle.member_server.specs.Units.{body_challenged, bound_unit, serve_held, then_said, unit_challenged}
 use Rattle.member_server.specs.Work.{Served, send, shut, stay}
-use Rattle.std.specs.List.{AllByRecursion}
-use Rattle.wire_base.specs.Numbers.{AreBytes}
-use Rattle.outside.specs.declared.action.Action.{Action}
-use Rattle.outside.specs.declared.action.StepRefused.{StepRefused}
-use Rattle.outside.specs.Machine.{Part}
-use Rattle.rpc_units.specs.declared.unit.Syntax.{Syntax}
-use Rattle.logon_stubs.specs.Ranges.{IsBlock}
-use Rattle.end_links.specs.Binding.{nak_of}
-use Rattle.end_links.specs.Serving.{ServedPart, served_by, then_open, then_talk}
-use Rattle.channel_client.specs.Whole.{InRangeLogon, InRangeRequester}
-use Rattle.channel_client.proofs.WholeLaws.{requesters_send_whole}
 use Rattle.member_server.specs.declared.binds.Offer.{Offer}
 use Rattle.member_server.specs.Binds.{ack_fits, answer_bind, bind_by, bound_by, challenge_ack, fresh_unit, offer_in}
 use Rattle.member_server.specs.Units.{first_unit, is_fresh, link_server, unit_by}

@@ -110,6 +110,23 @@ IsSentOn First Second (action.Close link cause) = Unit {0}
 IsSentOn First Second (action.Told link outcome) = Unit {0}
 IsSentOn First Second (action.Judged how) = Unit {0}
 
+-- the link that an event opens
+abbrev pub opened_link : Event → Option ℕ
+opened_link (event.Opened link) = Some link
+opened_link (event.Bytes link piece) = None
+opened_link (event.Closed link) = None
+opened_link (event.Dialled link) = None
+opened_link event.DialFailed = None
+opened_link event.Stop = None
+
+-- an accepted link is one that was open as the step began, or the one that its event opened
+abbrev pub IsAcceptedAfter : Running → Event → ℕ → Type 0
+IsAcceptedAfter running what number = IsAccepted running number ⊎ (opened_link what ≡ Some number)
+
+abbrev pub AcceptedUnlessStopped : Running → Event → Option Running → Type 0
+AcceptedUnlessStopped running what None = Unit {0}
+AcceptedUnlessStopped running what (Some after) = AllByRecursion (λ (entry : ℕ × LinkState Talk). IsAcceptedAfter running what entry.0) after.links
+
 -- ---- the law
 
 pub record MembersSendWhole : Type 0 where
@@ -117,6 +134,9 @@ pub record MembersSendWhole : Type 0 where
   pub sends : (s : State) (running : Running) (what : Event) (now : ℕ) (left : List (List ℕ)) → s.running ≡ Some running →
       InRangeRunning running → InRangeEvent what left →
       AllByRecursion (IsSentOn (IsAccepted running) (IsTurnLink running what)) (actions_of (step_of s what now left))
+  -- no other link is accepted after the step
+  pub accepts : (s : State) (running : Running) (what : Event) (now : ℕ) (left : List (List ℕ)) → s.running ≡ Some running →
+      InRangeRunning running → InRangeEvent what left → AcceptedUnlessStopped running what (step_of s what now left).state.running
   -- a step leaves the ranges so, and they are so at first
   pub keeps : (s : State) (running : Running) (what : Event) (now : ℕ) (left : List (List ℕ)) → s.running ≡ Some running →
       InRangeRunning running → InRangeEvent what left → InRangeUnlessStopped (step_of s what now left).state.running
