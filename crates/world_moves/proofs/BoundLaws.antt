@@ -35,7 +35,7 @@ send_links : (route : Option Route) (end : EndId) (link : ℕ) (bytes : List ℕ
 send_links None end link bytes s = refl
 send_links (Some route) end link bytes s = bag_unit_links (kind_of route) (is_accepted_by end route) link bytes s
 
-quiet_links : (end : EndId) (what : Action) (s : State) → (perform_quietly end what s).links ≡ s.links
+pub quiet_links : (end : EndId) (what : Action) (s : State) → (perform_quietly end what s).links ≡ s.links
 quiet_links end (Keep bytes) s = refl
 quiet_links end (Send link bytes) s = send_links (slice_get s.links link) end link bytes s
 quiet_links end (Dial peer) s = refl
@@ -43,11 +43,11 @@ quiet_links end (Close link cause) s = refl
 quiet_links end (Told link outcome) s = refl
 quiet_links end (Judged how) s = refl
 
-all_quiet_links : (end : EndId) (actions : List Action) (s : State) → (perform_all_quietly end actions s).links ≡ s.links
+pub all_quiet_links : (end : EndId) (actions : List Action) (s : State) → (perform_all_quietly end actions s).links ≡ s.links
 all_quiet_links end [] s = refl
 all_quiet_links end (what ∷ actions) s = all_quiet_links end actions (perform_quietly end what s) ∙ quiet_links end what s
 
-closed_links : (end : Option EndId) (link : ℕ) (s : State) → (closed_at end link s).state.links ≡ s.links
+pub closed_links : (end : Option EndId) (link : ℕ) (s : State) → (closed_at end link s).state.links ≡ s.links
 closed_links None link s = refl
 closed_links (Some end) link s = all_quiet_links end (hear end (event.Closed link) s).actions (hear end (event.Closed link) s).state
 
@@ -55,7 +55,7 @@ close_open_links : (there : Option OpenLink) (end : EndId) (link : ℕ) (s : Sta
 close_open_links None end link s = refl
 close_open_links (Some there) end link s = closed_links (other_hearer end there) link (shut_link link s)
 
-perform_links : (end : EndId) (what : Action) (s : State) → (perform end what s).state.links ≡ s.links
+pub perform_links : (end : EndId) (what : Action) (s : State) → (perform end what s).state.links ≡ s.links
 perform_links end (Keep bytes) s = refl
 perform_links end (Close link cause) s = close_open_links (lookup same_number link s.open_links) end link s
 perform_links end (Send link bytes) s = quiet_links end (Send link bytes) s

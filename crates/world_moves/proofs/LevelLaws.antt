@@ -255,7 +255,7 @@ total_of bytes = total_in (length bytes) bytes
 
 -- ---- units of the bag
 
-unit_short : (bag : List BagUnit) (number : ℕ) (unit : BagUnit) → AreShortUnits bag → slice_get bag number ≡ Some unit → length unit.bytes ≤ send_limit
+pub unit_short : (bag : List BagUnit) (number : ℕ) (unit : BagUnit) → AreShortUnits bag → slice_get bag number ≡ Some unit → length unit.bytes ≤ send_limit
 unit_short [] number unit short there = absurd cc
 unit_short (first ∷ bag) zero unit short there =
     let here : first ≡ unit = cc in subst (λ (u : BagUnit). length u.bytes ≤ send_limit) here (All-head (λ (u : BagUnit). length u.bytes ≤ send_limit) first bag short)

@@ -1,15 +1,15 @@
 mod AskingLaws
-mod BagLaws
+pub mod BagLaws
 pub mod BoundLaws
 mod CountLaws
 mod DrawBlockLaws
 mod EndLaws
 mod GeneratorLaws
-mod LevelLaws
+pub mod LevelLaws
 pub mod LinkFrameLaws
 mod MakingLaws
 mod MuteLaws
-mod OpenLaws
+pub mod OpenLaws
 mod PlaceLaws
 pub mod RunLaws
 mod RunningLaws

@@ -36,11 +36,12 @@ LinkFact = List Route → OpenMap → List BagUnit → Type 0
 abbrev pub FitsIn : LinkFact → State → Type 0
 FitsIn Fits s = Fits s.links s.open_links s.bag
 
--- the unit is on one of the links, which is no stranger's
+-- the unit is on one of the links, which is of its kind and no stranger's
 pub record IsOnLink (links : List Route) (unit : BagUnit) : Type 0 where
   pub route : Route
   pub made : slice_get links unit.link ≡ Some route
   pub between : is_of kind.Stranger route ≡ false
+  pub same_kind : kind_of route ≡ unit.kind
 
 -- It holds on where a unit goes into the bag, and where a link is open no more.
 pub record StaysOnLinks (Fits : LinkFact) : Type 0 where
@@ -66,10 +67,10 @@ module _ (Fits : LinkFact) (stays : StaysOnLinks Fits) where
   bag_unit_stays route kind.Stranger back link bytes s is made holds = holds
   bag_unit_stays route kind.ToMember back link bytes s is made holds =
       stays.sends (record { bytes = bytes; link = link; kind = kind.ToMember; back = back; is_settled = false }) s.links s.open_links s.bag
-      (record { route = route; made = made; between = cc }) holds
+      (record { route = route; made = made; between = cc; same_kind = is }) holds
   bag_unit_stays route kind.ToController back link bytes s is made holds =
       stays.sends (record { bytes = bytes; link = link; kind = kind.ToController; back = back; is_settled = false }) s.links s.open_links s.bag
-      (record { route = route; made = made; between = cc }) holds
+      (record { route = route; made = made; between = cc; same_kind = is }) holds
 
   send_stays : (route : Option Route) (end : EndId) (link : ℕ) (bytes : List ℕ) (s : State) → slice_get s.links link ≡ route → FitsIn Fits s → FitsIn Fits (send_on route end link bytes s)
   send_stays None end link bytes s made holds = holds
