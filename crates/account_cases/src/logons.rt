@@ -21,12 +21,10 @@ fn names(alloc: Global, words: &[&str]) -> anyhow::Result<(Units, Units, Units)>
     Ok((domain, user, workstation))
 }
 
-/// What is sent of a logon: `DOMAIN USER WORKSTATION CHALLENGE NT`, from the third word on.
-fn info(alloc: Global, words: &[&str]) -> anyhow::Result<NetworkInfo> {
-    let challenge = eight(word(words, 6))?;
-    let nt = blob(alloc, word(words, 7))?;
-    let (domain, user, workstation) = names(alloc, words)?;
-    Ok(NetworkInfo {
+/// What is sent of a logon with that challenge and that response.
+fn sent(alloc: Global, names: (Units, Units, Units), challenge: [u8; 8], nt: Blob) -> NetworkInfo {
+    let (domain, user, workstation) = names;
+    NetworkInfo {
         domain,
         control: 0,
         logon_id: 0,
@@ -35,7 +33,14 @@ fn info(alloc: Global, words: &[&str]) -> anyhow::Result<NetworkInfo> {
         challenge,
         nt,
         lm: Blob::from_vec(Vec::new(alloc)),
-    })
+    }
+}
+
+/// What is sent of a logon: `DOMAIN USER WORKSTATION CHALLENGE NT`, from the third word on.
+fn info(alloc: Global, words: &[&str]) -> anyhow::Result<NetworkInfo> {
+    let challenge = eight(word(words, 6))?;
+    let nt = blob(alloc, word(words, 7))?;
+    Ok(sent(alloc, names(alloc, words)?, challenge, nt))
 }
 
 /// The name of the controller.
@@ -101,16 +106,7 @@ fn info_of_step(alloc: Global, parts: &[&str]) -> anyhow::Result<NetworkInfo> {
     let domain = text_units(alloc, word(parts, 1))?;
     let user = text_units(alloc, word(parts, 2))?;
     let workstation = text_units(alloc, word(parts, 3))?;
-    Ok(NetworkInfo {
-        domain,
-        control: 0,
-        logon_id: 0,
-        user,
-        workstation,
-        challenge,
-        nt,
-        lm: Blob::from_vec(Vec::new(alloc)),
-    })
+    Ok(sent(alloc, (domain, user, workstation), challenge, nt))
 }
 
 /// A verdict in short: its status, or the count of bad passwords, the flags and the number of further identifiers that

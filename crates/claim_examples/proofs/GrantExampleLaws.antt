@@ -61,37 +61,6 @@ use Rattle.claim_examples.proofs.ClaimLaws.{next_at, no_channel}
 use Rattle.claim_examples.proofs.LogonLaws.{granted_small, not_long, not_response}
 use Rattle.claim_examples.proofs.SequenceLaws.{kept_small}
 
--- ann may log on whenever it is
-pub may_small : (now : ℕ) → MayLogOn small_table (info_asked message) now
-unfolding place_in same_name names.upper_of units_of
-may_small now = record {
-  there = record {
-    domain = inl refl;
-    account = record {
-      user = refl;
-      unlocked = refl;
-      below_lockout = inl refl;
-      enabled = refl;
-      not_expired = inl refl;
-      workstation = inl refl;
-      no_change_due = refl;
-      password_not_expired = inl refl;
-    };
-  };
-  taken_response = inl refl;
-}
-
-not_enabled : (now : ℕ) → MayLogOn disabled_table (info_asked message) now → ⊥
-unfolding place_in same_name names.upper_of units_of
-not_enabled now may = absurd (let never : true ≡ false = may.there.account.enabled in cc)
-
--- her call is to be granted, however it was judged
-met_small : (how : Judged) → IsToBeGranted (record (judged_as how next_call) { table = small_table })
-met_small how = record { next = next_at []; level = inr refl; may = may_small 0; verifies = granted_small.verifies }
-
-same_item : {T : Type 0} (one other : T) → Some one ≡ Some other → one ≡ other
-same_item one other is = cc
-
 -- whatever her count of bad passwords is, since nobody is locked out
 may_counted : (count now : ℕ) → MayLogOn (counted_table count) (info_asked message) now
 unfolding place_in same_name names.upper_of units_of
@@ -111,6 +80,21 @@ may_counted count now = record {
   };
   taken_response = inl refl;
 }
+
+-- ann may log on whenever it is
+pub may_small : (now : ℕ) → MayLogOn small_table (info_asked message) now
+may_small now = may_counted 0 now
+
+not_enabled : (now : ℕ) → MayLogOn disabled_table (info_asked message) now → ⊥
+unfolding place_in same_name names.upper_of units_of
+not_enabled now may = absurd (let never : true ≡ false = may.there.account.enabled in cc)
+
+-- her call is to be granted, however it was judged
+met_small : (how : Judged) → IsToBeGranted (record (judged_as how next_call) { table = small_table })
+met_small how = record { next = next_at []; level = inr refl; may = may_small 0; verifies = granted_small.verifies }
+
+same_item : {T : Type 0} (one other : T) → Some one ≡ Some other → one ≡ other
+same_item one other is = cc
 
 verifies_counted : (count : ℕ) → ResponseVerifies (counted_table count) (info_asked message)
 unfolding place_in same_name names.upper_of units_of
