@@ -1,9 +1,11 @@
 -- How a fact is carried through all moves of a run.
 pub mod BagFrameLaws
 pub mod BookFrameLaws
+pub mod ComingLaws
 pub mod DrawnLaws
 pub mod FrameLaws
 pub mod FrontLaws
 pub mod MarkPlaceLaws
 pub mod NewUnitLaws
 pub mod OpenMadeLaws
+pub mod StepFrameLaws

@@ -1,6 +1,6 @@
 -- In every run a member lets somebody in only where it took a message on that link, and an answer for it.
 -- It serves `members_let_in_who_asked`.
-use Rattle.std.proofs.Common.{◌≡◌, ℕ, zero, suc, ◌+◌, ◌==◌, Bool, true, false, List, [], ◌∷◌, ◌++◌, length, map, inl, inr, Option, Some, None, Result, Ok, Err, refl, sym, ap, subst, ◌∙◌, slice_get, if◌then◌else◌, arith}
+use Rattle.std.proofs.Common.{◌≡◌, ℕ, zero, suc, ◌+◌, ◌==◌, Bool, true, false, List, [], ◌∷◌, ◌++◌, length, map, inl, inr, Option, Some, None, Result, Ok, Err, refl, sym, ap, subst, ◌∙◌, slice_get, arith}
 use Rattle.std.specs.Prelude.{flat_map, ◌%◌}
 use Rattle.std.specs.List.{AllByRecursion}
 use Rattle.std.proofs.lemmas.Bool.{eqb-true}
@@ -43,10 +43,10 @@ use Rattle.world_moves.specs.declared.plan.Plan.{Plan}
 use Rattle.world_moves.specs.declared.state.State.{State}
 use Rattle.world_moves.specs.Acting.{Acted, Given, Heard, done, given_by, hear, heard_by, hears_if, perform_all, piece_comes, pieces_come, then_act}
 use Rattle.world_moves.specs.Bag.{first_waiting, pieces_of}
-use Rattle.world_moves.specs.Choosing.{chosen_in, chosen_place, places_from}
+use Rattle.world_moves.specs.Choosing.{chosen_in, chosen_place}
 use Rattle.world_moves.specs.Counting.{is_in}
 use Rattle.world_moves.specs.Ends.{acceptors_in, actions_by, count_of, member_step}
-use Rattle.world_moves.specs.Links.{acceptor_of, handed_links, hearer_of, is_handed, links_of}
+use Rattle.world_moves.specs.Links.{acceptor_of, handed_links, hearer_of, links_of}
 use Rattle.world_moves.specs.Moving.{act, come_by, come_on_own, deliver_by, deliver_on, deliver_unit, hand_on, onward_by, settle, without_first}
 use Rattle.world_moves.specs.World.{World, first_world, happens}
 use Rattle.domain_world.specs.Claims.LetIn.{IsLetInBy, LetsInWhoAsked}
@@ -56,6 +56,7 @@ use Rattle.step_notes.proofs.Members.KeptLogonLaws.{HasFor, IfDialled, IsFor, Ke
 use Rattle.step_notes.proofs.Members.TurnAnswerLaws.{HasAnswer, link_answers, none_whole}
 use Rattle.step_notes.proofs.Members.UnservedLaws.{LinksIn, bytes_took, took_known}
 use Rattle.domain_world.proofs.Accepting.LetInStepLaws.{IsAcceptedBy, IsCalm, IsDialledBy, IsLasting, KeepsIn, OfLetIn, IfLetIn, all_calm, clients_tell, connect_calm, controllers_tell, fail_calm, given_append, given_so, has_so, hear_keeps, lose_keeps, member_put, messages_so, nobody_so, restart_keeps, shut_calm, start_calm, step_told, stranger_calm}
+use Rattle.domain_world.proofs.Frames.ComingLaws.{handed_outside}
 use Rattle.domain_world.proofs.Accepting.MessageNoteLaws.{AreCarried, IsAnsweredFor, for_stable, let_in_stable, notes_grow, one_so, turns_answer}
 
 -- ---- bytes that come in no unit of the bag come on no link of a turn
@@ -64,48 +65,13 @@ abbrev pub IsCarried : Option ℕ → List Route → ℕ → Type 0
 IsCarried None links link = (member : ℕ) → IsDialledBy links member link → ⊥
 IsCarried (Some unit) links link = Unit {0}
 
--- a place of the items that pass
-pub record IsPlace {T : Type 0} (test : T → Bool) (items : List T) (start number : ℕ) : Type 0 where
-  pub place : ℕ
-  pub item : T
-  pub is : number ≡ start + place
-  pub there : slice_get items place ≡ Some item
-  pub passes : test item ≡ true
-
-place_later : {T : Type 0} (test : T → Bool) (first : T) (items : List T) (start number : ℕ) → IsPlace test items (start + 1) number → IsPlace test (first ∷ items) start number
-place_later test first items start number later = record {
-  place = suc later.place;
-  item = later.item;
-  is = omega (arith, later.is);
-  there = later.there;
-  passes = later.passes;
-}
-
-place_by : {T : Type 0} (passes : Bool) (test : T → Bool) (first : T) (items : List T) (start i number : ℕ) → test first ≡ passes →
-    slice_get (if passes then start ∷ places_from test (start + 1) items else places_from test (start + 1) items) i ≡ Some number →
-    ((j : ℕ) → slice_get (places_from test (start + 1) items) j ≡ Some number → IsPlace test items (start + 1) number) → IsPlace test (first ∷ items) start number
-place_by false test first items start i number fits there later = place_later test first items start number (later i there)
-place_by true test first items start zero number fits there later =
-    let same : start ≡ number = cc in record { place = 0; item = first; is = omega (arith, same); there = refl; passes = fits }
-place_by true test first items start (suc i) number fits there later = place_later test first items start number (later i there)
-
-place_in : {T : Type 0} (test : T → Bool) (items : List T) (start i number : ℕ) → slice_get (places_from test start items) i ≡ Some number → IsPlace test items start number
-place_in test [] start i number there = absurd cc
-place_in test (first ∷ items) start i number there =
-    place_by (test first) test first items start i number refl there (λ j more. place_in test items (start + 1) j number more)
-
 abbrev pub IfHanded : List Route → Option ℕ → Type 0
 IfHanded links None = Unit {0}
 IfHanded links (Some link) = IsCarried None links link
 
 handed_by : (links : List Route) (i : ℕ) (found : Option ℕ) → slice_get (handed_links links) i ≡ found → IfHanded links found
 handed_by links i None is = tt
-handed_by links i (Some link) is = λ member dialled.
-    let place = place_in is_handed links 0 i link is in
-    let same : link ≡ place.place = omega (arith, place.is) in
-    let there : slice_get links place.place ≡ Some (ToController member dialled.controller) = subst (λ (n : ℕ). slice_get links n ≡ Some (ToController member dialled.controller)) same dialled.at in
-    let route : place.item ≡ ToController member dialled.controller = (let both : Some place.item ≡ Some (ToController member dialled.controller) = sym place.there ∙ there in cc) in
-    absurd (let never : true ≡ false = sym place.passes ∙ ap is_handed route in cc)
+handed_by links i (Some link) is = λ member dialled. handed_outside links i link is member dialled.controller dialled.at
 
 turn_none_by : (hit : Bool) (Own : ℕ → Type 0) (other : ℕ) (said : LinkState TurnTalk) (link : ℕ) (piece : List ℕ) (running : Running) (left : List (List ℕ)) → (other == link) ≡ hit →
     Own other → (Own link → ⊥) → turn_units_by hit said link piece running left ≡ []

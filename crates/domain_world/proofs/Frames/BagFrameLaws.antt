@@ -120,19 +120,19 @@ pub record MarksStay {X : Type 0} (part : Book → X) (Side : X → Fact) (P : U
       P (part (note_member (Some m) at w piece s after b)) (length s.bag + place) unit mark
 
 -- the same by the units that the step adds to the bag, whatever end sends them
-record StepsMark {X : Type 0} (part : Book → X) (Side : X → Fact) (P : UnitFact X) : Type 0 where
-  plain : (x : X) (number : ℕ) (unit : BagUnit) → P x number unit Plain
-  settles : (x : X) (number : ℕ) (unit : BagUnit) (mark : Mark) → P x number unit mark → P x number (settled unit) mark
-  grows : (end : EndId) (w : Coming) (piece : List ℕ) (s after : State) (b : Book) (number : ℕ) (unit : BagUnit) (one : Sent) → HoldsIn (Side (part b)) s →
+pub record StepsMark {X : Type 0} (part : Book → X) (Side : X → Fact) (P : UnitFact X) : Type 0 where
+  pub plain : (x : X) (number : ℕ) (unit : BagUnit) → P x number unit Plain
+  pub settles : (x : X) (number : ℕ) (unit : BagUnit) (mark : Mark) → P x number unit mark → P x number (settled unit) mark
+  pub grows : (end : EndId) (w : Coming) (piece : List ℕ) (s after : State) (b : Book) (number : ℕ) (unit : BagUnit) (one : Sent) → HoldsIn (Side (part b)) s →
       slice_get s.bag number ≡ Some unit → slice_get b.sent number ≡ Some one → P (part b) number unit one.mark →
       P (part (note_at (Some end) w piece s after b)) number unit one.mark
-  controllers : (c : ControllerState) (at : ℕ) (w : Coming) (piece : List ℕ) (s : State) (b : Book) → slice_get s.ends.controllers at ≡ Some c → HoldsIn (Side (part b)) s →
+  pub controllers : (c : ControllerState) (at : ℕ) (w : Coming) (piece : List ℕ) (s : State) (b : Book) → slice_get s.ends.controllers at ≡ Some c → HoldsIn (Side (part b)) s →
       IsAtSide s.links w.link w.back (Controller at) → length b.sent ≡ length s.bag →
       let after : State = (done (Controller at) (heard_by (controller_step (Some c) at (event.Bytes w.link piece) s.moment s.ends s.chances) s)).state in
       (units : List BagUnit) → after.bag ≡ s.bag ++ units → AllByRecursion (IsOnLink s.links) units → (place : ℕ) (unit : BagUnit) (mark : Mark) →
       slice_get units place ≡ Some unit → slice_get (marks_of w.link true units (controller_marks at c w piece s)) place ≡ Some mark →
       P (part (note_controller (Some c) at w piece s after b)) (length s.bag + place) unit mark
-  members : (m : MemberState) (at : ℕ) (w : Coming) (piece : List ℕ) (s : State) (b : Book) → slice_get s.ends.members at ≡ Some m → HoldsIn (Side (part b)) s →
+  pub members : (m : MemberState) (at : ℕ) (w : Coming) (piece : List ℕ) (s : State) (b : Book) → slice_get s.ends.members at ≡ Some m → HoldsIn (Side (part b)) s →
       IsAtSide s.links w.link w.back (Member at) → length b.sent ≡ length s.bag →
       let after : State = (done (Member at) (heard_by (member_step (Some m) at (event.Bytes w.link piece) s.moment s.ends s.chances) s)).state in
       (units : List BagUnit) → after.bag ≡ s.bag ++ units → AllByRecursion (IsOnLink s.links) units → (place : ℕ) (unit : BagUnit) (mark : Mark) →
@@ -140,30 +140,30 @@ record StepsMark {X : Type 0} (part : Book → X) (Side : X → Fact) (P : UnitF
       P (part (note_member (Some m) at w piece s after b)) (length s.bag + place) unit mark
 
 -- it holds of each unit, and each unit has its mark
-record IsMarked {X : Type 0} (P : UnitFact X) (x : X) (bag : List BagUnit) (sent : List Sent) : Type 0 where
-  each : OfEachUnit P x bag sent
-  all : length sent ≡ length bag
+pub record IsMarked {X : Type 0} (P : UnitFact X) (x : X) (bag : List BagUnit) (sent : List Sent) : Type 0 where
+  pub each : OfEachUnit P x bag sent
+  pub all : length sent ≡ length bag
 
 abbrev hear_bytes : EndId → Coming → List ℕ → State → State
 hear_bytes end w piece s = (hears end (event.Bytes w.link piece) s).state
 
 -- what holds where a move begins
-record Begins {X : Type 0} (part : Book → X) (Side : X → Fact) (P : UnitFact X) (s : State) (b : Book) : Type 0 where
-  side : HoldsIn (Side (part b)) s
-  made : AllByRecursion (IsAsMade s.links) s.open_links
-  marked : IsMarked P (part b) s.bag b.sent
+pub record Begins {X : Type 0} (part : Book → X) (Side : X → Fact) (P : UnitFact X) (s : State) (b : Book) : Type 0 where
+  pub side : HoldsIn (Side (part b)) s
+  pub made : AllByRecursion (IsAsMade s.links) s.open_links
+  pub marked : IsMarked P (part b) s.bag b.sent
 
-abbrev IsServer : EndId → Type 0
+abbrev pub IsServer : EndId → Type 0
 IsServer (Controller at) = Unit {0}
 IsServer (Member at) = Unit {0}
 IsServer (Client at) = ⊥
 
 -- and between the pieces of what comes: each unit has its mark, unless a client is at that side of the link
-record Goes {X : Type 0} (part : Book → X) (Side : X → Fact) (P : UnitFact X) (w : Coming) (s : State) (b : Book) : Type 0 where
-  side : HoldsIn (Side (part b)) s
-  made : AllByRecursion (IsAsMade s.links) s.open_links
-  each : OfEachUnit P (part b) s.bag b.sent
-  all : (end : EndId) → IsAtSide s.links w.link w.back end → IsServer end → length b.sent ≡ length s.bag
+pub record Goes {X : Type 0} (part : Book → X) (Side : X → Fact) (P : UnitFact X) (w : Coming) (s : State) (b : Book) : Type 0 where
+  pub side : HoldsIn (Side (part b)) s
+  pub made : AllByRecursion (IsAsMade s.links) s.open_links
+  pub each : OfEachUnit P (part b) s.bag b.sent
+  pub all : (end : EndId) → IsAtSide s.links w.link w.back end → IsServer end → length b.sent ≡ length s.bag
 
 -- and where it ends, before the other units get their marks
 record Comes {X : Type 0} (P : UnitFact X) (x : X) (s : State) (sent : List Sent) : Type 0 where
@@ -282,7 +282,7 @@ module _ {X : Type 0} (part : Book → X) (Side : X → Fact) (P : UnitFact X) (
         (λ server. absurd server),
       )
 
-  piece_goes : (end : Option EndId) (w : Coming) (piece : List ℕ) (s : State) (b : Book) → hearer_of w.back (lookup same_number w.link s.open_links) ≡ end → Goes part Side P w s b →
+  pub piece_goes : (end : Option EndId) (w : Coming) (piece : List ℕ) (s : State) (b : Book) → hearer_of w.back (lookup same_number w.link s.open_links) ≡ end → Goes part Side P w s b →
       Goes part Side P w (hears_if end (event.Bytes w.link piece) s).state (note_at end w piece s (hears_if end (event.Bytes w.link piece) s).state b)
   piece_goes None w piece s b is goes = goes
   piece_goes (Some end) w piece s b is goes =
@@ -305,7 +305,7 @@ module _ {X : Type 0} (part : Book → X) (Side : X → Fact) (P : UnitFact X) (
       let after : State = (piece_comes w.back w.link piece s).state in
       pieces_go w pieces after (note_at end w piece s after b) (piece_goes end w piece s b refl goes)
 
-  first_goes : (w : Coming) (s : State) (b : Book) → Begins part Side P s b → Goes part Side P w s b
+  pub first_goes : (w : Coming) (s : State) (b : Book) → Begins part Side P s b → Goes part Side P w s b
   first_goes w s b begins = record { side = begins.side; made = begins.made; each = begins.marked.each; all = λ end there server. begins.marked.all }
 
   -- ---- moves at which bytes come
@@ -333,7 +333,7 @@ module _ {X : Type 0} (part : Book → X) (Side : X → Fact) (P : UnitFact X) (
     settles = λ number links map bag each. settled_each x number bag sent each;
   }
 
-  settled_begins : (number : ℕ) (s : State) (b : Book) → Begins part Side P s b → Begins part Side P (settle number s) b
+  pub settled_begins : (number : ℕ) (s : State) (b : Book) → Begins part Side P s b → Begins part Side P (settle number s) b
   settled_begins number s b begins = record {
     side = begins.side;
     made = begins.made;
@@ -417,7 +417,7 @@ module _ {X : Type 0} (part : Book → X) (Side : X → Fact) (P : UnitFact X) (
         all = size;
       }
 
-  note_begins : (w : World) (what : Move) (b : Book) → Begins part Side P w.state b → Begins part Side P (happens w what).state (note w what b)
+  pub note_begins : (w : World) (what : Move) (b : Book) → Begins part Side P w.state b → Begins part Side P (happens w what).state (note w what b)
   note_begins w what b begins =
       let after : State = (happens w what).state in
       let come : Book = note_coming what w.moves w.state b in
@@ -464,24 +464,39 @@ pub run_stays_marked : {X : Type 0} (part : Book → X) (Side : X → Fact) (P :
     OfEachUnit P (part (past plan moves).book) (past plan moves).world.state.bag (past plan moves).book.sent
 run_stays_marked part Side P written stays plan moves holds = (run_marked part Side P written (new_marked part Side P stays) plan moves holds).each
 
+-- ---- nothing but that each unit has its mark
+
+abbrev pub no_part : Book → Unit {0}
+no_part b = tt
+
+abbrev pub no_side : Unit {0} → Fact
+no_side x ends chances links = Unit {0}
+
+abbrev pub no_more_of : UnitFact (Unit {0})
+no_more_of x number unit mark = Unit {0}
+
+pub nothing_written : StaysWritten no_part no_side
+nothing_written = record {
+  stays = λ x. record {
+    hears = λ end what now ends chances links quiet holds. tt;
+    opens = λ route now ends chances links holds. tt;
+    controllers = λ c at ends chances links is holds. tt;
+    members = λ plan at ends chances links holds. tt;
+    clients = λ client at ends chances links holds. tt;
+  };
+  bytes = λ end w piece s after b holds. tt;
+  given = λ at given after b. refl;
+}
+
+pub nothing_marked : StepsMark no_part no_side no_more_of
+nothing_marked = record {
+  plain = λ x number unit. tt;
+  settles = λ x number unit mark holds. tt;
+  grows = λ end w piece s after b number unit one side there sent holds. tt;
+  controllers = λ c at w piece s b is side hears all units more on place unit mark there marked. tt;
+  members = λ m at w piece s b is side hears all units more on place unit mark there marked. tt;
+}
+
 -- in every run each unit of the bag has its mark
 pub each_marked : (plan : Plan) (moves : List Move) → EachUnitIsMarked (past plan moves)
-each_marked plan moves =
-    (run_marked (λ (b : Book). tt) (λ (x : Unit {0}) (ends : EndStates) (chances : Drawing) (links : List Route). Unit {0})
-    (λ (x : Unit {0}) (number : ℕ) (unit : BagUnit) (mark : Mark). Unit {0}) (record {
-      stays = λ x. record {
-        hears = λ end what now ends chances links quiet holds. tt;
-        opens = λ route now ends chances links holds. tt;
-        controllers = λ c at ends chances links is holds. tt;
-        members = λ plan at ends chances links holds. tt;
-        clients = λ client at ends chances links holds. tt;
-      };
-      bytes = λ end w piece s after b holds. tt;
-      given = λ at given after b. refl;
-    }) (record {
-      plain = λ x number unit. tt;
-      settles = λ x number unit mark holds. tt;
-      grows = λ end w piece s after b number unit one side there sent holds. tt;
-      controllers = λ c at w piece s b is side hears all units more on place unit mark there marked. tt;
-      members = λ m at w piece s b is side hears all units more on place unit mark there marked. tt;
-    }) plan moves tt).all
+each_marked plan moves = (run_marked no_part no_side no_more_of nothing_written nothing_marked plan moves tt).all

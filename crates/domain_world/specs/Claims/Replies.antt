@@ -2,8 +2,6 @@
 -- cases make of the call, granted or not. In a run this is said of calls that came in a unit of the bag. What is
 -- claimed is this project's own choice.
 use Rattle.std.specs.Prelude.{ℕ, ◌≡◌, List, Some, slice_get}
-use Rattle.outside.specs.declared.action.Judged.TheVariants as judged
-use Rattle.logon_stubs.specs.declared.calls.Reply.TheVariants as reply
 use Rattle.channel_events.specs.Marks.{Mark, OneOf, Plain, Opening, Opened, Calling, ReplyTo}
 use Rattle.step_notes.specs.Records.{Judging, Sent}
 use Rattle.step_notes.specs.ReplySends.{IsReplyOfCall}
