@@ -1,12 +1,13 @@
 -- The bag, and how bytes come.
 -- It serves `Bag::add`, `Bag::first_waiting`, `Bag::new` and 2 more.
 use Rattle.std.proofs.Common.{◌≡◌, ℕ, suc, zero, ◌<◌, ◌≤◌, false, List, [], ◌∷◌, ◌++◌, length, take, drop, min, get_or, slice_set, ◌*◌, ◌+◌, refl, ap, sym, ◌∙◌, arith, length-drop, length-append}
-use Rattle.std.proofs.lemmas.List.Elements.{All-nil, All-push, All-set}
+use Rattle.std.proofs.lemmas.List.Elements.{All-get_or, All-nil, All-push, All-set}
 use Rattle.std.proofs.lemmas.List.{length-take, get_or_append_left, append_assoc, append-nil, length-set, take_min, take_at, drop_min, drop_at}
+use Rattle.wire_base.specs.Numbers.{AreBytes}
 use Rattle.end_links.specs.Bounds.{send_limit}
 use Rattle.wire_base.proofs.PlaceLaws.{NoneBefore, none_yet, here_first, none_here, none_at_all}
 use Rattle.world_moves.specs.declared.bag.BagUnit.{BagUnit}
-use Rattle.world_moves.specs.Bag.{AreSettled, AreShortPieces, AreShortUnits, is_waiting, piece_limit, pieces_in, pieces_of, settled}
+use Rattle.world_moves.specs.Bag.{AreSettled, AreShortPieces, AreShortUnits, HaveBytes, is_waiting, piece_limit, pieces_in, pieces_of, settled}
 
 pub none_settled : AreSettled 0 []
 none_settled = record { inside = omega arith; none = λ earlier d lt. absurd (omega arith) }
@@ -116,3 +117,18 @@ units_add bag unit are short = All-push IsShort bag unit are short
 
 pub units_settle : (bag : List BagUnit) (number : ℕ) (unit : BagUnit) → AreShortUnits bag → length unit.bytes ≤ send_limit → AreShortUnits (slice_set bag number unit)
 units_settle bag number unit are short = All-set IsShort bag number unit short are
+
+-- ---- each unit has bytes
+
+abbrev HasBytes : BagUnit → Type 0
+HasBytes unit = AreBytes unit.bytes
+
+pub none_other : HaveBytes []
+none_other = All-nil HasBytes
+
+pub bytes_add : (bag : List BagUnit) (unit : BagUnit) → HaveBytes bag → AreBytes unit.bytes → HaveBytes (bag ++ unit ∷ [])
+bytes_add bag unit have bytes = All-push HasBytes bag unit have bytes
+
+-- a unit that is delivered or lost has the same bytes
+pub bytes_settle : (bag : List BagUnit) (number : ℕ) (d : BagUnit) → HaveBytes bag → number < length bag → HaveBytes (slice_set bag number (settled (get_or bag number d)))
+bytes_settle bag number d have inside = All-set HasBytes bag number (settled (get_or bag number d)) (All-get_or HasBytes bag number d inside have) have

@@ -2,6 +2,7 @@
 use Rattle.std.specs.Prelude.{ℕ, zero, suc, ◌≡◌, ◌≤◌, ◌<◌, Bool, true, false, not, List, [], ◌∷◌, take, drop, length, get_or, All, Option, Some, None, slice_get, slice_set}
 use Rattle.std.specs.List.{AllByRecursion}
 use Rattle.wire_base.specs.Maps.{place_of}
+use Rattle.wire_base.specs.Numbers.{AreBytes}
 use Rattle.end_links.specs.Bounds.{send_limit}
 use Rattle.world_moves.specs.declared.bag.BagUnit.{BagUnit}
 
@@ -32,6 +33,10 @@ pub record AreSettled (count : ℕ) (bag : List BagUnit) : Type 0 where
 -- each unit has no more bytes than an end sends at once
 abbrev pub AreShortUnits : List BagUnit → Type 0
 AreShortUnits bag = All (λ unit. length unit.bytes ≤ send_limit) bag
+
+-- each unit has bytes
+abbrev pub HaveBytes : List BagUnit → Type 0
+HaveBytes bag = All (λ unit. AreBytes unit.bytes) bag
 
 -- ---- how bytes come
 

@@ -3,7 +3,8 @@
 ghost use Rattle.std.specs.Prelude.{◌≡◌, ◌<◌, ◌≤◌, ◌++◌, ◌∷◌, [], Some, length, IfOk, IfSome, option_copied, slice_get};
 ghost use Rattle.end_links.specs.Bounds.{send_limit};
 ghost use Rattle.world_moves.specs.declared.bag.BagUnit.{BagUnit as AnyUnit};
-ghost use Rattle.world_moves.specs.Bag.{first_waiting, settle_at, AreShortPieces, AreShortUnits, pieces_of};
+ghost use Rattle.wire_base.specs.Numbers.{AreBytes};
+ghost use Rattle.world_moves.specs.Bag.{first_waiting, settle_at, AreShortPieces, AreShortUnits, HaveBytes, pieces_of};
 
 use crate::links::LinkKind;
 use std::alloc::Global;
@@ -35,18 +36,19 @@ pub struct Bag {
 impl Model for Bag {
     ghost use Rattle.std.specs.Prelude.{List as list};
     ghost use Rattle.world_moves.specs.declared.bag.BagUnit.{BagUnit as AnyUnit};
-    ghost use Rattle.world_moves.specs.Bag.{AreSettled, AreShortUnits};
+    ghost use Rattle.world_moves.specs.Bag.{AreSettled, AreShortUnits, HaveBytes};
 
     ghost Value = { list AnyUnit };
 
     ghost view = { λ b. b.units.items };
 
-    ghost invariant = { λ b. AreSettled b.settled b.units.items × AreShortUnits b.units.items };
+    ghost invariant = { λ b.
+        AreSettled b.settled b.units.items × AreShortUnits b.units.items × HaveBytes b.units.items };
 }
 
 impl Bag {
     /// No units.
-    #[tactic(auto, using(crate::proofs::BagLaws::none_settled, crate::proofs::BagLaws::none_long))]
+    #[tactic(auto, using(crate::proofs::BagLaws::none_settled, crate::proofs::BagLaws::none_long, crate::proofs::BagLaws::none_other))]
     pub(crate) fn new(alloc: Global) -> Bag
         ensures { result ≡ [] }
     {
@@ -70,6 +72,13 @@ impl Bag {
         let _count = self.units.len();
     }
 
+    /// Each has bytes, which callers learn so.
+    pub(crate) fn units_have_bytes(&self)
+        ensures { HaveBytes self.now }
+    {
+        let _count = self.units.len();
+    }
+
     /// The unit of that number. None exactly where there is none.
     pub(crate) fn get(&self, number: usize) -> Option<&BagUnit>
         ensures unit { option_copied result ≡ slice_get self.now number }
@@ -80,12 +89,13 @@ impl Bag {
     }
 
     /// The units and one more. Want of memory drops them.
-    #[tactic(auto, using(crate::proofs::BagLaws::settled_add, crate::proofs::BagLaws::units_add))]
+    #[tactic(auto, using(crate::proofs::BagLaws::settled_add, crate::proofs::BagLaws::units_add, crate::proofs::BagLaws::bytes_add))]
     pub(crate) fn add(self, unit: BagUnit) -> Result<Bag, NoMemory>
         requires { length unit.bytes ≤ send_limit }
         ensures { IfOk result (λ bag. bag ≡ self ++ unit ∷ []) }
     {
         let Bag { mut units, settled } = self;
+        are_bytes(unit.bytes.bytes());
         units.push(unit)?;
         Ok(Bag { units, settled })
     }
@@ -110,13 +120,20 @@ impl Bag {
     }
 
     /// That unit counts as delivered or lost.
-    #[tactic(auto, using(crate::proofs::BagLaws::settle_keeps, crate::proofs::BagLaws::units_settle))]
+    #[tactic(auto, using(crate::proofs::BagLaws::settle_keeps, crate::proofs::BagLaws::units_settle, crate::proofs::BagLaws::bytes_settle))]
     pub(crate) fn settle(&mut self, number: usize)
         requires { number < length self.old }
         ensures { self.new ≡ settle_at number self.old }
     {
         self.units[number].is_settled = true;
     }
+}
+
+/// A slice of bytes has bytes: only so that its caller knows it.
+fn are_bytes(bytes: &[u8])
+    ensures { AreBytes bytes.now }
+{
+    let _count = bytes.len();
 }
 
 /// The pieces in which bytes come: each as long as one may be, but for the last.

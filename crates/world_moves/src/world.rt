@@ -3,7 +3,7 @@
 ghost use Rattle.std.specs.Prelude.{◌≡◌, ◌≢◌, ◌<◌, ◌↔◌, ◌++◌, ◌∷◌, [], List, Err, true, false, length, IfOk, OnOk, OnErr, IsTrue, option_copied};
 ghost use Rattle.world_moves.specs.declared.moves.Move.{Move};
 ghost use Rattle.world_moves.specs.declared.plan.Plan.{Plan};
-ghost use Rattle.world_moves.specs.Bag.{AreShortUnits};
+ghost use Rattle.world_moves.specs.Bag.{AreShortUnits, HaveBytes};
 ghost use Rattle.world_moves.specs.Counting.{AreCounted};
 ghost use Rattle.world_moves.specs.Draws.{DrawsAreBlocks, DrawsDiffer};
 ghost use Rattle.world_moves.specs.World.{IsPlan, IsMove, move_limit, actions_of_run, first_world, happens, run, run_of, report_of, report_of_run, outcome_of};
@@ -152,6 +152,13 @@ impl World {
         ensures { AreShortUnits self.now.state.bag }
     {
         self.state.bag.units_are_short();
+    }
+
+    /// Each unit of the bag has bytes, which callers learn so.
+    pub fn units_have_bytes(&self)
+        ensures { HaveBytes self.now.state.bag }
+    {
+        self.state.bag.units_have_bytes();
     }
 
     /// The outcome of the client at that place of the plan's list. None exactly where there is no such client, or it

@@ -6,7 +6,9 @@ use Rattle.std.proofs.Common.{◌≡◌, ℕ, zero, suc, ◌+◌, ◌*◌, ◌�
 use Rattle.std.specs.Prelude.{◌%◌}
 use Rattle.std.specs.List.{AllByRecursion}
 use Rattle.std.proofs.lemmas.List.{append_assoc, append-nil}
+use Rattle.std.proofs.lemmas.List.Elements.{All-head, All-tail}
 use Rattle.wire_base.specs.Maps.{lookup, same_number, take_out}
+use Rattle.wire_base.specs.Numbers.{AreBytes}
 use Rattle.outside.specs.declared.action.Action.{Action}
 use Rattle.outside.specs.declared.action.Action.TheVariants.{Keep, Send, Dial, Close, Told, Judged}
 use Rattle.outside.specs.declared.event.Event.{Event}
@@ -29,22 +31,22 @@ use Rattle.world_moves.specs.declared.plan.Plan.{Plan}
 use Rattle.world_moves.specs.declared.state.State.{State}
 use Rattle.world_moves.specs.declared.state.Waiting.{Waiting}
 use Rattle.world_moves.specs.Acting.{Acted, Given, Heard, bag_unit, close_open, closed_at, done, forget, given_by, hear, hears, hears_if, nothing_done, perform, perform_all, perform_all_quietly, perform_quietly, piece_comes, pieces_come, send_on, shut_link, then_act}
-use Rattle.world_moves.specs.Bag.{AreShortUnits, first_waiting, pieces_of, settle_at}
+use Rattle.world_moves.specs.Bag.{AreShortUnits, HaveBytes, first_waiting, pieces_of, settle_at}
 use Rattle.world_moves.specs.Choosing.{chosen_in, chosen_place}
 use Rattle.world_moves.specs.Ends.{acceptors_in, count_of, end_at}
 use Rattle.world_moves.specs.Links.{accepted, acceptor_of, answered, dialler_of, handed_links, hearer_of, hearer_on, is_accepted_by, kind_of, links_of, other_hearer}
 use Rattle.world_moves.specs.Moving.{act, answer_by, answered_link, begun, come_by, come_on_own, connect_by, connect_first, deliver_by, deliver_on, deliver_unit, end_of_peer, fail_first, hand_on, lose_by, onward_by, open_link, renewed, restart_at, restart_by, route_to, settle, shut_at, shut_by, start_at, start_by, stranger_at, stranger_by, tick, with_link, without_first}
 use Rattle.world_moves.specs.World.{World, first_world, given_at, happens, run}
 use Rattle.domain_world.specs.Past.{Coming, book, note, note_at, note_chosen, note_coming, note_deliver, note_given, note_hand, note_on, note_onward, note_own, note_pieces, note_unit, past}
-use Rattle.channel_events.proofs.ListLaws.{got_last, got_nothing}
+use Rattle.channel_events.proofs.ListLaws.{got_last, got_nothing, some_is}
 use Rattle.world_moves.proofs.BagLaws.{pieces_few}
 use Rattle.world_moves.proofs.BoundLaws.{hears_links, perform_links, quiet_links}
 use Rattle.world_moves.proofs.LevelLaws.{unit_short}
 use Rattle.world_moves.proofs.LinkFrameLaws.{FitsIn, HasNoBytes, LinkFact, StaysOnLinks, closed_stays, heard_if_stays, move_stays}
 use Rattle.world_moves.proofs.OpenLaws.{forgotten_fewer, put_more, taken_fewer, taken_one}
 use Rattle.domain_world.proofs.Frames.BagFrameLaws.{Begins, Goes, IsServer, first_goes, no_more_of, no_part, no_side, note_begins, nothing_marked, nothing_written, piece_goes, settled_begins}
-use Rattle.domain_world.proofs.Frames.ComingLaws.{CameFrom, HaveKinds, IsFromOutside, IsLinkOf, IsPieceOf, IsStill, StillHas, StillIn, chosen_of, handed_outside, kept_on, kept_same, kept_sent, kept_settled, kept_stay, kinds_sent, kinds_stay, route_dials}
-use Rattle.domain_world.proofs.Frames.MarkPlaceLaws.{got_settled}
+use Rattle.domain_world.proofs.Frames.ComingLaws.{CameFrom, HaveKinds, IsFromOutside, IsLinkOf, IsPieceOf, IsStill, StillHas, StillIn, chosen_of, handed_outside, kept_on, kept_same, kept_sent, kept_settled, kept_stay, kinds_sent, kinds_stay, piece_bytes, route_dials, run_still}
+use Rattle.domain_world.proofs.Frames.MarkPlaceLaws.{got_beside, settled_length}
 use Rattle.domain_world.proofs.Frames.OpenMadeLaws.{IsAtSide, hears_side}
 
 -- ---- what is to hold
@@ -84,7 +86,7 @@ pub record Keeps (Side Holds : RunFact) (Fine : ActionFact) : Type 0 where
   pub begins : (n client : ℕ) (plan : ClientPlan) (s : State) (given : Given) (b : Book) → slice_get s.client_plans client ≡ Some plan → Side n s given b → Holds n s given b →
       HasHeard Holds Fine (n + 1) (Client client) (begun client plan s) given b
   -- each unit of the bag has its mark, where a controller or a member hears bytes
-  pub comes : (n : ℕ) (end : EndId) (w : Coming) (piece : List ℕ) (s : State) (given : Given) (b : Book) → IsAtSide s.links w.link w.back end → CameFrom w.unit s w piece →
+  pub comes : (n : ℕ) (end : EndId) (w : Coming) (piece : List ℕ) (s : State) (given : Given) (b : Book) → IsAtSide s.links w.link w.back end → CameFrom w.unit s w piece → AreBytes piece →
       (IsServer end → length b.sent ≡ length s.bag) → Side n s given b → Holds n s given b →
       HasHeard Holds Fine (n + 1) end (hear end (event.Bytes w.link piece) s) given (note_at (Some end) w piece s (hears end (event.Bytes w.link piece) s).state b)
   -- an action is done: a unit goes into the bag, or a dial waits
@@ -136,9 +138,9 @@ module _ (A B : RunFact) (F G : ActionFact) where
         (other.opens n route s given b holds.0 holds.1);
     begins = λ n client plan s given b is none holds.
         both_heard (n + 1) (Client client) (begun client plan s) given b (one.begins n client plan s given b is tt holds.0) (other.begins n client plan s given b is holds.0 holds.1);
-    comes = λ n end w piece s given b side came marked none holds.
+    comes = λ n end w piece s given b side came bytes marked none holds.
         both_heard (n + 1) end (hear end (event.Bytes w.link piece) s) given (note_at (Some end) w piece s (hears end (event.Bytes w.link piece) s).state b)
-        (one.comes n end w piece s given b side came marked tt holds.0) (other.comes n end w piece s given b side came marked holds.0 holds.1);
+        (one.comes n end w piece s given b side came bytes marked tt holds.0) (other.comes n end w piece s given b side came bytes marked holds.0 holds.1);
     acts = λ n end what s given b fine none holds. (one.acts n end what s given b fine.0 tt holds.0, other.acts n end what s given b fine.1 holds.0 holds.1);
     shuts = λ n link s given b none holds. (one.shuts n link s given b tt holds.0, other.shuts n link s given b holds.0 holds.1);
     answers = λ n link there s given b is none holds. (one.answers n link there s given b is tt holds.0, other.answers n link there s given b is holds.0 holds.1);
@@ -197,6 +199,25 @@ ShortBag bag = (k : ℕ) (unit : BagUnit) → slice_get bag k ≡ Some unit → 
 short_before : (old bag : List BagUnit) → StillHas old bag → ShortBag bag → ShortBag old
 short_before old bag still short k unit there =
     let now : IsStill unit bag k = still k unit there in subst (λ (bytes : List ℕ). length bytes ≤ send_limit) now.bytes (short k now.now now.there)
+
+-- each unit has bytes
+abbrev BytesIn : List BagUnit → Type 0
+BytesIn bag = (k : ℕ) (unit : BagUnit) → slice_get bag k ≡ Some unit → AreBytes unit.bytes
+
+bytes_before : (old bag : List BagUnit) → StillHas old bag → BytesIn bag → BytesIn old
+bytes_before old bag still have k unit there = let now : IsStill unit bag k = still k unit there in subst AreBytes now.bytes (have k now.now now.there)
+
+settled_bytes : (number : ℕ) (bag : List BagUnit) → BytesIn bag → BytesIn (settle_at number bag)
+settled_bytes number bag have k unit there =
+    let before : (old : BagUnit) × (slice_get bag k ≡ Some old) = got_beside (settle_at number bag) bag k unit (settled_length number bag) there in
+    let now : IsStill before.0 (settle_at number bag) k = kept_settled number bag k before.0 before.1 in
+    let same : now.now ≡ unit = some_is now.now unit (sym now.there ∙ there) in
+    subst (λ (u : BagUnit). AreBytes u.bytes) same (subst AreBytes (sym now.bytes) (have k before.0 before.1))
+
+-- what is handed in are bytes
+abbrev pub HandsBytes : Move → Type 0
+HandsBytes (move.Hand link back piece) = AreBytes piece
+HandsBytes _ = Unit {0}
 
 -- ---- all moves
 
@@ -397,29 +418,29 @@ module _ (Holds : RunFact) (Fine : ActionFact) (keeps : Keeps NoFact Holds Fine)
   -- ---- bytes come
 
   piece_part : (end : Option EndId) (w : Coming) (piece : List ℕ) (n : ℕ) (s : State) (given : Given) (b : Book) → hearer_of w.back (lookup same_number w.link s.open_links) ≡ end →
-      CameFrom w.unit s w piece → Plainly w s b → Holds n s given b →
+      CameFrom w.unit s w piece → AreBytes piece → Plainly w s b → Holds n s given b →
       After (n + 1 + 2 * length s.open_links) (hears_if end (event.Bytes w.link piece) s) given (note_at end w piece s (hears_if end (event.Bytes w.link piece) s).state b)
-  piece_part None w piece n s given b is came plainly holds = nothing (n + 1 + 2 * length s.open_links) n s given b holds (omega arith)
-  piece_part (Some end) w piece n s given b is came plainly holds =
+  piece_part None w piece n s given b is came bytes plainly holds = nothing (n + 1 + 2 * length s.open_links) n s given b holds (omega arith)
+  piece_part (Some end) w piece n s given b is came bytes plainly holds =
       let side : IsAtSide s.links w.link w.back end = hears_side w.back w.link s.links s.open_links end plainly.made is in
       done_part (n + 1) end (hear end (event.Bytes w.link piece) s) given (note_at (Some end) w piece s (hears end (event.Bytes w.link piece) s).state b)
-      (keeps.comes n end w piece s given b side came (λ server. plainly.all end side server) tt holds)
+      (keeps.comes n end w piece s given b side came bytes (λ server. plainly.all end side server) tt holds)
 
   pieces_part : (w : Coming) (links : List Route) (old : List BagUnit) (pieces : List (List ℕ)) (n : ℕ) (s : State) (given : Given) (b : Book) →
       ((later : State) (piece : List ℕ) → Since links old later.links later.bag → OneOf (λ (one : List ℕ). one ≡ piece) pieces → CameFrom w.unit later w piece) →
-      Since links old s.links s.bag → Plainly w s b → Holds n s given b →
+      ((piece : List ℕ) → OneOf (λ (one : List ℕ). one ≡ piece) pieces → AreBytes piece) → Since links old s.links s.bag → Plainly w s b → Holds n s given b →
       After (n + length pieces + 2 * length s.open_links) (pieces_come w.back w.link pieces s) given (note_pieces w pieces s b)
-  pieces_part w links old [] n s given b came since plainly holds = nothing (n + 0 + 2 * length s.open_links) n s given b holds (omega arith)
-  pieces_part w links old (piece ∷ pieces) n s given b came since plainly holds =
+  pieces_part w links old [] n s given b came bytes since plainly holds = nothing (n + 0 + 2 * length s.open_links) n s given b holds (omega arith)
+  pieces_part w links old (piece ∷ pieces) n s given b came bytes since plainly holds =
       let end : Option EndId = hearer_of w.back (lookup same_number w.link s.open_links) in
       let one : Acted = piece_comes w.back w.link piece s in
       let middle : Book = note_at end w piece s one.state b in
-      let first : After (n + 1 + 2 * length s.open_links) one given middle = piece_part end w piece n s given b refl (came s piece since (inl refl)) plainly holds in
+      let first : After (n + 1 + 2 * length s.open_links) one given middle = piece_part end w piece n s given b refl (came s piece since (inl refl)) (bytes piece (inl refl)) plainly holds in
       let more : ℕ = n + suc (length pieces) + 2 * length s.open_links in
       followed more one (λ later. pieces_come w.back w.link pieces later) given (note_pieces w pieces one.state middle)
       (widen (first.steps + length pieces + 2 * length one.state.open_links) more (pieces_come w.back w.link pieces one.state) (given ++ one.given) (note_pieces w pieces one.state middle)
       (omega (arith, first.few))
-      (pieces_part w links old pieces first.steps one.state (given ++ one.given) middle (λ later other then_so there. came later other then_so (inr there))
+      (pieces_part w links old pieces first.steps one.state (given ++ one.given) middle (λ later other then_so there. came later other then_so (inr there)) (λ other there. bytes other (inr there))
       (heard_if_stays (SinceThen links old) (since_sent links old) end (event.Bytes w.link piece) s since)
       (piece_goes no_part no_side no_more_of nothing_written nothing_marked end w piece s b refl plainly) first.holds))
 
@@ -434,12 +455,11 @@ module _ (Holds : RunFact) (Fine : ActionFact) (keeps : Keeps NoFact Holds Fine)
   record Moved (n : ℕ) (s : State) (acted : Acted) (b : Book) : Type 0 where
     steps : ℕ
     holds : Holds steps acted.state acted.given b
-    still : StillHas s.bag acted.state.bag
     kinds : HaveKinds acted.state.links [] acted.state.bag
     few : ShortBag acted.state.bag → steps + 2 * length acted.state.open_links ≤ n + 2 * length s.open_links + 10
 
   unmoved : (n : ℕ) (s : State) (b : Book) → HaveKinds s.links [] s.bag → Holds n s [] b → Moved n s (nothing_done s) b
-  unmoved n s b kinds holds = record { steps = n; holds = holds; still = kept_same s.bag; kinds = kinds; few = λ short. omega arith }
+  unmoved n s b kinds holds = record { steps = n; holds = holds; kinds = kinds; few = λ short. omega arith }
 
   same_piece : (number : ℕ) (unit : BagUnit) (link at : ℕ) (s later : State) (piece : List ℕ) → slice_get s.bag number ≡ Some unit → IsLinkOf s.links link unit.kind →
       Since s.links s.bag later.links later.bag → OneOf (λ (one : List ℕ). one ≡ piece) (pieces_of unit.bytes) →
@@ -457,19 +477,19 @@ module _ (Holds : RunFact) (Fine : ActionFact) (keeps : Keeps NoFact Holds Fine)
       }
 
   unit_part : (unit : Option BagUnit) (number link at n : ℕ) (s : State) (b : Book) → slice_get s.bag number ≡ unit → ((found : BagUnit) → unit ≡ Some found → IsLinkOf s.links link found.kind) →
-      HaveKinds s.links [] s.bag → PlainlyBegins s b → Holds n s [] b → Moved n s (come_by unit link s) (note_unit unit number link at s b)
-  unit_part None number link at n s b is of kinds plainly holds = unmoved n s b kinds holds
-  unit_part (Some unit) number link at n s b is of kinds plainly holds =
+      HaveKinds s.links [] s.bag → BytesIn s.bag → PlainlyBegins s b → Holds n s [] b → Moved n s (come_by unit link s) (note_unit unit number link at s b)
+  unit_part None number link at n s b is of kinds bytes plainly holds = unmoved n s b kinds holds
+  unit_part (Some unit) number link at n s b is of kinds bytes plainly holds =
       let w : Coming = record { at = at; unit = Some number; link = link; back = unit.back } in
       let start : Since s.links s.bag s.links s.bag = record { same = refl; still = kept_same s.bag; kinds = kinds } in
       let all : After (n + length (pieces_of unit.bytes) + 2 * length s.open_links) (come_by (Some unit) link s) [] (note_unit (Some unit) number link at s b) =
-      pieces_part w s.links s.bag (pieces_of unit.bytes) n s [] b (λ later piece since one. same_piece number unit link at s later piece is (of unit refl) since one) start
+      pieces_part w s.links s.bag (pieces_of unit.bytes) n s [] b (λ later piece since one. same_piece number unit link at s later piece is (of unit refl) since one)
+      (λ piece one. piece_bytes unit.bytes (bytes number unit is) piece one) start
       (first_goes no_part no_side no_more_of nothing_written nothing_marked w s b plainly) holds in
       let since : Since s.links s.bag (come_by (Some unit) link s).state.links (come_by (Some unit) link s).state.bag = pieces_since w s.links s.bag (pieces_of unit.bytes) s start in
       record {
         steps = all.steps;
         holds = all.holds;
-        still = since.still;
         kinds = since.kinds;
         few = λ short. omega (arith, all.few, pieces_few unit.bytes (short_before s.bag (come_by (Some unit) link s).state.bag since.still short number unit is));
       }
@@ -479,7 +499,6 @@ module _ (Holds : RunFact) (Fine : ActionFact) (keeps : Keeps NoFact Holds Fine)
   settled_part number n s acted b moved = record {
     steps = moved.steps;
     holds = moved.holds;
-    still = kept_on s.bag (settle_at number s.bag) acted.state.bag (kept_settled number s.bag) moved.still;
     kinds = moved.kinds;
     few = moved.few;
   }
@@ -492,55 +511,54 @@ module _ (Holds : RunFact) (Fine : ActionFact) (keeps : Keeps NoFact Holds Fine)
       let same : now.now ≡ found = (let both : Some now.now ≡ Some found = sym now.there ∙ is in cc) in (of.0, of.1, of.2 ∙ sym now.kind ∙ ap (λ (u : BagUnit). u.kind) same)
 
   settled_unit : (number link at n : ℕ) (unit : BagUnit) (s : State) (b : Book) → slice_get s.bag number ≡ Some unit → IsLinkOf s.links link unit.kind → HaveKinds s.links [] s.bag →
-      PlainlyBegins s b → Holds n s [] b →
+      BytesIn s.bag → PlainlyBegins s b → Holds n s [] b →
       Moved n s (come_by (slice_get (settle number s).bag number) link (settle number s)) (note_unit (slice_get (settle number s).bag number) number link at (settle number s) b)
-  settled_unit number link at n unit s b is of kinds plainly holds =
+  settled_unit number link at n unit s b is of kinds bytes plainly holds =
       settled_part number n s (come_by (slice_get (settle number s).bag number) link (settle number s)) (note_unit (slice_get (settle number s).bag number) number link at (settle number s) b)
       (unit_part (slice_get (settle number s).bag number) number link at n (settle number s) b refl (λ found there. settled_link number link unit found s is of there)
-      (kinds_stay.settles number s.links [] s.bag kinds) (settled_begins no_part no_side no_more_of nothing_written nothing_marked number s b plainly)
+      (kinds_stay.settles number s.links [] s.bag kinds) (settled_bytes number s.bag bytes) (settled_begins no_part no_side no_more_of nothing_written nothing_marked number s b plainly)
       (keeps.settles n number s [] b tt holds))
 
-  own_part : (unit : Option BagUnit) (number at n : ℕ) (s : State) (b : Book) → slice_get s.bag number ≡ unit → HaveKinds s.links [] s.bag → PlainlyBegins s b → Holds n s [] b →
+  own_part : (unit : Option BagUnit) (number at n : ℕ) (s : State) (b : Book) → slice_get s.bag number ≡ unit → HaveKinds s.links [] s.bag → BytesIn s.bag → PlainlyBegins s b → Holds n s [] b →
       Moved n s (come_on_own unit number s) (note_own unit number at s b)
-  own_part None number at n s b is kinds plainly holds = unmoved n s b kinds holds
-  own_part (Some unit) number at n s b is kinds plainly holds = settled_unit number unit.link at n unit s b is (kinds number unit is) kinds plainly holds
+  own_part None number at n s b is kinds bytes plainly holds = unmoved n s b kinds holds
+  own_part (Some unit) number at n s b is kinds bytes plainly holds = settled_unit number unit.link at n unit s b is (kinds number unit is) kinds bytes plainly holds
 
-  onward_part : (number : Option ℕ) (at n : ℕ) (s : State) (b : Book) → HaveKinds s.links [] s.bag → PlainlyBegins s b → Holds n s [] b →
+  onward_part : (number : Option ℕ) (at n : ℕ) (s : State) (b : Book) → HaveKinds s.links [] s.bag → BytesIn s.bag → PlainlyBegins s b → Holds n s [] b →
       Moved n s (onward_by number s) (note_onward number at s b)
-  onward_part None at n s b kinds plainly holds = unmoved n s b kinds holds
-  onward_part (Some number) at n s b kinds plainly holds = own_part (slice_get s.bag number) number at n s b refl kinds plainly holds
+  onward_part None at n s b kinds bytes plainly holds = unmoved n s b kinds holds
+  onward_part (Some number) at n s b kinds bytes plainly holds = own_part (slice_get s.bag number) number at n s b refl kinds bytes plainly holds
 
   on_part : (link : Option ℕ) (number at n : ℕ) (unit : BagUnit) (s : State) (b : Book) → slice_get s.bag number ≡ Some unit →
-      ((there : ℕ) → link ≡ Some there → IsLinkOf s.links there unit.kind) → HaveKinds s.links [] s.bag → PlainlyBegins s b → Holds n s [] b →
+      ((there : ℕ) → link ≡ Some there → IsLinkOf s.links there unit.kind) → HaveKinds s.links [] s.bag → BytesIn s.bag → PlainlyBegins s b → Holds n s [] b →
       Moved n s (deliver_on link number s) (note_on link number at s b)
-  on_part None number at n unit s b is of kinds plainly holds = unmoved n s b kinds holds
-  on_part (Some link) number at n unit s b is of kinds plainly holds = settled_unit number link at n unit s b is (of link refl) kinds plainly holds
+  on_part None number at n unit s b is of kinds bytes plainly holds = unmoved n s b kinds holds
+  on_part (Some link) number at n unit s b is of kinds bytes plainly holds = settled_unit number link at n unit s b is (of link refl) kinds bytes plainly holds
 
-  chosen_part : (unit : Option BagUnit) (number link at n : ℕ) (s : State) (b : Book) → slice_get s.bag number ≡ unit → HaveKinds s.links [] s.bag → PlainlyBegins s b → Holds n s [] b →
+  chosen_part : (unit : Option BagUnit) (number link at n : ℕ) (s : State) (b : Book) → slice_get s.bag number ≡ unit → HaveKinds s.links [] s.bag → BytesIn s.bag → PlainlyBegins s b → Holds n s [] b →
       Moved n s (deliver_unit unit number link s) (note_chosen unit number link at s b)
-  chosen_part None number link at n s b is kinds plainly holds = unmoved n s b kinds holds
-  chosen_part (Some unit) number link at n s b is kinds plainly holds =
+  chosen_part None number link at n s b is kinds bytes plainly holds = unmoved n s b kinds holds
+  chosen_part (Some unit) number link at n s b is kinds bytes plainly holds =
       on_part (chosen_in link (links_of unit.kind s.links)) number at n unit s b is
-      (λ there chosen. chosen_of unit.kind s.links (link % length (links_of unit.kind s.links)) there chosen) kinds plainly holds
+      (λ there chosen. chosen_of unit.kind s.links (link % length (links_of unit.kind s.links)) there chosen) kinds bytes plainly holds
 
-  deliver_part : (number : Option ℕ) (link at n : ℕ) (s : State) (b : Book) → HaveKinds s.links [] s.bag → PlainlyBegins s b → Holds n s [] b →
+  deliver_part : (number : Option ℕ) (link at n : ℕ) (s : State) (b : Book) → HaveKinds s.links [] s.bag → BytesIn s.bag → PlainlyBegins s b → Holds n s [] b →
       Moved n s (deliver_by number link s) (note_deliver number link at s b)
-  deliver_part None link at n s b kinds plainly holds = unmoved n s b kinds holds
-  deliver_part (Some number) link at n s b kinds plainly holds = chosen_part (slice_get s.bag number) number link at n s b refl kinds plainly holds
+  deliver_part None link at n s b kinds bytes plainly holds = unmoved n s b kinds holds
+  deliver_part (Some number) link at n s b kinds bytes plainly holds = chosen_part (slice_get s.bag number) number link at n s b refl kinds bytes plainly holds
 
-  hand_part : (link : Option ℕ) (back : Bool) (bytes : List ℕ) (at n : ℕ) (s : State) (b : Book) → ((there : ℕ) → link ≡ Some there → IsFromOutside s.links there) →
-      HaveKinds s.links [] s.bag → PlainlyBegins s b → Holds n s [] b → Moved n s (hand_on link back bytes s) (note_hand link back bytes at s b)
-  hand_part None back bytes at n s b outside kinds plainly holds = unmoved n s b kinds holds
-  hand_part (Some link) back bytes at n s b outside kinds plainly holds =
+  hand_part : (link : Option ℕ) (back : Bool) (piece : List ℕ) (at n : ℕ) (s : State) (b : Book) → ((there : ℕ) → link ≡ Some there → IsFromOutside s.links there) →
+      HaveKinds s.links [] s.bag → AreBytes piece → PlainlyBegins s b → Holds n s [] b → Moved n s (hand_on link back piece s) (note_hand link back piece at s b)
+  hand_part None back piece at n s b outside kinds bytes plainly holds = unmoved n s b kinds holds
+  hand_part (Some link) back piece at n s b outside kinds bytes plainly holds =
       let w : Coming = record { at = at; unit = None; link = link; back = back } in
       let end : Option EndId = hearer_of back (lookup same_number link s.open_links) in
-      let one : After (n + 1 + 2 * length s.open_links) (hears_if end (event.Bytes link bytes) s) [] (note_at end w bytes s (hears_if end (event.Bytes link bytes) s).state b) =
-      piece_part end w bytes n s [] b refl (outside link refl) (first_goes no_part no_side no_more_of nothing_written nothing_marked w s b plainly) holds in
+      let one : After (n + 1 + 2 * length s.open_links) (hears_if end (event.Bytes link piece) s) [] (note_at end w piece s (hears_if end (event.Bytes link piece) s).state b) =
+      piece_part end w piece n s [] b refl (outside link refl) bytes (first_goes no_part no_side no_more_of nothing_written nothing_marked w s b plainly) holds in
       record {
         steps = one.steps;
         holds = one.holds;
-        still = heard_if_stays (StillIn s.bag) (kept_sent s.bag) end (event.Bytes link bytes) s (kept_same s.bag);
-        kinds = heard_if_stays HaveKinds kinds_sent end (event.Bytes link bytes) s kinds;
+        kinds = heard_if_stays HaveKinds kinds_sent end (event.Bytes link piece) s kinds;
         few = λ short. omega (arith, one.few);
       }
 
@@ -550,31 +568,30 @@ module _ (Holds : RunFact) (Fine : ActionFact) (keeps : Keeps NoFact Holds Fine)
   quietly what most n s b none kinds few part = record {
     steps = part.steps;
     holds = part.holds;
-    still = move_stays (StillIn s.bag) (kept_stay s.bag) what s none (kept_same s.bag);
     kinds = move_stays HaveKinds kinds_stay what s none kinds;
     few = λ short. omega (arith, part.few, few);
   }
 
-  act_part : (what : Move) (at n : ℕ) (s : State) (b : Book) → HaveKinds s.links [] s.bag → PlainlyBegins s b → Holds n s [] b → Moved n s (act s what) (note_coming what at s b)
-  act_part move.Onward at n s b kinds plainly holds = onward_part (first_waiting s.bag) at n s b kinds plainly holds
-  act_part (move.Deliver unit link) at n s b kinds plainly holds = deliver_part (chosen_place unit (length s.bag)) link at n s b kinds plainly holds
-  act_part (move.Hand link back bytes) at n s b kinds plainly holds =
-      hand_part (chosen_in link (handed_links s.links)) back bytes at n s b (λ there is. handed_outside s.links (link % length (handed_links s.links)) there is) kinds plainly holds
-  act_part (move.Start number) at n s b kinds plainly holds =
+  act_part : (what : Move) (at n : ℕ) (s : State) (b : Book) → HaveKinds s.links [] s.bag → BytesIn s.bag → HandsBytes what → PlainlyBegins s b → Holds n s [] b → Moved n s (act s what) (note_coming what at s b)
+  act_part move.Onward at n s b kinds bytes form plainly holds = onward_part (first_waiting s.bag) at n s b kinds bytes plainly holds
+  act_part (move.Deliver unit link) at n s b kinds bytes form plainly holds = deliver_part (chosen_place unit (length s.bag)) link at n s b kinds bytes plainly holds
+  act_part (move.Hand link back piece) at n s b kinds bytes form plainly holds =
+      hand_part (chosen_in link (handed_links s.links)) back piece at n s b (λ there is. handed_outside s.links (link % length (handed_links s.links)) there is) kinds form plainly holds
+  act_part (move.Start number) at n s b kinds bytes form plainly holds =
       quietly (move.Start number) (n + 1 + 2 * length s.open_links) n s b tt kinds (omega arith) (start_part (chosen_place number (length s.ends.clients)) n s [] b holds)
-  act_part (move.Stranger number) at n s b kinds plainly holds =
+  act_part (move.Stranger number) at n s b kinds bytes form plainly holds =
       quietly (move.Stranger number) (n + 3 + 2 * length s.open_links) n s b tt kinds (omega arith) (stranger_part (chosen_place number (acceptors_in s.ends)) n s [] b holds)
-  act_part move.Connect at n s b kinds plainly holds =
+  act_part move.Connect at n s b kinds bytes form plainly holds =
       quietly move.Connect (n + 6 + 2 * length s.open_links) n s b tt kinds (omega arith) (connect_part (slice_get s.dials 0) n (without_first s) [] b (keeps.dials n s [] b tt holds))
-  act_part move.FailDial at n s b kinds plainly holds =
+  act_part move.FailDial at n s b kinds bytes form plainly holds =
       quietly move.FailDial (n + 1 + 2 * length s.open_links) n s b tt kinds (omega arith) (fail_part (slice_get s.dials 0) n (without_first s) [] b (keeps.dials n s [] b tt holds))
-  act_part move.Lose at n s b kinds plainly holds =
+  act_part move.Lose at n s b kinds bytes form plainly holds =
       quietly move.Lose (n + 2 * length s.open_links) n s b tt kinds (omega arith) (lose_part (first_waiting s.bag) n s [] b holds)
-  act_part (move.Shut number) at n s b kinds plainly holds =
+  act_part (move.Shut number) at n s b kinds bytes form plainly holds =
       quietly (move.Shut number) (n + 2 + 2 * length s.open_links) n s b tt kinds (omega arith) (shut_part (chosen_place number (length s.open_links)) n s [] b holds)
-  act_part (move.Restart number) at n s b kinds plainly holds =
+  act_part (move.Restart number) at n s b kinds bytes form plainly holds =
       quietly (move.Restart number) (n + 2 * length s.open_links) n s b tt kinds (omega arith) (restart_part (chosen_place number (count_of s.ends)) n s [] b holds)
-  act_part (move.Tick more) at n s b kinds plainly holds =
+  act_part (move.Tick more) at n s b kinds bytes form plainly holds =
       quietly (move.Tick more) (n + 2 * length s.open_links) n s b tt kinds (omega arith)
       (nothing (n + 2 * length s.open_links) n (tick more s) [] b (keeps.ticks n more s [] b tt holds) (omega arith))
 
@@ -583,22 +600,21 @@ module _ (Holds : RunFact) (Fine : ActionFact) (keeps : Keeps NoFact Holds Fine)
   record Ran (n : ℕ) (moves : List Move) (w : World) (b : Book) : Type 0 where
     steps : ℕ
     holds : Holds steps (run moves w).state [] (book moves w b)
-    still : StillHas w.state.bag (run moves w).state.bag
     few : ShortBag (run moves w).state.bag → steps + 2 * length (run moves w).state.open_links ≤ n + 2 * length w.state.open_links + 10 * length moves
 
-  run_part : (moves : List Move) (n : ℕ) (w : World) (b : Book) → HaveKinds w.state.links [] w.state.bag → PlainlyBegins w.state b → Holds n w.state [] b → Ran n moves w b
-  run_part [] n w b kinds plainly holds = record { steps = n; holds = holds; still = kept_same w.state.bag; few = λ short. omega arith }
-  run_part (what ∷ moves) n w b kinds plainly holds =
-      let moved : Moved n w.state (act w.state what) (note_coming what w.moves w.state b) = act_part what w.moves n w.state b kinds plainly holds in
+  run_part : (moves : List Move) (n : ℕ) (w : World) (b : Book) → AllByRecursion HandsBytes moves → BytesIn (run moves w).state.bag → HaveKinds w.state.links [] w.state.bag →
+      PlainlyBegins w.state b → Holds n w.state [] b → Ran n moves w b
+  run_part [] n w b forms bytes kinds plainly holds = record { steps = n; holds = holds; few = λ short. omega arith }
+  run_part (what ∷ moves) n w b forms bytes kinds plainly holds =
+      let moved : Moved n w.state (act w.state what) (note_coming what w.moves w.state b) =
+      act_part what w.moves n w.state b kinds (bytes_before w.state.bag (run (what ∷ moves) w).state.bag (run_still (what ∷ moves) w) bytes) forms.0 plainly holds in
       let later : Ran moved.steps moves (happens w what) (note w what b) =
-      run_part moves moved.steps (happens w what) (note w what b) moved.kinds (note_begins no_part no_side no_more_of nothing_written nothing_marked w what b plainly)
+      run_part moves moved.steps (happens w what) (note w what b) forms.1 bytes moved.kinds (note_begins no_part no_side no_more_of nothing_written nothing_marked w what b plainly)
       (keeps.over moved.steps w.moves (act w.state what).state (act w.state what).given (note_coming what w.moves w.state b) tt moved.holds) in
-      let last : List BagUnit = (run (what ∷ moves) w).state.bag in
       record {
         steps = later.steps;
         holds = later.holds;
-        still = kept_on w.state.bag (act w.state what).state.bag last moved.still later.still;
-        few = λ short. omega (arith, later.few short, moved.few (short_before (act w.state what).state.bag last later.still short));
+        few = λ short. omega (arith, later.few short, moved.few (short_before (act w.state what).state.bag (run moves (happens w what)).state.bag (run_still moves (happens w what)) short));
       }
 
 -- It holds after a run from a plan, at which ten steps of ends a move were taken at most.
@@ -607,11 +623,23 @@ pub record HoldsAfterRun (Holds : RunFact) (plan : Plan) (moves : List Move) : T
   pub holds : Holds steps (past plan moves).world.state [] (past plan moves).book
   pub few : steps + 2 * length (past plan moves).world.state.open_links ≤ 10 * length moves
 
-pub run_keeps : (Holds : RunFact) (Fine : ActionFact) → Keeps NoFact Holds Fine → (plan : Plan) (moves : List Move) → AreShortUnits (past plan moves).world.state.bag →
+-- what is known of the units of a world, and of the bytes that are handed in
+pub record HasBytes (plan : Plan) (moves : List Move) : Type 0 where
+  pub short : AreShortUnits (past plan moves).world.state.bag
+  pub bytes : HaveBytes (past plan moves).world.state.bag
+  pub handed : AllByRecursion HandsBytes moves
+
+bytes_in : (bag : List BagUnit) → HaveBytes bag → BytesIn bag
+bytes_in [] have number unit there = absurd (got_nothing number unit there)
+bytes_in (first ∷ bag) have zero unit there =
+    let here : first ≡ unit = cc in subst (λ (u : BagUnit). AreBytes u.bytes) here (All-head (λ (u : BagUnit). AreBytes u.bytes) first bag have)
+bytes_in (first ∷ bag) have (suc number) unit there = bytes_in bag (All-tail (λ (u : BagUnit). AreBytes u.bytes) first bag have) number unit there
+
+pub run_keeps : (Holds : RunFact) (Fine : ActionFact) → Keeps NoFact Holds Fine → (plan : Plan) (moves : List Move) → HasBytes plan moves →
     Holds 0 (first_world plan).state [] blank → HoldsAfterRun Holds plan moves
-run_keeps Holds Fine keeps plan moves short holds =
+run_keeps Holds Fine keeps plan moves has holds =
     let ran : Ran Holds Fine keeps 0 moves (first_world plan) blank =
-    run_part Holds Fine keeps moves 0 (first_world plan) blank (λ k unit there. absurd (got_nothing k unit there)) (record {
+    run_part Holds Fine keeps moves 0 (first_world plan) blank has.handed (bytes_in (past plan moves).world.state.bag has.bytes) (λ k unit there. absurd (got_nothing k unit there)) (record {
       side = tt;
       made = tt;
       marked = record { each = λ number one there. absurd (got_nothing number one there); all = refl };
@@ -619,5 +647,5 @@ run_keeps Holds Fine keeps plan moves short holds =
     record {
       steps = ran.steps;
       holds = ran.holds;
-      few = omega (arith, ran.few (λ k unit there. unit_short (past plan moves).world.state.bag k unit short there));
+      few = omega (arith, ran.few (λ k unit there. unit_short (past plan moves).world.state.bag k unit has.short there));
     }
