@@ -2,10 +2,16 @@
 pub mod AnsweredLaws
 pub mod AnsweredRunLaws
 pub mod CarriedLaws
+pub mod ChallengeLinkLaws
+pub mod ChallengeReadLaws
+pub mod ClientOfferLaws
+pub mod ClientPlanLaws
 pub mod KeyLaws
 pub mod LetInLaws
 pub mod LetInStepLaws
+pub mod MessageMadeLaws
 pub mod MessageNoteLaws
+pub mod MessageTakenLaws
 pub mod PlacedLaws
 pub mod ReadBackLaws
 pub mod RunBeginLaws

@@ -5,6 +5,7 @@ pub mod ComingLaws
 pub mod DrawnLaws
 pub mod FrameLaws
 pub mod FrontLaws
+pub mod LeftLaws
 pub mod MarkPlaceLaws
 pub mod NewUnitLaws
 pub mod OpenMadeLaws

@@ -4,9 +4,10 @@ ghost use Rattle.std.specs.Prelude.{List};
 ghost use Rattle.world_moves.specs.declared.moves.Move.{Move};
 ghost use Rattle.world_moves.specs.declared.plan.Plan.{Plan};
 ghost use Rattle.world_moves.specs.Draws.{DrawsAreBlocks, DrawsDiffer};
+ghost use Rattle.world_moves.specs.Forms.{IsSchedule};
 ghost use Rattle.domain_world.specs.Accepting.Answered.{AnswersAreHeard, IsProved, MarksHaveTheirWay, MessagesAreApart, PassesAreUnclashed};
 ghost use Rattle.domain_world.specs.Accepting.Carried.{CarriedCallsAreHeard};
-ghost use Rattle.domain_world.specs.Accepting.KeysMade.{KeysAreFoundAsMade};
+ghost use Rattle.domain_world.specs.Accepting.KeysMade.{KeysAreFoundAsMade, MessagesAreMade, MessagesAreTakenAsSent};
 ghost use Rattle.domain_world.specs.Accepting.ReadBack.{OutcomesAreReadBack};
 ghost use Rattle.domain_world.specs.Accepting.Runs.{RunsBegin};
 ghost use Rattle.domain_world.specs.Accepting.Units.{RunsAreHeard};
@@ -91,4 +92,19 @@ pub fn keys_are_found_as_made()
 #[tactic(auto, using(crate::proofs::Accepting::RunBeginLaws::runs_begin))]
 pub fn runs_begin()
     ensures { RunsBegin }
+{}
+
+/// In every schedule each AUTHENTICATE that a client made is the answer of its plan to the CHALLENGE that it read, and
+/// is read again as it was made.
+#[tactic(auto, using(crate::proofs::Accepting::MessageMadeLaws::messages_made))]
+pub fn messages_are_made()
+    ensures { (plan : Plan) (moves : List Move) → IsSchedule plan moves →
+        MessagesAreMade (past plan moves) }
+{}
+
+/// In every run a member keeps the AUTHENTICATE that it read, the challenge of the one CHALLENGE that it sent on the
+/// link, and the flags that both have.
+#[tactic(auto, using(crate::proofs::Accepting::MessageTakenLaws::messages_taken))]
+pub fn messages_are_taken_as_sent()
+    ensures { (plan : Plan) (moves : List Move) → MessagesAreTakenAsSent (past plan moves) }
 {}

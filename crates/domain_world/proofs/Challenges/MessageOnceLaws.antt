@@ -84,10 +84,10 @@ may_opened : (taken : List ℕ) (links : List Route) (route : Route) (member lin
 may_opened taken links route member link may =
     record { route = may.route; at = got_append links (route ∷ []) link may.route may.at; acceptor = may.acceptor; free = may.free }
 
-member_is : (one other : ℕ) → Member one ≡ Member other → one ≡ other
+pub member_is : (one other : ℕ) → Member one ≡ Member other → one ≡ other
 member_is one other is = cc
 
-route_is : (one other : Route) → Some one ≡ Some other → one ≡ other
+pub route_is : (one other : Route) → Some one ≡ Some other → one ≡ other
 route_is one other is = cc
 
 -- a link was accepted by one member

@@ -1,6 +1,6 @@
 -- What a member writes down of the links that it accepts: which CHALLENGE was sent, by which draw, and for which an
--- AUTHENTICATE is. It serves `messages_have_own_challenges`, `runs_are_heard`, `runs_are_proved`,
--- `short_responses_serve_once`.
+-- AUTHENTICATE is. It serves `messages_are_taken_as_sent`, `messages_have_own_challenges`, `runs_are_heard`,
+-- `runs_are_proved`, `short_responses_serve_once`.
 use Rattle.std.proofs.Common.{◌≡◌, ◌==◌, ◌≤◌, ℕ, Bool, true, false, List, [], ◌∷◌, ◌++◌, length, Option, Some, None, Result, Ok, Err, inl, inr, refl, sym, ap, subst, ◌∙◌, arith, slice_get, append_assoc, length-append}
 use Rattle.std.specs.Prelude.{flat_map}
 use Rattle.std.specs.List.{AllByRecursion}

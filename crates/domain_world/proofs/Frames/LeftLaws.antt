@@ -1,0 +1,114 @@
+-- Each challenge that is left in a world has 8 bytes: at first, by the maker of challenges, and through each step of an
+-- end, which leaves a rest of those that were left.
+-- It serves `messages_are_made`, `messages_are_taken_as_sent`.
+use Rattle.std.proofs.Common.{◌≡◌, ◌-◌, ℕ, List, [], ◌∷◌, ◌++◌, length, Option, Some, None, Result, Ok, Err, sym, subst, slice_get}
+use Rattle.std.specs.List.{AllByRecursion}
+use Rattle.std.proofs.lemmas.List.Elements.{All-weaker, recursion_from_All}
+use Rattle.wire_base.specs.Maps.{lookup, same_number, take_out}
+use Rattle.channel_keys.specs.Des.{IsBlock}
+use Rattle.outside.specs.Counter.{challenges_from, most_draws}
+use Rattle.outside.specs.declared.action.StepRefused.{StepRefused}
+use Rattle.outside.specs.declared.event.Event.{Event}
+use Rattle.outside.specs.declared.event.Event.TheVariants as event
+use Rattle.outside.specs.Drawing.{Drawing, IsRest}
+use Rattle.outside.specs.Machine.{Part, left_by, step_by}
+use Rattle.outside.proofs.CounterLaws.{blocks-challenges_from}
+use Rattle.outside.proofs.DrawLaws.{IsRest-nothing, IsRest-refl}
+use Rattle.outside.proofs.MachineLaws.{then_part-rest}
+use Rattle.rpc_units.specs.Stream.{Cut, cut_stream}
+use Rattle.end_links.specs.Links.{LinkState}
+use Rattle.end_links.specs.Serving.{served_cut}
+use Rattle.end_links.proofs.ServingLaws.{units_served}
+use Rattle.domain_controller.specs.Machine.{Desk, controller_server}
+use Rattle.domain_controller.specs.State.{State as ControllerState}
+use Rattle.domain_controller.specs.Step.{LinkMap, by_event, first_desk, halted, keep_link, serve_on, start_turn, state_after, step_of as controller_step_of, step_on, step_part, whole_part}
+use Rattle.domain_controller.specs.declared.state.Running.{Running}
+use Rattle.domain_controller.specs.declared.state.Talk.{Talk}
+use Rattle.domain_controller.proofs.RestLaws.{server_leaves}
+use Rattle.logon_client.specs.Machine.{step_of as client_step_of}
+use Rattle.logon_client.specs.State.{State as ClientState}
+use Rattle.member_server.specs.Machine.{step_of as member_step_of}
+use Rattle.member_server.specs.State.{State as MemberState}
+use Rattle.step_notes.proofs.Members.RestLaws.{client_leaves_rest, member_leaves}
+use Rattle.world_moves.specs.declared.links.EndId.{EndId}
+use Rattle.world_moves.specs.declared.links.EndId.TheVariants.{Controller, Member, Client}
+use Rattle.world_moves.specs.declared.plan.Plan.{Plan}
+use Rattle.world_moves.specs.Ends.{EndStates, client_step, controller_step, end_step, member_step}
+use Rattle.world_moves.specs.World.{first_world}
+
+-- challenges of 8 bytes
+abbrev pub AreEights : List (List ℕ) → Type 0
+AreEights left = AllByRecursion (λ (challenge : List ℕ). length challenge ≡ 8) left
+
+eights_behind : (front rest : List (List ℕ)) → AreEights (front ++ rest) → AreEights rest
+eights_behind [] rest eights = eights
+eights_behind (challenge ∷ front) rest eights = eights_behind front rest eights.1
+
+pub eights_rest : (rest all : List (List ℕ)) → IsRest rest all → AreEights all → AreEights rest
+eights_rest rest all is eights = eights_behind is.front rest (subst AreEights (sym is.is) eights)
+
+-- ---- at first
+
+first_blocks : (seed : List ℕ) (count : ℕ) → AreEights (challenges_from seed 0 0 count)
+first_blocks seed count =
+    recursion_from_All (λ (challenge : List ℕ). length challenge ≡ 8) (challenges_from seed 0 0 count)
+    (All-weaker IsBlock (λ (challenge : List ℕ). length challenge ≡ 8) (λ challenge block. block.eight) (challenges_from seed 0 0 count) (blocks-challenges_from seed 0 0 count))
+
+pub first_eights : (plan : Plan) → AreEights (first_world plan).state.chances.left
+first_eights plan = first_blocks plan.seed (most_draws - 0)
+
+-- ---- a controller
+
+stepped_rest : (c : ControllerState) (left : List (List ℕ)) (part : Result (Part (Desk × LinkMap)) StepRefused) → IsRest (left_by part) left →
+    IsRest (step_by (λ after. after.0.work.actions) (λ after. state_after c after) (halted c) left part).left left
+stepped_rest c left (Err why) rest = IsRest-nothing left
+stepped_rest c left (Ok part) rest = rest
+
+served_rest : (found : Option (LinkState Talk)) (number : ℕ) (piece name : List ℕ) (now : ℕ) (d : Desk) (others : LinkMap) (left : List (List ℕ)) →
+    IsRest (left_by (serve_on found number piece name now d others left)) left
+served_rest None number piece name now d others left = IsRest-refl left
+served_rest (Some link) number piece name now d others left =
+    let cut : Cut = cut_stream (link.rest ++ piece) in
+    then_part-rest (served_cut (controller_server name now number) cut d link.talk left) (λ done rest. whole_part done.0 (keep_link done.1 cut.rest number others) rest) left
+    (λ done rest. IsRest-refl rest)
+    (units_served.rest (controller_server name now number) cut d link.talk left (server_leaves name now number))
+
+heard_rest : (what : Event) (name : List ℕ) (now : ℕ) (d : Desk) (links : LinkMap) (left : List (List ℕ)) → IsRest (left_by (by_event what name now d links left)) left
+heard_rest (event.Opened link) name now d links left = IsRest-refl left
+heard_rest (event.Bytes link piece) name now d links left = served_rest (lookup same_number link links) link piece name now d (take_out same_number link links) left
+heard_rest (event.Closed link) name now d links left = IsRest-refl left
+heard_rest (event.Dialled link) name now d links left = IsRest-refl left
+heard_rest event.DialFailed name now d links left = IsRest-refl left
+heard_rest event.Stop name now d links left = IsRest-refl left
+
+running_rest : (running : Option Running) (c : ControllerState) (what : Event) (now : ℕ) (left : List (List ℕ)) → IsRest (step_on running c what now left).left left
+running_rest None c what now left = IsRest-refl left
+running_rest (Some running) c what now left =
+    stepped_rest c left (step_part running c what now left)
+    (then_part-rest (by_event what c.name now (first_desk c.table running) running.links left) (λ after rest. start_turn after rest) left
+    (λ after rest. IsRest-refl rest) (heard_rest what c.name now (first_desk c.table running) running.links left))
+
+-- ---- any end
+
+pub controller_left : (found : Option ControllerState) (at : ℕ) (what : Event) (now : ℕ) (ends : EndStates) (chances : Drawing) → AreEights chances.left →
+    AreEights (controller_step found at what now ends chances).chances.left
+controller_left None at what now ends chances eights = eights
+controller_left (Some c) at what now ends chances eights =
+    eights_rest (controller_step_of c what now chances.left).left chances.left (running_rest c.running c what now chances.left) eights
+
+pub member_left : (found : Option MemberState) (at : ℕ) (what : Event) (now : ℕ) (ends : EndStates) (chances : Drawing) → AreEights chances.left →
+    AreEights (member_step found at what now ends chances).chances.left
+member_left None at what now ends chances eights = eights
+member_left (Some m) at what now ends chances eights =
+    eights_rest (member_step_of m what now chances.left).left chances.left (member_leaves m what now chances.left) eights
+
+pub client_left : (found : Option ClientState) (at : ℕ) (what : Event) (now : ℕ) (ends : EndStates) (chances : Drawing) → AreEights chances.left →
+    AreEights (client_step found at what now ends chances).chances.left
+client_left None at what now ends chances eights = eights
+client_left (Some c) at what now ends chances eights =
+    eights_rest (client_step_of c what now chances.left).left chances.left (client_leaves_rest c what now chances.left) eights
+
+pub end_left : (end : EndId) (what : Event) (now : ℕ) (ends : EndStates) (chances : Drawing) → AreEights chances.left → AreEights (end_step end what now ends chances).chances.left
+end_left (Controller at) what now ends chances eights = controller_left (slice_get ends.controllers at) at what now ends chances eights
+end_left (Member at) what now ends chances eights = member_left (slice_get ends.members at) at what now ends chances eights
+end_left (Client at) what now ends chances eights = client_left (slice_get ends.clients at) at what now ends chances eights
