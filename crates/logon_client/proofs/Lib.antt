@@ -7,3 +7,4 @@ pub mod SecuringLaws
 pub mod ServingLaws
 pub mod StepLaws
 pub mod LossLaws
+pub mod SendLaws

@@ -9,4 +9,5 @@ pub mod Losses
 pub mod Machine
 pub mod Plans
 pub mod Securing
+pub mod Sends
 pub mod State

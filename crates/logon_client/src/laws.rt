@@ -3,6 +3,7 @@
 ghost use Rattle.logon_client.specs.Answers.{OffersAgreed, DrawsKeys, AnswersVerify, AnswersFit, KeysFound};
 ghost use Rattle.logon_client.specs.Laws.{ClosesOnce, OutcomeStays};
 ghost use Rattle.logon_client.specs.Losses.{LossesComeOfEvents};
+ghost use Rattle.logon_client.specs.Sends.{SendsOnItsLink};
 
 /// An outcome that comes while the link is open closes it, once, for its work done; one that comes otherwise closes
 /// nothing, nor does another step. A client that has its outcome does nothing more, and keeps it.
@@ -27,4 +28,10 @@ pub fn what_is_answered_verifies()
 /// closed only at an event that shows that it is gone. A dial that was answered doesn't wait again.
 pub fn a_loss_comes_of_its_event()
     ensures { LossesComeOfEvents }
+{}
+
+/// A client sends on its own link alone: the one that is open, or the one that its dial opens in that step.
+#[tactic(auto, using(crate::proofs::SendLaws::sends_on_its_link))]
+pub fn clients_send_on_their_link()
+    ensures { SendsOnItsLink }
 {}
