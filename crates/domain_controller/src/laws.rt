@@ -1,6 +1,8 @@
 //! Laws of the steps of a controller, over their definitions. Each function does nothing, and its clauses are the laws.
 
 ghost use Rattle.domain_controller.specs.Laws.{ClosesNothing, AnswersUnits, KeepsOthers, PassesTheNext, CountsByVerdict};
+ghost use Rattle.domain_controller.specs.ReadBack.{RepliesAreReadBack};
+ghost use Rattle.domain_controller.specs.Whole.{SendsAreWhole};
 
 /// A step for a link that was closed, or for a dial's answer, has no actions.
 #[tactic(auto, using(crate::proofs::QuietLaws::closes_nothing))]
@@ -13,6 +15,20 @@ pub fn what_is_closed_closes_nothing()
 #[tactic(auto, using(crate::proofs::SendLaws::answers_units))]
 pub fn each_send_answers_a_unit()
     ensures { AnswersUnits }
+{}
+
+/// Each send is the bytes of one whole unit, in one fragment or more, and has at most 65,536, whatever comes, where the
+/// controller's table and name and the limits of its links have their ranges. Each unit leaves them so.
+#[tactic(auto, using(crate::proofs::WholeLaws::sends_are_whole))]
+pub fn what_is_sent_is_whole()
+    ensures { SendsAreWhole }
+{}
+
+/// The frames of a reply are heard as one unit. The stub of a reply to a call that passed, or that opened a channel, is
+/// read as that reply.
+#[tactic(auto, using(crate::proofs::ReadBackLaws::replies_are_read_back))]
+pub fn replies_are_read_as_made()
+    ensures { RepliesAreReadBack }
 {}
 
 /// A step leaves the challenges and the channel of every computer that no call answered in it names.

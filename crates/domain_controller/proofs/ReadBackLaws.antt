@@ -1,0 +1,97 @@
+-- For the law `replies_are_read_as_made`: each status has 32 bits, and what is granted has its ranges.
+use Rattle.std.proofs.Common.{ℕ, ◌<◌, ◌≤◌, ◌^◌, length, Bool, true, false, List, [], ◌∷◌, Option, Some, None, arith}
+use Rattle.std.specs.List.{AllByRecursion}
+use Rattle.std.proofs.lemmas.Nat.{and_le_r}
+use Rattle.wire_base.specs.declared.authenticator.Authenticator.{Authenticator}
+use Rattle.channel_keys.specs.Credentials.{cred_of}
+use Rattle.channel_keys.specs.Flags.{supported_flags}
+use Rattle.authenticators.specs.Sequences.{next_seed, return_of}
+use Rattle.logon_stubs.specs.declared.calls.Reply.{Reply}
+use Rattle.logon_stubs.specs.declared.info.NetworkInfo.{NetworkInfo}
+use Rattle.logon_stubs.specs.declared.info.SamInfo.{SamInfo}
+use Rattle.logon_stubs.specs.declared.info.Verdict.{Verdict}
+use Rattle.logon_stubs.specs.declared.info.Verdict.TheVariants.{Granted, Status}
+use Rattle.logon_stubs.specs.Ranges.{InRangeReply, IsBlock}
+use Rattle.logon_stubs.specs.Writing.{CanWriteReply, written_reply}
+use Rattle.logon_stubs.proofs.WrittenLaws.{AreBytes-written_reply, reply_of-written_reply}
+use Rattle.account_table.specs.AccountTable.{AccountTable}
+use Rattle.account_table.specs.LookUps.{account_in, route_in}
+use Rattle.account_table.specs.declared.account.Account.{Account}
+use Rattle.account_table.specs.declared.account.Policy.{Policy}
+use Rattle.account_table.specs.declared.table.Route.{Route}
+use Rattle.account_table.specs.declared.table.Route.TheVariants.{Own, Trust, Elsewhere}
+use Rattle.sam_logon.specs.Rules.{Rule, Shown, first_refusal, refusal_by, rules_for, shown_by_response}
+use Rattle.sam_logon.specs.Verdict.{IfGranted, judgement_of, verdict_by, verdict_of, verdict_routed, verdict_shown}
+use Rattle.sam_logon.proofs.GrantedLaws.{granting-CanWrite, granting-InRange}
+use Rattle.channel_client.specs.Hidden.{crypt_key, is_zero}
+use Rattle.domain_controller.specs.Machine.{IsServedLevel, judge_info, judge_level, serves_level, status_of}
+use Rattle.domain_controller.specs.ReadBack.{IsReadBack, RepliesAreReadBack, opened_reply, passed_reply}
+use Rattle.domain_controller.proofs.WholeParts.{Fits, cred_block, crypt_block, judged_fits, judged_served, opened_few, passed_few, reply_can, reply_heard}
+
+-- ---- each status has 32 bits
+
+abbrev HasStatus : Verdict → Type 0
+HasStatus verdict = status_of verdict < 2 ^ 32
+
+by_rule : (refuses : Bool) (rule : Rule) (later : Option _) (info : SamInfo) → rule.1.status < 2 ^ 32 → HasStatus (verdict_by later info) → HasStatus (verdict_by (refusal_by refuses rule.1 later) info)
+by_rule true rule later info small is = small
+by_rule false rule later info small is = is
+
+by_rules : (rules : List Rule) (info : SamInfo) → AllByRecursion (λ (rule : Rule). rule.1.status < 2 ^ 32) rules → HasStatus (verdict_by (first_refusal rules) info)
+by_rules [] info all = omega arith
+by_rules (rule ∷ rules) info all = by_rule rule.0 rule (first_refusal rules) info all.0 (by_rules rules info all.1)
+
+rules_small : (policy : Policy) (account : Account) (shown : Shown) (workstation : List ℕ) (now : ℕ) → AllByRecursion (λ (rule : Rule). rule.1.status < 2 ^ 32) (rules_for policy account shown workstation now)
+rules_small policy account shown workstation now = (omega arith, (omega arith, (omega arith, (omega arith, (omega arith, (omega arith, (omega arith, (omega arith, (omega arith, (omega arith, (omega arith, tt)))))))))))
+
+shown_small : (found : Option Account) (shown : Shown) (table : AccountTable) (name workstation : List ℕ) (now : ℕ) → HasStatus (verdict_shown found shown table name workstation now)
+shown_small None shown table name workstation now = omega arith
+shown_small (Some account) shown table name workstation now = by_rules (rules_for table.policy account shown workstation now) _ (rules_small table.policy account shown workstation now)
+
+routed_small : (route : Route) (shown : Shown) (table : AccountTable) (name user workstation : List ℕ) (now : ℕ) → HasStatus (verdict_routed route shown table name user workstation now)
+routed_small Own shown table name user workstation now = shown_small (account_in table.accounts user) shown table name workstation now
+routed_small (Trust place) shown table name user workstation now = omega arith
+routed_small Elsewhere shown table name user workstation now = omega arith
+
+level_small : (served : Bool) (table : AccountTable) (name : List ℕ) (info : NetworkInfo) (now : ℕ) → HasStatus (judge_level served table name info now).verdict
+unfolding judgement_of verdict_of
+level_small false table name info now = omega arith
+level_small true table name info now = routed_small (route_in table info.domain) (shown_by_response info) table name info.user info.workstation now
+
+-- ---- the reply is read as it was written
+
+read_from : (answer : Reply) → CanWriteReply answer → InRangeReply answer → length (written_reply answer) ≤ 28015 → IsReadBack answer
+read_from answer can range few = record { read = reply_of-written_reply answer can range; few = few; bytes = AreBytes-written_reply answer can range }
+
+passed_read : (verdict : Verdict) (level : ℕ) (session credential : List ℕ) → level < 2 ^ 16 → IsBlock 8 credential → HasStatus verdict → IfGranted verdict Fits → IfGranted verdict (λ info. IsServedLevel level) →
+    IsReadBack (passed_reply session credential level verdict)
+passed_read (Status status) level session credential small block status_is fits served =
+    read_from (passed_reply session credential level (Status status)) tt (record {
+      returned = record { credential = block; timestamp = omega arith };
+      level = small;
+      info = tt;
+      authoritative = omega arith;
+      status = status_is;
+    }) (passed_few (Status status) level session credential block fits served)
+passed_read (Granted info) level session credential small block status_is fits served =
+    let returned : Option Authenticator = Some (record { credential = credential; timestamp = 0 }) in
+    let key : List ℕ = crypt_key session info.key in
+    read_from (passed_reply session credential level (Granted info)) (granting-CanWrite returned level info key 1 0 served fits.can)
+    (granting-InRange returned level info key 1 0 small fits.range (crypt_block (is_zero info.key) session info.key fits.range.key) (record { credential = block; timestamp = omega arith }) (omega arith) (omega arith))
+    (passed_few (Granted info) level session credential block fits served)
+
+opened_read : (key server : List ℕ) (offered : ℕ) → IsReadBack (opened_reply (cred_of key server) offered)
+opened_read key server offered =
+    read_from (opened_reply (cred_of key server) offered) tt
+    (record { credential = cred_block key server; flags = omega (arith, and_le_r offered supported_flags); status = omega arith })
+    (opened_few _ (cred_block key server).0)
+
+pub replies_are_read_back : RepliesAreReadBack
+replies_are_read_back = record {
+  frames = reply_heard;
+  can = reply_can;
+  passed = λ table name now info validation key seed timestamp range is_name moment small.
+      passed_read (judge_info table name now info validation).verdict validation key (return_of key seed timestamp) small (cred_block key (next_seed seed timestamp))
+      (level_small (serves_level validation) table name info now) (judged_fits table name now range is_name moment info validation) (judged_served table name now info validation);
+  opened = opened_read;
+}

@@ -1,0 +1,361 @@
+-- The law `what_is_sent_is_whole`: a walk over the units of a piece, at a desk at which each send so far is whole.
+use Rattle.std.proofs.Common.{◌≡◌, ◌<◌, ◌≤◌, ◌^◌, ℕ, Bool, true, false, List, [], ◌∷◌, ◌++◌, length, nat_le, bytes_eq, Option, Some, None, Result, Ok, Err, if◌then◌else◌, refl, subst, arith}
+use Rattle.std.specs.List.{AllByRecursion}
+use Rattle.wire_base.specs.Maps.{has_key, lookup, put, take_out, same_number}
+use Rattle.wire_base.specs.Names.{IsName, same_name}
+use Rattle.wire_base.specs.declared.authenticator.Authenticator.{Authenticator}
+use Rattle.ntlm_flags.specs.Flags.{has_flag}
+use Rattle.channel_keys.specs.Credentials.{cred_of}
+use Rattle.channel_keys.specs.Flags.{rc4_flag}
+use Rattle.authenticators.specs.Sequences.{next_seed}
+use Rattle.outside.specs.declared.action.Action.{Action}
+use Rattle.outside.specs.declared.action.Action.TheVariants as action
+use Rattle.outside.specs.declared.action.Judged.{Judged}
+use Rattle.outside.specs.declared.event.Event.{Event}
+use Rattle.outside.specs.declared.event.Event.TheVariants as event
+use Rattle.outside.specs.Machine.{Stepped, step_by, then_part}
+use Rattle.rpc_units.specs.declared.refused.JoinRefused.{JoinRefused}
+use Rattle.rpc_units.specs.declared.refused.UnitRefused.{UnitRefused}
+use Rattle.rpc_units.specs.declared.unit.Unit.{Unit as RpcUnit}
+use Rattle.rpc_units.specs.declared.unit.Body.{Body}
+use Rattle.rpc_units.specs.declared.unit.Body.TheVariants.{Bind, BindAck, BindNak, Auth3, Request, Response, Fault}
+use Rattle.rpc_units.specs.declared.unit.Trailer.{Trailer}
+use Rattle.rpc_units.specs.Joining.{answer_of, open_after}
+use Rattle.rpc_units.specs.Reading.{unit_of}
+use Rattle.rpc_units.specs.Stream.{cut_stream}
+use Rattle.rpc_units.specs.Writing.{ContextsFit}
+use Rattle.rpc_units.proofs.FitLaws.{contexts_fit}
+use Rattle.rpc_units.proofs.GrammarLaws.{IsUnit-unit_of}
+use Rattle.ndr_codec.specs.Parts.{IfThere}
+use Rattle.logon_stubs.specs.declared.calls.Call.{Call}
+use Rattle.logon_stubs.specs.declared.calls.Call.TheVariants as call
+use Rattle.logon_stubs.specs.declared.calls.AuthCall.{AuthCall}
+use Rattle.logon_stubs.specs.declared.calls.ChallengeCall.{ChallengeCall}
+use Rattle.logon_stubs.specs.declared.calls.Reply.{Reply}
+use Rattle.logon_stubs.specs.declared.info.NetworkInfo.{NetworkInfo}
+use Rattle.logon_stubs.specs.declared.refused.StubRefused.{StubRefused}
+use Rattle.logon_stubs.specs.Calls.{call_of}
+use Rattle.logon_stubs.specs.Ranges.{IsBlock}
+use Rattle.logon_stubs.specs.Writing.{written_reply}
+use Rattle.account_table.specs.AccountTable.{AccountTable}
+use Rattle.account_table.specs.LookUps.{knows_in}
+use Rattle.account_table.specs.declared.account.Account.{Account}
+use Rattle.sam_logon.specs.Verdict.{Judgement}
+use Rattle.end_links.specs.Agreed.{Agreed, accepts}
+use Rattle.end_links.specs.Links.{LinkState}
+use Rattle.end_links.specs.Serving.{ServedPart, Service, then_open, then_talk, served_by, served_cut}
+use Rattle.end_loop.specs.Runs.{actions_of}
+use Rattle.channel_client.specs.Machine.{netlogon_syntax}
+use Rattle.domain_controller.specs.Channels.{ChannelState, key_of_channel, passes_on, return_by, channel_by}
+use Rattle.domain_controller.specs.Hearing.{IsLine, bound_talk, hear_fresh, is_served, hear_stub, hear_opnum, hear_context, hear_whole, hear_joined, hear_bound, hear_on, hear_read, hear}
+use Rattle.domain_controller.specs.Machine.{Desk, desk, tell, send_reply, put_pair_if, take_pair, put_channel, take_channel, channel_for, open_channel, judge_pair, judge_offer, judge_account, account_for, judge_info, judge_return, judge_channel, answer_logon, refuse_logon, draw_challenge, by_call, by_heard, controller_server}
+use Rattle.domain_controller.specs.State.{State}
+use Rattle.domain_controller.specs.Step.{open_by, with_open, LinkMap, StepPart, keep_link, after_units, serve_on, by_event, start_turn, halted, state_after, first_desk, step_on}
+use Rattle.domain_controller.specs.declared.line.Line.{Line}
+use Rattle.domain_controller.specs.declared.state.Pending.{Pending}
+use Rattle.domain_controller.specs.declared.state.Running.{Running}
+use Rattle.domain_controller.specs.declared.state.Talk.{Talk}
+use Rattle.domain_controller.specs.declared.state.Work.{Work}
+use Rattle.domain_controller.specs.declared.hearing.Heard.{Heard}
+use Rattle.domain_controller.specs.declared.hearing.Heard.TheVariants as heard
+use Rattle.domain_controller.specs.Whole.{AreChallenges, HasLimit, InRangeDesk, InRangeLinks, InRangePart, InRangeRunning, InRangeState, InRangeTable, InRangeTalk, IsWholeIfSent, IsWholeSend, SendsAreWhole}
+use Rattle.domain_controller.proofs.WholeParts.{ack_whole, bare_few, challenge_few, cred_block, fault_whole, judged_fits, judged_served, judged_table, limit_bounds, nak_whole, opened_few, passed_few, reply_whole}
+
+-- ---- what is heard of a unit
+
+abbrev HeardFits : Heard → Type 0
+HeardFits (heard.Close cause) = Unit {0}
+HeardFits (heard.Answer bytes talk) = IsWholeSend bytes × InRangeTalk talk
+HeardFits (heard.Waits talk) = InRangeTalk talk
+HeardFits (heard.Asked line c talk) = IsLine line × InRangeTalk talk
+
+fresh_fits : (body : Body) (trailer : Option Trailer) (number : ℕ) (joiner : Option RpcUnit) → ContextsFit body → HeardFits (hear_fresh body trailer number joiner)
+fresh_fits (Bind send receive group contexts) None number joiner few = (ack_whole netlogon_syntax number receive contexts few, limit_bounds receive)
+fresh_fits (Bind send receive group contexts) (Some trailer) number joiner few = (nak_whole number, tt)
+fresh_fits (Request hint context opnum stub) trailer number joiner few = (fault_whole number context _ (omega arith), tt)
+fresh_fits (BindAck send receive group results) trailer number joiner few = tt
+fresh_fits (BindNak reason) trailer number joiner few = tt
+fresh_fits Auth3 trailer number joiner few = tt
+fresh_fits (Response hint context stub) trailer number joiner few = tt
+fresh_fits (Fault hint context status) trailer number joiner few = tt
+
+stub_fits : (read : Result Call StubRefused) (line : Line) (talk : Talk) → IsLine line → InRangeTalk talk → HeardFits (hear_stub read line talk)
+stub_fits (Err why) line talk range limit = (fault_whole line.call line.context _ (omega arith), limit)
+stub_fits (Ok c) line talk range limit = (range, limit)
+
+opnum_fits : (served : Bool) (opnum : ℕ) (stub : List ℕ) (line : Line) (talk : Talk) → IsLine line → InRangeTalk talk → HeardFits (hear_opnum served opnum stub line talk)
+opnum_fits false opnum stub line talk range limit = (fault_whole line.call line.context _ (omega arith), limit)
+opnum_fits true opnum stub line talk range limit = stub_fits (call_of opnum stub) line talk range limit
+
+context_fits : (accepted : Bool) (opnum : ℕ) (stub : List ℕ) (line : Line) (talk : Talk) → IsLine line → InRangeTalk talk → HeardFits (hear_context accepted opnum stub line talk)
+context_fits false opnum stub line talk range limit = (fault_whole line.call line.context _ (omega arith), limit)
+context_fits true opnum stub line talk range limit = opnum_fits (is_served opnum) opnum stub line talk range limit
+
+whole_fits : (body : Body) (number link : ℕ) (agreed : Agreed) (talk : Talk) → HasLimit (Some agreed) → InRangeTalk talk → HeardFits (hear_whole body number link agreed talk)
+whole_fits (Request hint context opnum stub) number link agreed talk limit said =
+    context_fits (accepts agreed context) opnum stub (record { link = link; call = number; context = context; limit = agreed.limit }) talk (record { least = limit.0; most = limit.1 }) said
+whole_fits (Bind send receive group contexts) number link agreed talk limit said = said
+whole_fits (BindAck send receive group results) number link agreed talk limit said = said
+whole_fits (BindNak reason) number link agreed talk limit said = said
+whole_fits Auth3 number link agreed talk limit said = said
+whole_fits (Response hint context stub) number link agreed talk limit said = said
+whole_fits (Fault hint context status) number link agreed talk limit said = said
+
+joined_fits : (answer : Result (Option RpcUnit) JoinRefused) (after : Option RpcUnit) (link : ℕ) (agreed : Agreed) → HasLimit (Some agreed) → HeardFits (hear_joined answer after link agreed)
+joined_fits (Err why) after link agreed limit = tt
+joined_fits (Ok None) after link agreed limit = limit
+joined_fits (Ok (Some whole)) after link agreed limit = whole_fits whole.body whole.call link agreed (bound_talk after agreed) limit limit
+
+bound_fits : (body : Body) (trailer : Option Trailer) (unit : RpcUnit) (link : ℕ) (joiner : Option RpcUnit) (agreed : Agreed) → HasLimit (Some agreed) → HeardFits (hear_bound body trailer unit link joiner agreed)
+bound_fits (Request hint context opnum stub) (Some trailer) unit link joiner agreed limit = tt
+bound_fits (Request hint context opnum stub) None unit link joiner agreed limit = joined_fits (answer_of joiner unit) (open_after joiner unit) link agreed limit
+bound_fits (Bind send receive group contexts) trailer unit link joiner agreed limit = tt
+bound_fits (BindAck send receive group results) trailer unit link joiner agreed limit = tt
+bound_fits (BindNak reason) trailer unit link joiner agreed limit = tt
+bound_fits Auth3 trailer unit link joiner agreed limit = tt
+bound_fits (Response hint context stub) trailer unit link joiner agreed limit = tt
+bound_fits (Fault hint context status) trailer unit link joiner agreed limit = tt
+
+unit_fits : (binding : Option Agreed) (unit : RpcUnit) (link : ℕ) (joiner : Option RpcUnit) → ContextsFit unit.body → HasLimit binding → HeardFits (hear_on binding unit link joiner)
+unit_fits None unit link joiner few limit = fresh_fits unit.body unit.trailer unit.call joiner few
+unit_fits (Some agreed) unit link joiner few limit = bound_fits unit.body unit.trailer unit link joiner agreed limit
+
+read_fits : (read : Result RpcUnit UnitRefused) (bytes : List ℕ) (link : ℕ) (talk : Talk) → unit_of bytes ≡ read → InRangeTalk talk → HeardFits (hear_read read link talk)
+read_fits (Err why) bytes link talk is limit = tt
+read_fits (Ok unit) bytes link talk is limit = unit_fits talk.binding unit link talk.joiner (contexts_fit bytes unit (IsUnit-unit_of bytes unit is)) limit
+
+heard_fits : (link : ℕ) (bytes : List ℕ) (talk : Talk) → InRangeTalk talk → HeardFits (hear link bytes talk)
+heard_fits link bytes talk limit = read_fits (unit_of bytes) bytes link talk refl limit
+
+line_fits : (link : ℕ) (bytes : List ℕ) (talk later : Talk) (line : Line) (c : Call) → InRangeTalk talk → hear link bytes talk ≡ heard.Asked line c later → IsLine line
+line_fits link bytes talk later line c limit is = (subst HeardFits is (heard_fits link bytes talk limit)).0
+
+-- ---- a desk at which each send so far is whole
+
+abbrev AreWhole : List Action → Type 0
+AreWhole actions = AllByRecursion IsWholeIfSent actions
+
+with_one : (actions : List Action) (what : Action) → AreWhole actions → IsWholeIfSent what → AreWhole (actions ++ what ∷ [])
+with_one [] what whole is = (is, tt)
+with_one (first ∷ actions) what whole is = (whole.0, with_one actions what whole.1 is)
+
+told : (table : AccountTable) (work : Work) (what : Action) → InRangeDesk (desk table work) → IsWholeIfSent what → InRangeDesk (desk table (tell work what))
+told table work what fits is = record { sends = with_one work.actions what fits.sends is; table = fits.table }
+
+replied : (table : AccountTable) (work : Work) (line : Line) (answer : Reply) → IsLine line → InRangeDesk (desk table work) → length (written_reply answer) ≤ 28015 → InRangeDesk (desk table (send_reply work line answer))
+replied table work line answer range fits few =
+    told table work _ fits (reply_whole line.call line.context line.limit (written_reply answer) range.least range.most few)
+
+refused : (table : AccountTable) (how : Judged) (line : Line) (validation : ℕ) (work : Work) → IsLine line → InRangeDesk (desk table work) → InRangeDesk (desk table (refuse_logon how line validation work))
+refused table how line validation work range fits =
+    replied table (tell work (action.Judged how)) line _ range (told table work (action.Judged how) fits tt) (bare_few None validation 1 _ tt)
+
+-- ---- NetrServerReqChallenge and NetrServerAuthenticate2
+
+pair_put : (knows : Bool) (computer : List ℕ) (pair : Pending) (table : AccountTable) (work : Work) → InRangeDesk (desk table work) → InRangeDesk (desk table (put_pair_if knows computer pair work))
+pair_put false computer pair table work fits = fits
+pair_put true computer pair table work fits = record { sends = fits.sends; table = fits.table }
+
+opens : (right : Bool) (channel : ChannelState) (line : Line) (c : AuthCall) (table : AccountTable) (work : Work) → IsLine line → InRangeDesk (desk table work) → InRangeDesk (desk table (open_channel right channel line c work))
+opens false channel line c table work range fits = replied table work line _ range fits (opened_few _ refl)
+opens true channel line c table work range fits =
+    replied table (put_channel c.computer channel work) line _ range (record { sends = fits.sends; table = fits.table }) (opened_few _ (cred_block (key_of_channel channel) channel.server).0)
+
+pairs : (pair : Option Pending) (account : Account) (line : Line) (c : AuthCall) (table : AccountTable) (work : Work) → IsLine line → InRangeDesk (desk table work) → InRangeDesk (desk table (judge_pair pair account line c work))
+pairs None account line c table work range fits = replied table work line _ range fits (opened_few _ refl)
+pairs (Some pair) account line c table work range fits =
+    let channel = channel_for account pair c in
+    opens (bytes_eq c.credential (cred_of (key_of_channel channel) channel.client)) channel line c table work range fits
+
+offers : (offered : Bool) (pair : Option Pending) (account : Account) (line : Line) (c : AuthCall) (table : AccountTable) (work : Work) → IsLine line → InRangeDesk (desk table work) →
+    InRangeDesk (desk table (judge_offer offered pair account line c work))
+offers false pair account line c table work range fits = replied table work line _ range fits (opened_few _ refl)
+offers true pair account line c table work range fits = pairs pair account line c table work range fits
+
+accounts : (account : Option Account) (pair : Option Pending) (line : Line) (c : AuthCall) (table : AccountTable) (work : Work) → IsLine line → InRangeDesk (desk table work) →
+    InRangeDesk (desk table (judge_account account pair line c work))
+accounts None pair line c table work range fits = replied table work line _ range fits (opened_few _ refl)
+accounts (Some account) pair line c table work range fits = offers (has_flag c.flags rc4_flag) pair account line c table work range fits
+
+-- ---- NetrLogonSamLogon
+
+module _ (name : List ℕ) (now : ℕ) (is_name : IsName name) (moment : now < 2 ^ 64) where
+  returns : (credential : Option (List ℕ)) (key : List ℕ) (line : Line) (info : NetworkInfo) (validation : ℕ) (d : Desk) → IsLine line → IfThere (IsBlock 8) credential → InRangeDesk d →
+      InRangeDesk (judge_return credential key name now line info validation d)
+  returns None key line info validation d range block fits = refused d.table _ line validation d.work range (record { sends = fits.sends; table = fits.table })
+  returns (Some credential) key line info validation d range block fits =
+      let judged : Judgement = judge_info d.table name now info validation in
+      let table : InRangeTable judged.table = judged_table d.table name now info validation fits.table in
+      replied judged.table (tell d.work _) line _ range (told judged.table d.work _ (record { sends = fits.sends; table = table }) tt)
+      (passed_few judged.verdict validation key credential block (judged_fits d.table name now fits.table is_name moment info validation) (judged_served d.table name now info validation))
+
+  returned_block : (passes : Bool) (channel : ChannelState) (given : Authenticator) → IfThere (IsBlock 8) (return_by passes channel given)
+  returned_block false channel given = tt
+  returned_block true channel given = cred_block (key_of_channel channel) (next_seed channel.seed given.timestamp)
+
+  channels : (found : Option ChannelState) (computer : List ℕ) (given : Authenticator) (line : Line) (info : NetworkInfo) (validation : ℕ) (d : Desk) → IsLine line → InRangeDesk d →
+      InRangeDesk (judge_channel found computer given name now line info validation d)
+  channels None computer given line info validation d range fits = refused d.table _ line validation d.work range (record { sends = fits.sends; table = fits.table })
+  channels (Some channel) computer given line info validation d range fits =
+      returns (return_by (passes_on channel given) channel given) (key_of_channel channel) line info validation
+      (desk d.table (put_channel computer (channel_by (passes_on channel given) channel given) d.work)) range
+      (returned_block (passes_on channel given) channel given) (record { sends = fits.sends; table = fits.table })
+
+  logons : (computer : Option (List ℕ)) (given : Option Authenticator) (line : Line) (info : NetworkInfo) (validation : ℕ) (d : Desk) → IsLine line → InRangeDesk d →
+      InRangeDesk (answer_logon computer given name now line info validation d)
+  logons None given line info validation d range fits = refused d.table _ line validation d.work range (record { sends = fits.sends; table = fits.table })
+  logons (Some computer) None line info validation d range fits = refused d.table _ line validation d.work range (record { sends = fits.sends; table = fits.table })
+  logons (Some computer) (Some given) line info validation d range fits =
+      channels (lookup same_name computer d.work.computers.channels) computer given line info validation (desk d.table (take_channel computer d.work)) range
+      (record { sends = fits.sends; table = fits.table })
+
+  -- ---- units
+
+  draws : (left : List (List ℕ)) (line : Line) (c : ChallengeCall) (talk : Talk) (d : Desk) → IsLine line → InRangeTalk talk → InRangeDesk d → AreChallenges left → InRangePart (draw_challenge left line c talk d)
+  draws [] line c talk d range limit fits eight = tt
+  draws (server ∷ left) line c talk d range limit fits eight =
+      let pair : Pending = record { client = c.challenge; server = server } in
+      let knows : Bool = knows_in d.table.accounts c.computer in (
+        replied d.table (put_pair_if knows c.computer pair d.work) line _ range (pair_put knows c.computer pair d.table d.work (record { sends = fits.sends; table = fits.table })) (challenge_few server 0 eight.0),
+        limit,
+        eight.1,
+      )
+
+  calls : (c : Call) (line : Line) (talk : Talk) (d : Desk) (left : List (List ℕ)) → IsLine line → InRangeTalk talk → InRangeDesk d → AreChallenges left → InRangePart (by_call c line talk name now d left)
+  calls (call.Challenge c) line talk d left range limit fits eight = draws left line c talk d range limit fits eight
+  calls (call.Authenticate c) line talk d left range limit fits eight = (
+    accounts (account_for d.table c) (lookup same_name c.computer d.work.computers.pending) line c d.table (take_pair c.computer d.work) range (record { sends = fits.sends; table = fits.table }),
+    limit,
+    eight,
+  )
+  calls (call.Logon c) line talk d left range limit fits eight = (logons c.computer c.authenticator line c.info c.validation d range fits, limit, eight)
+  calls (call.Logoff c) line talk d left range limit fits eight =
+      (told d.table d.work _ (record { sends = fits.sends; table = fits.table }) (fault_whole line.call line.context _ (omega arith)), limit, eight)
+
+  heards : (h : Heard) (link : ℕ) (d : Desk) (left : List (List ℕ)) → HeardFits h → InRangeDesk d → AreChallenges left → InRangePart (by_heard h link name now d left)
+  heards (heard.Close cause) link d left is fits eight = (told d.table d.work _ (record { sends = fits.sends; table = fits.table }) tt, tt, eight)
+  heards (heard.Answer bytes talk) link d left is fits eight = (told d.table d.work _ (record { sends = fits.sends; table = fits.table }) is.0, is.1, eight)
+  heards (heard.Waits talk) link d left is fits eight = (fits, is, eight)
+  heards (heard.Asked line c talk) link d left is fits eight = calls c line talk d left is.0 is.1 fits eight
+
+  said_fits : (d : Desk) (said : Option Talk) (left : List (List ℕ)) (later : Service Desk Talk) → InRangeDesk d → IfThere InRangeTalk said → AreChallenges left →
+      ((d : Desk) (talk : Talk) (left : List (List ℕ)) → InRangeDesk d → InRangeTalk talk → AreChallenges left → InRangePart (later d talk left)) → InRangePart (then_talk d said left later)
+  said_fits d None left later fits limit eight each = (fits, tt, eight)
+  said_fits d (Some talk) left later fits limit eight each = each d talk left fits limit eight
+
+  then_fits : (part : ServedPart Desk Talk) (later : Service Desk Talk) → InRangePart part →
+      ((d : Desk) (talk : Talk) (left : List (List ℕ)) → InRangeDesk d → InRangeTalk talk → AreChallenges left → InRangePart (later d talk left)) → InRangePart (then_open part later)
+  then_fits (Err why) later fits each = tt
+  then_fits (Ok part) later fits each = said_fits part.value.0 part.value.1 part.left later fits.0 fits.1 fits.2 each
+
+  units_fit : (units : List (List ℕ)) (why : Option UnitRefused) (link : ℕ) (d : Desk) (talk : Talk) (left : List (List ℕ)) → InRangeDesk d → InRangeTalk talk → AreChallenges left →
+      InRangePart (served_by (controller_server name now link) units why d talk left)
+  units_fit [] None link d talk left fits limit eight = (fits, limit, eight)
+  units_fit [] (Some why) link d talk left fits limit eight = (told d.table d.work _ (record { sends = fits.sends; table = fits.table }) tt, tt, eight)
+  units_fit (bytes ∷ units) why link d talk left fits limit eight =
+      then_fits (by_heard (hear link bytes talk) link name now d left) (λ later said rest. served_by (controller_server name now link) units why later said rest)
+      (heards (hear link bytes talk) link d left (heard_fits link bytes talk limit) fits eight)
+      (λ later said rest. units_fit units why link later said rest)
+
+-- ---- links
+
+chosen : {T : Type 0} (P : T → Type 0) (test : Bool) (one other : Option T) → IfThere P one → IfThere P other → IfThere P (if test then one else other)
+chosen P true one other is that = is
+chosen P false one other is that = that
+
+abbrev LinkFits : LinkState Talk → Type 0
+LinkFits link = InRangeTalk link.talk
+
+found_link : (number : ℕ) (links : LinkMap) → InRangeLinks links → IfThere LinkFits (lookup same_number number links)
+found_link number [] range = tt
+found_link number (entry ∷ links) range = chosen LinkFits (has_key same_number number entry) (Some entry.1) (lookup same_number number links) range.0 (found_link number links range.1)
+
+either : (test : Bool) (one other : LinkMap) → InRangeLinks one → InRangeLinks other → InRangeLinks (if test then one else other)
+either true one other is that = is
+either false one other is that = that
+
+taken_links : (number : ℕ) (links : LinkMap) → InRangeLinks links → InRangeLinks (take_out same_number number links)
+taken_links number [] range = tt
+taken_links number (entry ∷ links) range = either (has_key same_number number entry) links (entry ∷ take_out same_number number links) range.1 (range.0, taken_links number links range.1)
+
+put_links : (number : ℕ) (link : LinkState Talk) (links : LinkMap) → LinkFits link → InRangeLinks links → InRangeLinks (put same_number number link links)
+put_links number link [] is range = (is, tt)
+put_links number link (entry ∷ links) is range =
+    either (has_key same_number number entry) ((number, link) ∷ links) (entry ∷ put same_number number link links) (is, range.1) (range.0, put_links number link links is range.1)
+
+kept_links : (said : Option Talk) (rest : List ℕ) (number : ℕ) (links : LinkMap) → IfThere InRangeTalk said → InRangeLinks links → InRangeLinks (keep_link said rest number links)
+kept_links None rest number links limit range = range
+kept_links (Some talk) rest number links limit range = put_links number (record { rest = rest; talk = talk }) links limit range
+
+-- ---- events
+
+abbrev StepFits : StepPart → Type 0
+StepFits (Err why) = Unit {0}
+StepFits (Ok part) = InRangeDesk part.value.0 × InRangeLinks part.value.1
+
+after_link : (part : ServedPart Desk Talk) (rest : List ℕ) (number : ℕ) (links : LinkMap) → InRangePart part → InRangeLinks links → StepFits (after_units part rest number links)
+after_link (Err why) rest number links fits range = tt
+after_link (Ok part) rest number links fits range = (fits.0, kept_links part.value.1 rest number links fits.1 range)
+
+opened : (full : Bool) (number : ℕ) (table : AccountTable) (work : Work) (links : LinkMap) (left : List (List ℕ)) → InRangeDesk (desk table work) → InRangeLinks links → StepFits (with_open (open_by full number work links) table left)
+opened true number table work links left fits range = (told table work _ fits tt, range)
+opened false number table work links left fits range = (fits, put_links number _ links tt range)
+
+module _ (name : List ℕ) (now : ℕ) (is_name : IsName name) (moment : now < 2 ^ 64) where
+  on_link : (found : Option (LinkState Talk)) (number : ℕ) (piece : List ℕ) (d : Desk) (others : LinkMap) (left : List (List ℕ)) → IfThere LinkFits found → InRangeDesk d → InRangeLinks others → AreChallenges left →
+      StepFits (serve_on found number piece name now d others left)
+  on_link None number piece d others left is fits range eight = (fits, range)
+  on_link (Some link) number piece d others left is fits range eight =
+      let cut = cut_stream (link.rest ++ piece) in
+      after_link (served_cut (controller_server name now number) cut d link.talk left) cut.rest number others
+      (units_fit name now is_name moment cut.units cut.refused number d link.talk left fits is eight) range
+
+  events : (what : Event) (d : Desk) (links : LinkMap) (left : List (List ℕ)) → InRangeDesk d → InRangeLinks links → AreChallenges left → StepFits (by_event what name now d links left)
+  events (event.Opened number) d links left fits range eight =
+      opened (nat_le 256 (length (take_out same_number number links))) number d.table d.work (take_out same_number number links) left (record { sends = fits.sends; table = fits.table }) (taken_links number links range)
+  events (event.Bytes number piece) d links left fits range eight =
+      on_link (lookup same_number number links) number piece d (take_out same_number number links) left (found_link number links range) fits (taken_links number links range) eight
+  events (event.Closed number) d links left fits range eight = (fits, taken_links number links range)
+  events (event.Dialled number) d links left fits range eight = (fits, range)
+  events event.DialFailed d links left fits range eight = (fits, range)
+  events event.Stop d links left fits range eight = (fits, range)
+
+-- ---- a step
+
+abbrev after_part : State → List (List ℕ) → StepPart → Stepped State
+after_part s left part = step_by (λ (after : Desk × LinkMap). after.0.work.actions) (λ (after : Desk × LinkMap). state_after s after) (halted s) left (then_part part (λ after rest. start_turn after rest))
+
+sends_then : (part : StepPart) (s : State) (left : List (List ℕ)) → StepFits part → AreWhole (actions_of (after_part s left part))
+sends_then (Err why) s left fits = tt
+sends_then (Ok part) s left fits = fits.0.sends
+
+keeps_then : (part : StepPart) (s : State) (left : List (List ℕ)) → InRangeState s → StepFits part → InRangeState (after_part s left part).state
+keeps_then (Err why) s left is fits = record { name = is.name; table = is.table; running = tt }
+keeps_then (Ok part) s left is fits = record { name = is.name; table = fits.0.table; running = fits.1 }
+
+part_fits : (running : Running) (s : State) (what : Event) (now : ℕ) (left : List (List ℕ)) → InRangeState s → InRangeLinks running.links → now < 2 ^ 64 → AreChallenges left →
+    StepFits (by_event what s.name now (first_desk s.table running) running.links left)
+part_fits running s what now left is range moment eight =
+    events s.name now is.name moment what (first_desk s.table running) running.links left (record { sends = tt; table = is.table }) range eight
+
+sends_on : (running : Option Running) (s : State) (what : Event) (now : ℕ) (left : List (List ℕ)) → InRangeState s → InRangeRunning running → now < 2 ^ 64 → AreChallenges left →
+    AreWhole (actions_of (step_on running s what now left))
+sends_on None s what now left is range moment eight = tt
+sends_on (Some running) s what now left is range moment eight =
+    sends_then (by_event what s.name now (first_desk s.table running) running.links left) s left (part_fits running s what now left is range moment eight)
+
+keeps_on : (running : Option Running) (s : State) (what : Event) (now : ℕ) (left : List (List ℕ)) → InRangeState s → InRangeRunning running → now < 2 ^ 64 → AreChallenges left →
+    InRangeState (step_on running s what now left).state
+keeps_on None s what now left is range moment eight = is
+keeps_on (Some running) s what now left is range moment eight =
+    keeps_then (by_event what s.name now (first_desk s.table running) running.links left) s left is (part_fits running s what now left is range moment eight)
+
+pub sends_are_whole : SendsAreWhole
+sends_are_whole = record {
+  sends = λ s what now left is moment eight. sends_on s.running s what now left is is.running moment eight;
+  keeps = λ s what now left is moment eight. keeps_on s.running s what now left is is.running moment eight;
+  first = λ table name range is_name. record { name = is_name; table = range; running = tt };
+  unit = λ name now link bytes d talk left is_name moment fits limit eight.
+      heards name now is_name moment (hear link bytes talk) link d left (heard_fits link bytes talk limit) fits eight;
+  line = line_fits;
+}

@@ -1,0 +1,362 @@
+-- For the law `what_is_sent_is_whole`: units of one fragment are whole, and so are replies, which are short.
+use Rattle.std.proofs.Common.{◌≡◌, inl, inr, ℕ, zero, suc, ◌+◌, ◌-◌, ◌%◌, ◌<◌, ◌≤◌, ◌^◌, ◌==◌, ◌||◌, Bool, true, false, List, [], ◌∷◌, length, map, min, replicate, All, Option, Some, None, Ok, if◌then◌else◌, refl, sym, ap, subst, ◌∙◌, arith, append-nil}
+use Rattle.std.specs.Int.{Width, w16, w32, byte_len, to_le_bytes}
+use Rattle.std.specs.List.{AllByRecursion, slice_get}
+use Rattle.std.specs.Option.{option_and_then}
+use Rattle.std.proofs.lemmas.Bool.{cases_Bool, cases_lt}
+use Rattle.std.proofs.lemmas.Bool.Decides.{Decides-eqb}
+use Rattle.std.proofs.lemmas.List.{get_or_past, length-append, length-replicate}
+use Rattle.std.proofs.lemmas.List.Elements.{All-from_get_or, All-get_or}
+use Rattle.std.proofs.Math.Nat.{mod-lt}
+use Rattle.wire_base.specs.Names.{IsName}
+use Rattle.wire_base.specs.Numbers.{AreBytes}
+use Rattle.wire_base.specs.declared.authenticator.Authenticator.{Authenticator}
+use Rattle.wire_base.proofs.NumberLaws.{length-to_le_bytes}
+use Rattle.rc4_stream.proofs.Rc4Laws.{All-applied, length-applied}
+use Rattle.channel_keys.specs.Credentials.{cred_of}
+use Rattle.channel_keys.proofs.CredLaws.{IsBlock-cred_of}
+use Rattle.ntlm_responses.specs.Verification.{base_key_of}
+use Rattle.ntlm_responses.proofs.ResponseLaws.{All-base_key_of, length-base_key_of}
+use Rattle.rpc_units.specs.declared.unit.Unit.{Unit as RpcUnit}
+use Rattle.rpc_units.specs.declared.unit.Syntax.{Syntax}
+use Rattle.rpc_units.specs.Calls.{CanBeSent, IsHeard, bytes_of_call}
+use Rattle.rpc_units.specs.Joining.{answer_of, cut_of, joined_of}
+use Rattle.rpc_units.specs.Stream.{cut_stream}
+use Rattle.rpc_units.specs.Writing.{HasAnswer, IsSendable, written}
+use Rattle.rpc_units.proofs.CutStreamLaws.{cut_written}
+use Rattle.rpc_units.proofs.CuttingLaws.{call_heard, call_short}
+use Rattle.rpc_units.proofs.ShortLaws.{written_short}
+use Rattle.rpc_units.proofs.WritingLaws.{unit_of-written}
+use Rattle.ndr_codec.specs.Layout.{byte, short, long, raw, pointer, padding}
+use Rattle.ndr_codec.specs.Parts.{IfThere}
+use Rattle.ndr_codec.specs.Writing.{Written, aligned, nothing, put, put_number}
+use Rattle.logon_stubs.specs.declared.calls.AuthReply.{AuthReply}
+use Rattle.logon_stubs.specs.declared.calls.Reply.TheVariants as reply
+use Rattle.logon_stubs.specs.declared.info.NetworkInfo.{NetworkInfo}
+use Rattle.logon_stubs.specs.declared.info.SamInfo.{SamInfo}
+use Rattle.logon_stubs.specs.declared.info.Verdict.{Verdict}
+use Rattle.logon_stubs.specs.declared.info.Verdict.TheVariants.{Granted, Status}
+use Rattle.logon_stubs.specs.Ranges.{HasShortTexts, InRangeSamInfo, IsBlock}
+use Rattle.logon_stubs.specs.Writing.{CanWriteSamInfo, put_authenticator, put_challenge_reply, put_logon_reply, written_reply}
+use Rattle.logon_stubs.proofs.AnswerLaws.{answers_are_long}
+use Rattle.logon_stubs.proofs.WrittenLaws.{written_reply-few}
+use Rattle.account_table.specs.AccountTable.{AccountTable}
+use Rattle.account_table.specs.Changes.{at_place}
+use Rattle.account_table.specs.LookUps.{account_in, place_in, route_in}
+use Rattle.account_table.specs.Ranges.{InRangeAccount}
+use Rattle.account_table.specs.declared.account.Account.{Account}
+use Rattle.account_table.specs.declared.account.Policy.{Policy}
+use Rattle.account_table.specs.declared.table.Route.{Route}
+use Rattle.account_table.specs.declared.table.Route.TheVariants.{Own, Trust, Elsewhere}
+use Rattle.sam_logon.specs.Granted.{granting_reply, sam_info_of}
+use Rattle.sam_logon.specs.Rules.{Shown, count_after, first_refusal, rules_for, shown_by_response}
+use Rattle.sam_logon.specs.Verdict.{IfGranted, judged_account, judgement_of, table_after, table_routed, table_shown, verdict_by, verdict_of, verdict_routed, verdict_shown}
+use Rattle.sam_logon.proofs.GrantedLaws.{granting-CanWrite, granting-InRange, in_range-counted, sam_info-CanWrite, sam_info-InRange, sam_info-IsShort}
+use Rattle.end_links.specs.Binding.{ack_of, answer_by, answer_to, limit_of, nak_of}
+use Rattle.end_links.specs.Sending.{fault_of, response_of}
+use Rattle.end_links.proofs.BindingLaws.{ack_short}
+use Rattle.channel_client.specs.Hidden.{crypt_by, crypt_key, is_zero}
+use Rattle.domain_controller.specs.Machine.{IsServedLevel, judge_info, judge_level, serves_level}
+use Rattle.domain_controller.proofs.LevelLaws.{short_at}
+use Rattle.domain_controller.proofs.NumberedLaws.{ack_alike, fault_alike, nak_alike, reply_alike}
+use Rattle.domain_controller.specs.ReadBack.{heard_reply, passed_reply}
+use Rattle.domain_controller.specs.Whole.{InRangeTable, IsWholeSend}
+
+-- ---- bytes
+
+bytes_from_all : (bytes : List ℕ) → All (λ b. b < 256) bytes → AreBytes bytes
+bytes_from_all bytes all place =
+    elim (cases_lt place (length bytes)) [
+      | inl within ↦ All-get_or (λ b. b < 256) bytes place 0 within all
+      | inr past ↦ rw (get_or_past bytes place 0 past) (omega arith)
+    ]
+
+-- ---- units of one fragment
+
+single_whole : (unit : RpcUnit) → IsSendable unit → answer_of None unit ≡ Ok (Some unit) → IsWholeSend (written unit)
+single_whole unit can is = record {
+  frames = unit ∷ [];
+  unit = unit;
+  heard = record {
+    stream = ap cut_stream (sym (append-nil (written unit))) ∙ cut_written (unit ∷ []) (can, tt);
+    read = ap (λ (r : _). r ∷ []) (unit_of-written unit can.writable can.range can.short);
+    joined = is;
+  };
+  few = omega (arith, can.short);
+}
+
+-- with numbers of their widths
+fault_below : (call context status : ℕ) → call < 2 ^ 32 → context < 2 ^ 16 → status < 2 ^ 32 → IsWholeSend (written (fault_of call context status))
+unfolding joined_of
+fault_below call context status number small known =
+    single_whole (fault_of call context status) (record {
+      writable = record { pieces = (refl, refl); counts = tt; value = tt };
+      range = record { call = number; body = (omega arith, small, known); trailer = tt };
+      short = written_short (fault_of call context status) refl tt;
+    }) refl
+
+pub fault_whole : (call context status : ℕ) → status < 2 ^ 32 → IsWholeSend (written (fault_of call context status))
+fault_whole call context status known =
+    subst IsWholeSend (fault_alike call context status) (fault_below (call % 2 ^ 32) (context % 2 ^ 16) status (omega arith) (omega arith) known)
+
+nak_below : (call : ℕ) → call < 2 ^ 32 → IsWholeSend (written (nak_of call))
+unfolding joined_of
+nak_below call number =
+    single_whole (nak_of call) (record {
+      writable = record { pieces = (refl, refl); counts = tt; value = tt };
+      range = record { call = number; body = omega arith; trailer = tt };
+      short = written_short (nak_of call) refl tt;
+    }) refl
+
+pub nak_whole : (call : ℕ) → IsWholeSend (written (nak_of call))
+nak_whole call = subst IsWholeSend (nak_alike call) (nak_below (call % 2 ^ 32) (omega arith))
+
+one_answer : (same ndr : Bool) → HasAnswer (answer_by same ndr)
+one_answer false ndr = (omega arith, omega arith, (refl, omega arith))
+one_answer true false = (omega arith, omega arith, (refl, omega arith))
+one_answer true true = (omega arith, omega arith, (refl, omega arith))
+
+answers_fit : (served : Syntax) (contexts : List (ℕ × Syntax × List Syntax)) → AllByRecursion HasAnswer (map (answer_to served) contexts)
+answers_fit served [] = tt
+answers_fit served (context ∷ contexts) = (one_answer _ _, answers_fit served contexts)
+
+pub limit_bounds : (receive : ℕ) → (1432 ≤ limit_of receive) × (limit_of receive ≤ 5840)
+limit_bounds receive = (omega arith, omega arith)
+
+ack_below : (served : Syntax) (call receive : ℕ) (contexts : List (ℕ × Syntax × List Syntax)) → call < 2 ^ 32 → length contexts ≤ 242 → IsWholeSend (written (ack_of served call receive contexts))
+unfolding joined_of
+ack_below served call receive contexts number few =
+    single_whole (ack_of served call receive contexts) (record {
+      writable = record { pieces = (refl, refl); counts = tt; value = tt };
+      range = record { call = number; body = (omega (arith, (limit_bounds receive).1), omega arith, omega arith, answers_fit served contexts); trailer = tt };
+      short = written_short (ack_of served call receive contexts) refl (ack_short served call receive contexts few);
+    }) refl
+
+pub ack_whole : (served : Syntax) (call receive : ℕ) (contexts : List (ℕ × Syntax × List Syntax)) → length contexts ≤ 242 → IsWholeSend (written (ack_of served call receive contexts))
+ack_whole served call receive contexts few =
+    subst IsWholeSend (ack_alike served call receive contexts) (ack_below served (call % 2 ^ 32) receive contexts (omega arith) few)
+
+-- ---- replies
+
+pub reply_can : (call context limit : ℕ) (stub : List ℕ) → 1432 ≤ limit → limit ≤ 5840 → length stub ≤ 65536 → CanBeSent (heard_reply call context stub) limit
+reply_can call context limit stub least most few = record {
+  whole = record { stub = tt; first = refl; last = refl };
+  range = record { call = omega arith; body = (omega (arith, few), omega arith); trailer = tt };
+  value = tt;
+  least = least;
+  room = omega (arith, most);
+}
+
+pub reply_heard : (call context limit : ℕ) (stub : List ℕ) → 1432 ≤ limit → limit ≤ 5840 → length stub ≤ 65536 →
+    IsHeard (bytes_of_call (response_of call context stub) limit) (cut_of (heard_reply call context stub) limit) (heard_reply call context stub)
+reply_heard call context limit stub least most few =
+    subst (λ (bytes : List ℕ). IsHeard bytes (cut_of (heard_reply call context stub) limit) (heard_reply call context stub)) (reply_alike call context limit stub)
+    (call_heard (heard_reply call context stub) limit (reply_can call context limit stub least most few) few)
+
+pub reply_whole : (call context limit : ℕ) (stub : List ℕ) → 1432 ≤ limit → limit ≤ 5840 → length stub ≤ 28015 → IsWholeSend (bytes_of_call (response_of call context stub) limit)
+reply_whole call context limit stub least most few = record {
+  frames = cut_of (heard_reply call context stub) limit;
+  unit = heard_reply call context stub;
+  heard = reply_heard call context limit stub least most (omega (arith, few));
+  few = omega (arith, call_short (response_of call context stub) limit tt least (omega arith), few);
+}
+
+-- ---- how long replies are that carry no information
+
+aligned_len : (alignment : ℕ) (item : List ℕ) (place : ℕ) → 1 ≤ alignment → length (aligned alignment item place) ≤ alignment + length item
+unfolding aligned padding
+aligned_len alignment item place some =
+    let gap : ℕ = (alignment - place % alignment) % alignment in
+    let below : gap < alignment = mod-lt (alignment - place % alignment) (omega (arith, some)) in
+    omega (arith, length-append (replicate gap 0) item, length-replicate {A = ℕ} gap 0, below)
+
+number_len : (w : Width) (value : ℕ) (old : Written) → 1 ≤ byte_len w → length (put_number w value old).bytes ≤ length old.bytes + (byte_len w + byte_len w)
+number_len w value old some =
+    omega (arith, length-append old.bytes (aligned (byte_len w) (to_le_bytes w value) (length old.bytes)), aligned_len (byte_len w) (to_le_bytes w value) (length old.bytes) some, length-to_le_bytes w value)
+
+short_len : (value : ℕ) (old : Written) → length (put short value old).bytes ≤ length old.bytes + 4
+short_len value old = number_len w16 value old (omega arith)
+
+long_len : (value : ℕ) (old : Written) → length (put long value old).bytes ≤ length old.bytes + 8
+long_len value old = number_len w32 value old (omega arith)
+
+pointer_len : (there : Bool) (old : Written) → length (put pointer there old).bytes ≤ length old.bytes + 8
+pointer_len there old = number_len w32 _ old (omega arith)
+
+behind_len : (level authoritative status : ℕ) (old : Written) → length (put long status (put byte authoritative (put pointer false (put short level old)))).bytes ≤ length old.bytes + 21
+behind_len level authoritative status old =
+    let one : Written = put short level old in
+    let two : Written = put pointer false one in
+    let three : Written = put byte authoritative two in
+    let few : length one.bytes ≤ length old.bytes + 4 = short_len level old in
+    let more : length two.bytes ≤ length one.bytes + 8 = pointer_len false one in
+    let next : length three.bytes ≡ length two.bytes + 1 = length-append two.bytes (authoritative ∷ []) in
+    let last : length (put long status three).bytes ≤ length three.bytes + 8 = long_len status three in
+    omega (arith, few, more, next, last)
+
+-- a credential of 8 bytes, where one is returned
+abbrev pub ReturnsEight : Option Authenticator → Type 0
+ReturnsEight returned = IfThere (λ (a : Authenticator). length a.credential ≡ 8) returned
+
+pub bare_few : (returned : Option Authenticator) (level authoritative status : ℕ) → ReturnsEight returned →
+    length (written_reply (reply.Logon (record { returned = returned; level = level; info = None; authoritative = authoritative; status = status }))) ≤ 28015
+unfolding written_reply put_logon_reply put_authenticator
+bare_few None level authoritative status eight =
+    let first : Written = put pointer false nothing in
+    let one : length first.bytes ≤ 8 = pointer_len false nothing in
+    let rest : length (put long status (put byte authoritative (put pointer false (put short level first)))).bytes ≤ length first.bytes + 21 = behind_len level authoritative status first in
+    let few : length (put long status (put byte authoritative (put pointer false (put short level first)))).bytes ≤ 28015 = omega (arith, one, rest) in
+    few
+bare_few (Some given) level authoritative status eight =
+    let first : Written = put pointer true nothing in
+    let second : Written = put (raw 8) given.credential first in
+    let third : Written = put long given.timestamp second in
+    let one : length first.bytes ≤ 8 = pointer_len true nothing in
+    let two : length second.bytes ≡ length first.bytes + length given.credential = length-append first.bytes given.credential in
+    let three : length third.bytes ≤ length second.bytes + 8 = long_len given.timestamp second in
+    let rest : length (put long status (put byte authoritative (put pointer false (put short level third)))).bytes ≤ length third.bytes + 21 = behind_len level authoritative status third in
+    let few : length (put long status (put byte authoritative (put pointer false (put short level third)))).bytes ≤ 28015 = omega (arith, one, two, three, rest, eight) in
+    few
+
+pub challenge_few : (server : List ℕ) (status : ℕ) → length server ≡ 8 → length (written_reply (reply.Challenge (record { challenge = server; status = status }))) ≤ 28015
+unfolding written_reply put_challenge_reply
+challenge_few server status eight =
+    let first : Written = put (raw 8) server nothing in
+    let one : length first.bytes ≡ 8 = eight in
+    let rest : length (put long status first).bytes ≤ length first.bytes + 8 = long_len status first in
+    let few : length (put long status first).bytes ≤ 28015 = omega (arith, one, rest) in
+    few
+
+pub opened_few : (r : AuthReply) → length r.credential ≡ 8 → length (written_reply (reply.Authenticate r)) ≤ 28015
+opened_few r eight = omega (arith, answers_are_long.opened r eight)
+
+-- ---- what is granted
+
+-- a stub has room for it
+pub record Fits (info : SamInfo) : Type 0 where
+  pub can : CanWriteSamInfo info
+  pub short : HasShortTexts info
+  pub range : InRangeSamInfo info
+
+by_refusal : (refused : Option _) (info : SamInfo) → Fits info → IfGranted (verdict_by refused info) Fits
+by_refusal None info fits = fits
+by_refusal (Some refused) info fits = tt
+
+got : (accounts : List Account) (place : ℕ) → AllByRecursion InRangeAccount accounts → IfThere InRangeAccount (slice_get accounts place)
+got [] place all = tt
+got (account ∷ accounts) zero all = all.0
+got (account ∷ accounts) (suc place) all = got accounts place all.1
+
+found : (place : Option ℕ) (accounts : List Account) → AllByRecursion InRangeAccount accounts → IfThere InRangeAccount (option_and_then (slice_get accounts) place)
+found None accounts all = tt
+found (Some place) accounts all = got accounts place all
+
+module _ (table : AccountTable) (name : List ℕ) (now : ℕ) (range : InRangeTable table) (is_name : IsName name) (moment : now < 2 ^ 64) where
+  shown_fits : (who : Option Account) (info : NetworkInfo) → IfThere InRangeAccount who → IfGranted (verdict_shown who (shown_by_response info) table name info.workstation now) Fits
+  shown_fits None info is = tt
+  shown_fits (Some account) info is =
+      let key : List ℕ = base_key_of account.hash info.user info.domain info.nt in
+      let block : IsBlock 16 key = (length-base_key_of account.hash info.user info.domain info.nt, bytes_from_all key (All-base_key_of account.hash info.user info.domain info.nt)) in
+      by_refusal (first_refusal (rules_for table.policy account (shown_by_response info) info.workstation now)) (sam_info_of table name account key now) (record {
+        can = sam_info-CanWrite table name account key now range.domain is_name is;
+        short = sam_info-IsShort table name account key now range.domain is_name is;
+        range = sam_info-InRange table name account key now range.domain is_name is range.sid block moment;
+      })
+
+  routed_fits : (route : Route) (info : NetworkInfo) → IfGranted (verdict_routed route (shown_by_response info) table name info.user info.workstation now) Fits
+  routed_fits Own info = shown_fits (account_in table.accounts info.user) info (found (place_in table.accounts info.user) table.accounts range.accounts)
+  routed_fits (Trust place) info = tt
+  routed_fits Elsewhere info = tt
+
+  verdict_fits : (info : NetworkInfo) → IfGranted (verdict_of table name info now) Fits
+  unfolding verdict_of
+  verdict_fits info = routed_fits (route_in table info.domain) info
+
+  level_fits : (served : Bool) (info : NetworkInfo) → IfGranted (judge_level served table name info now).verdict Fits
+  unfolding judgement_of
+  level_fits false info = tt
+  level_fits true info = verdict_fits info
+
+  pub judged_fits : (info : NetworkInfo) (validation : ℕ) → IfGranted (judge_info table name now info validation).verdict Fits
+  judged_fits info validation = level_fits (serves_level validation) info
+
+served_level : (validation : ℕ) → serves_level validation ≡ true → IsServedLevel validation
+served_level validation is =
+    elim (cases_Bool (validation == 2)) [
+      | inl two ↦ inl ((Decides-eqb validation 2).0 two)
+      | inr other ↦ inr ((Decides-eqb validation 3).0 (ap (λ (b : Bool). b || (validation == 3)) (sym other) ∙ is))
+    ]
+
+if_granted : (verdict : Verdict) (P : Type 0) → P → IfGranted verdict (λ info. P)
+if_granted (Granted info) P p = p
+if_granted (Status status) P p = tt
+
+level_served : (served : Bool) (table : AccountTable) (name : List ℕ) (now : ℕ) (info : NetworkInfo) (validation : ℕ) → serves_level validation ≡ served →
+    IfGranted (judge_level served table name info now).verdict (λ granted. IsServedLevel validation)
+level_served false table name now info validation is = tt
+level_served true table name now info validation is = if_granted (judge_level true table name info now).verdict (IsServedLevel validation) (served_level validation is)
+
+pub judged_served : (table : AccountTable) (name : List ℕ) (now : ℕ) (info : NetworkInfo) (validation : ℕ) → IfGranted (judge_info table name now info validation).verdict (λ granted. IsServedLevel validation)
+judged_served table name now info validation = level_served (serves_level validation) table name now info validation refl
+
+-- the key stays a key under another one
+pub crypt_block : (nothing_hidden : Bool) (session key : List ℕ) → IsBlock 16 key → IsBlock 16 (crypt_by nothing_hidden session key)
+crypt_block true session key is = is
+crypt_block false session key is = (
+  length-applied session 0 key ∙ is.0,
+  bytes_from_all _ (All-applied session 0 key (All-from_get_or (λ b. b < 256) key 0 (λ place within. is.1 place))),
+)
+
+pub passed_few : (verdict : Verdict) (level : ℕ) (session credential : List ℕ) → IsBlock 8 credential → IfGranted verdict Fits → IfGranted verdict (λ info. IsServedLevel level) →
+    length (written_reply (passed_reply session credential level verdict)) ≤ 28015
+passed_few (Status status) level session credential block fits served = bare_few (Some (record { credential = credential; timestamp = 0 })) level 1 status block.0
+passed_few (Granted info) level session credential block fits served =
+    let returned : Option Authenticator = Some (record { credential = credential; timestamp = 0 }) in
+    let key : List ℕ = crypt_key session info.key in
+    let small : level < 2 ^ 16 = elim served [ inl two ↦ omega (arith, two) | inr three ↦ omega (arith, three) ] in
+    written_reply-few (granting_reply returned level info key 1 0) (granting-CanWrite returned level info key 1 0 served fits.can)
+    (granting-InRange returned level info key 1 0 small fits.range (crypt_block (is_zero info.key) session info.key fits.range.key) (record { credential = block; timestamp = omega arith }) (omega arith) (omega arith))
+    (short_at level session info served fits.short)
+
+pub cred_block : (key input : List ℕ) → IsBlock 8 (cred_of key input)
+cred_block key input = let is = IsBlock-cred_of key input in (is.eight, bytes_from_all _ is.bytes)
+
+-- ---- the table afterwards
+
+counted_below : (counts : Bool) (count : ℕ) → count < 2 ^ 16 → (if counts then min (count + 1) 65535 else count) < 2 ^ 16
+counted_below true count below = omega arith
+counted_below false count below = below
+
+count_below : (refused : Option _) (count : ℕ) → count < 2 ^ 16 → count_after refused count < 2 ^ 16
+count_below None count below = omega arith
+count_below (Some refused) count below = counted_below _ count below
+
+judged_range : (policy : Policy) (shown : Shown) (workstation : List ℕ) (now : ℕ) (account : Account) → InRangeAccount account → InRangeAccount (judged_account policy shown workstation now account)
+judged_range policy shown workstation now account is = in_range-counted account _ (count_below (first_refusal (rules_for policy account shown workstation now)) account.bad_count is.bad_count) is
+
+all_at_place : (change : Account → Account) → ((account : Account) → InRangeAccount account → InRangeAccount (change account)) → (place : ℕ) (accounts : List Account) → AllByRecursion InRangeAccount accounts →
+    AllByRecursion InRangeAccount (at_place place change accounts)
+all_at_place change each place [] all = tt
+all_at_place change each zero (account ∷ accounts) all = (each account all.0, all.1)
+all_at_place change each (suc place) (account ∷ accounts) all = (all.0, all_at_place change each place accounts all.1)
+
+shown_range : (place : Option ℕ) (shown : Shown) (table : AccountTable) (workstation : List ℕ) (now : ℕ) → InRangeTable table → InRangeTable (table_shown place shown table workstation now)
+shown_range None shown table workstation now range = range
+shown_range (Some place) shown table workstation now range = record {
+  domain = range.domain;
+  sid = range.sid;
+  accounts = all_at_place (judged_account table.policy shown workstation now) (judged_range table.policy shown workstation now) place table.accounts range.accounts;
+}
+
+routed_range : (route : Route) (shown : Shown) (table : AccountTable) (user workstation : List ℕ) (now : ℕ) → InRangeTable table → InRangeTable (table_routed route shown table user workstation now)
+routed_range Own shown table user workstation now range = shown_range (place_in table.accounts user) shown table workstation now range
+routed_range (Trust place) shown table user workstation now range = range
+routed_range Elsewhere shown table user workstation now range = range
+
+level_range : (served : Bool) (table : AccountTable) (name : List ℕ) (info : NetworkInfo) (now : ℕ) → InRangeTable table → InRangeTable (judge_level served table name info now).table
+unfolding judgement_of table_after
+level_range false table name info now range = range
+level_range true table name info now range = routed_range (route_in table info.domain) (shown_by_response info) table info.user info.workstation now range
+
+pub judged_table : (table : AccountTable) (name : List ℕ) (now : ℕ) (info : NetworkInfo) (validation : ℕ) → InRangeTable table → InRangeTable (judge_info table name now info validation).table
+judged_table table name now info validation range = level_range (serves_level validation) table name info now range

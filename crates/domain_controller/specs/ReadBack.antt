@@ -1,0 +1,57 @@
+-- That a reply is read as it was made: its frames are heard as one unit (C706 12.6.2), and the stub of a reply to a
+-- call that passed, or that opened a channel, is read as that reply (MS-NRPC 3.5.4.5.3, 3.5.4.4.2).
+use Rattle.std.specs.Prelude.{ℕ, ◌≡◌, ◌≤◌, ◌<◌, ◌^◌, ◌%◌, List, length, Some, Ok}
+use Rattle.wire_base.specs.Names.{IsName}
+use Rattle.wire_base.specs.Numbers.{AreBytes}
+use Rattle.authenticators.specs.Sequences.{return_of}
+use Rattle.channel_keys.specs.Credentials.{cred_of}
+use Rattle.rpc_units.specs.declared.unit.Unit.{Unit as RpcUnit}
+use Rattle.rpc_units.specs.Calls.{CanBeSent, IsHeard, bytes_of_call}
+use Rattle.rpc_units.specs.Joining.{cut_of}
+use Rattle.logon_stubs.specs.declared.calls.Reply.{Reply}
+use Rattle.logon_stubs.specs.declared.calls.Reply.TheVariants as reply
+use Rattle.logon_stubs.specs.declared.info.NetworkInfo.{NetworkInfo}
+use Rattle.logon_stubs.specs.declared.info.Verdict.{Verdict}
+use Rattle.logon_stubs.specs.Calls.{opnum_of_reply, reply_of}
+use Rattle.logon_stubs.specs.Writing.{written_reply}
+use Rattle.account_table.specs.AccountTable.{AccountTable}
+use Rattle.end_links.specs.Sending.{response_of}
+use Rattle.domain_controller.specs.Machine.{grant_flags, info_of, judge_info, status_of}
+use Rattle.domain_controller.specs.Whole.{InRangeTable}
+
+-- the reply to a call that passed, by the session key of its channel, the credential that is returned, the level that
+-- was asked for, and the verdict
+abbrev pub passed_reply : List ℕ → List ℕ → ℕ → Verdict → Reply
+passed_reply key credential level verdict = reply.Logon (record {
+  returned = Some (record { credential = credential; timestamp = 0 });
+  level = level;
+  info = info_of level key verdict;
+  authoritative = 1;
+  status = status_of verdict;
+})
+
+-- the reply that opens a channel, by the credential of its server challenge and the flags that were offered
+abbrev pub opened_reply : List ℕ → ℕ → Reply
+opened_reply credential offered = reply.Authenticate (record { credential = credential; flags = grant_flags offered; status = 0 })
+
+-- a reply is read as it was written, from at most 28,015 bytes
+pub record IsReadBack (answer : Reply) : Type 0 where
+  pub read : reply_of (opnum_of_reply answer) (written_reply answer) ≡ Ok answer
+  pub few : length (written_reply answer) ≤ 28015
+  pub bytes : AreBytes (written_reply answer)
+
+-- the unit as which a reply is heard: its bytes have its call number and its context modulo their widths
+abbrev pub heard_reply : ℕ → ℕ → List ℕ → RpcUnit
+heard_reply call context stub = response_of (call % 2 ^ 32) (context % 2 ^ 16) stub
+
+pub record RepliesAreReadBack : Type 0 where
+  -- a reply that is sent in fragments of such a size
+  pub frames : (call context limit : ℕ) (stub : List ℕ) → 1432 ≤ limit → limit ≤ 5840 → length stub ≤ 65536 →
+      IsHeard (bytes_of_call (response_of call context stub) limit) (cut_of (heard_reply call context stub) limit) (heard_reply call context stub)
+  pub can : (call context limit : ℕ) (stub : List ℕ) → 1432 ≤ limit → limit ≤ 5840 → length stub ≤ 65536 →
+      CanBeSent (heard_reply call context stub) limit
+  -- the reply to a call that passed, with the credential that is returned at its channel's seed
+  pub passed : (table : AccountTable) (name : List ℕ) (now : ℕ) (info : NetworkInfo) (validation : ℕ) (key seed : List ℕ) (timestamp : ℕ) →
+      InRangeTable table → IsName name → now < 2 ^ 64 → validation < 2 ^ 16 →
+      IsReadBack (passed_reply key (return_of key seed timestamp) validation (judge_info table name now info validation).verdict)
+  pub opened : (key server : List ℕ) (offered : ℕ) → IsReadBack (opened_reply (cred_of key server) offered)
