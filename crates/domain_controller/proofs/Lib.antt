@@ -1,4 +1,5 @@
 pub mod AlikeLaws
+pub mod AloneLaws
 pub mod ChangeLaws
 pub mod CountLaws
 pub mod LevelLaws

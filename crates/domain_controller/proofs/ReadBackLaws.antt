@@ -1,16 +1,20 @@
 -- For the law `replies_are_read_as_made`: each status has 32 bits, and what is granted has its ranges.
-use Rattle.std.proofs.Common.{ℕ, ◌<◌, ◌≤◌, ◌^◌, length, Bool, true, false, List, [], ◌∷◌, Option, Some, None, arith}
+use Rattle.std.proofs.Common.{◌≡◌, ◌∙◌, ap, ℕ, ◌<◌, ◌≤◌, ◌^◌, length, Bool, true, false, List, [], ◌∷◌, Option, Some, None, Ok, arith}
 use Rattle.std.specs.List.{AllByRecursion}
 use Rattle.std.proofs.lemmas.Nat.{and_le_r}
 use Rattle.wire_base.specs.declared.authenticator.Authenticator.{Authenticator}
 use Rattle.channel_keys.specs.Credentials.{cred_of}
 use Rattle.channel_keys.specs.Flags.{supported_flags}
 use Rattle.authenticators.specs.Sequences.{next_seed, return_of}
+use Rattle.rpc_units.specs.declared.unit.Unit.{Unit as RpcUnit}
+use Rattle.rpc_units.specs.Calls.{IsHeard, bytes_of_call}
+use Rattle.rpc_units.specs.Joining.{stub_of}
 use Rattle.logon_stubs.specs.declared.calls.Reply.{Reply}
 use Rattle.logon_stubs.specs.declared.info.NetworkInfo.{NetworkInfo}
 use Rattle.logon_stubs.specs.declared.info.SamInfo.{SamInfo}
 use Rattle.logon_stubs.specs.declared.info.Verdict.{Verdict}
 use Rattle.logon_stubs.specs.declared.info.Verdict.TheVariants.{Granted, Status}
+use Rattle.logon_stubs.specs.Calls.{opnum_of_reply, reply_of}
 use Rattle.logon_stubs.specs.Ranges.{InRangeReply, IsBlock}
 use Rattle.logon_stubs.specs.Writing.{CanWriteReply, written_reply}
 use Rattle.logon_stubs.proofs.WrittenLaws.{AreBytes-written_reply, reply_of-written_reply}
@@ -23,9 +27,11 @@ use Rattle.account_table.specs.declared.table.Route.TheVariants.{Own, Trust, Els
 use Rattle.sam_logon.specs.Rules.{Rule, Shown, first_refusal, refusal_by, rules_for, shown_by_response}
 use Rattle.sam_logon.specs.Verdict.{IfGranted, judgement_of, verdict_by, verdict_of, verdict_routed, verdict_shown}
 use Rattle.sam_logon.proofs.GrantedLaws.{granting-CanWrite, granting-InRange}
+use Rattle.end_links.specs.Sending.{response_of}
 use Rattle.channel_client.specs.Hidden.{crypt_key, is_zero}
 use Rattle.domain_controller.specs.Machine.{IsServedLevel, judge_info, judge_level, serves_level, status_of}
 use Rattle.domain_controller.specs.ReadBack.{IsReadBack, RepliesAreReadBack, opened_reply, passed_reply}
+use Rattle.domain_controller.proofs.AloneLaws.{number_fits, reply_alone}
 use Rattle.domain_controller.proofs.WholeParts.{Fits, cred_block, crypt_block, judged_fits, judged_served, opened_few, passed_few, reply_can, reply_heard}
 
 -- ---- each status has 32 bits
@@ -86,10 +92,18 @@ opened_read key server offered =
     (record { credential = cred_block key server; flags = omega (arith, and_le_r offered supported_flags); status = omega arith })
     (opened_few _ (cred_block key server).0)
 
+reply_read : (call context limit : ℕ) (answer : Reply) (frames : List RpcUnit) (unit : RpcUnit) → IsReadBack answer →
+    IsHeard (bytes_of_call (response_of call context (written_reply answer)) limit) frames unit → reply_of (opnum_of_reply answer) (stub_of unit.body) ≡ Ok answer
+reply_read call context limit answer frames unit is heard =
+    ap (λ (u : RpcUnit). reply_of (opnum_of_reply answer) (stub_of u.body)) (reply_alone call context limit (written_reply answer) frames unit is.few heard) ∙ is.read
+
 pub replies_are_read_back : RepliesAreReadBack
 replies_are_read_back = record {
   frames = reply_heard;
   can = reply_can;
+  alone = reply_alone;
+  reads = reply_read;
+  number = number_fits;
   passed = λ table name now info validation key seed timestamp range is_name moment small.
       passed_read (judge_info table name now info validation).verdict validation key (return_of key seed timestamp) small (cred_block key (next_seed seed timestamp))
       (level_small (serves_level validation) table name info now) (judged_fits table name now range is_name moment info validation) (judged_served table name now info validation);

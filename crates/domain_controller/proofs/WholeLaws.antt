@@ -263,10 +263,11 @@ chosen : {T : Type 0} (P : T → Type 0) (test : Bool) (one other : Option T) �
 chosen P true one other is that = is
 chosen P false one other is that = that
 
-abbrev LinkFits : LinkState Talk → Type 0
+abbrev pub LinkFits : LinkState Talk → Type 0
 LinkFits link = InRangeTalk link.talk
 
-found_link : (number : ℕ) (links : LinkMap) → InRangeLinks links → IfThere LinkFits (lookup same_number number links)
+-- the link of a number
+pub found_link : (number : ℕ) (links : LinkMap) → InRangeLinks links → IfThere LinkFits (lookup same_number number links)
 found_link number [] range = tt
 found_link number (entry ∷ links) range = chosen LinkFits (has_key same_number number entry) (Some entry.1) (lookup same_number number links) range.0 (found_link number links range.1)
 

@@ -7,7 +7,7 @@ use Rattle.authenticators.specs.Sequences.{return_of}
 use Rattle.channel_keys.specs.Credentials.{cred_of}
 use Rattle.rpc_units.specs.declared.unit.Unit.{Unit as RpcUnit}
 use Rattle.rpc_units.specs.Calls.{CanBeSent, IsHeard, bytes_of_call}
-use Rattle.rpc_units.specs.Joining.{cut_of}
+use Rattle.rpc_units.specs.Joining.{cut_of, stub_of}
 use Rattle.logon_stubs.specs.declared.calls.Reply.{Reply}
 use Rattle.logon_stubs.specs.declared.calls.Reply.TheVariants as reply
 use Rattle.logon_stubs.specs.declared.info.NetworkInfo.{NetworkInfo}
@@ -50,6 +50,15 @@ pub record RepliesAreReadBack : Type 0 where
       IsHeard (bytes_of_call (response_of call context stub) limit) (cut_of (heard_reply call context stub) limit) (heard_reply call context stub)
   pub can : (call context limit : ℕ) (stub : List ℕ) → 1432 ≤ limit → limit ≤ 5840 → length stub ≤ 65536 →
       CanBeSent (heard_reply call context stub) limit
+  -- bytes of its frames that are those of one whole unit, of whatever size, are those of that unit alone
+  pub alone : (call context limit : ℕ) (stub : List ℕ) (frames : List RpcUnit) (unit : RpcUnit) → length stub ≤ 28015 →
+      IsHeard (bytes_of_call (response_of call context stub) limit) frames unit → unit ≡ heard_reply call context stub
+  -- so a reply that is read as it was written is read from any whole unit that its bytes are
+  pub reads : (call context limit : ℕ) (answer : Reply) (frames : List RpcUnit) (unit : RpcUnit) → IsReadBack answer →
+      IsHeard (bytes_of_call (response_of call context (written_reply answer)) limit) frames unit →
+      reply_of (opnum_of_reply answer) (stub_of unit.body) ≡ Ok answer
+  -- the call number of a whole unit has 32 bits
+  pub number : (bytes : List ℕ) (frames : List RpcUnit) (unit : RpcUnit) → IsHeard bytes frames unit → unit.call < 2 ^ 32
   -- the reply to a call that passed, with the credential that is returned at its channel's seed
   pub passed : (table : AccountTable) (name : List ℕ) (now : ℕ) (info : NetworkInfo) (validation : ℕ) (key seed : List ℕ) (timestamp : ℕ) →
       InRangeTable table → IsName name → now < 2 ^ 64 → validation < 2 ^ 16 →
