@@ -32,7 +32,8 @@ use Rattle.channel_client.specs.Hidden.{crypt_key, is_zero}
 use Rattle.domain_controller.specs.Machine.{IsServedLevel, judge_info, judge_level, serves_level, status_of}
 use Rattle.domain_controller.specs.ReadBack.{IsReadBack, RepliesAreReadBack, opened_reply, passed_reply}
 use Rattle.domain_controller.proofs.AloneLaws.{number_fits, reply_alone}
-use Rattle.domain_controller.proofs.WholeParts.{Fits, cred_block, crypt_block, judged_fits, judged_served, opened_few, passed_few, reply_can, reply_heard}
+use Rattle.channel_client.proofs.WholeLaws.{cred_block}
+use Rattle.domain_controller.proofs.WholeParts.{Fits, crypt_block, judged_fits, judged_served, opened_few, passed_few, reply_can, reply_heard}
 
 -- ---- each status has 32 bits
 

@@ -58,8 +58,11 @@ use Rattle.domain_controller.specs.declared.state.Talk.{Talk}
 use Rattle.domain_controller.specs.declared.state.Work.{Work}
 use Rattle.domain_controller.specs.declared.hearing.Heard.{Heard}
 use Rattle.domain_controller.specs.declared.hearing.Heard.TheVariants as heard
-use Rattle.domain_controller.specs.Whole.{AreChallenges, HasLimit, InRangeDesk, InRangeLinks, InRangePart, InRangeRunning, InRangeState, InRangeTable, InRangeTalk, IsWholeIfSent, IsWholeSend, SendsAreWhole}
-use Rattle.domain_controller.proofs.WholeParts.{ack_whole, bare_few, challenge_few, cred_block, fault_whole, judged_fits, judged_served, judged_table, limit_bounds, nak_whole, opened_few, passed_few, reply_whole}
+use Rattle.end_links.specs.Whole.{IsWholeIfSent, IsWholeSend}
+use Rattle.domain_controller.specs.Whole.{AreChallenges, HasLimit, InRangeDesk, InRangeLinks, InRangePart, InRangeRunning, InRangeState, InRangeTable, InRangeTalk, SendsAreWhole}
+use Rattle.channel_client.proofs.WholeLaws.{cred_block}
+use Rattle.end_links.proofs.WholeLaws.{limit_bounds}
+use Rattle.domain_controller.proofs.WholeParts.{ack_whole, bare_few, challenge_few, fault_whole, judged_fits, judged_served, judged_table, nak_whole, opened_few, passed_few, reply_whole}
 
 -- ---- what is heard of a unit
 

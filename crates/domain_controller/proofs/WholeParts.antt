@@ -1,32 +1,24 @@
 -- For the law `what_is_sent_is_whole`: units of one fragment are whole, and so are replies, which are short.
-use Rattle.std.proofs.Common.{◌≡◌, inl, inr, ℕ, zero, suc, ◌+◌, ◌-◌, ◌%◌, ◌<◌, ◌≤◌, ◌^◌, ◌==◌, ◌||◌, Bool, true, false, List, [], ◌∷◌, length, map, min, replicate, All, Option, Some, None, Ok, if◌then◌else◌, refl, sym, ap, subst, ◌∙◌, arith, append-nil}
+use Rattle.std.proofs.Common.{◌≡◌, inl, inr, ℕ, zero, suc, ◌+◌, ◌-◌, ◌%◌, ◌<◌, ◌≤◌, ◌^◌, ◌==◌, ◌||◌, Bool, true, false, List, [], ◌∷◌, length, min, replicate, Option, Some, None, if◌then◌else◌, refl, sym, ap, subst, ◌∙◌, arith}
 use Rattle.std.specs.Int.{Width, w16, w32, byte_len, to_le_bytes}
 use Rattle.std.specs.List.{AllByRecursion, slice_get}
 use Rattle.std.specs.Option.{option_and_then}
-use Rattle.std.proofs.lemmas.Bool.{cases_Bool, cases_lt}
+use Rattle.std.proofs.lemmas.Bool.{cases_Bool}
 use Rattle.std.proofs.lemmas.Bool.Decides.{Decides-eqb}
-use Rattle.std.proofs.lemmas.List.{get_or_past, length-append, length-replicate}
-use Rattle.std.proofs.lemmas.List.Elements.{All-from_get_or, All-get_or}
+use Rattle.std.proofs.lemmas.List.{length-append, length-replicate}
+use Rattle.std.proofs.lemmas.List.Elements.{All-from_get_or}
 use Rattle.std.proofs.Math.Nat.{mod-lt}
 use Rattle.wire_base.specs.Names.{IsName}
-use Rattle.wire_base.specs.Numbers.{AreBytes}
 use Rattle.wire_base.specs.declared.authenticator.Authenticator.{Authenticator}
 use Rattle.wire_base.proofs.NumberLaws.{length-to_le_bytes}
 use Rattle.rc4_stream.proofs.Rc4Laws.{All-applied, length-applied}
-use Rattle.channel_keys.specs.Credentials.{cred_of}
-use Rattle.channel_keys.proofs.CredLaws.{IsBlock-cred_of}
 use Rattle.ntlm_responses.specs.Verification.{base_key_of}
 use Rattle.ntlm_responses.proofs.ResponseLaws.{All-base_key_of, length-base_key_of}
-use Rattle.rpc_units.specs.declared.unit.Unit.{Unit as RpcUnit}
 use Rattle.rpc_units.specs.declared.unit.Syntax.{Syntax}
 use Rattle.rpc_units.specs.Calls.{CanBeSent, IsHeard, bytes_of_call}
-use Rattle.rpc_units.specs.Joining.{answer_of, cut_of, joined_of}
-use Rattle.rpc_units.specs.Stream.{cut_stream}
-use Rattle.rpc_units.specs.Writing.{HasAnswer, IsSendable, written}
-use Rattle.rpc_units.proofs.CutStreamLaws.{cut_written}
+use Rattle.rpc_units.specs.Joining.{cut_of}
+use Rattle.rpc_units.specs.Writing.{written}
 use Rattle.rpc_units.proofs.CuttingLaws.{call_heard, call_short}
-use Rattle.rpc_units.proofs.ShortLaws.{written_short}
-use Rattle.rpc_units.proofs.WritingLaws.{unit_of-written}
 use Rattle.ndr_codec.specs.Layout.{byte, short, long, raw, pointer, padding}
 use Rattle.ndr_codec.specs.Parts.{IfThere}
 use Rattle.ndr_codec.specs.Writing.{Written, aligned, nothing, put, put_number}
@@ -52,89 +44,30 @@ use Rattle.sam_logon.specs.Granted.{granting_reply, sam_info_of}
 use Rattle.sam_logon.specs.Rules.{Shown, count_after, first_refusal, rules_for, shown_by_response}
 use Rattle.sam_logon.specs.Verdict.{IfGranted, judged_account, judgement_of, table_after, table_routed, table_shown, verdict_by, verdict_of, verdict_routed, verdict_shown}
 use Rattle.sam_logon.proofs.GrantedLaws.{granting-CanWrite, granting-InRange, in_range-counted, sam_info-CanWrite, sam_info-InRange, sam_info-IsShort}
-use Rattle.end_links.specs.Binding.{ack_of, answer_by, answer_to, limit_of, nak_of}
+use Rattle.end_links.specs.Whole.{IsWholeSend}
+use Rattle.end_links.proofs.WholeLaws as whole
+use Rattle.channel_client.proofs.WholeLaws.{bytes_from_all}
+use Rattle.end_links.specs.Binding.{ack_of, nak_of}
 use Rattle.end_links.specs.Sending.{fault_of, response_of}
-use Rattle.end_links.proofs.BindingLaws.{ack_short}
 use Rattle.channel_client.specs.Hidden.{crypt_by, crypt_key, is_zero}
 use Rattle.domain_controller.specs.Machine.{IsServedLevel, judge_info, judge_level, serves_level}
 use Rattle.domain_controller.proofs.LevelLaws.{short_at}
 use Rattle.domain_controller.proofs.NumberedLaws.{ack_alike, fault_alike, nak_alike, reply_alike}
 use Rattle.domain_controller.specs.ReadBack.{heard_reply, passed_reply}
-use Rattle.domain_controller.specs.Whole.{InRangeTable, IsWholeSend}
+use Rattle.domain_controller.specs.Whole.{InRangeTable}
 
--- ---- bytes
-
-bytes_from_all : (bytes : List ℕ) → All (λ b. b < 256) bytes → AreBytes bytes
-bytes_from_all bytes all place =
-    elim (cases_lt place (length bytes)) [
-      | inl within ↦ All-get_or (λ b. b < 256) bytes place 0 within all
-      | inr past ↦ rw (get_or_past bytes place 0 past) (omega arith)
-    ]
-
--- ---- units of one fragment
-
-single_whole : (unit : RpcUnit) → IsSendable unit → answer_of None unit ≡ Ok (Some unit) → IsWholeSend (written unit)
-single_whole unit can is = record {
-  frames = unit ∷ [];
-  unit = unit;
-  heard = record {
-    stream = ap cut_stream (sym (append-nil (written unit))) ∙ cut_written (unit ∷ []) (can, tt);
-    read = ap (λ (r : _). r ∷ []) (unit_of-written unit can.writable can.range can.short);
-    joined = is;
-  };
-  few = omega (arith, can.short);
-}
-
--- with numbers of their widths
-fault_below : (call context status : ℕ) → call < 2 ^ 32 → context < 2 ^ 16 → status < 2 ^ 32 → IsWholeSend (written (fault_of call context status))
-unfolding joined_of
-fault_below call context status number small known =
-    single_whole (fault_of call context status) (record {
-      writable = record { pieces = (refl, refl); counts = tt; value = tt };
-      range = record { call = number; body = (omega arith, small, known); trailer = tt };
-      short = written_short (fault_of call context status) refl tt;
-    }) refl
+-- ---- units of one fragment: their bytes have the numbers modulo their widths
 
 pub fault_whole : (call context status : ℕ) → status < 2 ^ 32 → IsWholeSend (written (fault_of call context status))
 fault_whole call context status known =
-    subst IsWholeSend (fault_alike call context status) (fault_below (call % 2 ^ 32) (context % 2 ^ 16) status (omega arith) (omega arith) known)
-
-nak_below : (call : ℕ) → call < 2 ^ 32 → IsWholeSend (written (nak_of call))
-unfolding joined_of
-nak_below call number =
-    single_whole (nak_of call) (record {
-      writable = record { pieces = (refl, refl); counts = tt; value = tt };
-      range = record { call = number; body = omega arith; trailer = tt };
-      short = written_short (nak_of call) refl tt;
-    }) refl
+    subst IsWholeSend (fault_alike call context status) (whole.fault_whole (call % 2 ^ 32) (context % 2 ^ 16) status (omega arith) (omega arith) known)
 
 pub nak_whole : (call : ℕ) → IsWholeSend (written (nak_of call))
-nak_whole call = subst IsWholeSend (nak_alike call) (nak_below (call % 2 ^ 32) (omega arith))
-
-one_answer : (same ndr : Bool) → HasAnswer (answer_by same ndr)
-one_answer false ndr = (omega arith, omega arith, (refl, omega arith))
-one_answer true false = (omega arith, omega arith, (refl, omega arith))
-one_answer true true = (omega arith, omega arith, (refl, omega arith))
-
-answers_fit : (served : Syntax) (contexts : List (ℕ × Syntax × List Syntax)) → AllByRecursion HasAnswer (map (answer_to served) contexts)
-answers_fit served [] = tt
-answers_fit served (context ∷ contexts) = (one_answer _ _, answers_fit served contexts)
-
-pub limit_bounds : (receive : ℕ) → (1432 ≤ limit_of receive) × (limit_of receive ≤ 5840)
-limit_bounds receive = (omega arith, omega arith)
-
-ack_below : (served : Syntax) (call receive : ℕ) (contexts : List (ℕ × Syntax × List Syntax)) → call < 2 ^ 32 → length contexts ≤ 242 → IsWholeSend (written (ack_of served call receive contexts))
-unfolding joined_of
-ack_below served call receive contexts number few =
-    single_whole (ack_of served call receive contexts) (record {
-      writable = record { pieces = (refl, refl); counts = tt; value = tt };
-      range = record { call = number; body = (omega (arith, (limit_bounds receive).1), omega arith, omega arith, answers_fit served contexts); trailer = tt };
-      short = written_short (ack_of served call receive contexts) refl (ack_short served call receive contexts few);
-    }) refl
+nak_whole call = subst IsWholeSend (nak_alike call) (whole.nak_whole (call % 2 ^ 32) (omega arith))
 
 pub ack_whole : (served : Syntax) (call receive : ℕ) (contexts : List (ℕ × Syntax × List Syntax)) → length contexts ≤ 242 → IsWholeSend (written (ack_of served call receive contexts))
 ack_whole served call receive contexts few =
-    subst IsWholeSend (ack_alike served call receive contexts) (ack_below served (call % 2 ^ 32) receive contexts (omega arith) few)
+    subst IsWholeSend (ack_alike served call receive contexts) (whole.ack_whole served (call % 2 ^ 32) receive contexts (omega arith) few)
 
 -- ---- replies
 
@@ -317,9 +250,6 @@ passed_few (Granted info) level session credential block fits served =
     written_reply-few (granting_reply returned level info key 1 0) (granting-CanWrite returned level info key 1 0 served fits.can)
     (granting-InRange returned level info key 1 0 small fits.range (crypt_block (is_zero info.key) session info.key fits.range.key) (record { credential = block; timestamp = omega arith }) (omega arith) (omega arith))
     (short_at level session info served fits.short)
-
-pub cred_block : (key input : List ℕ) → IsBlock 8 (cred_of key input)
-cred_block key input = let is = IsBlock-cred_of key input in (is.eight, bytes_from_all _ is.bytes)
 
 -- ---- the table afterwards
 

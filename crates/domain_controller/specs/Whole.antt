@@ -5,11 +5,7 @@
 use Rattle.std.specs.Prelude.{ℕ, ◌≡◌, ◌≤◌, ◌<◌, ◌^◌, List, length, Option, Some, None, Ok, Err}
 use Rattle.std.specs.List.{AllByRecursion}
 use Rattle.wire_base.specs.Names.{IsName}
-use Rattle.outside.specs.declared.action.Action.{Action}
-use Rattle.outside.specs.declared.action.Action.TheVariants as action
 use Rattle.outside.specs.declared.event.Event.{Event}
-use Rattle.rpc_units.specs.declared.unit.Unit.{Unit as RpcUnit}
-use Rattle.rpc_units.specs.Calls.{IsHeard}
 use Rattle.ndr_codec.specs.Parts.{IfThere}
 use Rattle.logon_stubs.specs.declared.calls.Call.{Call}
 use Rattle.account_table.specs.AccountTable.{AccountTable}
@@ -17,6 +13,7 @@ use Rattle.account_table.specs.Ranges.{InRangeAccount, InRangeSid}
 use Rattle.end_links.specs.Agreed.{Agreed}
 use Rattle.end_links.specs.Links.{LinkState}
 use Rattle.end_links.specs.Serving.{ServedPart}
+use Rattle.end_links.specs.Whole.{IsWholeIfSent}
 use Rattle.end_loop.specs.Runs.{actions_of}
 use Rattle.domain_controller.specs.Hearing.{IsLine, hear}
 use Rattle.domain_controller.specs.Machine.{Desk, controller_server}
@@ -58,23 +55,6 @@ pub record InRangeState (s : State) : Type 0 where
 -- challenges have 8 bytes
 abbrev pub AreChallenges : List (List ℕ) → Type 0
 AreChallenges left = AllByRecursion (λ (challenge : List ℕ). length challenge ≡ 8) left
-
--- ---- what is sent
-
--- the bytes are those of one whole unit, and have room in one piece of a link
-pub record IsWholeSend (bytes : List ℕ) : Type 0 where
-  pub frames : List RpcUnit
-  pub unit : RpcUnit
-  pub heard : IsHeard bytes frames unit
-  pub few : length bytes ≤ 65536
-
-abbrev pub IsWholeIfSent : Action → Type 0
-IsWholeIfSent (action.Send link bytes) = IsWholeSend bytes
-IsWholeIfSent (action.Keep bytes) = Unit {0}
-IsWholeIfSent (action.Dial peer) = Unit {0}
-IsWholeIfSent (action.Close link cause) = Unit {0}
-IsWholeIfSent (action.Told link outcome) = Unit {0}
-IsWholeIfSent (action.Judged how) = Unit {0}
 
 -- ---- at work
 
