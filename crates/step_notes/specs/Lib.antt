@@ -6,6 +6,7 @@ pub mod EffectNotes
 pub mod GrantSends
 pub mod HeardWhole
 pub mod Judged
+pub mod JudgedInRange
 pub mod KeptNotes
 pub mod Marking
 pub mod MemberNotes

@@ -5,6 +5,7 @@ ghost use Rattle.step_notes.specs.ChannelNames.{ChannelsAreNamedAlike, ClientsWr
 ghost use Rattle.step_notes.specs.EffectNotes.{StepsAreNoted};
 ghost use Rattle.step_notes.specs.GrantSends.{GrantsCarryTheirKey};
 ghost use Rattle.step_notes.specs.HeardWhole.{ControllersHearWhole};
+ghost use Rattle.step_notes.specs.JudgedInRange.{PassedRepliesAreRead};
 ghost use Rattle.step_notes.specs.KeptNotes.{CallsAreKept};
 ghost use Rattle.step_notes.specs.ReplySends.{RepliesAreSentAsJudged};
 ghost use Rattle.step_notes.specs.TakenWhole.{MembersTakeWhole};
@@ -24,6 +25,13 @@ pub fn grants_carry_their_key()
 #[tactic(auto, using(crate::proofs::Controllers::ReplyStepLaws::replies_sent))]
 pub fn replies_are_sent_as_judged()
     ensures { RepliesAreSentAsJudged }
+{}
+
+/// Where a controller has its ranges, each Logon call is judged in them. The bytes of the reply to a call that passed,
+/// where they are those of one whole unit, are read as the reply that was made (MS-NRPC 3.5.4.5.3).
+#[tactic(auto, using(crate::proofs::Controllers::JudgedInRangeLaws::replies_are_read))]
+pub fn passed_replies_are_read()
+    ensures { PassedRepliesAreRead }
 {}
 
 /// Both ends of a secure channel name it alike in what is written down of a run: as it is opened (MS-NRPC 3.1.4.1), as

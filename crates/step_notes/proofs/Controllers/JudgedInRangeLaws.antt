@@ -1,0 +1,139 @@
+-- For the law `passed_replies_are_read`: a walk over the units of a piece, of which each leaves the ranges
+-- (`SendsAreWhole` of domain_controller).
+use Rattle.std.proofs.Common.{◌<◌, ◌^◌, ◌++◌, ℕ, Bool, true, false, List, [], ◌∷◌, map, Option, Some, None, Result, Ok, Err, subst}
+use Rattle.std.specs.List.{AllByRecursion}
+use Rattle.wire_base.specs.Maps.{lookup, same_number}
+use Rattle.wire_base.specs.Names.{IsName}
+use Rattle.authenticators.specs.Channels.{Channel}
+use Rattle.outside.specs.declared.action.Action.{Action}
+use Rattle.outside.specs.declared.action.StepRefused.{StepRefused}
+use Rattle.outside.specs.declared.event.Event.TheVariants as event
+use Rattle.rpc_units.specs.declared.unit.Unit.{Unit as RpcUnit}
+use Rattle.rpc_units.specs.Calls.{IsHeard, bytes_of_call}
+use Rattle.rpc_units.specs.Stream.{cut_stream}
+use Rattle.logon_stubs.specs.Parts.{IfThere}
+use Rattle.logon_stubs.specs.declared.calls.Call.TheVariants as call
+use Rattle.logon_stubs.specs.declared.calls.Reply.{Reply}
+use Rattle.logon_stubs.specs.Writing.{written_reply}
+use Rattle.end_links.specs.Links.{LinkState}
+use Rattle.end_links.specs.Sending.{response_of}
+use Rattle.end_links.specs.Serving.{ServedPart}
+use Rattle.domain_controller.specs.Channels.{key_of_channel}
+use Rattle.domain_controller.specs.Hearing.{hear}
+use Rattle.domain_controller.specs.Machine.{Desk, controller_server}
+use Rattle.domain_controller.specs.ReadBack.{IsReadBack}
+use Rattle.domain_controller.specs.State.{State as ControllerState}
+use Rattle.domain_controller.specs.Step.{first_desk, step_of}
+use Rattle.domain_controller.specs.Whole.{AreChallenges, InRangeDesk, InRangePart, InRangeRunning, InRangeState, InRangeTable, InRangeTalk}
+use Rattle.domain_controller.specs.declared.hearing.Heard.{Heard}
+use Rattle.domain_controller.specs.declared.hearing.Heard.TheVariants as heard
+use Rattle.domain_controller.specs.declared.state.Running.{Running}
+use Rattle.domain_controller.specs.declared.state.Talk.{Talk}
+use Rattle.domain_controller.proofs.ReadBackLaws.{replies_are_read_back}
+use Rattle.domain_controller.proofs.WholeLaws.{found_link, sends_are_whole}
+use Rattle.step_notes.specs.ControllerNotes.{Answered, Where, answer_on, channel_in, has_passed, heard_answer, judging_by, judging_of, opened_by, opening, passing, units_at, units_by, units_of_controller}
+use Rattle.step_notes.specs.JudgedInRange.{IsJudgedInRange, IsReadAsMade, PassedRepliesAreRead}
+use Rattle.step_notes.specs.Records.{Judging}
+use Rattle.step_notes.specs.ReplySends.{IsItsReply, reply_passed, standing_at}
+use Rattle.step_notes.specs.Served.{ServedUnit, served_units, units_if_taken, units_on, units_then, work_after}
+
+-- ---- a unit
+
+abbrev AnswerFits : Answered → Type 0
+AnswerFits one = IfThere IsJudgedInRange one.judging
+
+opening_fits : (channel : Option Channel) (w : Where) (number : ℕ) → AnswerFits (opening channel w number)
+opening_fits None w number = tt
+opening_fits (Some channel) w number = tt
+
+passing_fits : (channel : Option Channel) (j : Judging) → IsJudgedInRange j → AnswerFits (passing channel j)
+passing_fits None j is = is
+passing_fits (Some channel) j is = is
+
+judging_fits : (passed : Bool) (j : Judging) → IsJudgedInRange j → AnswerFits (judging_by passed j)
+judging_fits false j is = is
+judging_fits true j is = passing_fits (channel_in j.controller j.logon.computer j.computers) j is
+
+answer_fits : (what : Heard) (w : Where) (before : Desk) (after : Option Desk) → IsName w.name → w.moment < 2 ^ 64 → InRangeTable before.table → AnswerFits (heard_answer what w before after)
+answer_fits (heard.Close cause) w before after name moment table = tt
+answer_fits (heard.Answer bytes talk) w before after name moment table = tt
+answer_fits (heard.Waits talk) w before after name moment table = tt
+answer_fits (heard.Asked line (call.Challenge c) talk) w before after name moment table = tt
+answer_fits (heard.Asked line (call.Authenticate c) talk) w before after name moment table = opening_fits (opened_by w.controller c before) w line.call
+answer_fits (heard.Asked line (call.Logon c) talk) w before after name moment table =
+    let j : Judging = judging_of w line c before after in
+    judging_fits (has_passed j.how) j (record { table = table; name = name; moment = moment })
+answer_fits (heard.Asked line (call.Logoff c) talk) w before after name moment table = tt
+
+-- ---- the units of a piece
+
+abbrev AllFit : ℕ → Where → List (ServedUnit Desk Talk) → Type 0
+AllFit link w units = AllByRecursion AnswerFits (map (answer_on link w) units)
+
+on_fits : (link : ℕ) (w : Where) (work : Desk) (talk : Option Talk) (left : List (List ℕ)) (later : Desk → Talk → List (List ℕ) → List (ServedUnit Desk Talk)) →
+    InRangeDesk work → IfThere InRangeTalk talk → AreChallenges left →
+    ((work : Desk) (talk : Talk) (left : List (List ℕ)) → InRangeDesk work → InRangeTalk talk → AreChallenges left → AllFit link w (later work talk left)) →
+    AllFit link w (units_on work talk left later)
+on_fits link w work None left later fits limit eight each = tt
+on_fits link w work (Some talk) left later fits limit eight each = each work talk left fits limit eight
+
+then_fits : (link : ℕ) (w : Where) (part : ServedPart Desk Talk) (later : Desk → Talk → List (List ℕ) → List (ServedUnit Desk Talk)) → InRangePart part →
+    ((work : Desk) (talk : Talk) (left : List (List ℕ)) → InRangeDesk work → InRangeTalk talk → AreChallenges left → AllFit link w (later work talk left)) →
+    AllFit link w (units_then part later)
+then_fits link w (Err why) later fits each = tt
+then_fits link w (Ok part) later fits each = on_fits link w part.value.0 part.value.1 part.left later fits.0 fits.1 fits.2 each
+
+units_fit : (link : ℕ) (w : Where) (units : List (List ℕ)) (d : Desk) (talk : Talk) (left : List (List ℕ)) → IsName w.name → w.moment < 2 ^ 64 → InRangeDesk d → InRangeTalk talk → AreChallenges left →
+    AllFit link w (served_units (controller_server w.name w.moment link) units d talk left)
+units_fit link w [] d talk left name moment fits limit eight = tt
+units_fit link w (bytes ∷ units) d talk left name moment fits limit eight =
+    let part : ServedPart Desk Talk = (controller_server w.name w.moment link).unit bytes d talk left in (
+      answer_fits (hear link bytes talk) w d (work_after part) name moment fits.table,
+      then_fits link w part (λ later said rest. served_units (controller_server w.name w.moment link) units later said rest)
+          (sends_are_whole.unit w.name w.moment link bytes d talk left name moment fits limit eight)
+          (λ later said rest. λ then_in talk_in eight_left. units_fit link w units later said rest name moment then_in talk_in eight_left),
+    )
+
+-- ---- a step
+
+module _ (at controller : ℕ) (unit : Option ℕ) (link : ℕ) (piece : List ℕ) (c : ControllerState) (now : ℕ) (left : List (List ℕ)) where
+  abbrev here : Where
+  here = standing_at at controller unit c now
+
+  at_fits : (found : Option (LinkState Talk)) (running : Running) → IfThere (λ (link : LinkState Talk). InRangeTalk link.talk) found → InRangeState c → now < 2 ^ 64 → AreChallenges left →
+      AllFit link here (units_at found link piece c running now left)
+  at_fits None running limit is moment eight = tt
+  at_fits (Some there) running limit is moment eight =
+      units_fit link here (cut_stream (there.rest ++ piece)).units (first_desk c.table running) there.talk left is.name moment (record { sends = tt; table = is.table }) limit eight
+
+  by_fits : (running : Option Running) → InRangeRunning running → InRangeState c → now < 2 ^ 64 → AreChallenges left → AllFit link here (units_by running link piece c now left)
+  by_fits None range is moment eight = tt
+  by_fits (Some running) range is moment eight = at_fits (lookup same_number link running.links) running (found_link link running.links range) is moment eight
+
+  taken_fits : (answer : Result (List Action) StepRefused) (units : List (ServedUnit Desk Talk)) → AllFit link here units → AllFit link here (units_if_taken answer units)
+  taken_fits (Err why) units fit = tt
+  taken_fits (Ok actions) units fit = fit
+
+judgings_in_range : (c : ControllerState) (at controller : ℕ) (unit : Option ℕ) (link : ℕ) (piece : List ℕ) (now : ℕ) (left : List (List ℕ)) → InRangeState c → now < 2 ^ 64 → AreChallenges left →
+    AllFit link (standing_at at controller unit c now) (units_of_controller c link piece now left)
+judgings_in_range c at controller unit link piece now left is moment eight =
+    taken_fits at controller unit link piece c now left (step_of c (event.Bytes link piece) now left).answer (units_by c.running link piece c now left)
+    (by_fits at controller unit link piece c now left c.running is.running is moment eight)
+
+-- ---- a reply is read
+
+reply_read : (j : Judging) (bytes : List ℕ) (is : IsItsReply j bytes) (frames : List RpcUnit) (unit : RpcUnit) → IsJudgedInRange j → j.logon.validation < 2 ^ 16 → IsHeard bytes frames unit →
+    IsReadAsMade j bytes is unit
+reply_read j bytes is frames unit range small heard =
+    let key : List ℕ = key_of_channel is.next.channel in
+    let answer : Reply = reply_passed j is.next.channel is.next.given in
+    let back : IsReadBack answer =
+    replies_are_read_back.passed j.table j.name j.moment j.logon.info j.logon.validation key is.next.channel.seed is.next.given.timestamp range.table range.name range.moment small in
+    let moved : IsHeard (bytes_of_call (response_of j.number is.context (written_reply answer)) is.limit) frames unit = subst (λ (b : List ℕ). IsHeard b frames unit) is.frames heard in
+    record {
+      unit_is = replies_are_read_back.alone j.number is.context is.limit (written_reply answer) frames unit back.few moved;
+      read = replies_are_read_back.reads j.number is.context is.limit answer frames unit back moved;
+    }
+
+pub replies_are_read : PassedRepliesAreRead
+replies_are_read = record { judged = judgings_in_range; read = reply_read }
