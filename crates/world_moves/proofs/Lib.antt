@@ -11,6 +11,7 @@ mod MakingLaws
 mod MuteLaws
 pub mod OpenLaws
 mod PlaceLaws
+pub mod RangeLaws
 pub mod RunLaws
 mod RunningLaws
 mod TellingLaws
