@@ -13,6 +13,10 @@ pub mod MessageMadeLaws
 pub mod MessageNoteLaws
 pub mod MessageTakenLaws
 pub mod PlacedLaws
+pub mod QuietListenLaws
+pub mod QuietRunLaws
+pub mod QuietStepLaws
+pub mod QuietTurnLaws
 pub mod ReadBackLaws
 pub mod RunBeginLaws
 pub mod ShortResponseLaws

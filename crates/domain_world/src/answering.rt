@@ -3,13 +3,14 @@
 ghost use Rattle.std.specs.Prelude.{List};
 ghost use Rattle.world_moves.specs.declared.moves.Move.{Move};
 ghost use Rattle.world_moves.specs.declared.plan.Plan.{Plan};
+ghost use Rattle.world_moves.specs.Bag.{AreShortUnits, HaveBytes};
 ghost use Rattle.world_moves.specs.Draws.{DrawsAreBlocks, DrawsDiffer};
 ghost use Rattle.world_moves.specs.Forms.{IsSchedule};
 ghost use Rattle.domain_world.specs.Accepting.Answered.{AnswersAreHeard, IsProved, MarksHaveTheirWay, MessagesAreApart, PassesAreUnclashed};
 ghost use Rattle.domain_world.specs.Accepting.Carried.{CarriedCallsAreHeard};
 ghost use Rattle.domain_world.specs.Accepting.KeysMade.{KeysAreFoundAsMade, MessagesAreMade, MessagesAreTakenAsSent};
 ghost use Rattle.domain_world.specs.Accepting.ReadBack.{OutcomesAreReadBack};
-ghost use Rattle.domain_world.specs.Accepting.Runs.{RunsBegin};
+ghost use Rattle.domain_world.specs.Accepting.Runs.{IsQuiet, RunsBegin};
 ghost use Rattle.domain_world.specs.Accepting.Units.{RunsAreHeard};
 ghost use Rattle.domain_world.specs.Claims.{AcceptsAllGranted, AcceptsOnlyGranted, IsClear, KeysAgree, ShortResponsesServeOnce};
 ghost use Rattle.domain_world.specs.Past.{Past, past};
@@ -107,4 +108,13 @@ pub fn messages_are_made()
 #[tactic(auto, using(crate::proofs::Accepting::MessageTakenLaws::messages_taken))]
 pub fn messages_are_taken_as_sent()
     ensures { (plan : Plan) (moves : List Move) → MessagesAreTakenAsSent (past plan moves) }
+{}
+
+/// After every schedule what is under way between members and controllers is whole, and nothing stays open on the links
+/// between them.
+#[tactic(auto, using(crate::proofs::Accepting::QuietRunLaws::stands_quiet))]
+pub fn schedules_stand_quiet()
+    ensures { (plan : Plan) (moves : List Move) → IsSchedule plan moves →
+        AreShortUnits (past plan moves).world.state.bag → HaveBytes (past plan moves).world.state.bag →
+        IsQuiet (past plan moves).world.state }
 {}

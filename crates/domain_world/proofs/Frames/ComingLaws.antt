@@ -1,7 +1,7 @@
 -- Where bytes come from that an end hears: a unit of the bag, on a link of its kind, or from outside, on no link between a
 -- member and a controller; and what stays of a unit of the bag. It serves the frame over whole steps (`StepFrameLaws`)
 -- and `members_let_in_who_asked`.
-use Rattle.std.proofs.Common.{◌≡◌, ℕ, zero, suc, ◌+◌, Bool, true, false, List, [], ◌∷◌, ◌++◌, inl, inr, Option, Some, None, slice_get, if◌then◌else◌, refl, sym, ap, subst, ◌∙◌, arith}
+use Rattle.std.proofs.Common.{◌≡◌, ℕ, zero, suc, ◌+◌, Bool, true, false, List, [], ◌∷◌, ◌++◌, inl, inr, Option, Some, None, slice_get, if◌then◌else◌, refl, sym, ap, subst, ◌∙◌, arith, drop, length}
 use Rattle.outside.specs.declared.event.Event.TheVariants as event
 use Rattle.wire_base.specs.Maps.{lookup, same_number}
 use Rattle.wire_base.specs.Numbers.{AreBytes}
@@ -19,7 +19,7 @@ use Rattle.world_moves.specs.declared.moves.Move.TheVariants as move
 use Rattle.world_moves.specs.declared.state.State.{State}
 use Rattle.world_moves.specs.Acting.{piece_comes, pieces_come}
 use Rattle.world_moves.specs.Bag.{first_waiting, piece_limit, pieces_in, pieces_of, settle_at, settled}
-use Rattle.world_moves.specs.Choosing.{places_from}
+use Rattle.world_moves.specs.Choosing.{places_from, chosen_in, chosen_place}
 use Rattle.world_moves.specs.Links.{OpenMap, dialler_of, handed_links, hearer_of, is_handed, is_of, kind_of, links_of, same_kind}
 use Rattle.world_moves.specs.Moving.{act, come_by, come_on_own, deliver_by, deliver_on, deliver_unit, hand_on, onward_by, route_to, settle}
 use Rattle.world_moves.specs.World.{World, happens, run}

@@ -7,6 +7,8 @@ use Rattle.std.proofs.lemmas.List.Elements.{All-weaker, recursion_from_All}
 use Rattle.wire_base.specs.Maps.{lookup, same_number, take_out}
 use Rattle.channel_keys.specs.Des.{IsBlock}
 use Rattle.outside.specs.Counter.{challenges_from, most_draws}
+use Rattle.logon_stubs.specs.Ranges as stubs
+use Rattle.channel_client.proofs.WholeLaws.{bytes_from_all}
 use Rattle.outside.specs.declared.action.StepRefused.{StepRefused}
 use Rattle.outside.specs.declared.event.Event.{Event}
 use Rattle.outside.specs.declared.event.Event.TheVariants as event
@@ -40,12 +42,16 @@ use Rattle.world_moves.specs.World.{first_world}
 abbrev pub AreEights : List (List ℕ) → Type 0
 AreEights left = AllByRecursion (λ (challenge : List ℕ). length challenge ≡ 8) left
 
-eights_behind : (front rest : List (List ℕ)) → AreEights (front ++ rest) → AreEights rest
-eights_behind [] rest eights = eights
-eights_behind (challenge ∷ front) rest eights = eights_behind front rest eights.1
+all_behind : (P : List ℕ → Type 0) (front rest : List (List ℕ)) → AllByRecursion P (front ++ rest) → AllByRecursion P rest
+all_behind P [] rest all = all
+all_behind P (challenge ∷ front) rest all = all_behind P front rest all.1
+
+-- what holds of each that was left holds of the rest
+pub all_rest : (P : List ℕ → Type 0) (rest left : List (List ℕ)) → IsRest rest left → AllByRecursion P left → AllByRecursion P rest
+all_rest P rest left is all = all_behind P is.front rest (subst (λ (l : List (List ℕ)). AllByRecursion P l) (sym is.is) all)
 
 pub eights_rest : (rest all : List (List ℕ)) → IsRest rest all → AreEights all → AreEights rest
-eights_rest rest all is eights = eights_behind is.front rest (subst AreEights (sym is.is) eights)
+eights_rest rest all is eights = all_rest (λ (challenge : List ℕ). length challenge ≡ 8) rest all is eights
 
 -- ---- at first
 
@@ -56,6 +62,23 @@ first_blocks seed count =
 
 pub first_eights : (plan : Plan) → AreEights (first_world plan).state.chances.left
 first_eights plan = first_blocks plan.seed (most_draws - 0)
+
+-- and they are bytes
+abbrev pub AreBlocks : List (List ℕ) → Type 0
+AreBlocks left = AllByRecursion (λ (challenge : List ℕ). stubs.IsBlock 8 challenge) left
+
+first_all : (seed : List ℕ) (count : ℕ) → AreBlocks (challenges_from seed 0 0 count)
+first_all seed count =
+    recursion_from_All (λ (challenge : List ℕ). stubs.IsBlock 8 challenge) (challenges_from seed 0 0 count)
+    (All-weaker IsBlock (λ (challenge : List ℕ). stubs.IsBlock 8 challenge) (λ challenge block. (block.eight, bytes_from_all challenge block.bytes)) (challenges_from seed 0 0 count)
+    (blocks-challenges_from seed 0 0 count))
+
+pub first_left_blocks : (plan : Plan) → AreBlocks (first_world plan).state.chances.left
+first_left_blocks plan = first_all plan.seed (most_draws - 0)
+
+pub eights_of : (left : List (List ℕ)) → AreBlocks left → AreEights left
+eights_of [] blocks = tt
+eights_of (challenge ∷ left) blocks = (blocks.0.0, eights_of left blocks.1)
 
 -- ---- a controller
 
@@ -88,27 +111,39 @@ running_rest (Some running) c what now left =
     (then_part-rest (by_event what c.name now (first_desk c.table running) running.links left) (λ after rest. start_turn after rest) left
     (λ after rest. IsRest-refl rest) (heard_rest what c.name now (first_desk c.table running) running.links left))
 
--- ---- any end
+-- ---- any end leaves a rest of the challenges that were left
+
+controller_rests : (found : Option ControllerState) (at : ℕ) (what : Event) (now : ℕ) (ends : EndStates) (chances : Drawing) →
+    IsRest (controller_step found at what now ends chances).chances.left chances.left
+controller_rests None at what now ends chances = IsRest-refl chances.left
+controller_rests (Some c) at what now ends chances = running_rest c.running c what now chances.left
+
+member_rests : (found : Option MemberState) (at : ℕ) (what : Event) (now : ℕ) (ends : EndStates) (chances : Drawing) →
+    IsRest (member_step found at what now ends chances).chances.left chances.left
+member_rests None at what now ends chances = IsRest-refl chances.left
+member_rests (Some m) at what now ends chances = member_leaves m what now chances.left
+
+client_rests : (found : Option ClientState) (at : ℕ) (what : Event) (now : ℕ) (ends : EndStates) (chances : Drawing) →
+    IsRest (client_step found at what now ends chances).chances.left chances.left
+client_rests None at what now ends chances = IsRest-refl chances.left
+client_rests (Some c) at what now ends chances = client_leaves_rest c what now chances.left
+
+pub end_rests : (end : EndId) (what : Event) (now : ℕ) (ends : EndStates) (chances : Drawing) → IsRest (end_step end what now ends chances).chances.left chances.left
+end_rests (Controller at) what now ends chances = controller_rests (slice_get ends.controllers at) at what now ends chances
+end_rests (Member at) what now ends chances = member_rests (slice_get ends.members at) at what now ends chances
+end_rests (Client at) what now ends chances = client_rests (slice_get ends.clients at) at what now ends chances
 
 pub controller_left : (found : Option ControllerState) (at : ℕ) (what : Event) (now : ℕ) (ends : EndStates) (chances : Drawing) → AreEights chances.left →
     AreEights (controller_step found at what now ends chances).chances.left
-controller_left None at what now ends chances eights = eights
-controller_left (Some c) at what now ends chances eights =
-    eights_rest (controller_step_of c what now chances.left).left chances.left (running_rest c.running c what now chances.left) eights
+controller_left found at what now ends chances eights =
+    eights_rest (controller_step found at what now ends chances).chances.left chances.left (controller_rests found at what now ends chances) eights
 
 pub member_left : (found : Option MemberState) (at : ℕ) (what : Event) (now : ℕ) (ends : EndStates) (chances : Drawing) → AreEights chances.left →
     AreEights (member_step found at what now ends chances).chances.left
-member_left None at what now ends chances eights = eights
-member_left (Some m) at what now ends chances eights =
-    eights_rest (member_step_of m what now chances.left).left chances.left (member_leaves m what now chances.left) eights
+member_left found at what now ends chances eights =
+    eights_rest (member_step found at what now ends chances).chances.left chances.left (member_rests found at what now ends chances) eights
 
 pub client_left : (found : Option ClientState) (at : ℕ) (what : Event) (now : ℕ) (ends : EndStates) (chances : Drawing) → AreEights chances.left →
     AreEights (client_step found at what now ends chances).chances.left
-client_left None at what now ends chances eights = eights
-client_left (Some c) at what now ends chances eights =
-    eights_rest (client_step_of c what now chances.left).left chances.left (client_leaves_rest c what now chances.left) eights
-
-pub end_left : (end : EndId) (what : Event) (now : ℕ) (ends : EndStates) (chances : Drawing) → AreEights chances.left → AreEights (end_step end what now ends chances).chances.left
-end_left (Controller at) what now ends chances eights = controller_left (slice_get ends.controllers at) at what now ends chances eights
-end_left (Member at) what now ends chances eights = member_left (slice_get ends.members at) at what now ends chances eights
-end_left (Client at) what now ends chances eights = client_left (slice_get ends.clients at) at what now ends chances eights
+client_left found at what now ends chances eights =
+    eights_rest (client_step found at what now ends chances).chances.left chances.left (client_rests found at what now ends chances) eights

@@ -152,6 +152,26 @@ module _ (A B : RunFact) (F G : ActionFact) where
     over = λ n at s given b none holds. (one.over n at s given b tt holds.0, other.over n at s given b holds.0 holds.1);
   }
 
+-- A fact that rests on a side fact rests on whatever gives it.
+pub with_side : (Side More Holds : RunFact) (Fine : ActionFact) → ((n : ℕ) (s : State) (given : Given) (b : Book) → More n s given b → Side n s given b) → Keeps Side Holds Fine →
+    Keeps More Holds Fine
+with_side Side More Holds Fine so keeps = record {
+  calm = λ n end what s given b quiet more holds. keeps.calm n end what s given b quiet (so n s given b more) holds;
+  dialled = λ n end link s given b side more holds. keeps.dialled n end link s given b side (so n s given b more) holds;
+  opens = λ n route s given b more holds. keeps.opens n route s given b (so n s given b more) holds;
+  begins = λ n client plan s given b is more holds. keeps.begins n client plan s given b is (so n s given b more) holds;
+  comes = λ n end w piece s given b side came bytes marked more holds. keeps.comes n end w piece s given b side came bytes marked (so n s given b more) holds;
+  acts = λ n end what s given b fine more holds. keeps.acts n end what s given b fine (so n s given b more) holds;
+  shuts = λ n link s given b more holds. keeps.shuts n link s given b (so n s given b more) holds;
+  answers = λ n link there s given b is more holds. keeps.answers n link there s given b is (so n s given b more) holds;
+  forgets = λ n end s given b more holds. keeps.forgets n end s given b (so n s given b more) holds;
+  settles = λ n number s given b more holds. keeps.settles n number s given b (so n s given b more) holds;
+  dials = λ n s given b more holds. keeps.dials n s given b (so n s given b more) holds;
+  renews = λ n end s given b more holds. keeps.renews n end s given b (so n s given b more) holds;
+  ticks = λ n more_time s given b more holds. keeps.ticks n more_time s given b (so n s given b more) holds;
+  over = λ n at s given b more holds. keeps.over n at s given b (so n s given b more) holds;
+}
+
 -- ---- how many links are open
 
 abbrev FewOpen : ℕ → LinkFact
