@@ -3,6 +3,7 @@ pub mod BagFrameLaws
 pub mod BookFrameLaws
 pub mod ComingLaws
 pub mod DrawnLaws
+pub mod DrawnRunLaws
 pub mod FrameLaws
 pub mod FrontLaws
 pub mod LeftLaws

@@ -118,3 +118,9 @@ pub fn schedules_stand_quiet()
         AreShortUnits (past plan moves).world.state.bag → HaveBytes (past plan moves).world.state.bag →
         IsQuiet (past plan moves).world.state }
 {}
+
+/// In every run no two challenges that were drawn are alike, and each has 8 bytes.
+pub fn draws_of_runs_differ()
+    ensures differ { (plan : Plan) (moves : List Move) → DrawsDiffer (past plan moves).world }
+    ensures blocks { (plan : Plan) (moves : List Move) → DrawsAreBlocks (past plan moves).world }
+{}

@@ -1,0 +1,154 @@
+-- In every run what was drawn and what is left are the challenges that the maker gives: so no two that were drawn are alike,
+-- and each has 8 bytes. It serves `draws_of_runs_differ`.
+use Rattle.std.proofs.Common.{◌≡◌, ◌≢◌, ℕ, ◌+◌, ◌-◌, ◌<◌, List, [], ◌∷◌, ◌++◌, All, get_or, take, length, Option, Some, None, Result, Ok, Err, slice_get, refl, sym, ap, subst, ◌∙◌, arith, length-append}
+use Rattle.std.specs.Prelude.{AllPairs}
+use Rattle.std.proofs.lemmas.List.{append_assoc, append-nil, get_or_append_left, take_at}
+use Rattle.channel_keys.specs.Des.{IsBlock}
+use Rattle.outside.specs.Counter.{challenges_from, most_draws}
+use Rattle.outside.specs.Drawing.{Drawing, IsRest, draws_between}
+use Rattle.outside.specs.Machine.{Part, Stepped, step_by}
+use Rattle.outside.specs.declared.action.Action.{Action}
+use Rattle.outside.specs.declared.action.StepRefused.{StepRefused}
+use Rattle.outside.specs.declared.event.Event.{Event}
+use Rattle.outside.proofs.CounterLaws.{blocks-challenges_from, challenges_from-distinct, challenges_from-none}
+use Rattle.domain_controller.specs.State.{State as ControllerState}
+use Rattle.domain_controller.specs.Step as controller
+use Rattle.domain_controller.specs.declared.state.Running.{Running as ControllerRunning}
+use Rattle.logon_client.specs.Machine as client
+use Rattle.logon_client.specs.State.{State as ClientState}
+use Rattle.logon_client.specs.declared.outcome.ClientOutcome.{ClientOutcome}
+use Rattle.logon_client.specs.declared.state.Running.{Running as ClientRunning}
+use Rattle.member_server.specs.Machine as member
+use Rattle.member_server.specs.State.{State as MemberState}
+use Rattle.member_server.specs.declared.state.Running.{Running as MemberRunning}
+use Rattle.step_notes.specs.Records.{Book, blank}
+use Rattle.world_moves.specs.declared.links.EndId.{EndId}
+use Rattle.world_moves.specs.declared.links.EndId.TheVariants.{Controller, Member, Client}
+use Rattle.world_moves.specs.declared.moves.Move.{Move}
+use Rattle.world_moves.specs.declared.plan.Plan.{Plan}
+use Rattle.world_moves.specs.Draws.{DrawsAreBlocks, DrawsDiffer}
+use Rattle.world_moves.specs.Ends.{EndStates, client_step, controller_step, end_step, member_step}
+use Rattle.world_moves.specs.World.{first_world}
+use Rattle.domain_world.specs.Past.{past}
+use Rattle.domain_world.proofs.Frames.FrameLaws.{Fact, StaysWritten, run_stays}
+use Rattle.domain_world.proofs.Frames.LeftLaws.{end_rests}
+
+-- ---- a step
+
+-- it draws what it doesn't leave
+abbrev DrawsRest : {S : Type 0} → Stepped S → List (List ℕ) → Type 0
+DrawsRest step left = step.drawn ++ step.left ≡ left
+
+between_rest : (before after : List (List ℕ)) → IsRest after before → draws_between before after ++ after ≡ before
+between_rest before after rest =
+    let size : length before - length after ≡ length rest.front = omega (arith, ap length rest.is, length-append rest.front after) in
+    let front : draws_between before after ≡ rest.front =
+    subst (λ (all : List (List ℕ)). take (length before - length after) all ≡ rest.front) rest.is (take_at rest.front after (length before - length after) (sym size)) in
+    ap (λ (drawn : List (List ℕ)). drawn ++ after) front ∙ rest.is
+
+part_draws : {S T : Type 0} (actions : T → List Action) (state : T → S) (halted : S) (left : List (List ℕ)) (part : Result (Part T) StepRefused) →
+    IsRest (step_by actions state halted left part).left left → DrawsRest (step_by actions state halted left part) left
+part_draws actions state halted left (Err why) rest = append-nil left
+part_draws actions state halted left (Ok part) rest = between_rest left part.left rest
+
+controller_draws : (r : Option ControllerRunning) (c : ControllerState) (what : Event) (now : ℕ) (left : List (List ℕ)) → IsRest (controller.step_on r c what now left).left left →
+    DrawsRest (controller.step_on r c what now left) left
+controller_draws None c what now left rest = refl
+controller_draws (Some running) c what now left rest = part_draws _ _ _ left (controller.step_part running c what now left) rest
+
+member_draws : (r : Option MemberRunning) (m : MemberState) (what : Event) (now : ℕ) (left : List (List ℕ)) → IsRest (member.step_on r m what now left).left left →
+    DrawsRest (member.step_on r m what now left) left
+member_draws None m what now left rest = refl
+member_draws (Some running) m what now left rest = part_draws _ _ _ left (member.event_part running what now left) rest
+
+outcome_draws : (outcome : Option ClientOutcome) (running : ClientRunning) (c : ClientState) (what : Event) (now : ℕ) (left : List (List ℕ)) →
+    IsRest (client.step_by_outcome outcome running c what now left).left left → DrawsRest (client.step_by_outcome outcome running c what now left) left
+outcome_draws (Some outcome) running c what now left rest = between_rest left left rest
+outcome_draws None running c what now left rest = part_draws _ _ _ left (client.by_event what running.standing (client.work_of running.task now) left) rest
+
+client_draws : (r : Option ClientRunning) (c : ClientState) (what : Event) (now : ℕ) (left : List (List ℕ)) → IsRest (client.step_by_running r c what now left).left left →
+    DrawsRest (client.step_by_running r c what now left) left
+client_draws None c what now left rest = refl
+client_draws (Some running) c what now left rest = outcome_draws c.outcome running c what now left rest
+
+-- ---- what was drawn and what is left
+
+abbrev all_of : Drawing → List (List ℕ)
+all_of chances = chances.drawn ++ chances.left
+
+same_all : (chances : Drawing) (drawn left : List (List ℕ)) → drawn ++ left ≡ chances.left → (chances.drawn ++ drawn) ++ left ≡ all_of chances
+same_all chances drawn left is = append_assoc chances.drawn drawn left ∙ ap (λ (rest : List (List ℕ)). chances.drawn ++ rest) is
+
+controller_all : (found : Option ControllerState) (at : ℕ) (what : Event) (now : ℕ) (ends : EndStates) (chances : Drawing) →
+    IsRest (controller_step found at what now ends chances).chances.left chances.left → all_of (controller_step found at what now ends chances).chances ≡ all_of chances
+controller_all None at what now ends chances rest = refl
+controller_all (Some c) at what now ends chances rest =
+    same_all chances (controller.step_of c what now chances.left).drawn (controller.step_of c what now chances.left).left (controller_draws c.running c what now chances.left rest)
+
+member_all : (found : Option MemberState) (at : ℕ) (what : Event) (now : ℕ) (ends : EndStates) (chances : Drawing) →
+    IsRest (member_step found at what now ends chances).chances.left chances.left → all_of (member_step found at what now ends chances).chances ≡ all_of chances
+member_all None at what now ends chances rest = refl
+member_all (Some m) at what now ends chances rest =
+    same_all chances (member.step_of m what now chances.left).drawn (member.step_of m what now chances.left).left (member_draws m.running m what now chances.left rest)
+
+client_all : (found : Option ClientState) (at : ℕ) (what : Event) (now : ℕ) (ends : EndStates) (chances : Drawing) →
+    IsRest (client_step found at what now ends chances).chances.left chances.left → all_of (client_step found at what now ends chances).chances ≡ all_of chances
+client_all None at what now ends chances rest = refl
+client_all (Some c) at what now ends chances rest =
+    same_all chances (client.step_of c what now chances.left).drawn (client.step_of c what now chances.left).left (client_draws c.running c what now chances.left rest)
+
+end_all : (end : EndId) (what : Event) (now : ℕ) (ends : EndStates) (chances : Drawing) → all_of (end_step end what now ends chances).chances ≡ all_of chances
+end_all (Controller at) what now ends chances = controller_all (slice_get ends.controllers at) at what now ends chances (end_rests (Controller at) what now ends chances)
+end_all (Member at) what now ends chances = member_all (slice_get ends.members at) at what now ends chances (end_rests (Member at) what now ends chances)
+end_all (Client at) what now ends chances = client_all (slice_get ends.clients at) at what now ends chances (end_rests (Client at) what now ends chances)
+
+-- ---- a run
+
+abbrev AreOf : List (List ℕ) → Unit {0} → Fact
+AreOf all x ends chances links = all_of chances ≡ all
+
+of_stays : (all : List (List ℕ)) → StaysWritten (λ (b : Book). tt) (AreOf all)
+of_stays all = record {
+  stays = λ x. record {
+    hears = λ end what now ends chances links quiet is. end_all end what now ends chances ∙ is;
+    opens = λ route now ends chances links is. end_all _ _ now ends chances ∙ is;
+    controllers = λ c at ends chances links there is. is;
+    members = λ plan at ends chances links is. is;
+    clients = λ client at ends chances links is. is;
+  };
+  bytes = λ end w piece s after b is. end_all end _ s.moment s.ends s.chances ∙ is;
+  given = λ at given after b. refl;
+}
+
+-- all that the maker of a plan gives
+abbrev given_all : Plan → List (List ℕ)
+given_all plan = challenges_from plan.seed 0 0 (most_draws - 0)
+
+run_all : (plan : Plan) (moves : List Move) → all_of (past plan moves).world.state.chances ≡ given_all plan
+run_all plan moves =
+    run_stays (λ (b : Book). tt) (AreOf (given_all plan)) (of_stays (given_all plan)) moves (first_world plan) blank
+    (ap (λ (drawn : List (List ℕ)). drawn ++ given_all plan) (challenges_from-none plan.seed 0 0))
+
+-- ---- a front of them
+
+front_pairs : {T : Type 0} (R : T → T → Type 0) (front rest : List T) → AllPairs R (front ++ rest) → AllPairs R front
+front_pairs {T} R front rest all i j d before within =
+    subst (λ (one : T). R one (get_or front j d)) (get_or_append_left front rest d i (omega (arith, before, within)))
+    (subst (λ (other : T). R (get_or (front ++ rest) i d) other) (get_or_append_left front rest d j within) (all i j d before (omega (arith, within, length-append front rest))))
+
+front_all : {T : Type 0} (P : T → Type 0) (front rest : List T) → All P (front ++ rest) → All P front
+front_all P front rest all i d within =
+    subst P (get_or_append_left front rest d i within) (all i d (omega (arith, within, length-append front rest)))
+
+-- no two challenges that were drawn are alike
+pub draws_differ : (plan : Plan) (moves : List Move) → DrawsDiffer (past plan moves).world
+draws_differ plan moves =
+    front_pairs (λ (one other : List ℕ). one ≢ other) (past plan moves).world.state.chances.drawn (past plan moves).world.state.chances.left
+    (subst (λ (all : List (List ℕ)). AllPairs (λ (one other : List ℕ). one ≢ other) all) (sym (run_all plan moves))
+    (challenges_from-distinct plan.seed 0 (most_draws - 0) (omega arith) (omega arith)))
+
+-- and each has 8 bytes
+pub draws_are_blocks : (plan : Plan) (moves : List Move) → DrawsAreBlocks (past plan moves).world
+draws_are_blocks plan moves =
+    front_all IsBlock (past plan moves).world.state.chances.drawn (past plan moves).world.state.chances.left
+    (subst (λ (all : List (List ℕ)). All IsBlock all) (sym (run_all plan moves)) (blocks-challenges_from plan.seed 0 0 (most_draws - 0)))
