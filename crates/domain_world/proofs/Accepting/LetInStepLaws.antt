@@ -278,7 +278,7 @@ plain_at (Member at) links what plain = plain_meets (λ number. IsDialledBy link
 plain_at (Client at) links what plain = tt
 
 -- the end accepted the link that was just made
-last_accepted : (end : EndId) (route : Route) (links : List Route) → acceptor_of route ≡ end → Meets end (links ++ route ∷ []) (event.Opened (length links))
+pub last_accepted : (end : EndId) (route : Route) (links : List Route) → acceptor_of route ≡ end → Meets end (links ++ route ∷ []) (event.Opened (length links))
 last_accepted (Controller at) route links is = tt
 last_accepted (Member at) route links is = (tt, record { route = route; at = got_last links route; acceptor = is })
 last_accepted (Client at) route links is = tt

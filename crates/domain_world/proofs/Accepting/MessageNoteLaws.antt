@@ -22,7 +22,7 @@ pub one_so : {T : Type 0} (Fits Later : T → Type 0) → ((item : T) → Fits i
 one_so Fits Later so [] one = absurd one
 one_so Fits Later so (item ∷ items) one = elim one [ inl here ↦ inl (so item here) | inr later ↦ inr (one_so Fits Later so items later) ]
 
-map_one : (Fits Later : MessageTaken → Type 0) (change : MessageTaken → MessageTaken) → ((message : MessageTaken) → Fits message → Later (change message)) →
+pub map_one : (Fits Later : MessageTaken → Type 0) (change : MessageTaken → MessageTaken) → ((message : MessageTaken) → Fits message → Later (change message)) →
     (messages : List MessageTaken) → OneOf Fits messages → OneOf Later (map change messages)
 map_one Fits Later change so [] one = absurd one
 map_one Fits Later change so (message ∷ messages) one = elim one [ inl here ↦ inl (so message here) | inr later ↦ inr (map_one Fits Later change so messages later) ]
@@ -32,7 +32,7 @@ changed_if : (Fits : MessageTaken → Type 0) (hit : Bool) (change : MessageTake
 changed_if Fits false change message so fits = fits
 changed_if Fits true change message so fits = so fits
 
-changed : (Fits : MessageTaken → Type 0) (link : Option ℕ) (change : MessageTaken → MessageTaken) → ((message : MessageTaken) → Fits message → Fits (change message)) →
+pub changed : (Fits : MessageTaken → Type 0) (link : Option ℕ) (change : MessageTaken → MessageTaken) → ((message : MessageTaken) → Fits message → Fits (change message)) →
     (messages : List MessageTaken) → OneOf Fits messages → OneOf Fits (change_message link change messages)
 changed Fits None change so messages one = one
 changed Fits (Some link) change so messages one =

@@ -68,7 +68,7 @@ first_seen (plan ∷ plans) controller (suc k) v there = first_seen plans contro
 
 -- ---- calls
 
-abbrev first_requests : Plan → Requests ℕ
+abbrev pub first_requests : Plan → Requests ℕ
 first_requests plan = record {
   views = λ k. seen_member (controller_of k (first_world plan).state) (slice_get (map fresh_member plan.members) k);
   marks = [];
@@ -82,7 +82,7 @@ blank_holds challenge holds = elim holds.how [ inl under ↦ no_some challenge u
 holds_nothing : (v : View) (challenge : List ℕ) → blank_view ≡ v → Holds v challenge → ⊥
 holds_nothing v challenge blank holds = blank_holds challenge (subst (λ (w : View). Holds w challenge) (sym blank) holds)
 
-first_apart : (plan : Plan) → CallsAreApart (first_requests plan)
+pub first_apart : (plan : Plan) → CallsAreApart (first_requests plan)
 first_apart plan = record {
   made_before = λ unit number timestamp c there. absurd (got_nothing unit _ there);
   held_before = λ i v challenge at holds. absurd (holds_nothing v challenge (first_seen plan.members _ i v at) holds);

@@ -106,7 +106,7 @@ if_marked : (P : Mark → Type 0) (sends : Bool) (mark : Mark) (more : List Mark
 if_marked P false mark more is each = each
 if_marked P true mark more is each = (is, each)
 
-answers_way : (link : ℕ) (w : Where) (units : List (ServedUnit Desk Talk)) → AllByRecursion IsReply (answered_marks (map (answer_on link w) units))
+pub answers_way : (link : ℕ) (w : Where) (units : List (ServedUnit Desk Talk)) → AllByRecursion IsReply (answered_marks (map (answer_on link w) units))
 answers_way link w [] = tt
 answers_way link w (unit ∷ units) =
     if_marked IsReply (answer_on link w unit).sends (answer_on link w unit).mark (answered_marks (map (answer_on link w) units))

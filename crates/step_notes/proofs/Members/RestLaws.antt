@@ -84,7 +84,7 @@ bytes_rest dialling.Nothing number piece work left = link_rest (lookup same_numb
 bytes_rest (dialling.Waits turn frames) number piece work left = link_rest (lookup same_number number work.links) number piece (dialling.Waits turn frames) work left
 bytes_rest (dialling.On other said) number piece work left = bytes_if (other == number) said number piece (dialling.On other said) work left
 
-event_rest : (what : Event) (how : Dialling) (work : Work) (left : List (List ℕ)) → IsRest (left_by (member.by_event what how work left)) left
+pub event_rest : (what : Event) (how : Dialling) (work : Work) (left : List (List ℕ)) → IsRest (left_by (member.by_event what how work left)) left
 event_rest (event.Opened link) how work left = IsRest-refl left
 event_rest (event.Bytes link piece) how work left = bytes_rest how link piece work left
 event_rest (event.Closed link) how work left = IsRest-refl left

@@ -1,0 +1,392 @@
+-- What is known of calls is kept through all that happens in a run whose ends are quiet: each unit that comes on the
+-- link of a turn is whole. So it is of each schedule. It serves `runs_stand_so`.
+use Rattle.std.proofs.Common.{◌≡◌, ◌⊎◌, ℕ, zero, suc, ◌+◌, ◌*◌, ◌≤◌, ◌==◌, Bool, true, false, List, [], ◌∷◌, drop, length, inl, inr, Option, Some, None, slice_get, refl, sym, ap, ◌∙◌, subst, arith}
+use Rattle.std.specs.Prelude.{◌-◌, replicate}
+use Rattle.std.specs.List.{AllByRecursion}
+use Rattle.std.proofs.lemmas.Bool.{eqb-true}
+use Rattle.std.proofs.lemmas.List.{drop_all, take_all}
+use Rattle.outside.specs.declared.action.Action.{Action}
+use Rattle.outside.specs.declared.action.Action.TheVariants.{Keep, Send, Dial, Close, Told, Judged}
+use Rattle.outside.specs.declared.event.Event.{Event}
+use Rattle.outside.specs.declared.event.Event.TheVariants as event
+use Rattle.channel_client.specs.declared.state.Pending.{Pending}
+use Rattle.channel_events.specs.Marks.{OneOf, Plain}
+use Rattle.channel_events.specs.RequestSteps.{RequestersKeepCallsApart}
+use Rattle.channel_events.specs.Requests.{CallsAreApart, CallsStayApart, Requests}
+use Rattle.channel_events.proofs.ListLaws.{one_weaker}
+use Rattle.domain_controller.specs.State.{State as ControllerState}
+use Rattle.domain_controller.specs.Step.{first_state}
+use Rattle.logon_client.specs.Machine.{begin_of, fresh_client}
+use Rattle.logon_client.specs.declared.plan.ClientPlan.{ClientPlan}
+use Rattle.member_server.specs.ChannelSteps.{ChannelStepsKnown}
+use Rattle.member_server.specs.Machine.{fresh_member, step_of}
+use Rattle.member_server.specs.State.{State as MemberState}
+use Rattle.member_server.specs.declared.plan.MemberPlan.{MemberPlan}
+use Rattle.member_server.specs.declared.state.Dialling.{Dialling}
+use Rattle.member_server.specs.declared.state.Dialling.TheVariants as dialling
+use Rattle.member_server.specs.declared.state.Logon.{Logon}
+use Rattle.member_server.specs.declared.state.Running.{Running}
+use Rattle.member_server.specs.declared.state.TurnTalk.{TurnTalk}
+use Rattle.end_links.specs.Links.{LinkState}
+use Rattle.step_notes.specs.ChannelNames.{standing_channel}
+use Rattle.step_notes.specs.MemberNotes.{is_turn_link}
+use Rattle.step_notes.specs.Records.{Book, MessageTaken, blank}
+use Rattle.step_notes.proofs.Members.CallKeptLaws.{fresh_asks}
+use Rattle.step_notes.proofs.Members.KeptLogonLaws.{IfDialled, KeptIn as LogonsKept}
+use Rattle.world_moves.specs.declared.links.EndId.{EndId}
+use Rattle.world_moves.specs.declared.links.EndId.TheVariants.{Controller, Member, Client}
+use Rattle.world_moves.specs.declared.links.LinkKind.{LinkKind}
+use Rattle.world_moves.specs.declared.links.LinkKind.TheVariants as kind
+use Rattle.world_moves.specs.declared.links.Route.{Route}
+use Rattle.world_moves.specs.declared.links.Route.TheVariants.{ToMember, ToController, Stranger}
+use Rattle.world_moves.specs.declared.moves.Move.{Move}
+use Rattle.world_moves.specs.declared.plan.Plan.{Plan}
+use Rattle.world_moves.specs.declared.state.State.{State}
+use Rattle.world_moves.specs.Acting.{Given, bag_unit, hear, heard_by, hears, perform_all, perform_quietly, send_on}
+use Rattle.world_moves.specs.Bag.{AreShortUnits, piece_limit, pieces_of}
+use Rattle.world_moves.specs.Draws.{DrawsDiffer}
+use Rattle.world_moves.specs.Ends.{actions_by, member_step, renew_client, renew_controller, renew_member}
+use Rattle.world_moves.specs.Forms.{IsSchedule}
+use Rattle.world_moves.specs.Links.{acceptor_of, dialler_of, is_accepted_by, kind_of}
+use Rattle.world_moves.specs.Moving.{begun, renewed, with_link}
+use Rattle.world_moves.specs.World.{first_world}
+use Rattle.world_moves.proofs.BagLaws.{pieces_more, pieces_none}
+use Rattle.domain_world.specs.Accepting.Carried.{IsWholeUnit}
+use Rattle.domain_world.specs.Accepting.Runs.{AskedIsOut, BagIsWhole, IsOut, IsQuiet, IsQuietTurn, RunsStandSo, Shows}
+use Rattle.domain_world.specs.Past.{Coming, Past, controller_of, note_at, note_given, note_member, past, sent_at}
+use Rattle.domain_world.proofs.Accepting.LetInStepLaws.{IsDialledBy, Meets, last_accepted}
+use Rattle.domain_world.proofs.Accepting.RunBeginLaws.{first_apart}
+use Rattle.domain_world.proofs.Frames.BagFrameLaws.{IsServer}
+use Rattle.domain_world.proofs.Frames.ComingLaws.{CameFrom}
+use Rattle.domain_world.proofs.Frames.MarkPlaceLaws.{got_map}
+use Rattle.domain_world.proofs.Frames.OpenMadeLaws.{IsAtSide}
+use Rattle.domain_world.proofs.Frames.StepFrameLaws.{ActionFact, BothFacts, BothFine, HoldsAfterRun, IsCalm, Keeps, NoFact, RunFact, join, run_keeps}
+use Rattle.domain_world.proofs.Requests.CallComesLaws.{IsWhole, KeptAfter, KeptIn, client_comes, controller_comes, other_comes, whole_comes}
+use Rattle.domain_world.proofs.Requests.CallHoldsLaws.{CallsHold, differ_front, link_more, marks_in, requests_at, sent_more}
+use Rattle.domain_world.proofs.Requests.CallStepLaws.{CallLaws, client_anew, client_hears, controller_anew, controller_hears, member_anew, member_hears}
+use Rattle.domain_world.proofs.Requests.LooserLaws.{NoCalls}
+use Rattle.domain_world.proofs.Requests.OutStepLaws.{IsOther, IsOutIn, MemberHolds, OutFor, none_out}
+
+-- ---- a unit that comes on the link of a turn is whole, and comes in one piece
+
+one_of_one : (one other piece : List ℕ) (pieces : List (List ℕ)) → pieces ≡ one ∷ [] → OneOf (λ (each : List ℕ). each ≡ piece) pieces → one ≡ piece
+one_of_one one other piece pieces is some =
+    elim (subst (λ (all : List (List ℕ)). OneOf (λ (each : List ℕ). each ≡ piece) all) is some) [ inl here ↦ here | inr never ↦ absurd never ]
+
+one_piece : (bytes piece : List ℕ) → length bytes ≤ 65536 → OneOf (λ (one : List ℕ). one ≡ piece) (pieces_of bytes) → bytes ≡ piece
+one_piece [] piece short some = absurd (subst (λ (all : List (List ℕ)). OneOf (λ (one : List ℕ). one ≡ piece) all) pieces_none some)
+one_piece (byte ∷ bytes) piece short some =
+    let all : List ℕ = byte ∷ bytes in
+    one_of_one all all piece (pieces_of all)
+    (pieces_more all (omega arith)
+    ∙ ap (λ (first : List ℕ). first ∷ pieces_of (drop piece_limit all)) (take_all piece_limit all short)
+    ∙ ap (λ (rest : List ℕ). all ∷ pieces_of rest) (drop_all piece_limit all short)
+    ∙ ap (λ (later : List (List ℕ)). all ∷ later) pieces_none)
+    some
+
+came_whole : (unit : Option ℕ) (s : State) (w : Coming) (piece : List ℕ) (at : ℕ) → CameFrom unit s w piece → IsDialledBy s.links at w.link → BagIsWhole s → IsWholeUnit piece
+came_whole None s w piece at came dialled whole = absurd (came at dialled.controller dialled.at)
+came_whole (Some number) s w piece at came dialled whole =
+    let both : Some came.route ≡ Some (ToController at dialled.controller) = sym came.made ∙ dialled.at in
+    let route : came.route ≡ ToController at dialled.controller = (let x = both in cc) in
+    let is = whole number came.unit came.there (sym came.same_kind ∙ ap kind_of route) in
+    subst IsWholeUnit (one_piece came.unit.bytes piece is.1 came.part) is.0
+
+-- ---- whether bytes come on the link of a turn
+
+record TurnOn (r : Option Running) (link : ℕ) : Type 0 where
+  running : Running
+  runs : r ≡ Some running
+  said : LinkState TurnTalk
+  on : running.dialling ≡ dialling.On link said
+
+hit_case : (hit : Bool) (running : Running) (link other : ℕ) (said : LinkState TurnTalk) → (other == link) ≡ hit → running.dialling ≡ dialling.On other said → IsOther (Some running) link ⊎ TurnOn (Some running) link
+hit_case false running link other said is on = inl (ap (λ (how : Dialling). is_turn_link how link) on ∙ is)
+hit_case true running link other said is on =
+    inr (record { running = running; runs = refl; said = said; on = on ∙ ap (λ (n : ℕ). dialling.On n said) (eqb-true other link is) })
+
+how_case : (how : Dialling) (running : Running) (link : ℕ) → running.dialling ≡ how → IsOther (Some running) link ⊎ TurnOn (Some running) link
+how_case dialling.Nothing running link on = inl (ap (λ (how : Dialling). is_turn_link how link) on)
+how_case (dialling.Waits turn frames) running link on = inl (ap (λ (how : Dialling). is_turn_link how link) on)
+how_case (dialling.On other said) running link on = hit_case (other == link) running link other said refl on
+
+turn_case : (r : Option Running) (link : ℕ) → IsOther r link ⊎ TurnOn r link
+turn_case None link = inl tt
+turn_case (Some running) link = how_case running.dialling running link refl
+
+dialled_on : (Fits : ℕ → Logon → Type 0) (Own : ℕ → Type 0) (r : Option Running) (link : ℕ) (on : TurnOn r link) → LogonsKept Fits Own r → Own link
+dialled_on Fits Own r link on kept =
+    let own : LogonsKept Fits Own (Some on.running) = subst (λ (x : Option Running). LogonsKept Fits Own x) on.runs kept in
+    subst (λ (how : Dialling). IfDialled Own how) on.on own.1
+
+-- ---- the fact, what it rests on and what it asks of actions
+
+-- the bag is whole, and nothing is open on the link of a turn: of the quiet parts `bag` and `members` are used
+abbrev pub QuietSide : RunFact
+QuietSide n s given b = IsQuiet s
+
+-- what is known of calls, where few steps were taken and the draws so far differ
+abbrev pub CallsKept : RunFact
+CallsKept n s given b = KeptIn n s b
+
+-- nothing is asked of actions
+abbrev pub AnyAction : ActionFact
+AnyAction end links what = Unit {0}
+
+any_fine : (end : EndId) (links : List Route) (actions : List Action) → AllByRecursion (AnyAction end links) actions
+any_fine end links [] = tt
+any_fine end links (what ∷ actions) = (tt, any_fine end links actions)
+
+-- ---- events
+
+calm_meets : (end : EndId) (links : List Route) (what : Event) → IsCalm what → Meets end links what
+calm_meets (Controller at) links what calm = tt
+calm_meets (Client at) links what calm = tt
+calm_meets (Member at) links (event.Bytes link piece) calm = absurd calm
+calm_meets (Member at) links (event.Opened link) calm = absurd calm
+calm_meets (Member at) links (event.Closed link) calm = (tt, tt)
+calm_meets (Member at) links (event.Dialled link) calm = absurd calm
+calm_meets (Member at) links event.DialFailed calm = (tt, tt)
+calm_meets (Member at) links event.Stop calm = (tt, tt)
+
+dialled_by : (links : List Route) (link at : ℕ) (route : Route) → slice_get links link ≡ Some route → dialler_of route ≡ Some (Member at) → IsDialledBy links at link
+dialled_by links link at (ToMember client member) made side = let x = side in cc
+dialled_by links link at (Stranger to) made side = let x = side in cc
+dialled_by links link at (ToController member controller) made side =
+    let same : member ≡ at = (let x = side in cc) in
+    record { controller = controller; at = made ∙ ap (λ (k : ℕ). Some (ToController k controller)) same }
+
+side_meets : (end : EndId) (links : List Route) (link : ℕ) → IsAtSide links link true end → Meets end links (event.Dialled link)
+side_meets (Controller at) links link side = tt
+side_meets (Client at) links link side = tt
+side_meets (Member at) links link side = (dialled_by links link at side.route side.made side.side, tt)
+
+plain_calls : (at count : ℕ) → NoCalls (marks_in (replicate count (sent_at at Plain)))
+plain_calls at zero zero number timestamp c there = let x = there in cc
+plain_calls at zero (suc k) number timestamp c there = let x = there in cc
+plain_calls at (suc count) zero number timestamp c there = let x = there in cc
+plain_calls at (suc count) (suc k) number timestamp c there = plain_calls at count k number timestamp c there
+
+module _ (laws : CallLaws) where
+  hears_so : (n : ℕ) (end : EndId) (what : Event) (s : State) (b : Book) → Meets end s.links what → KeptIn n s b → KeptIn (n + 1) (hear end what s).state b
+  hears_so n (Controller at) what s b meets kept =
+      controller_hears n s.member_plans s.ends s.links b.sent b.messages (slice_get s.ends.controllers at) at what s.moment s.chances kept
+  hears_so n (Client at) what s b meets kept = client_hears n s.member_plans s.ends s.links b.sent b.messages (slice_get s.ends.clients at) at what s.moment s.chances kept
+  hears_so n (Member at) what s b meets kept =
+      member_hears n s.member_plans s.ends s.links b.sent b.messages laws (slice_get s.ends.members at) at what s.moment s.chances refl meets.0 meets.1 kept
+
+  -- ---- bytes come
+
+  member_comes : (n : ℕ) (found : Option MemberState) (at : ℕ) (w : Coming) (piece : List ℕ) (s after : State) (b : Book) → slice_get s.ends.members at ≡ found → IsQuiet s →
+      CameFrom w.unit s w piece → length b.sent ≡ length s.bag →
+      ((m : MemberState) → found ≡ Some m →
+      after.bag
+      ≡ (perform_all (Member at) (actions_by (step_of m (event.Bytes w.link piece) s.moment s.chances.left).answer)
+      (heard_by (member_step (Some m) at (event.Bytes w.link piece) s.moment s.ends s.chances) s).state).state.bag) →
+      KeptIn n s b → KeptAfter (n + 1) s (member_step found at (event.Bytes w.link piece) s.moment s.ends s.chances) (note_member found at w piece s after b)
+  member_comes n None at w piece s after b is quiet came even bag kept =
+      member_hears n s.member_plans s.ends s.links b.sent b.messages laws None at event.Stop s.moment s.chances is tt tt kept
+  member_comes n (Some m) at w piece s after b is quiet came even bag kept = λ few differ.
+      let drawn : List (List ℕ) = (step_of m (event.Bytes w.link piece) s.moment s.chances.left).drawn in
+      let holds : CallsHold n s.member_plans s.ends s.chances.drawn s.links b.sent b.messages = kept (omega (arith, few)) (differ_front s.chances.drawn drawn differ) in
+      let own : MemberHolds s.links b.sent b.messages (controller_of at s) at m.running = holds.members at m is in
+      elim (turn_case m.running w.link) [
+        | inl other ↦ other_comes laws n at w piece s after b m is other kept few differ
+        | inr on ↦
+            let now : MemberState = record { running = Some on.running } in
+            let same : m ≡ now = ap (λ (r : Option Running). record { running = r }) on.runs in
+            let dialled : IsDialledBy s.links at w.link = dialled_on _ (λ number. IsDialledBy s.links at number) m.running w.link on own.kept in
+            let unit : IsWholeUnit piece = came_whole w.unit s w piece at came dialled quiet.bag in
+            let turn : IsQuietTurn (dialling.On w.link on.said) = subst IsQuietTurn on.on (quiet.members at m on.running is on.runs) in
+            let whole : IsWhole w.link piece on.running =
+            record { said = on.said; on = on.on; rest = turn.0; none = turn.1; frames = unit.frames; unit = unit.unit; heard = unit.heard } in
+            subst (λ (x : MemberState). KeptAfter (n + 1) s (member_step (Some x) at (event.Bytes w.link piece) s.moment s.ends s.chances) (note_member (Some x) at w piece s after b)) (sym same)
+            (whole_comes laws n at w piece s after b on.running whole dialled even (bag now (ap (λ (x : MemberState). Some x) same)) (is ∙ ap (λ (x : MemberState). Some x) same) kept)
+            few differ
+      ]
+
+  comes_so : (n : ℕ) (end : EndId) (w : Coming) (piece : List ℕ) (s : State) (b : Book) → CameFrom w.unit s w piece → (IsServer end → length b.sent ≡ length s.bag) → IsQuiet s → KeptIn n s b →
+      KeptIn (n + 1) (hear end (event.Bytes w.link piece) s).state (note_at (Some end) w piece s (hears end (event.Bytes w.link piece) s).state b)
+  comes_so n (Controller at) w piece s b came even quiet kept =
+      controller_comes n (slice_get s.ends.controllers at) at w piece s (hears (Controller at) (event.Bytes w.link piece) s).state b kept
+  comes_so n (Client at) w piece s b came even quiet kept = client_comes n (slice_get s.ends.clients at) at w piece s b kept
+  comes_so n (Member at) w piece s b came even quiet kept =
+      let what : Event = event.Bytes w.link piece in
+      member_comes n (slice_get s.ends.members at) at w piece s (hears (Member at) what s).state b refl quiet came (even tt)
+      (λ m is. ap (λ (found : Option MemberState).
+      (perform_all (Member at) (member_step found at what s.moment s.ends s.chances).actions (heard_by (member_step found at what s.moment s.ends s.chances) s).state).state.bag) is) kept
+
+  -- ---- single changes
+
+  bag_so : (n : ℕ) (k : LinkKind) (back : Bool) (link : ℕ) (bytes : List ℕ) (s : State) (b : Book) → KeptIn n s b → KeptIn n (bag_unit k back link bytes s) b
+  bag_so n kind.Stranger back link bytes s b kept = kept
+  bag_so n kind.ToMember back link bytes s b kept = kept
+  bag_so n kind.ToController back link bytes s b kept = kept
+
+  send_so : (n : ℕ) (route : Option Route) (end : EndId) (link : ℕ) (bytes : List ℕ) (s : State) (b : Book) → KeptIn n s b → KeptIn n (send_on route end link bytes s) b
+  send_so n None end link bytes s b kept = kept
+  send_so n (Some route) end link bytes s b kept = bag_so n (kind_of route) (is_accepted_by end route) link bytes s b kept
+
+  act_so : (n : ℕ) (end : EndId) (what : Action) (s : State) (b : Book) → KeptIn n s b → KeptIn n (perform_quietly end what s) b
+  act_so n end (Keep bytes) s b kept = kept
+  act_so n end (Send link bytes) s b kept = send_so n (slice_get s.links link) end link bytes s b kept
+  act_so n end (Dial peer) s b kept = kept
+  act_so n end (Close link cause) s b kept = kept
+  act_so n end (Told link outcome) s b kept = kept
+  act_so n end (Judged how) s b kept = kept
+
+  controller_renewed : (n : ℕ) (found : Option ControllerState) (at : ℕ) (s : State) (b : Book) → KeptIn n s b → KeptIn n (record s { ends = renew_controller found at s.ends }) b
+  controller_renewed n None at s b kept = kept
+  controller_renewed n (Some c) at s b kept = controller_anew n s.member_plans s.ends s.links b.sent b.messages at (first_state c.table c.name) s.chances.drawn kept
+
+  member_renewed : (n : ℕ) (found : Option MemberPlan) (at : ℕ) (s : State) (b : Book) → KeptIn n s b → KeptIn n (record s { ends = renew_member found at s.ends }) b
+  member_renewed n None at s b kept = kept
+  member_renewed n (Some plan) at s b kept = member_anew n s.member_plans s.ends s.links b.sent b.messages laws plan at s.chances.drawn kept
+
+  client_renewed : (n : ℕ) (found : Option ClientPlan) (at : ℕ) (s : State) (b : Book) → KeptIn n s b → KeptIn n (record s { ends = renew_client found at s.ends }) b
+  client_renewed n None at s b kept = kept
+  client_renewed n (Some plan) at s b kept = client_anew n s.member_plans s.ends s.links b.sent b.messages n at (fresh_client plan) s.chances.drawn (omega arith) kept
+
+  renewed_so : (n : ℕ) (end : EndId) (s : State) (b : Book) → KeptIn n s b → KeptIn n (renewed end s) b
+  renewed_so n (Controller at) s b kept = controller_renewed n (slice_get s.ends.controllers at) at s b kept
+  renewed_so n (Member at) s b kept = member_renewed n (slice_get s.member_plans at) at s b kept
+  renewed_so n (Client at) s b kept = client_renewed n (slice_get s.client_plans at) at s b kept
+
+  over_so : (n at : ℕ) (given : Given) (s : State) (b : Book) → KeptIn n s b → KeptIn n s (note_given at given s b)
+  over_so n at given s b kept = λ few differ.
+      let count : ℕ = length s.bag - length b.sent in
+      sent_more n s.member_plans s.ends s.chances.drawn s.links b.sent (replicate count (sent_at at Plain)) b.messages (plain_calls at count) (kept few differ)
+
+  -- through each step and each single change
+  pub calls_keep : Keeps QuietSide CallsKept AnyAction
+  calls_keep = record {
+    calm = λ n end what s given b calm quiet kept. record {
+      holds = hears_so n end what s b (calm_meets end s.links what calm) kept;
+      fine = any_fine end s.links (hear end what s).actions;
+    };
+    dialled = λ n end link s given b side quiet kept. record {
+      holds = hears_so n end (event.Dialled link) s b (side_meets end s.links link side) kept;
+      fine = any_fine end s.links (hear end (event.Dialled link) s).actions;
+    };
+    opens = λ n route s given b quiet kept. record {
+      holds = hears_so n (acceptor_of route) (event.Opened (length s.links)) (with_link route s) b (last_accepted (acceptor_of route) route s.links refl)
+          (λ few differ. link_more n s.member_plans s.ends s.chances.drawn s.links route b.sent b.messages (kept few differ));
+      fine = any_fine (acceptor_of route) (with_link route s).links (hear (acceptor_of route) (event.Opened (length s.links)) (with_link route s)).actions;
+    };
+    begins = λ n client plan s given b there quiet kept. record {
+      holds = client_anew n s.member_plans s.ends s.links b.sent b.messages (n + 1) client (begin_of (fresh_client plan)).state s.chances.drawn (omega arith) kept;
+      fine = any_fine (Client client) s.links (begun client plan s).actions;
+    };
+    comes = λ n end w piece s given b side came even quiet kept. record {
+      holds = comes_so n end w piece s b came even quiet kept;
+      fine = any_fine end s.links (hear end (event.Bytes w.link piece) s).actions;
+    };
+    acts = λ n end what s given b fine quiet kept. act_so n end what s b kept;
+    shuts = λ n link s given b quiet kept. kept;
+    answers = λ n link there s given b is quiet kept. kept;
+    forgets = λ n end s given b quiet kept. kept;
+    settles = λ n number s given b quiet kept. kept;
+    dials = λ n s given b quiet kept. kept;
+    renews = λ n end s given b quiet kept. renewed_so n end s b kept;
+    ticks = λ n more s given b quiet kept. kept;
+    over = λ n at s given b quiet kept. over_so n at given s b kept;
+  }
+
+-- ---- at first
+
+fresh_holds : (controller k : ℕ) (plan : MemberPlan) → MemberHolds [] [] [] controller k (fresh_member plan).running
+fresh_holds controller k plan =
+    record { asks = fresh_asks plan; kept = (tt, tt); accepts = tt; out = λ pending logon turn reply there. absurd (none_out pending turn) }
+
+-- nothing was asked yet
+pub first_calls : (plan : Plan) → CallsKept 0 (first_world plan).state [] blank
+first_calls plan = λ few differ. record {
+  apart = first_apart plan;
+  members = λ k m there.
+      let found = got_map fresh_member plan.members k m there in
+      subst (λ (x : MemberState). MemberHolds [] [] [] (controller_of k (first_world plan).state) k x.running) found.2 (fresh_holds (controller_of k (first_world plan).state) k found.0);
+  accepted = tt;
+}
+
+-- ---- after a run
+
+-- the four fields of `RunsStandSo` that speak of calls
+pub record CallsStand (plan : Plan) (moves : List Move) : Type 0 where
+  pub requests : Requests ℕ
+  pub shows : Shows requests (past plan moves) (length moves)
+  pub apart : CallsAreApart requests
+  pub out : AskedIsOut (past plan moves)
+
+out_of : (p : Past) (member : ℕ) (pending : Pending) (logon : Logon) (standing : Option _) (message : MessageTaken) → IsOutIn p.book.sent member pending logon standing message →
+    IsOut p member pending logon standing message
+out_of p member pending logon standing message is = record {
+  link = is.link;
+  by = is.by;
+  request = is.request;
+  call = is.call;
+  sent = is.unit;
+  there = is.there;
+  channel = is.channel;
+  timestamp = is.timestamp;
+  stands = is.stands;
+  mark = is.mark;
+}
+
+-- from what is known after so many steps
+pub calls_stand : (plan : Plan) (moves : List Move) (steps : ℕ) → CallsKept steps (past plan moves).world.state [] (past plan moves).book →
+    steps + 2 * length (past plan moves).world.state.open_links ≤ 10 * length moves → IsSchedule plan moves → DrawsDiffer (past plan moves).world → CallsStand plan moves
+calls_stand plan moves steps kept few schedule differ =
+    let p : Past = past plan moves in
+    let holds : CallsHold steps p.world.state.member_plans p.world.state.ends p.world.state.chances.drawn p.world.state.links p.book.sent p.book.messages =
+    kept (omega (arith, few, schedule.few)) differ in
+    record {
+      requests = requests_at steps p.world.state.member_plans p.world.state.ends p.world.state.chances.drawn p.book.sent;
+      shows = record { views = λ k. refl; marks = refl; drawn = refl; few = omega (arith, few) };
+      apart = holds.apart;
+      out = λ k m running pending logon there runs turn reply kept_there.
+          let out : OutFor p.book.sent p.book.messages (controller_of k p.world.state) k (Some running) =
+          subst (λ (r : Option Running). OutFor p.book.sent p.book.messages (controller_of k p.world.state) k r) runs (holds.members k m there).out in
+          one_weaker (IsOutIn p.book.sent k pending logon (standing_channel (controller_of k p.world.state) running.logons.channel))
+          (IsOut p k pending logon (standing_channel (controller_of k p.world.state) running.logons.channel)) p.book.messages
+          (λ message is. out_of p k pending logon (standing_channel (controller_of k p.world.state) running.logons.channel) message is) (out pending logon turn reply kept_there);
+    }
+
+-- ---- with what keeps the ends quiet
+
+-- a fact that rests on a side fact rests on whatever has it
+with_side : (Side More Holds : RunFact) (Fine : ActionFact) → ((n : ℕ) (s : State) (given : Given) (b : Book) → More n s given b → Side n s given b) → Keeps Side Holds Fine → Keeps More Holds Fine
+with_side Side More Holds Fine so keeps = record {
+  calm = λ n end what s given b calm side holds. keeps.calm n end what s given b calm (so n s given b side) holds;
+  dialled = λ n end link s given b at side holds. keeps.dialled n end link s given b at (so n s given b side) holds;
+  opens = λ n route s given b side holds. keeps.opens n route s given b (so n s given b side) holds;
+  begins = λ n client plan s given b there side holds. keeps.begins n client plan s given b there (so n s given b side) holds;
+  comes = λ n end w piece s given b at came even side holds. keeps.comes n end w piece s given b at came even (so n s given b side) holds;
+  acts = λ n end what s given b fine side holds. keeps.acts n end what s given b fine (so n s given b side) holds;
+  shuts = λ n link s given b side holds. keeps.shuts n link s given b (so n s given b side) holds;
+  answers = λ n link there s given b is side holds. keeps.answers n link there s given b is (so n s given b side) holds;
+  forgets = λ n end s given b side holds. keeps.forgets n end s given b (so n s given b side) holds;
+  settles = λ n number s given b side holds. keeps.settles n number s given b (so n s given b side) holds;
+  dials = λ n s given b side holds. keeps.dials n s given b (so n s given b side) holds;
+  renews = λ n end s given b side holds. keeps.renews n end s given b (so n s given b side) holds;
+  ticks = λ n more s given b side holds. keeps.ticks n more s given b (so n s given b side) holds;
+  over = λ n at s given b side holds. keeps.over n at s given b (so n s given b side) holds;
+}
+
+-- so a schedule whose draws differ stands as it is to, where any fact is kept by which its ends are quiet
+pub stand_so : RequestersKeepCallsApart → CallsStayApart ℕ → ChannelStepsKnown → (Quiet : RunFact) (Fine : ActionFact) → ((n : ℕ) (s : State) (given : Given) (b : Book) → Quiet n s given b → IsQuiet s) → Keeps NoFact Quiet Fine →
+    (plan : Plan) (moves : List Move) → Quiet 0 (first_world plan).state [] blank → AreShortUnits (past plan moves).world.state.bag → IsSchedule plan moves →
+    DrawsDiffer (past plan moves).world → RunsStandSo plan moves
+stand_so requesters events steps Quiet Fine so keeps plan moves first short schedule differ =
+    let laws : CallLaws = record { keep = requesters; events = events; steps = steps } in
+    let both : Keeps NoFact (BothFacts Quiet CallsKept) (BothFine Fine AnyAction) =
+    join Quiet CallsKept Fine AnyAction keeps (with_side QuietSide Quiet CallsKept AnyAction so (calls_keep laws)) in
+    let after : HoldsAfterRun (BothFacts Quiet CallsKept) plan moves =
+    run_keeps (BothFacts Quiet CallsKept) (BothFine Fine AnyAction) both plan moves short (first, first_calls plan) in
+    let stand : CallsStand plan moves = calls_stand plan moves after.steps after.holds.1 after.few schedule differ in
+    record {
+      quiet = so after.steps (past plan moves).world.state [] (past plan moves).book after.holds.0;
+      requests = stand.requests;
+      shows = stand.shows;
+      apart = stand.apart;
+      out = stand.out;
+    }
