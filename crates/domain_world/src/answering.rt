@@ -10,10 +10,13 @@ ghost use Rattle.domain_world.specs.Accepting.Answered.{AnswersAreHeard, IsProve
 ghost use Rattle.domain_world.specs.Accepting.Carried.{CarriedCallsAreHeard};
 ghost use Rattle.domain_world.specs.Accepting.KeysMade.{KeysAreFoundAsMade, MessagesAreMade, MessagesAreTakenAsSent};
 ghost use Rattle.domain_world.specs.Accepting.ReadBack.{OutcomesAreReadBack};
-ghost use Rattle.domain_world.specs.Accepting.Runs.{IsQuiet, RunsBegin};
+ghost use Rattle.domain_world.specs.Accepting.Runs.{IsQuiet, RunsBegin, RunsStandSo};
 ghost use Rattle.domain_world.specs.Accepting.Units.{RunsAreHeard};
 ghost use Rattle.domain_world.specs.Claims.{AcceptsAllGranted, AcceptsOnlyGranted, IsClear, KeysAgree, ShortResponsesServeOnce};
 ghost use Rattle.domain_world.specs.Past.{Past, past};
+
+use channel_events::{calls_stay_apart, requesters_keep_calls_apart};
+use member_server::channel_steps_are_known;
 
 /// Where the challenges that were drawn are blocks of 8 bytes of which no two are alike, a response of 24 bytes is
 /// accepted on one link alone.
@@ -124,3 +127,18 @@ pub fn draws_of_runs_differ()
     ensures differ { (plan : Plan) (moves : List Move) → DrawsDiffer (past plan moves).world }
     ensures blocks { (plan : Plan) (moves : List Move) → DrawsAreBlocks (past plan moves).world }
 {}
+
+/// After every schedule whose draws differ what is under way is whole, no number of a bind or a request came round, the
+/// calls on secure channels have different numbers (MS-NRPC 3.1.4.1, C706 12.6.3.1), and a Logon call that is out is
+/// that of the message for which its turn is.
+#[tactic(auto, using(crate::proofs::Requests::CallFrameLaws::schedules_stand))]
+pub fn runs_stand_so()
+    ensures { (plan : Plan) (moves : List Move) → IsSchedule plan moves →
+        AreShortUnits (past plan moves).world.state.bag → HaveBytes (past plan moves).world.state.bag →
+        DrawsDiffer (past plan moves).world → RunsStandSo plan moves }
+{
+    // What a requester's step does to calls, and a member's to its requester, are laws of their own.
+    requesters_keep_calls_apart();
+    calls_stay_apart();
+    channel_steps_are_known();
+}

@@ -325,7 +325,7 @@ module _ (laws : CallLaws) (n at : ℕ) (w : Coming) (piece : List ℕ) (s after
           let now_marks : marks_in sent ≡ marks_in b.sent ++ marks =
           marks_append b.sent (map (sent_at w.at) marks) ∙ ap (λ (more : List Mark). marks_in b.sent ++ more) (marks_sent w.at marks) in
           let apart : CallsAreApart
-              (requests_after (views_at s.member_plans s.ends) at its (step_of m (event.Bytes w.link piece) s.moment left).state.running (marks_in b.sent ++ marks) (s.chances.drawn ++ drawn) (2 * n + 2)) =
+          (requests_after (views_at s.member_plans s.ends) at its (step_of m (event.Bytes w.link piece) s.moment left).state.running (marks_in b.sent ++ marks) (s.chances.drawn ++ drawn) (2 * n + 2)) =
           whole_apart laws.keep (views_at s.member_plans s.ends) at its laws.steps running w.link whole.said piece whole.frames whole.unit s.moment left (marks_in b.sent) marks s.chances.drawn (2 * n)
           (omega (arith, few)) whole.on whole.rest whole.none whole.heard own.asks.coherent (ap (λ (x : Option MemberState). seen_member its x) is)
           (placed_part its turn whole.unit stepped w.link (drop (length s.bag) after.bag) left served units_whole) holds.apart differ in

@@ -43,7 +43,7 @@ use Rattle.world_moves.specs.declared.moves.Move.{Move}
 use Rattle.world_moves.specs.declared.plan.Plan.{Plan}
 use Rattle.world_moves.specs.declared.state.State.{State}
 use Rattle.world_moves.specs.Acting.{Given, bag_unit, hear, heard_by, hears, perform_all, perform_quietly, send_on}
-use Rattle.world_moves.specs.Bag.{AreShortUnits, piece_limit, pieces_of}
+use Rattle.world_moves.specs.Bag.{AreShortUnits, HaveBytes, piece_limit, pieces_of}
 use Rattle.world_moves.specs.Draws.{DrawsDiffer}
 use Rattle.world_moves.specs.Ends.{actions_by, member_step, renew_client, renew_controller, renew_member}
 use Rattle.world_moves.specs.Forms.{IsSchedule}
@@ -55,12 +55,14 @@ use Rattle.domain_world.specs.Accepting.Carried.{IsWholeUnit}
 use Rattle.domain_world.specs.Accepting.Runs.{AskedIsOut, BagIsWhole, IsOut, IsQuiet, IsQuietTurn, RunsStandSo, Shows}
 use Rattle.domain_world.specs.Past.{Coming, Past, controller_of, note_at, note_given, note_member, past, sent_at}
 use Rattle.domain_world.proofs.Accepting.LetInStepLaws.{IsDialledBy, Meets, last_accepted}
+use Rattle.domain_world.proofs.Accepting.QuietRunLaws.{has_bytes, is_quiet, quiet_first, quiet_keeps}
+use Rattle.domain_world.proofs.Accepting.QuietStepLaws.{QuietAction, QuietFact}
 use Rattle.domain_world.proofs.Accepting.RunBeginLaws.{first_apart}
 use Rattle.domain_world.proofs.Frames.BagFrameLaws.{IsServer}
 use Rattle.domain_world.proofs.Frames.ComingLaws.{CameFrom}
 use Rattle.domain_world.proofs.Frames.MarkPlaceLaws.{got_map}
 use Rattle.domain_world.proofs.Frames.OpenMadeLaws.{IsAtSide}
-use Rattle.domain_world.proofs.Frames.StepFrameLaws.{ActionFact, BothFacts, BothFine, HoldsAfterRun, IsCalm, Keeps, NoFact, RunFact, join, run_keeps}
+use Rattle.domain_world.proofs.Frames.StepFrameLaws.{ActionFact, BothFacts, BothFine, HasBytes, HoldsAfterRun, IsCalm, Keeps, NoFact, RunFact, join, run_keeps, with_side}
 use Rattle.domain_world.proofs.Requests.CallComesLaws.{IsWhole, KeptAfter, KeptIn, client_comes, controller_comes, other_comes, whole_comes}
 use Rattle.domain_world.proofs.Requests.CallHoldsLaws.{CallsHold, differ_front, link_more, marks_in, requests_at, sent_more}
 use Rattle.domain_world.proofs.Requests.CallStepLaws.{CallLaws, client_anew, client_hears, controller_anew, controller_hears, member_anew, member_hears}
@@ -277,7 +279,7 @@ module _ (laws : CallLaws) where
       holds = client_anew n s.member_plans s.ends s.links b.sent b.messages (n + 1) client (begin_of (fresh_client plan)).state s.chances.drawn (omega arith) kept;
       fine = any_fine (Client client) s.links (begun client plan s).actions;
     };
-    comes = λ n end w piece s given b side came even quiet kept. record {
+    comes = λ n end w piece s given b side came bytes even quiet kept. record {
       holds = comes_so n end w piece s b came even quiet kept;
       fine = any_fine end s.links (hear end (event.Bytes w.link piece) s).actions;
     };
@@ -353,35 +355,16 @@ calls_stand plan moves steps kept few schedule differ =
 
 -- ---- with what keeps the ends quiet
 
--- a fact that rests on a side fact rests on whatever has it
-with_side : (Side More Holds : RunFact) (Fine : ActionFact) → ((n : ℕ) (s : State) (given : Given) (b : Book) → More n s given b → Side n s given b) → Keeps Side Holds Fine → Keeps More Holds Fine
-with_side Side More Holds Fine so keeps = record {
-  calm = λ n end what s given b calm side holds. keeps.calm n end what s given b calm (so n s given b side) holds;
-  dialled = λ n end link s given b at side holds. keeps.dialled n end link s given b at (so n s given b side) holds;
-  opens = λ n route s given b side holds. keeps.opens n route s given b (so n s given b side) holds;
-  begins = λ n client plan s given b there side holds. keeps.begins n client plan s given b there (so n s given b side) holds;
-  comes = λ n end w piece s given b at came even side holds. keeps.comes n end w piece s given b at came even (so n s given b side) holds;
-  acts = λ n end what s given b fine side holds. keeps.acts n end what s given b fine (so n s given b side) holds;
-  shuts = λ n link s given b side holds. keeps.shuts n link s given b (so n s given b side) holds;
-  answers = λ n link there s given b is side holds. keeps.answers n link there s given b is (so n s given b side) holds;
-  forgets = λ n end s given b side holds. keeps.forgets n end s given b (so n s given b side) holds;
-  settles = λ n number s given b side holds. keeps.settles n number s given b (so n s given b side) holds;
-  dials = λ n s given b side holds. keeps.dials n s given b (so n s given b side) holds;
-  renews = λ n end s given b side holds. keeps.renews n end s given b (so n s given b side) holds;
-  ticks = λ n more s given b side holds. keeps.ticks n more s given b (so n s given b side) holds;
-  over = λ n at s given b side holds. keeps.over n at s given b (so n s given b side) holds;
-}
-
 -- so a schedule whose draws differ stands as it is to, where any fact is kept by which its ends are quiet
 pub stand_so : RequestersKeepCallsApart → CallsStayApart ℕ → ChannelStepsKnown → (Quiet : RunFact) (Fine : ActionFact) → ((n : ℕ) (s : State) (given : Given) (b : Book) → Quiet n s given b → IsQuiet s) → Keeps NoFact Quiet Fine →
-    (plan : Plan) (moves : List Move) → Quiet 0 (first_world plan).state [] blank → AreShortUnits (past plan moves).world.state.bag → IsSchedule plan moves →
+    (plan : Plan) (moves : List Move) → Quiet 0 (first_world plan).state [] blank → HasBytes plan moves → IsSchedule plan moves →
     DrawsDiffer (past plan moves).world → RunsStandSo plan moves
-stand_so requesters events steps Quiet Fine so keeps plan moves first short schedule differ =
+stand_so requesters events steps Quiet Fine so keeps plan moves first bytes schedule differ =
     let laws : CallLaws = record { keep = requesters; events = events; steps = steps } in
     let both : Keeps NoFact (BothFacts Quiet CallsKept) (BothFine Fine AnyAction) =
     join Quiet CallsKept Fine AnyAction keeps (with_side QuietSide Quiet CallsKept AnyAction so (calls_keep laws)) in
     let after : HoldsAfterRun (BothFacts Quiet CallsKept) plan moves =
-    run_keeps (BothFacts Quiet CallsKept) (BothFine Fine AnyAction) both plan moves short (first, first_calls plan) in
+    run_keeps (BothFacts Quiet CallsKept) (BothFine Fine AnyAction) both plan moves bytes (first, first_calls plan) in
     let stand : CallsStand plan moves = calls_stand plan moves after.steps after.holds.1 after.few schedule differ in
     record {
       quiet = so after.steps (past plan moves).world.state [] (past plan moves).book after.holds.0;
@@ -390,3 +373,10 @@ stand_so requesters events steps Quiet Fine so keeps plan moves first short sche
       apart = stand.apart;
       out = stand.out;
     }
+
+-- so it is of each schedule
+pub schedules_stand : RequestersKeepCallsApart → CallsStayApart ℕ → ChannelStepsKnown → (plan : Plan) (moves : List Move) → IsSchedule plan moves → AreShortUnits (past plan moves).world.state.bag →
+    HaveBytes (past plan moves).world.state.bag → DrawsDiffer (past plan moves).world → RunsStandSo plan moves
+schedules_stand requesters events steps plan moves schedule short bytes differ =
+    stand_so requesters events steps QuietFact QuietAction (λ n s given b quiet. is_quiet s quiet) quiet_keeps plan moves (quiet_first plan schedule.forms) (has_bytes plan moves schedule short bytes)
+    schedule differ
