@@ -1,5 +1,6 @@
 -- How a fact is carried through all moves of a run.
 pub mod BagFrameLaws
+pub mod BagStepLaws
 pub mod BookFrameLaws
 pub mod ComingLaws
 pub mod DrawnLaws

@@ -4,6 +4,9 @@ pub mod CallFrameLaws
 pub mod CallHoldsLaws
 pub mod CallMessageLaws
 pub mod CallStepLaws
+pub mod CallWholeLaws
+pub mod CalledRunLaws
+pub mod CalledUnitLaws
 pub mod KeptAskLaws
 pub mod KeptFirstLaws
 pub mod LooserLaws
@@ -11,6 +14,7 @@ pub mod MarkWayLaws
 pub mod NamedLinkLaws
 pub mod NewMessageLaws
 pub mod OutStepLaws
+pub mod OwnMessageLaws
 pub mod StepApartLaws
 pub mod WholeNotedLaws
 pub mod WholeOutLaws

@@ -7,7 +7,7 @@ ghost use Rattle.world_moves.specs.Bag.{AreShortUnits, HaveBytes};
 ghost use Rattle.world_moves.specs.Draws.{DrawsAreBlocks, DrawsDiffer};
 ghost use Rattle.world_moves.specs.Forms.{IsSchedule};
 ghost use Rattle.domain_world.specs.Accepting.Answered.{AnswersAreHeard, IsProved, MarksHaveTheirWay, MessagesAreApart, PassesAreUnclashed};
-ghost use Rattle.domain_world.specs.Accepting.Carried.{CarriedCallsAreHeard};
+ghost use Rattle.domain_world.specs.Accepting.Carried.{CarriedCallsAreHeard, MessagesAreCalled};
 ghost use Rattle.domain_world.specs.Accepting.KeysMade.{KeysAreFoundAsMade, MessagesAreMade, MessagesAreTakenAsSent};
 ghost use Rattle.domain_world.specs.Accepting.ReadBack.{OutcomesAreReadBack};
 ghost use Rattle.domain_world.specs.Accepting.Runs.{IsQuiet, RunsBegin, RunsStandSo};
@@ -120,6 +120,16 @@ pub fn schedules_stand_quiet()
     ensures { (plan : Plan) (moves : List Move) → IsSchedule plan moves →
         AreShortUnits (past plan moves).world.state.bag → HaveBytes (past plan moves).world.state.bag →
         IsQuiet (past plan moves).world.state }
+{}
+
+/// After every schedule the unit of the bag that the call of a message names is one whole NetrLogonSamLogon (MS-NRPC
+/// 3.5.4.5.3, C706 12.6.2): it asks what the message does, at level 3, with the message's place as the identity of the
+/// logon, and its stub is read back as it was written.
+#[tactic(auto, using(crate::proofs::Requests::CalledRunLaws::schedules_call))]
+pub fn messages_are_called()
+    ensures { (plan : Plan) (moves : List Move) → IsSchedule plan moves →
+        AreShortUnits (past plan moves).world.state.bag →
+        HaveBytes (past plan moves).world.state.bag → MessagesAreCalled (past plan moves) }
 {}
 
 /// In every run no two challenges that were drawn are alike, and each has 8 bytes.

@@ -89,7 +89,7 @@ turn_none_in : (Fits : ℕ → Logon → Type 0) (Own : ℕ → Type 0) (r : Opt
 turn_none_in Fits Own None link piece left kept none = refl
 turn_none_in Fits Own (Some running) link piece left kept none = turn_none_on Own running.dialling link piece running left kept.1 none
 
-none_if_taken : (answer : Result (List Action) StepRefused) → units_if_taken {U = ServedUnit AtTurn TurnTalk} answer [] ≡ []
+pub none_if_taken : (answer : Result (List Action) StepRefused) → units_if_taken {U = ServedUnit AtTurn TurnTalk} answer [] ≡ []
 none_if_taken (Ok actions) = refl
 none_if_taken (Err why) = refl
 

@@ -166,7 +166,7 @@ bag_unit_goes kind.Stranger back link bytes s between = absurd cc
 bag_unit_goes kind.ToMember back link bytes s between = refl
 bag_unit_goes kind.ToController back link bytes s between = refl
 
-send_goes : (route : Route) (end : EndId) (link : ℕ) (bytes : List ℕ) (s : State) → slice_get s.links link ≡ Some route → is_of kind.Stranger route ≡ false →
+pub send_goes : (route : Route) (end : EndId) (link : ℕ) (bytes : List ℕ) (s : State) → slice_get s.links link ≡ Some route → is_of kind.Stranger route ≡ false →
     send_on (slice_get s.links link) end link bytes s ≡ record s { bag = s.bag ++ unit_on route end link bytes ∷ [] }
 send_goes route end link bytes s made between =
     ap (λ (found : Option Route). send_on found end link bytes s) made ∙ bag_unit_goes (kind_of route) (is_accepted_by end route) link bytes s between
@@ -204,7 +204,7 @@ pub record IsMarkedAt (link : ℕ) (back : Bool) (sends : List (List ℕ)) (mark
 itself : (n : ℕ) → (n == n) ≡ true
 itself n = (Decides-eqb n n).1 refl
 
-passes : (back : Bool) (link : ℕ) (unit : BagUnit) → unit.link ≡ link → unit.back ≡ back → is_sent_on link back unit ≡ true
+pub passes : (back : Bool) (link : ℕ) (unit : BagUnit) → unit.link ≡ link → unit.back ≡ back → is_sent_on link back unit ≡ true
 passes true link unit on way = ap (λ (n : ℕ). (n == link) && unit.back) on ∙ ap (λ (b : Bool). b && unit.back) (itself link) ∙ way
 passes false link unit on way = sym (ap (λ (n : ℕ). is_sent_on n false unit) on) ∙ ap (λ (b : Bool). b && not unit.back) (itself unit.link) ∙ ap not way
 

@@ -194,15 +194,15 @@ send_open (Some route) end link bytes s = bag_unit_open (kind_of route) (is_acce
 
 -- the links are as they were when bytes began to come, the units of the bag are still there, and each unit is on a link of
 -- its kind
-record Since (links : List Route) (old : List BagUnit) (now : List Route) (bag : List BagUnit) : Type 0 where
-  same : now ≡ links
-  still : StillHas old bag
-  kinds : HaveKinds now [] bag
+pub record Since (links : List Route) (old : List BagUnit) (now : List Route) (bag : List BagUnit) : Type 0 where
+  pub same : now ≡ links
+  pub still : StillHas old bag
+  pub kinds : HaveKinds now [] bag
 
-abbrev SinceThen : List Route → List BagUnit → LinkFact
+abbrev pub SinceThen : List Route → List BagUnit → LinkFact
 SinceThen links old now map bag = Since links old now bag
 
-since_sent : (links : List Route) (old : List BagUnit) → StaysOnLinks (SinceThen links old)
+pub since_sent : (links : List Route) (old : List BagUnit) → StaysOnLinks (SinceThen links old)
 since_sent links old = record {
   sends = λ unit now map bag on since. record {
     same = since.same;
@@ -213,7 +213,7 @@ since_sent links old = record {
 }
 
 -- no unit is longer than an end sends at once
-abbrev ShortBag : List BagUnit → Type 0
+abbrev pub ShortBag : List BagUnit → Type 0
 ShortBag bag = (k : ℕ) (unit : BagUnit) → slice_get bag k ≡ Some unit → length unit.bytes ≤ send_limit
 
 short_before : (old bag : List BagUnit) → StillHas old bag → ShortBag bag → ShortBag old
@@ -221,13 +221,13 @@ short_before old bag still short k unit there =
     let now : IsStill unit bag k = still k unit there in subst (λ (bytes : List ℕ). length bytes ≤ send_limit) now.bytes (short k now.now now.there)
 
 -- each unit has bytes
-abbrev BytesIn : List BagUnit → Type 0
+abbrev pub BytesIn : List BagUnit → Type 0
 BytesIn bag = (k : ℕ) (unit : BagUnit) → slice_get bag k ≡ Some unit → AreBytes unit.bytes
 
-bytes_before : (old bag : List BagUnit) → StillHas old bag → BytesIn bag → BytesIn old
+pub bytes_before : (old bag : List BagUnit) → StillHas old bag → BytesIn bag → BytesIn old
 bytes_before old bag still have k unit there = let now : IsStill unit bag k = still k unit there in subst AreBytes now.bytes (have k now.now now.there)
 
-settled_bytes : (number : ℕ) (bag : List BagUnit) → BytesIn bag → BytesIn (settle_at number bag)
+pub settled_bytes : (number : ℕ) (bag : List BagUnit) → BytesIn bag → BytesIn (settle_at number bag)
 settled_bytes number bag have k unit there =
     let before : (old : BagUnit) × (slice_get bag k ≡ Some old) = got_beside (settle_at number bag) bag k unit (settled_length number bag) there in
     let now : IsStill before.0 (settle_at number bag) k = kept_settled number bag k before.0 before.1 in
@@ -241,18 +241,18 @@ HandsBytes _ = Unit {0}
 
 -- ---- all moves
 
-abbrev Plainly : Coming → State → Book → Type 0
+abbrev pub Plainly : Coming → State → Book → Type 0
 Plainly w s b = Goes no_part no_side no_more_of w s b
 
-abbrev PlainlyBegins : State → Book → Type 0
+abbrev pub PlainlyBegins : State → Book → Type 0
 PlainlyBegins s b = Begins no_part no_side no_more_of s b
 
 module _ (Holds : RunFact) (Fine : ActionFact) (keeps : Keeps NoFact Holds Fine) where
   -- it holds after a part of a move, at which no more steps were taken than are allowed; a link that is open allows two
-  record After (most : ℕ) (acted : Acted) (given : Given) (b : Book) : Type 0 where
-    steps : ℕ
-    holds : Holds steps acted.state (given ++ acted.given) b
-    few : steps + 2 * length acted.state.open_links ≤ most
+  pub record After (most : ℕ) (acted : Acted) (given : Given) (b : Book) : Type 0 where
+    pub steps : ℕ
+    pub holds : Holds steps acted.state (given ++ acted.given) b
+    pub few : steps + 2 * length acted.state.open_links ≤ most
 
   widen : (most more : ℕ) (acted : Acted) (given : Given) (b : Book) → most ≤ more → After most acted given b → After more acted given b
   widen most more acted given b few part = record { steps = part.steps; holds = part.holds; few = omega (arith, part.few, few) }
@@ -437,7 +437,7 @@ module _ (Holds : RunFact) (Fine : ActionFact) (keeps : Keeps NoFact Holds Fine)
 
   -- ---- bytes come
 
-  piece_part : (end : Option EndId) (w : Coming) (piece : List ℕ) (n : ℕ) (s : State) (given : Given) (b : Book) → hearer_of w.back (lookup same_number w.link s.open_links) ≡ end →
+  pub piece_part : (end : Option EndId) (w : Coming) (piece : List ℕ) (n : ℕ) (s : State) (given : Given) (b : Book) → hearer_of w.back (lookup same_number w.link s.open_links) ≡ end →
       CameFrom w.unit s w piece → AreBytes piece → Plainly w s b → Holds n s given b →
       After (n + 1 + 2 * length s.open_links) (hears_if end (event.Bytes w.link piece) s) given (note_at end w piece s (hears_if end (event.Bytes w.link piece) s).state b)
   piece_part None w piece n s given b is came bytes plainly holds = nothing (n + 1 + 2 * length s.open_links) n s given b holds (omega arith)
@@ -472,16 +472,16 @@ module _ (Holds : RunFact) (Fine : ActionFact) (keeps : Keeps NoFact Holds Fine)
       (heard_if_stays (SinceThen links old) (since_sent links old) (hearer_of w.back (lookup same_number w.link s.open_links)) (event.Bytes w.link piece) s since)
 
   -- it holds after a move, of which what is given isn't written down, at which few steps were taken where no unit is long
-  record Moved (n : ℕ) (s : State) (acted : Acted) (b : Book) : Type 0 where
-    steps : ℕ
-    holds : Holds steps acted.state acted.given b
-    kinds : HaveKinds acted.state.links [] acted.state.bag
-    few : ShortBag acted.state.bag → steps + 2 * length acted.state.open_links ≤ n + 2 * length s.open_links + 10
+  pub record Moved (n : ℕ) (s : State) (acted : Acted) (b : Book) : Type 0 where
+    pub steps : ℕ
+    pub holds : Holds steps acted.state acted.given b
+    pub kinds : HaveKinds acted.state.links [] acted.state.bag
+    pub few : ShortBag acted.state.bag → steps + 2 * length acted.state.open_links ≤ n + 2 * length s.open_links + 10
 
   unmoved : (n : ℕ) (s : State) (b : Book) → HaveKinds s.links [] s.bag → Holds n s [] b → Moved n s (nothing_done s) b
   unmoved n s b kinds holds = record { steps = n; holds = holds; kinds = kinds; few = λ short. omega arith }
 
-  same_piece : (number : ℕ) (unit : BagUnit) (link at : ℕ) (s later : State) (piece : List ℕ) → slice_get s.bag number ≡ Some unit → IsLinkOf s.links link unit.kind →
+  pub same_piece : (number : ℕ) (unit : BagUnit) (link at : ℕ) (s later : State) (piece : List ℕ) → slice_get s.bag number ≡ Some unit → IsLinkOf s.links link unit.kind →
       Since s.links s.bag later.links later.bag → OneOf (λ (one : List ℕ). one ≡ piece) (pieces_of unit.bytes) →
       IsPieceOf later number (record { at = at; unit = Some number; link = link; back = unit.back }) piece
   same_piece number unit link at s later piece there of since one =
@@ -524,7 +524,7 @@ module _ (Holds : RunFact) (Fine : ActionFact) (keeps : Keeps NoFact Holds Fine)
   }
 
   -- its kind and its link stay
-  settled_link : (number link : ℕ) (unit found : BagUnit) (s : State) → slice_get s.bag number ≡ Some unit → IsLinkOf s.links link unit.kind →
+  pub settled_link : (number link : ℕ) (unit found : BagUnit) (s : State) → slice_get s.bag number ≡ Some unit → IsLinkOf s.links link unit.kind →
       slice_get (settle_at number s.bag) number ≡ Some found → IsLinkOf s.links link found.kind
   settled_link number link unit found s there of is =
       let now : IsStill unit (settle_at number s.bag) number = kept_settled number s.bag number unit there in
@@ -592,7 +592,7 @@ module _ (Holds : RunFact) (Fine : ActionFact) (keeps : Keeps NoFact Holds Fine)
     few = λ short. omega (arith, part.few, few);
   }
 
-  act_part : (what : Move) (at n : ℕ) (s : State) (b : Book) → HaveKinds s.links [] s.bag → BytesIn s.bag → HandsBytes what → PlainlyBegins s b → Holds n s [] b → Moved n s (act s what) (note_coming what at s b)
+  pub act_part : (what : Move) (at n : ℕ) (s : State) (b : Book) → HaveKinds s.links [] s.bag → BytesIn s.bag → HandsBytes what → PlainlyBegins s b → Holds n s [] b → Moved n s (act s what) (note_coming what at s b)
   act_part move.Onward at n s b kinds bytes form plainly holds = onward_part (first_waiting s.bag) at n s b kinds bytes plainly holds
   act_part (move.Deliver unit link) at n s b kinds bytes form plainly holds = deliver_part (chosen_place unit (length s.bag)) link at n s b kinds bytes plainly holds
   act_part (move.Hand link back piece) at n s b kinds bytes form plainly holds =
@@ -649,7 +649,7 @@ pub record HasBytes (plan : Plan) (moves : List Move) : Type 0 where
   pub bytes : HaveBytes (past plan moves).world.state.bag
   pub handed : AllByRecursion HandsBytes moves
 
-bytes_in : (bag : List BagUnit) → HaveBytes bag → BytesIn bag
+pub bytes_in : (bag : List BagUnit) → HaveBytes bag → BytesIn bag
 bytes_in [] have number unit there = absurd (got_nothing number unit there)
 bytes_in (first ∷ bag) have zero unit there =
     let here : first ≡ unit = cc in subst (λ (u : BagUnit). AreBytes u.bytes) here (All-head (λ (u : BagUnit). AreBytes u.bytes) first bag have)

@@ -244,11 +244,11 @@ members_ask_for_messages law plan moves member m there controller number piece n
 
 -- ---- the place of a mark is that of what is sent for it
 
-last_is : (old : List Action) (one other : Action) → old ++ one ∷ [] ≡ old ++ other ∷ [] → one ≡ other
+pub last_is : (old : List Action) (one other : Action) → old ++ one ∷ [] ≡ old ++ other ∷ [] → one ≡ other
 last_is [] one other is = let x = is in cc
 last_is (first ∷ old) one other is = last_is old one other (let x = is in cc)
 
-bytes_are : (link : ℕ) (one other : List ℕ) → action.Send link one ≡ action.Send link other → one ≡ other
+pub bytes_are : (link : ℕ) (one other : List ℕ) → action.Send link one ≡ action.Send link other → one ≡ other
 bytes_are link one other is = let x = is in cc
 
 module _ (member : ℕ) (m : MemberState) (messages : List MessageTaken) (controller : ℕ) where

@@ -1,0 +1,391 @@
+-- Each Logon call that goes out at a member is whole, can be read back, and asks for the logon that the member keeps under
+-- the place of its turn, where what the member keeps is in its ranges. It serves `messages_are_called`.
+use Rattle.std.proofs.Common.{◌≡◌, ℕ, ◌<◌, ◌≤◌, ◌^◌, ◌==◌, Bool, true, false, List, [], ◌∷◌, ◌++◌, length, map, Option, Some, None, Result, Ok, Err, refl, sym, ap, subst, ◌∙◌, arith, if◌then◌else◌}
+use Rattle.std.specs.List.{AllByRecursion}
+use Rattle.wire_base.specs.Maps.{lookup, same_number}
+use Rattle.wire_base.proofs.NameLaws.{IsSameness-same_number}
+use Rattle.outside.specs.declared.action.Action.{Action}
+use Rattle.outside.specs.declared.action.Action.TheVariants as action
+use Rattle.outside.specs.declared.action.StepRefused.{StepRefused}
+use Rattle.outside.specs.declared.event.Event.TheVariants as event
+use Rattle.rpc_units.specs.declared.refused.JoinRefused.{JoinRefused}
+use Rattle.rpc_units.specs.declared.refused.JoinRefused.TheVariants as join
+use Rattle.rpc_units.specs.declared.refused.UnitRefused.{UnitRefused}
+use Rattle.rpc_units.specs.declared.unit.Body.{Body}
+use Rattle.rpc_units.specs.declared.unit.Body.TheVariants.{Bind, BindAck, BindNak, Auth3, Request, Response, Fault}
+use Rattle.rpc_units.specs.declared.unit.Unit.{Unit as RpcUnit}
+use Rattle.rpc_units.specs.Calls.{IsHeard}
+use Rattle.rpc_units.specs.Joining.{answer_of, cut_of, open_after}
+use Rattle.rpc_units.specs.Reading.{unit_of}
+use Rattle.rpc_units.specs.Stream.{cut_stream}
+use Rattle.rpc_units.proofs.CuttingLaws.{call_heard}
+use Rattle.logon_stubs.specs.Calls.{call_of, opnum_of_call, reply_of}
+use Rattle.logon_stubs.specs.Writing.{written_call}
+use Rattle.logon_stubs.specs.declared.calls.Call.{Call}
+use Rattle.logon_stubs.specs.declared.calls.Call.TheVariants as call
+use Rattle.logon_stubs.specs.declared.calls.LogonCall.{LogonCall}
+use Rattle.logon_stubs.specs.declared.calls.Reply.{Reply}
+use Rattle.logon_stubs.specs.declared.refused.StubRefused.{StubRefused}
+use Rattle.logon_stubs.proofs.WrittenLaws.{call_of-written_call, written_call-content}
+use Rattle.end_links.specs.Binding.{limit_of}
+use Rattle.end_links.specs.Links.{LinkState}
+use Rattle.end_links.specs.Sending.{frames_of, joined_frames, request_of}
+use Rattle.end_links.proofs.BoundLaws.{frames_joined}
+use Rattle.end_links.proofs.WholeLaws.{limit_bounds}
+use Rattle.channel_client.specs.declared.answers.Taken.{Taken}
+use Rattle.channel_client.specs.declared.answers.Taken.TheVariants as taken
+use Rattle.channel_client.specs.declared.hearing.Hearing.{Hearing}
+use Rattle.channel_client.specs.declared.hearing.Hearing.TheVariants as hearing
+use Rattle.channel_client.specs.declared.judging.Judgement.{Judgement}
+use Rattle.channel_client.specs.declared.judging.Judgement.TheVariants as judgement
+use Rattle.channel_client.specs.declared.state.Pending.{Pending}
+use Rattle.channel_client.specs.declared.state.Question.{Question}
+use Rattle.channel_client.specs.declared.state.Question.TheVariants as question
+use Rattle.channel_client.specs.declared.state.Standing.{Standing}
+use Rattle.channel_client.specs.declared.state.Standing.TheVariants as standing
+use Rattle.channel_client.specs.declared.state.Step.{Step}
+use Rattle.channel_client.specs.declared.state.Step.TheVariants as step
+use Rattle.channel_client.specs.declared.state.Waiting.{Waiting}
+use Rattle.channel_client.specs.Effects.{IsForFirst, MatchesStep, step_in}
+use Rattle.channel_client.specs.Machine.{act, hear, hear_ack, hear_body, hear_by, hear_reply, hear_stub, is_accepting, judge, opnum_asked, place_of, question_of, settle, take_of, wait_for}
+use Rattle.channel_client.specs.State.{Requester}
+use Rattle.channel_client.specs.Whole.{HasRoom, InRangeRequester, InRangeTurn, RequestersSendWhole}
+use Rattle.member_server.specs.declared.state.AtTurn.{AtTurn}
+use Rattle.member_server.specs.declared.state.Dialling.{Dialling}
+use Rattle.member_server.specs.declared.state.Dialling.TheVariants as dialling
+use Rattle.member_server.specs.declared.state.Logon.{Logon}
+use Rattle.member_server.specs.declared.state.Running.{Running}
+use Rattle.member_server.specs.declared.state.TurnTalk.{TurnTalk}
+use Rattle.member_server.specs.Machine.{at_turn, step_of, work_of}
+use Rattle.member_server.specs.State.{State as MemberState}
+use Rattle.member_server.specs.Turns.{TurnServed, do_taken, turn_by_join, turn_server, turn_unit}
+use Rattle.step_notes.specs.CallLogons.{AsksForKept, IsStamped, IsStampedStep, info_at, waiting_for}
+use Rattle.step_notes.specs.MemberNotes.{TurnNote, asked_note, taken_note, taking_joined, taking_note, taking_read, turn_note, turn_units, turn_units_by, turn_units_in, turn_units_on}
+use Rattle.step_notes.specs.Served.{ServedUnit, served_units, units_if_taken, units_on, work_after}
+use Rattle.step_notes.proofs.Channels.ChannelNameLaws.{bound_at}
+use Rattle.step_notes.proofs.Members.CallKeptLaws.{TurnAsksBy, at_channel, turn_asks}
+use Rattle.step_notes.proofs.Members.KeptLogonLaws.{OfEach, turn_keeps}
+
+-- ---- what goes out
+
+-- the bytes are the call of the logon that is kept under that place, whole
+pub record IsLogonSent (asked : List (ℕ × Logon)) (place : ℕ) (bytes : List ℕ) : Type 0 where
+  pub own : Logon
+  pub kept : lookup same_number place asked ≡ Some own
+  pub number : ℕ
+  pub logon : LogonCall
+  pub frames : List RpcUnit
+  pub heard : IsHeard bytes frames (request_of number 0 (opnum_of_call (call.Logon logon)) (written_call (call.Logon logon)))
+  pub again : call_of (opnum_of_call (call.Logon logon)) (written_call (call.Logon logon)) ≡ Ok (call.Logon logon)
+  pub info : logon.info ≡ info_at place own
+  pub level : logon.validation ≡ 3
+
+-- the call of that place goes out on the link of the turn
+pub record IsCallOut (before : AtTurn) (later : Option AtTurn) (place : ℕ) : Type 0 where
+  pub bytes : List ℕ
+  pub sent : IsLogonSent before.work.logons.asked place bytes
+  pub done : AtTurn
+  pub comes : later ≡ Some done
+  pub sends : done.work.actions ≡ before.work.actions ++ action.Send before.link bytes ∷ []
+
+-- by the place whose call goes out, if one does, and by whether a request is sent
+abbrev pub OutBy : Option ℕ → Bool → AtTurn → Option AtTurn → Type 0
+OutBy None sends before later = Unit {0}
+OutBy (Some place) sends before later = (sends ≡ true) × IsCallOut before later place
+
+abbrev pub CallsOut : TurnNote → AtTurn → Option AtTurn → Type 0
+CallsOut note before later = OutBy note.called note.sends before later
+
+-- ---- the request that is heard to go out
+
+-- it is that of the call of the turn, in frames of a size that a bind agrees on
+abbrev pub IsOfTurn : Option Pending → ℕ → Hearing → Type 0
+IsOfTurn turn next hearing.Skip = Unit {0}
+IsOfTurn turn next (hearing.Next q frames) =
+    (number : ℕ) × (place : ℕ) × (c : Call) × (turn ≡ bound_at number place c) × (q ≡ question_of c) × (limit : ℕ) × (1432 ≤ limit) × (limit ≤ 5840)
+    × (frames ≡ frames_of (request_of next 0 (opnum_of_call c) (written_call c)) limit)
+IsOfTurn turn next (hearing.Reply q r) = Unit {0}
+IsOfTurn turn next (hearing.Drop cause) = Unit {0}
+
+module _ (p : Pending) (next : ℕ) where
+  ack_of : (accepts : Bool) (st : Step) (receive : ℕ) → p.step ≡ st → IsOfTurn (Some p) next (hear_ack accepts st receive next)
+  ack_of false st receive is = tt
+  ack_of true (step.Bind c) receive is = (
+    p.number,
+    p.place,
+    c,
+    ap (λ (st : Step). Some (record { number = p.number; place = p.place; step = st })) is,
+    refl,
+    limit_of receive,
+    (limit_bounds receive).0,
+    (limit_bounds receive).1,
+    refl,
+  )
+  ack_of true (step.Reply q) receive is = tt
+
+  reply_of_turn : (q : Question) (read : Result Reply StubRefused) → IsOfTurn (Some p) next (hear_reply q read)
+  reply_of_turn q (Err why) = tt
+  reply_of_turn q (Ok r) = tt
+
+  stub_of_turn : (st : Step) (stub : List ℕ) → IsOfTurn (Some p) next (hear_stub st stub)
+  stub_of_turn (step.Bind c) stub = tt
+  stub_of_turn (step.Reply q) stub = reply_of_turn q (reply_of (opnum_asked q) stub)
+
+  body_of_turn : (body : Body) → IsOfTurn (Some p) next (hear_body body p.step next)
+  body_of_turn (Bind send receive group contexts) = tt
+  body_of_turn (BindAck send receive group results) = ack_of (is_accepting results) p.step receive refl
+  body_of_turn (BindNak reason) = tt
+  body_of_turn Auth3 = tt
+  body_of_turn (Request hint context opnum stub) = tt
+  body_of_turn (Response hint context stub) = stub_of_turn p.step stub
+  body_of_turn (Fault hint context status) = tt
+
+  numbered_of_turn : (same : Bool) (unit : RpcUnit) → IsOfTurn (Some p) next (hear_by same p unit next)
+  numbered_of_turn false unit = tt
+  numbered_of_turn true unit = body_of_turn unit.body
+
+of_turn : (turn : Option Pending) (unit : RpcUnit) (next : ℕ) → IsOfTurn turn next (hear turn unit next)
+of_turn None unit next = tt
+of_turn (Some p) unit next = numbered_of_turn p next (unit.call == p.number) unit
+
+-- ---- the first logon that is kept
+
+found_if : (hit : Bool) (logon : Logon) (found : Option Logon) → hit ≡ true → (if hit then Some logon else found) ≡ Some logon
+found_if true logon found is = refl
+found_if false logon found is = absurd (let x = is in cc)
+
+abbrev pub HasLogon : ℕ → LogonCall → List (ℕ × Logon) → Type 0
+HasLogon place c asked = (logon : Logon) × (lookup same_number place asked ≡ Some logon) × (c.info ≡ info_at place logon)
+
+first_logon : (asked : List (ℕ × Logon)) (number place : ℕ) (c : LogonCall) → IsForFirst (bound_at number place (call.Logon c)) (map waiting_for asked) → HasLogon place c asked
+first_logon [] number place c first = absurd first
+first_logon (entry ∷ asked) number place c first = (
+  entry.1,
+  found_if (same_number place entry.0) entry.1 (lookup same_number place asked)
+      (ap (λ (n : ℕ). same_number place n) (sym first.0) ∙ IsSameness-same_number.reflexive place),
+  first.1 ∙ ap (λ (n : ℕ). info_at n entry.1) (sym first.0),
+)
+
+-- ---- a request that goes out is whole
+
+request_heard : (number opnum limit : ℕ) (stub : List ℕ) → number < 2 ^ 32 → opnum < 2 ^ 16 → 1432 ≤ limit → limit ≤ 5840 → length stub ≤ 58209 →
+    IsHeard (joined_frames (frames_of (request_of number 0 opnum stub) limit)) (cut_of (request_of number 0 opnum stub) limit) (request_of number 0 opnum stub)
+request_heard number opnum limit stub small known least most few =
+    subst (λ (bytes : List ℕ). IsHeard bytes (cut_of (request_of number 0 opnum stub) limit) (request_of number 0 opnum stub)) (sym (frames_joined (request_of number 0 opnum stub) limit))
+    (call_heard (request_of number 0 opnum stub) limit (record {
+      whole = record { stub = tt; first = refl; last = refl };
+      range = record { call = small; body = (omega (arith, few), omega arith, known); trailer = tt };
+      value = tt;
+      least = least;
+      room = omega (arith, most);
+    }) (omega (arith, few)))
+
+level_in : Call → ℕ
+level_in (call.Logon c) = c.validation
+level_in (call.Logoff c) = 0
+level_in (call.Challenge c) = 0
+level_in (call.Authenticate c) = 0
+
+-- the member at work, behind it
+abbrev pub asked_after : AtTurn → Option RpcUnit → Question → List (List ℕ) → Option AtTurn
+asked_after at joiner q frames =
+    Some (do_taken (taken.Next tt frames) joiner (at_channel at (wait_for at.work.logons.channel (place_of at.work.logons.channel.turn) (step.Reply q)))).0
+
+module _ (controller : ℕ) (at : AtTurn) (joiner : Option RpcUnit) (kept : AsksForKept true at.work.logons) (range : InRangeRequester at.work.logons.channel) (frames : List (List ℕ))
+    (number place limit : ℕ) (least : 1432 ≤ limit) (most : limit ≤ 5840) where
+  -- it can be read back, and asks for what is kept
+  logon_sent : (c : LogonCall) → at.work.logons.channel.turn ≡ bound_at number place (call.Logon c) →
+      frames ≡ frames_of (request_of at.work.logons.channel.next_call 0 (opnum_of_call (call.Logon c)) (written_call (call.Logon c))) limit →
+      IsLogonSent at.work.logons.asked place (joined_frames frames)
+  unfolding level_in
+  logon_sent c turn goes =
+      let s : Requester = at.work.logons.channel in
+      let room : HasRoom (call.Logon c) = subst InRangeTurn turn range.turn in
+      let first : HasLogon place c at.work.logons.asked = first_logon at.work.logons.asked number place c
+      (subst (λ (waiting : List Waiting). IsForFirst (bound_at number place (call.Logon c)) waiting) kept.waits
+      (subst (λ (t : Option Pending). IsForFirst t s.waiting) turn kept.coherent.first)) in
+      let stamped : IsStamped s.caller s.standing c = subst (λ (t : Option Pending). IsStampedStep s.caller s.standing (step_in t)) turn kept.own.stamped in
+      record {
+        own = first.0;
+        kept = first.1;
+        number = s.next_call;
+        logon = c;
+        frames = cut_of (request_of s.next_call 0 (opnum_of_call (call.Logon c)) (written_call (call.Logon c))) limit;
+        heard = subst (λ (f : List (List ℕ)). IsHeard (joined_frames f) (cut_of (request_of s.next_call 0 (opnum_of_call (call.Logon c)) (written_call (call.Logon c))) limit)
+            (request_of s.next_call 0 (opnum_of_call (call.Logon c)) (written_call (call.Logon c)))) (sym goes)
+            (request_heard s.next_call (opnum_of_call (call.Logon c)) limit (written_call (call.Logon c)) range.next_call (omega arith) least most
+            (omega (arith, written_call-content (call.Logon c) room.writes room.range, room.few)));
+        again = call_of-written_call (call.Logon c) room.writes room.range;
+        info = first.2;
+        level = ap level_in stamped.is;
+      }
+
+  logon_out : (c : LogonCall) → at.work.logons.channel.turn ≡ bound_at number place (call.Logon c) →
+      frames ≡ frames_of (request_of at.work.logons.channel.next_call 0 (opnum_of_call (call.Logon c)) (written_call (call.Logon c))) limit →
+      IsCallOut at (asked_after at joiner question.Logon frames) (place_of at.work.logons.channel.turn)
+  logon_out c turn goes = record {
+    bytes = joined_frames frames;
+    sent = subst (λ (n : ℕ). IsLogonSent at.work.logons.asked n (joined_frames frames)) (sym (ap place_of turn)) (logon_sent c turn goes);
+    done = (do_taken (taken.Next tt frames) joiner (at_channel at (wait_for at.work.logons.channel (place_of at.work.logons.channel.turn) (step.Reply question.Logon)))).0;
+    comes = refl;
+    sends = refl;
+  }
+
+  asked_out : (c : Call) (how : Standing) → at.work.logons.channel.standing ≡ how → at.work.logons.channel.turn ≡ bound_at number place c →
+      frames ≡ frames_of (request_of at.work.logons.channel.next_call 0 (opnum_of_call c) (written_call c)) limit →
+      CallsOut
+      (asked_note (Some (step.Reply (question_of c))) how controller at.work.logons.channel (wait_for at.work.logons.channel (place_of at.work.logons.channel.turn) (step.Reply (question_of c))))
+      at (asked_after at joiner (question_of c) frames)
+  asked_out (call.Challenge c) how stands turn goes = tt
+  asked_out (call.Authenticate c) standing.Nothing stands turn goes = tt
+  asked_out (call.Authenticate c) (standing.Half client server) stands turn goes = tt
+  asked_out (call.Authenticate c) (standing.Open o) stands turn goes = tt
+  asked_out (call.Logon c) standing.Nothing stands turn goes = tt
+  asked_out (call.Logon c) (standing.Half client server) stands turn goes = tt
+  asked_out (call.Logon c) (standing.Open o) stands turn goes = (refl, logon_out c turn goes)
+  asked_out (call.Logoff c) standing.Nothing stands turn goes = tt
+  asked_out (call.Logoff c) (standing.Half client server) stands turn goes = tt
+  asked_out (call.Logoff c) (standing.Open o) stands turn goes =
+      absurd (subst (λ (how : Standing). MatchesStep how (Some (step.Bind (call.Logoff c)))) stands
+      (subst (λ (t : Option Pending). MatchesStep at.work.logons.channel.standing (step_in t)) turn kept.coherent.matches))
+
+-- ---- a unit
+
+module _ (controller : ℕ) (at : AtTurn) (kept : AsksForKept true at.work.logons) (range : InRangeRequester at.work.logons.channel) where
+  settled_out : (j : Judgement) (later : Option AtTurn) → CallsOut (taken_note (settle j at.work.logons.channel).taken controller at.work.logons.channel (settle j at.work.logons.channel).state) at later
+  settled_out (judgement.Half client server) later = tt
+  settled_out (judgement.Opened o) later = tt
+  settled_out (judgement.Answer o v) later = tt
+  settled_out (judgement.Drop cause) later = tt
+
+  acted_out : (h : Hearing) (joiner : Option RpcUnit) → IsOfTurn at.work.logons.channel.turn at.work.logons.channel.next_call h →
+      CallsOut (taken_note (act h at.work.logons.channel).taken controller at.work.logons.channel (act h at.work.logons.channel).state) at
+      (Some (do_taken (act h at.work.logons.channel).taken joiner (at_channel at (act h at.work.logons.channel).state)).0)
+  acted_out hearing.Skip joiner is = tt
+  acted_out (hearing.Next q frames) joiner is =
+      let s : Requester = at.work.logons.channel in
+      subst (λ (asked : Question). CallsOut (asked_note (Some (step.Reply asked)) s.standing controller s (wait_for s (place_of s.turn) (step.Reply asked))) at (asked_after at joiner asked frames))
+      (sym is.4) (asked_out controller at joiner kept range frames is.0 is.1 is.5 is.6 is.7 is.2 s.standing refl is.3 is.8)
+  acted_out (hearing.Reply q r) joiner is =
+      let s : Requester = at.work.logons.channel in settled_out (judge q r s.standing s.caller.secret) _
+  acted_out (hearing.Drop cause) joiner is = tt
+
+  joined_out : (whole : Result (Option RpcUnit) JoinRefused) (after : Option RpcUnit) →
+      CallsOut (taking_note (taking_joined whole at.work.logons.channel) controller at.work.logons.channel) at (Some (turn_by_join whole after at).0)
+  joined_out (Err why) after = tt
+  joined_out (Ok None) after = tt
+  joined_out (Ok (Some unit)) after =
+      let s : Requester = at.work.logons.channel in acted_out (hear s.turn unit s.next_call) after (of_turn s.turn unit s.next_call)
+
+  read_out : (read : Result RpcUnit UnitRefused) (joiner : Option RpcUnit) →
+      CallsOut (taking_note (taking_read read joiner at.work.logons.channel) controller at.work.logons.channel) at (Some (turn_unit read joiner at).0)
+  read_out (Err why) joiner = tt
+  read_out (Ok unit) joiner = joined_out (answer_of joiner unit) (open_after joiner unit)
+
+-- ---- what is known before each unit of the turn
+
+-- the link, what is asked for, the ranges, and of each logon that is kept
+pub record IsReady (Fits : ℕ → Logon → Type 0) (link : ℕ) (at : AtTurn) : Type 0 where
+  pub on : at.link ≡ link
+  pub asks : AsksForKept true at.work.logons
+  pub range : InRangeRequester at.work.logons.channel
+  pub each : OfEach Fits at.work.logons.asked
+
+pub record IsReadyUnit (Fits : ℕ → Logon → Type 0) (link controller : ℕ) (unit : ServedUnit AtTurn TurnTalk) : Type 0 where
+  pub ready : IsReady Fits link unit.work
+  pub out : CallsOut (turn_note controller unit) unit.work (work_after unit.part)
+
+-- what is known of a member whose turn has its link open
+abbrev pub ReadyOn : (ℕ → Logon → Type 0) → ℕ → Dialling → Running → Type 0
+ReadyOn Fits link dialling.Nothing running = Unit {0}
+ReadyOn Fits link (dialling.Waits turn frames) running = Unit {0}
+ReadyOn Fits link (dialling.On other said) running = IsReady Fits link (at_turn link (work_of running))
+
+abbrev pub ReadyIn : (ℕ → Logon → Type 0) → ℕ → Option Running → Type 0
+ReadyIn Fits link None = Unit {0}
+ReadyIn Fits link (Some running) = ReadyOn Fits link running.dialling running
+
+-- the link and the ranges, where the turn goes on
+record InRangeTurnAt (link : ℕ) (at : AtTurn) : Type 0 where
+  on : at.link ≡ link
+  range : InRangeRequester at.work.logons.channel
+
+abbrev InRangeBy : ℕ → Option TurnTalk → AtTurn → Type 0
+InRangeBy link None at = Unit {0}
+InRangeBy link (Some talk) at = InRangeTurnAt link at
+
+taken_range : (link : ℕ) (what : Taken) (joiner : Option RpcUnit) (at : AtTurn) → InRangeTurnAt link at → InRangeBy link (do_taken what joiner at).1 (do_taken what joiner at).0
+taken_range link (taken.Skip right) joiner at known = known
+taken_range link (taken.Next right frames) joiner at known = record { on = known.on; range = known.range }
+taken_range link taken.Half joiner at known = tt
+taken_range link taken.Opened joiner at known = tt
+taken_range link (taken.Answer place verdict) joiner at known = tt
+taken_range link (taken.Dropped place cause) joiner at known = tt
+
+module _ (law : RequestersSendWhole) where
+  joined_range : (link : ℕ) (whole : Result (Option RpcUnit) JoinRefused) (after : Option RpcUnit) (at : AtTurn) → InRangeTurnAt link at →
+      InRangeBy link (turn_by_join whole after at).1 (turn_by_join whole after at).0
+  joined_range link (Err join.OutOfPlace) after at known = tt
+  joined_range link (Err join.CallTooLong) after at known = tt
+  joined_range link (Err join.Memory) after at known = tt
+  joined_range link (Ok None) after at known = known
+  joined_range link (Ok (Some unit)) after at known =
+      let s : Requester = at.work.logons.channel in
+      taken_range link (take_of s unit).taken after (at_channel at (take_of s unit).state) (record { on = known.on; range = (law.take s unit known.range).0 })
+
+  read_range : (link : ℕ) (read : Result RpcUnit UnitRefused) (joiner : Option RpcUnit) (at : AtTurn) → InRangeTurnAt link at →
+      InRangeBy link (turn_unit read joiner at).1 (turn_unit read joiner at).0
+  read_range link (Err why) joiner at known = tt
+  read_range link (Ok unit) joiner at known = joined_range link (answer_of joiner unit) (open_after joiner unit) at known
+
+  -- ---- the units of the link of the turn
+
+  module _ (Fits : ℕ → Logon → Type 0) (link controller : ℕ) where
+    abbrev pub ReadyBy : Option TurnTalk → AtTurn → Type 0
+    ReadyBy None at = Unit {0}
+    ReadyBy (Some talk) at = IsReady Fits link at
+
+    ready_by : (said : Option TurnTalk) (at : AtTurn) → InRangeBy link said at → TurnAsksBy said at.work.logons → OfEach Fits at.work.logons.asked → ReadyBy said at
+    ready_by None at known asks each = tt
+    ready_by (Some talk) at known asks each = record { on = known.on; asks = asks; range = known.range; each = each }
+
+    abbrev pub AllReady : List (ServedUnit AtTurn TurnTalk) → Type 0
+    AllReady units = AllByRecursion (IsReadyUnit Fits link controller) units
+
+    said_ready : (units : List (List ℕ)) → ((at : AtTurn) (talk : TurnTalk) (left : List (List ℕ)) → IsReady Fits link at → AllReady (served_units turn_server units at talk left)) →
+        (at : AtTurn) (said : Option TurnTalk) (left : List (List ℕ)) → ReadyBy said at →
+        AllReady (units_on at said left (λ next talk rest. served_units turn_server units next talk rest))
+    said_ready units later at None left ready = tt
+    said_ready units later at (Some talk) left ready = later at talk left ready
+
+    units_ready : (units : List (List ℕ)) (at : AtTurn) (talk : TurnTalk) (left : List (List ℕ)) → IsReady Fits link at → AllReady (served_units turn_server units at talk left)
+    units_ready [] at talk left ready = tt
+    units_ready (bytes ∷ units) at talk left ready =
+        let served : TurnServed = turn_unit (unit_of bytes) talk.joiner at in (
+          record { ready = ready; out = read_out controller at ready.asks ready.range (unit_of bytes) talk.joiner },
+          said_ready units (units_ready units) served.0 served.1 left
+              (ready_by served.1 served.0 (read_range link (unit_of bytes) talk.joiner at (record { on = ready.on; range = ready.range }))
+              (turn_asks (unit_of bytes) talk.joiner at ready.asks) (turn_keeps Fits (λ number. Unit {0}) (unit_of bytes) talk.joiner at ready.each)),
+        )
+
+    by_ready : (hit : Bool) (said : LinkState TurnTalk) (piece : List ℕ) (running : Running) (left : List (List ℕ)) → IsReady Fits link (at_turn link (work_of running)) →
+        AllReady (turn_units_by hit said link piece running left)
+    by_ready false said piece running left ready = tt
+    by_ready true said piece running left ready = units_ready (cut_stream (said.rest ++ piece)).units (at_turn link (work_of running)) said.talk left ready
+
+    on_ready : (how : Dialling) (piece : List ℕ) (running : Running) (left : List (List ℕ)) → ReadyOn Fits link how running → AllReady (turn_units_on how link piece running left)
+    on_ready dialling.Nothing piece running left ready = tt
+    on_ready (dialling.Waits turn frames) piece running left ready = tt
+    on_ready (dialling.On other said) piece running left ready = by_ready (other == link) said piece running left ready
+
+    in_ready : (r : Option Running) (piece : List ℕ) (left : List (List ℕ)) → ReadyIn Fits link r → AllReady (turn_units_in r link piece left)
+    in_ready None piece left ready = tt
+    in_ready (Some running) piece left ready = on_ready running.dialling piece running left ready
+
+    if_ready : (answer : Result (List Action) StepRefused) (units : List (ServedUnit AtTurn TurnTalk)) → AllReady units → AllReady (units_if_taken answer units)
+    if_ready (Ok actions) units all = all
+    if_ready (Err why) units all = tt
+
+    pub turns_ready : (m : MemberState) (piece : List ℕ) (now : ℕ) (left : List (List ℕ)) → ReadyIn Fits link m.running → AllReady (turn_units m link piece now left)
+    turns_ready m piece now left ready =
+        if_ready (step_of m (event.Bytes link piece) now left).answer (turn_units_in m.running link piece left) (in_ready m.running piece left ready)

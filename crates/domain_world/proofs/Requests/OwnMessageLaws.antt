@@ -1,0 +1,272 @@
+-- In every run each logon that a member keeps is that of a message which is written down, on its link; and each member
+-- asks for what it keeps. It goes with what is written down, through each step of an end. It serves
+-- `messages_are_called`.
+use Rattle.std.proofs.Common.{◌≡◌, ℕ, zero, suc, false, List, [], ◌∷◌, ◌++◌, length, map, inl, inr, Option, Some, None, refl, subst, slice_get, slice_set}
+use Rattle.std.specs.Prelude.{flat_map}
+use Rattle.std.specs.List.{AllByRecursion}
+use Rattle.outside.specs.Drawing.{Drawing}
+use Rattle.outside.specs.declared.event.Event.{Event}
+use Rattle.outside.specs.declared.event.Event.TheVariants as event
+use Rattle.domain_controller.specs.State.{State as ControllerState}
+use Rattle.logon_client.specs.State.{State as ClientState}
+use Rattle.member_server.specs.Machine.{fresh_member, step_of}
+use Rattle.member_server.specs.State.{State as MemberState}
+use Rattle.member_server.specs.declared.plan.MemberPlan.{MemberPlan}
+use Rattle.member_server.specs.declared.state.AtTurn.{AtTurn}
+use Rattle.member_server.specs.declared.state.Logon.{Logon}
+use Rattle.member_server.specs.declared.state.Phase.{Phase}
+use Rattle.member_server.specs.declared.state.Running.{Running}
+use Rattle.member_server.specs.declared.state.TurnTalk.{TurnTalk}
+use Rattle.channel_events.specs.Marks.{OneOf}
+use Rattle.step_notes.specs.CallLogons.{AsksUnlessStopped}
+use Rattle.step_notes.specs.MemberNotes.{LinkAt, TurnNote, link_of_place, link_units, message_note, taken_link, turn_note, turn_units}
+use Rattle.step_notes.specs.Records.{Book, MessageTaken}
+use Rattle.step_notes.specs.Served.{ServedUnit}
+use Rattle.world_moves.specs.declared.links.EndId.{EndId}
+use Rattle.world_moves.specs.declared.links.EndId.TheVariants.{Controller, Member, Client}
+use Rattle.world_moves.specs.declared.links.Route.{Route}
+use Rattle.world_moves.specs.declared.state.State.{State}
+use Rattle.world_moves.specs.Ends.{EndStates, client_step, controller_step, end_step, member_step}
+use Rattle.world_moves.specs.Links.{acceptor_of}
+use Rattle.domain_world.specs.Past.{Coming, at_member, change_message, controller_of, first_of, later_of, note_at, note_client, note_controller, note_member, note_messages, note_turn, note_turns, numbers_on, with_answer, with_call}
+use Rattle.step_notes.proofs.Members.CallKeptLaws.{fresh_asks, step_asks}
+use Rattle.step_notes.proofs.Members.KeptLogonLaws.{Dials, IsFor, KeptIn, bytes_keep, kept_so, one_before, step_keeps}
+use Rattle.step_notes.proofs.Members.UnservedLaws.{LinksIn, Opens, bytes_took, step_known, took_known}
+use Rattle.domain_world.proofs.Accepting.MessageNoteLaws.{changed, one_so}
+use Rattle.domain_world.proofs.Frames.FrameLaws.{Fact, HoldsAfter, IsQuiet, Stays, StaysWritten}
+use Rattle.domain_world.proofs.Judgements.ToldLaws.{IsNoBytes}
+
+-- ---- the message of a logon
+
+-- the message is that of the logon of the place, on its link
+pub record IsOfLogon (place : ℕ) (logon : Logon) (message : MessageTaken) : Type 0 where
+  pub same_place : message.place ≡ place
+  pub same_logon : message.logon ≡ logon
+  pub on : message.link ≡ logon.link
+
+abbrev pub HasMessage : List MessageTaken → ℕ → Logon → Type 0
+HasMessage messages place logon = OneOf (IsOfLogon place logon) messages
+
+-- ---- what stays of a message as units of the turn are written down
+
+module _ (Fits : MessageTaken → Type 0) (call : (number : Option ℕ) (message : MessageTaken) → Fits message → Fits (with_call number message))
+    (answer : (number : Option ℕ) (message : MessageTaken) → Fits message → Fits (with_answer number message)) where
+  pub turns_stay : (controller : ℕ) (units : List (ServedUnit AtTurn TurnTalk)) (unit : Option ℕ) (numbers : List ℕ) (b : Book) → OneOf Fits b.messages →
+      OneOf Fits (note_turns controller units unit numbers b).messages
+  turns_stay controller [] unit numbers b one = one
+  turns_stay controller (served ∷ units) unit numbers b one =
+      let note : TurnNote = turn_note controller served in
+      turns_stay controller units unit (later_of note.sends numbers) (note_turn note served unit (first_of numbers) b)
+      (changed Fits (link_of_place note.answered served.work.work.logons) (with_answer unit) (answer unit)
+      (change_message (link_of_place note.called served.work.work.logons) (with_call (first_of numbers)) b.messages)
+      (changed Fits (link_of_place note.called served.work.work.logons) (with_call (first_of numbers)) (call (first_of numbers)) b.messages one))
+
+-- of the messages before bytes come at a member, after they are written down
+abbrev pub member_messages : ℕ → MemberState → Coming → List ℕ → State → State → Book → List MessageTaken
+member_messages at m w piece s after b = (note_member (Some m) at w piece s after b).messages
+
+module _ (Fits : MessageTaken → Type 0) (call : (number : Option ℕ) (message : MessageTaken) → Fits message → Fits (with_call number message))
+    (answer : (number : Option ℕ) (message : MessageTaken) → Fits message → Fits (with_answer number message)) (at : ℕ) (m : MemberState) (w : Coming) (piece : List ℕ) (s after : State) (b : Book) where
+  pub noted_stays : OneOf Fits (note_messages at m w piece s b).messages → OneOf Fits (member_messages at m w piece s after b)
+  noted_stays one =
+      turns_stay Fits call answer (controller_of at s) (turn_units m w.link piece s.moment s.chances.left) w.unit (numbers_on w.link false s.bag after.bag) (note_messages at m w piece s b) one
+
+  pub member_stays : OneOf Fits b.messages → OneOf Fits (member_messages at m w piece s after b)
+  member_stays one = noted_stays (one_before Fits b.messages (flat_map (message_note (at_member at w s)) (link_units m w.link piece s.moment s.chances.left)) one)
+
+of_call : (place : ℕ) (logon : Logon) (number : Option ℕ) (message : MessageTaken) → IsOfLogon place logon message → IsOfLogon place logon (with_call number message)
+of_call place logon number message is = record { same_place = is.same_place; same_logon = is.same_logon; on = is.on }
+
+of_answer : (place : ℕ) (logon : Logon) (number : Option ℕ) (message : MessageTaken) → IsOfLogon place logon message → IsOfLogon place logon (with_answer number message)
+of_answer place logon number message is = record { same_place = is.same_place; same_logon = is.same_logon; on = is.on }
+
+pub has_noted : (at : ℕ) (m : MemberState) (w : Coming) (piece : List ℕ) (s after : State) (b : Book) (place : ℕ) (logon : Logon) →
+    HasMessage (note_messages at m w piece s b).messages place logon → HasMessage (member_messages at m w piece s after b) place logon
+has_noted at m w piece s after b place logon one = noted_stays (IsOfLogon place logon) (of_call place logon) (of_answer place logon) at m w piece s after b one
+
+pub has_still : (at : ℕ) (m : MemberState) (w : Coming) (piece : List ℕ) (s after : State) (b : Book) (place : ℕ) (logon : Logon) →
+    HasMessage b.messages place logon → HasMessage (member_messages at m w piece s after b) place logon
+has_still at m w piece s after b place logon one = member_stays (IsOfLogon place logon) (of_call place logon) (of_answer place logon) at m w piece s after b one
+
+-- ---- a member
+
+abbrev pub AnyLink : ℕ → Type 0
+AnyLink number = Unit {0}
+
+abbrev pub KeptOf : List MessageTaken → Option Running → Type 0
+KeptOf messages r = AsksUnlessStopped r × KeptIn (HasMessage messages) AnyLink r × LinksIn (λ (number : ℕ) (p : Phase). AnyLink number) r
+
+dials_any : (what : Event) → IsNoBytes what → Dials AnyLink what
+dials_any (event.Bytes link piece) none = absurd none
+dials_any (event.Opened link) none = tt
+dials_any (event.Closed link) none = tt
+dials_any (event.Dialled link) none = tt
+dials_any event.DialFailed none = tt
+dials_any event.Stop none = tt
+
+opens_any : (what : Event) → IsNoBytes what → Opens what (λ (number : ℕ) (p : Phase). AnyLink number)
+opens_any (event.Bytes link piece) none = absurd none
+opens_any (event.Opened link) none = tt
+opens_any (event.Closed link) none = tt
+opens_any (event.Dialled link) none = tt
+opens_any event.DialFailed none = tt
+opens_any event.Stop none = tt
+
+step_kept : (messages : List MessageTaken) (what : Event) (m : MemberState) (now : ℕ) (left : List (List ℕ)) → IsNoBytes what → KeptOf messages m.running →
+    KeptOf messages (step_of m what now left).state.running
+step_kept messages what m now left none kept = (
+  step_asks m what now left kept.0,
+  step_keeps (HasMessage messages) AnyLink what m now left (dials_any what none) kept.1,
+  step_known (λ (number : ℕ) (p : Phase). AnyLink number) what m now left (opens_any what none) kept.2,
+)
+
+-- the messages as if they were taken then: only when they were taken matters to what is known of a step
+moved : LinkAt → MessageTaken → MessageTaken
+moved w message = record message { at = w.at; member = w.member }
+
+to_for : (w : LinkAt) (place : ℕ) (logon : Logon) (messages : List MessageTaken) → HasMessage messages place logon →
+    OneOf (IsFor (Unit {0}) w.at w.member place logon) (map (moved w) messages)
+unfolding moved
+to_for w place logon [] one = absurd one
+to_for w place logon (message ∷ messages) one = elim one [
+  | inl here ↦ inl (record { same_member = refl; same_place = here.same_place; same_logon = here.same_logon; link = here.on; before = inr (tt, refl) })
+  | inr later ↦ inr (to_for w place logon messages later)
+]
+
+from_for : (w : LinkAt) (place : ℕ) (logon : Logon) (messages more : List MessageTaken) → OneOf (IsFor (Unit {0}) w.at w.member place logon) (map (moved w) messages ++ more) →
+    HasMessage (messages ++ more) place logon
+unfolding moved
+from_for w place logon [] more one =
+    one_so (IsFor (Unit {0}) w.at w.member place logon) (IsOfLogon place logon) (λ message is. record { same_place = is.same_place; same_logon = is.same_logon; on = is.link }) more one
+from_for w place logon (message ∷ messages) more one = elim one [
+  | inl here ↦ inl (record { same_place = here.same_place; same_logon = here.same_logon; on = here.link })
+  | inr later ↦ inr (from_for w place logon messages more later)
+]
+
+bytes_kept : (w : LinkAt) (m : MemberState) (piece : List ℕ) (now : ℕ) (left : List (List ℕ)) (messages : List MessageTaken) → KeptOf messages m.running →
+    KeptOf (messages ++ flat_map (message_note w) (link_units m w.link piece now left)) (step_of m (event.Bytes w.link piece) now left).state.running
+bytes_kept w m piece now left messages kept =
+    let more : List MessageTaken = flat_map (message_note w) (link_units m w.link piece now left) in
+    let old : List MessageTaken = map (moved w) messages in
+    let HasOld : ℕ → Logon → Type 0 = λ place logon. OneOf (IsFor (Unit {0}) w.at w.member place logon) old in
+    let HasAll : ℕ → Logon → Type 0 = λ place logon. OneOf (IsFor (Unit {0}) w.at w.member place logon) (old ++ more) in
+    let running : Option Running = (step_of m (event.Bytes w.link piece) now left).state.running in (
+      step_asks m (event.Bytes w.link piece) now left kept.0,
+      kept_so HasAll (HasMessage (messages ++ more)) AnyLink AnyLink (λ place logon one. from_for w place logon messages more one) (λ number own. tt) running
+          (bytes_keep AnyLink AnyLink w m piece now left old kept.2
+          (kept_so (HasMessage messages) HasOld AnyLink AnyLink (λ place logon one. to_for w place logon messages one) (λ number own. tt) m.running kept.1)),
+      took_known AnyLink (flat_map (taken_link w) (link_units m w.link piece now left)) running (bytes_took AnyLink w m piece now left kept.2),
+    )
+
+-- ---- all members
+
+abbrev pub AllKept : List MessageTaken → Fact
+AllKept messages ends chances links = AllByRecursion (λ (m : MemberState). KeptOf messages m.running) ends.members
+
+abbrev AllOf : List MessageTaken → List MemberState → Type 0
+AllOf messages members = AllByRecursion (λ (m : MemberState). KeptOf messages m.running) members
+
+pub one_kept : (messages : List MessageTaken) (members : List MemberState) (at : ℕ) (m : MemberState) → slice_get members at ≡ Some m → AllOf messages members → KeptOf messages m.running
+one_kept messages [] zero m there all = absurd cc
+one_kept messages [] (suc at) m there all = absurd cc
+one_kept messages (first ∷ members) zero m there all = let is : first ≡ m = cc in subst (λ (x : MemberState). KeptOf messages x.running) is all.0
+one_kept messages (first ∷ members) (suc at) m there all = one_kept messages members at m there all.1
+
+set_kept : (messages : List MessageTaken) (members : List MemberState) (at : ℕ) (new : MemberState) → KeptOf messages new.running → AllOf messages members → AllOf messages (slice_set members at new)
+set_kept messages [] at new kept all = tt
+set_kept messages (first ∷ members) zero new kept all = (kept, all.1)
+set_kept messages (first ∷ members) (suc at) new kept all = (all.0, set_kept messages members at new kept all.1)
+
+fresh_kept : (messages : List MessageTaken) (plan : MemberPlan) → KeptOf messages (fresh_member plan).running
+fresh_kept messages plan = (fresh_asks plan, (tt, tt), tt)
+
+pub all_fresh : (messages : List MessageTaken) (plans : List MemberPlan) → AllOf messages (map fresh_member plans)
+all_fresh messages [] = tt
+all_fresh messages (plan ∷ plans) = (fresh_kept messages plan, all_fresh messages plans)
+
+controller_hears : (messages : List MessageTaken) (found : Option ControllerState) (at : ℕ) (what : Event) (now : ℕ) (ends : EndStates) (chances : Drawing) → AllOf messages ends.members →
+    AllOf messages (controller_step found at what now ends chances).ends.members
+controller_hears messages None at what now ends chances all = all
+controller_hears messages (Some c) at what now ends chances all = all
+
+client_hears : (messages : List MessageTaken) (found : Option ClientState) (at : ℕ) (what : Event) (now : ℕ) (ends : EndStates) (chances : Drawing) → AllOf messages ends.members →
+    AllOf messages (client_step found at what now ends chances).ends.members
+client_hears messages None at what now ends chances all = all
+client_hears messages (Some c) at what now ends chances all = all
+
+member_hears : (messages : List MessageTaken) (found : Option MemberState) (at : ℕ) (what : Event) (now : ℕ) (ends : EndStates) (chances : Drawing) → IsNoBytes what →
+    slice_get ends.members at ≡ found → AllOf messages ends.members → AllOf messages (member_step found at what now ends chances).ends.members
+member_hears messages None at what now ends chances none is all = all
+member_hears messages (Some m) at what now ends chances none is all =
+    set_kept messages ends.members at (step_of m what now chances.left).state (step_kept messages what m now chances.left none (one_kept messages ends.members at m is all)) all
+
+end_hears : (messages : List MessageTaken) (end : EndId) (what : Event) (now : ℕ) (ends : EndStates) (chances : Drawing) (links : List Route) → IsNoBytes what → AllOf messages ends.members →
+    HoldsAfter (AllKept messages) (end_step end what now ends chances) links
+end_hears messages (Controller at) what now ends chances links none all = controller_hears messages (slice_get ends.controllers at) at what now ends chances all
+end_hears messages (Member at) what now ends chances links none all = member_hears messages (slice_get ends.members at) at what now ends chances none refl all
+end_hears messages (Client at) what now ends chances links none all = client_hears messages (slice_get ends.clients at) at what now ends chances all
+
+quiet_none : (what : Event) → IsQuiet what → IsNoBytes what
+quiet_none (event.Bytes link piece) quiet = absurd quiet
+quiet_none (event.Opened link) quiet = absurd quiet
+quiet_none (event.Closed link) quiet = tt
+quiet_none (event.Dialled link) quiet = tt
+quiet_none event.DialFailed quiet = tt
+quiet_none event.Stop quiet = tt
+
+kept_stays : (messages : List MessageTaken) → Stays (AllKept messages)
+kept_stays messages = record {
+  hears = λ end what now ends chances links quiet all. end_hears messages end what now ends chances links (quiet_none what quiet) all;
+  opens = λ route now ends chances links all. end_hears messages (acceptor_of route) (event.Opened (length links)) now ends chances (links ++ route ∷ []) tt all;
+  controllers = λ c at ends chances links is all. all;
+  members = λ plan at ends chances links all. set_kept messages ends.members at (fresh_member plan) (fresh_kept messages plan) all;
+  clients = λ client at ends chances links all. all;
+}
+
+-- ---- with what is written down
+
+more_kept : (messages more : List MessageTaken) → ((place : ℕ) (logon : Logon) → HasMessage messages place logon → HasMessage more place logon) → (r : Option Running) →
+    KeptOf messages r → KeptOf more r
+more_kept messages more so r kept = (kept.0, kept_so (HasMessage messages) (HasMessage more) AnyLink AnyLink so (λ number own. tt) r kept.1, kept.2)
+
+all_more : (messages more : List MessageTaken) → ((place : ℕ) (logon : Logon) → HasMessage messages place logon → HasMessage more place logon) → (members : List MemberState) →
+    AllOf messages members → AllOf more members
+all_more messages more so [] all = tt
+all_more messages more so (m ∷ members) all = (more_kept messages more so m.running all.0, all_more messages more so members all.1)
+
+controller_bytes : (found : Option ControllerState) (at : ℕ) (w : Coming) (piece : List ℕ) (s after : State) (b : Book) → AllOf b.messages s.ends.members →
+    HoldsAfter (AllKept (note_controller found at w piece s after b).messages) (controller_step found at (event.Bytes w.link piece) s.moment s.ends s.chances) s.links
+controller_bytes None at w piece s after b all = all
+controller_bytes (Some c) at w piece s after b all = all
+
+client_bytes : (found : Option ClientState) (at : ℕ) (w : Coming) (piece : List ℕ) (s : State) (b : Book) → AllOf b.messages s.ends.members →
+    HoldsAfter (AllKept (note_client found at w piece s b).messages) (client_step found at (event.Bytes w.link piece) s.moment s.ends s.chances) s.links
+client_bytes None at w piece s b all = all
+client_bytes (Some c) at w piece s b all = all
+
+member_bytes : (found : Option MemberState) (at : ℕ) (w : Coming) (piece : List ℕ) (s after : State) (b : Book) → slice_get s.ends.members at ≡ found → AllOf b.messages s.ends.members →
+    HoldsAfter (AllKept (note_member found at w piece s after b).messages) (member_step found at (event.Bytes w.link piece) s.moment s.ends s.chances) s.links
+member_bytes None at w piece s after b is all = all
+member_bytes (Some m) at w piece s after b is all =
+    let now : List MessageTaken = member_messages at m w piece s after b in
+    let new : MemberState = (step_of m (event.Bytes w.link piece) s.moment s.chances.left).state in
+    set_kept now s.ends.members at new
+    (more_kept (note_messages at m w piece s b).messages now (has_noted at m w piece s after b) new.running
+    (bytes_kept (at_member at w s) m piece s.moment s.chances.left b.messages (one_kept b.messages s.ends.members at m is all)))
+    (all_more b.messages now (has_still at m w piece s after b) s.ends.members all)
+
+end_bytes : (end : EndId) (w : Coming) (piece : List ℕ) (s after : State) (b : Book) → AllOf b.messages s.ends.members →
+    HoldsAfter (AllKept (note_at (Some end) w piece s after b).messages) (end_step end (event.Bytes w.link piece) s.moment s.ends s.chances) s.links
+end_bytes (Controller at) w piece s after b all = controller_bytes (slice_get s.ends.controllers at) at w piece s after b all
+end_bytes (Member at) w piece s after b all = member_bytes (slice_get s.ends.members at) at w piece s after b refl all
+end_bytes (Client at) w piece s after b all = client_bytes (slice_get s.ends.clients at) at w piece s b all
+
+abbrev pub messages_in : Book → List MessageTaken
+messages_in b = b.messages
+
+pub kept_written : StaysWritten messages_in AllKept
+kept_written = record {
+  stays = kept_stays;
+  bytes = λ end w piece s after b all. end_bytes end w piece s after b all;
+  given = λ at given after b. refl;
+}
