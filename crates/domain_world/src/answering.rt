@@ -118,7 +118,8 @@ pub fn messages_are_taken_as_sent()
 #[tactic(auto, using(crate::proofs::Accepting::QuietRunLaws::stands_quiet))]
 pub fn schedules_stand_quiet()
     ensures { (plan : Plan) (moves : List Move) → IsSchedule plan moves →
-        AreShortUnits (past plan moves).world.state.bag → HaveBytes (past plan moves).world.state.bag →
+        AreShortUnits (past plan moves).world.state.bag →
+        HaveBytes (past plan moves).world.state.bag →
         IsQuiet (past plan moves).world.state }
 {}
 
@@ -144,7 +145,8 @@ pub fn draws_of_runs_differ()
 #[tactic(auto, using(crate::proofs::Requests::CallFrameLaws::schedules_stand))]
 pub fn runs_stand_so()
     ensures { (plan : Plan) (moves : List Move) → IsSchedule plan moves →
-        AreShortUnits (past plan moves).world.state.bag → HaveBytes (past plan moves).world.state.bag →
+        AreShortUnits (past plan moves).world.state.bag →
+        HaveBytes (past plan moves).world.state.bag →
         DrawsDiffer (past plan moves).world → RunsStandSo plan moves }
 {
     // What a requester's step does to calls, and a member's to its requester, are laws of their own.

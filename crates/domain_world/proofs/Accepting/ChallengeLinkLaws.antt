@@ -1,5 +1,5 @@
--- What bytes come to at a member: a CHALLENGE goes out on a link on which nothing was bound, and only one; and a message
--- that is taken is for the CHALLENGE of its link. It serves `messages_are_taken_as_sent`.
+-- What bytes come to at a member: a CHALLENGE goes out on a link on which nothing was bound, and only one; and a
+-- message that is taken is for the CHALLENGE of its link. It serves `messages_are_taken_as_sent`.
 use Rattle.std.proofs.Common.{◌≡◌, ◌≢◌, ℕ, Bool, true, false, List, [], ◌∷◌, ◌++◌, ◌⊎◌, inl, inr, Option, Some, None, Result, Ok, Err, refl, sym, ◌∙◌, if◌then◌else◌}
 use Rattle.std.specs.Prelude.{flat_map}
 use Rattle.std.proofs.lemmas.Bool.{eqb-false, eqb-true}
@@ -84,8 +84,8 @@ sent_as challenge flags w at left = record {
 
 -- ---- the units of a stream
 
--- What the units of a link come to, by what was sent: no CHALLENGE, and each message that was taken is for what was sent
--- before; or one, on a link on which nothing was bound, and each message is for it.
+-- What the units of a link come to, by what was sent: no CHALLENGE, and each message that was taken is for what was
+-- sent before; or one, on a link on which nothing was bound, and each message is for it.
 abbrev pub Comes : LinkAt → Type 0 → (List ℕ → ℕ → Type 0) → List ChallengeSent → List MessageTaken → ServedPart AtLink Talk → Type 0
 Comes w Free Sent [] messages part = AreTakenWith Sent messages × IfUnservedPart (IsSoFar Free Sent) part
 Comes w Free Sent (one ∷ []) messages part =

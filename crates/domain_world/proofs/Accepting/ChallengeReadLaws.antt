@@ -1,5 +1,5 @@
--- The CHALLENGE that a member sends is read again as it was written, and a message that the member takes is the one that
--- it read. It serves `messages_are_taken_as_sent`.
+-- The CHALLENGE that a member sends is read again as it was written, and a message that the member takes is the one
+-- that it read. It serves `messages_are_taken_as_sent`.
 use Rattle.std.proofs.Common.{◌≡◌, ◌==◌, ◌&&◌, ◌+◌, ◌≤◌, ◌<◌, ◌^◌, ℕ, Bool, true, false, List, [], ◌∷◌, ◌++◌, length, replicate, Option, Some, None, Result, Ok, Err, refl, sym, ap, subst, arith, length-append}
 use Rattle.std.specs.Prelude.{bit_and}
 use Rattle.std.specs.Int.{w32, w64, to_le_bytes}

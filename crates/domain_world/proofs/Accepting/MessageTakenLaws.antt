@@ -68,8 +68,8 @@ IsSentSo challenges link challenge flags = OneOf (λ (sent : ChallengeSent). (se
 abbrev pub IsForSent : List ChallengeSent → MessageTaken → Type 0
 IsForSent challenges one = IsTakenWith (IsSentSo challenges one.link) one.bytes one.logon
 
--- Each CHALLENGE was sent on a link that was made, and each on another; each link of a member is as what was sent on it,
--- and each message is for what was sent on its link. Each challenge that is left has 8 bytes.
+-- Each CHALLENGE was sent on a link that was made, and each on another; each link of a member is as what was sent on
+-- it, and each message is for what was sent on its link. Each challenge that is left has 8 bytes.
 pub record AreAsSent (written : Written) (members : List MemberState) (links : List Route) (left : List (List ℕ)) : Type 0 where
   pub below : AllByRecursion (λ (sent : ChallengeSent). sent.link < length links) written.challenges
   pub apart : AllPairs (λ (one other : ChallengeSent). one.link ≢ other.link) written.challenges

@@ -1,5 +1,5 @@
--- The links of a controller through each step: nothing stays open on those that members dialled, where what comes on them
--- are whole units. It serves `runs_stand_so`.
+-- The links of a controller through each step: nothing stays open on those that members dialled, where what comes on
+-- them are whole units. It serves `runs_stand_so`.
 use Rattle.std.proofs.Common.{◌≡◌, ℕ, Bool, true, false, List, [], ◌∷◌, ◌++◌, length, nat_le, Option, Some, None, Result, Ok, Err, if◌then◌else◌, refl, sym, ap, subst, ◌∙◌}
 use Rattle.std.specs.List.{AllByRecursion}
 use Rattle.std.proofs.lemmas.Bool.{eqb-true}

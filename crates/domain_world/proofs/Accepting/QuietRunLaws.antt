@@ -1,5 +1,5 @@
--- In every schedule what is under way between members and controllers is whole, and nothing stays open there: kept by each
--- move, over the frame of whole steps. It serves `runs_stand_so`.
+-- In every schedule what is under way between members and controllers is whole, and nothing stays open there: kept by
+-- each move, over the frame of whole steps. It serves `runs_stand_so`.
 use Rattle.std.proofs.lemmas.List.Elements.{All-head, All-tail}
 use Rattle.std.proofs.lemmas.List.{drop_all, take_all}
 use Rattle.channel_client.proofs.WholeLaws.{bytes_from_all}

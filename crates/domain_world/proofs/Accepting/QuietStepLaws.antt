@@ -1,5 +1,5 @@
--- What holds where what is under way between members and controllers is whole, and nothing stays open there: and that it
--- holds after one step of an end. It serves `runs_stand_so`.
+-- What holds where what is under way between members and controllers is whole, and nothing stays open there: and that
+-- it holds after one step of an end. It serves `runs_stand_so`.
 use Rattle.std.proofs.Common.{◌≡◌, ◌≢◌, ◌⊎◌, ℕ, zero, suc, ◌+◌, ◌<◌, ◌≤◌, ◌^◌, Bool, true, false, List, [], ◌∷◌, ◌++◌, drop, length, map, min, nat_le, take, inl, inr, Option, Some, None, Result, Ok, Err, slice_get, slice_set, if◌then◌else◌, refl, sym, ap, subst, ◌∙◌, arith}
 use Rattle.std.specs.Prelude.{All}
 use Rattle.std.specs.List.{AllByRecursion}

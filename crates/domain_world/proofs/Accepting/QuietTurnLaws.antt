@@ -1,5 +1,5 @@
--- The link of a member's turn through each step: it stays the one on which the turn's bind went out, and nothing is open
--- on it, where what comes on it are whole units. It serves `runs_stand_so`.
+-- The link of a member's turn through each step: it stays the one on which the turn's bind went out, and nothing is
+-- open on it, where what comes on it are whole units. It serves `runs_stand_so`.
 use Rattle.std.proofs.Common.{◌≡◌, ℕ, ◌==◌, Bool, true, false, List, [], ◌∷◌, ◌++◌, replicate, Option, Some, None, Result, Ok, Err, refl, sym, ap, subst, ◌∙◌}
 use Rattle.std.proofs.lemmas.Bool.{eqb-true}
 use Rattle.wire_base.specs.Maps.{lookup, same_number}

@@ -1,7 +1,7 @@
 -- What holds of the bag and the book in every run: whatever stays as units stay in the bag, and holds on with what is
--- written down where an end has heard bytes and done all that it then does. It may rest on a fact that is carried through
--- each step (`StepFrameLaws`), and on one of the ends that goes with the book (`FrameLaws`).
--- It serves `messages_are_called`.
+-- written down where an end has heard bytes and done all that it then does. It may rest on a fact that is carried
+-- through each step (`StepFrameLaws`), and on one of the ends that goes with the book (`FrameLaws`). It serves
+-- `messages_are_called`.
 use Rattle.std.proofs.Common.{◌≡◌, ℕ, ◌+◌, ◌*◌, Bool, List, [], ◌∷◌, ◌++◌, length, inl, inr, Option, Some, None, slice_get, refl}
 use Rattle.std.specs.Prelude.{◌%◌}
 use Rattle.std.specs.List.{AllByRecursion}
@@ -38,8 +38,8 @@ use Rattle.domain_world.proofs.Frames.StepFrameLaws.{ActionFact, After, BytesIn,
 abbrev pub BookFact : Type 1
 BookFact = List BagUnit → Book → Type 0
 
--- It stays as the units of the bag stay there, and as what ends gave is written down. Where an end hears bytes, it holds
--- with what is written down of them once the end has done all that it then does.
+-- It stays as the units of the bag stay there, and as what ends gave is written down. Where an end hears bytes, it
+-- holds with what is written down of them once the end has done all that it then does.
 pub record BagKeeps {X : Type 0} (Holds : RunFact) (part : Book → X) (Side : X → Fact) (Fits : BookFact) : Type 0 where
   pub still : (old bag : List BagUnit) (b : Book) → StillHas old bag → Fits old b → Fits bag b
   pub comes : (n : ℕ) (end : EndId) (w : Coming) (piece : List ℕ) (s : State) (given : Given) (b : Book) → IsAtSide s.links w.link w.back end → CameFrom w.unit s w piece → AreBytes piece →

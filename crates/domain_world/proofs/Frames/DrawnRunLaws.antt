@@ -1,5 +1,5 @@
--- In every run what was drawn and what is left are the challenges that the maker gives: so no two that were drawn are alike,
--- and each has 8 bytes. It serves `draws_of_runs_differ`.
+-- In every run what was drawn and what is left are the challenges that the maker gives: so no two that were drawn are
+-- alike, and each has 8 bytes. It serves `draws_of_runs_differ`.
 use Rattle.std.proofs.Common.{◌≡◌, ◌≢◌, ℕ, ◌+◌, ◌-◌, ◌<◌, List, [], ◌∷◌, ◌++◌, All, get_or, take, length, Option, Some, None, Result, Ok, Err, slice_get, refl, sym, ap, subst, ◌∙◌, arith, length-append}
 use Rattle.std.specs.Prelude.{AllPairs}
 use Rattle.std.proofs.lemmas.List.{append_assoc, append-nil, get_or_append_left, take_at}

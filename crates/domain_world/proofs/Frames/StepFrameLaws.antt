@@ -1,7 +1,7 @@
--- What holds through the moves of a world, of all of its state, of what ends gave in the move that is under way and that
--- isn't written down yet, and of the book: whatever holds through each step of an end, and through each single change
--- beside it. It gives an end's step the unit that came, and the actions what the step may do.
--- It serves `runs_stand_so`.
+-- What holds through the moves of a world, of all of its state, of what ends gave in the move that is under way and
+-- that isn't written down yet, and of the book: whatever holds through each step of an end, and through each single
+-- change beside it. It gives an end's step the unit that came, and the actions what the step may do. It serves
+-- `runs_stand_so`.
 use Rattle.std.proofs.Common.{◌≡◌, ℕ, zero, suc, ◌+◌, ◌*◌, ◌≤◌, Bool, true, false, List, [], ◌∷◌, ◌++◌, length, inl, inr, Option, Some, None, IsSome, slice_get, refl, sym, ap, subst, ◌∙◌, arith, length-append}
 use Rattle.std.specs.Prelude.{◌%◌}
 use Rattle.std.specs.List.{AllByRecursion}
@@ -73,8 +73,8 @@ pub record HasHeard (Holds : RunFact) (Fine : ActionFact) (n : ℕ) (end : EndId
   pub holds : Holds n heard.state (given ++ given_by end heard.actions) b
   pub fine : AllByRecursion (Fine end heard.state.links) heard.actions
 
--- It holds on where an end takes a step, where an action is done, and where one thing changes beside that. It may rest on
--- a side fact, of which the same is shown apart (`join` puts the two together).
+-- It holds on where an end takes a step, where an action is done, and where one thing changes beside that. It may rest
+-- on a side fact, of which the same is shown apart (`join` puts the two together).
 pub record Keeps (Side Holds : RunFact) (Fine : ActionFact) : Type 0 where
   -- an end takes a step
   pub calm : (n : ℕ) (end : EndId) (what : Event) (s : State) (given : Given) (b : Book) → IsCalm what → Side n s given b → Holds n s given b →
@@ -192,8 +192,8 @@ send_open : (route : Option Route) (end : EndId) (link : ℕ) (bytes : List ℕ)
 send_open None end link bytes s = refl
 send_open (Some route) end link bytes s = bag_unit_open (kind_of route) (is_accepted_by end route) link bytes s
 
--- the links are as they were when bytes began to come, the units of the bag are still there, and each unit is on a link of
--- its kind
+-- the links are as they were when bytes began to come, the units of the bag are still there, and each unit is on a link
+-- of its kind
 pub record Since (links : List Route) (old : List BagUnit) (now : List Route) (bag : List BagUnit) : Type 0 where
   pub same : now ≡ links
   pub still : StillHas old bag
@@ -471,7 +471,8 @@ module _ (Holds : RunFact) (Fine : ActionFact) (keeps : Keeps NoFact Holds Fine)
       pieces_since w links old pieces (piece_comes w.back w.link piece s).state
       (heard_if_stays (SinceThen links old) (since_sent links old) (hearer_of w.back (lookup same_number w.link s.open_links)) (event.Bytes w.link piece) s since)
 
-  -- it holds after a move, of which what is given isn't written down, at which few steps were taken where no unit is long
+  -- it holds after a move, of which what is given isn't written down, at which few steps were taken where no unit is
+  -- long
   pub record Moved (n : ℕ) (s : State) (acted : Acted) (b : Book) : Type 0 where
     pub steps : ℕ
     pub holds : Holds steps acted.state acted.given b

@@ -1,5 +1,5 @@
--- Each Logon call that goes out at a member is whole, can be read back, and asks for the logon that the member keeps under
--- the place of its turn, where what the member keeps is in its ranges. It serves `messages_are_called`.
+-- Each Logon call that goes out at a member is whole, can be read back, and asks for the logon that the member keeps
+-- under the place of its turn, where what the member keeps is in its ranges. It serves `messages_are_called`.
 use Rattle.std.proofs.Common.{◌≡◌, ℕ, ◌<◌, ◌≤◌, ◌^◌, ◌==◌, Bool, true, false, List, [], ◌∷◌, ◌++◌, length, map, Option, Some, None, Result, Ok, Err, refl, sym, ap, subst, ◌∙◌, arith, if◌then◌else◌}
 use Rattle.std.specs.List.{AllByRecursion}
 use Rattle.wire_base.specs.Maps.{lookup, same_number}

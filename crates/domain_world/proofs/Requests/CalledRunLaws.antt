@@ -1,5 +1,5 @@
--- In every schedule the unit of the bag that a message's call names is the call of its logon, whole, and is read back as
--- it was written: by what keeps the ends quiet, and since no two messages came on one link. It serves
+-- In every schedule the unit of the bag that a message's call names is the call of its logon, whole, and is read back
+-- as it was written: by what keeps the ends quiet, and since no two messages came on one link. It serves
 -- `messages_are_called`.
 use Rattle.std.proofs.Common.{◌≡◌, ◌≢◌, ℕ, zero, suc, List, [], ◌∷◌, inl, inr, Option, Some, sym, subst, slice_get, arith}
 use Rattle.std.specs.Prelude.{AllPairs}

@@ -1,5 +1,5 @@
--- In every run the unit of the bag that a message's call names is the call of its logon, whole, and is read back as it was
--- written. It rests on `CallSide`, which others carry through each step. It serves `messages_are_called`.
+-- In every run the unit of the bag that a message's call names is the call of its logon, whole, and is read back as it
+-- was written. It rests on `CallSide`, which others carry through each step. It serves `messages_are_called`.
 use Rattle.std.proofs.Common.{◌≡◌, ◌⊎◌, ℕ, ◌+◌, ◌==◌, Bool, true, false, List, [], ◌∷◌, ◌++◌, drop, length, append_assoc, inl, inr, Option, Some, None, Result, Ok, Err, refl, sym, ap, ap₂, subst, ◌∙◌, slice_get, length-append, if◌then◌else◌}
 use Rattle.std.specs.Prelude.{flat_map}
 use Rattle.std.specs.List.{AllByRecursion}

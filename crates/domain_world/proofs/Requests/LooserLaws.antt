@@ -1,5 +1,5 @@
--- Calls stay apart where less is known of them: fewer requesters are seen, fewer calls are written down, more challenges
--- were drawn and more numbers used. It serves `runs_stand_so`.
+-- Calls stay apart where less is known of them: fewer requesters are seen, fewer calls are written down, more
+-- challenges were drawn and more numbers used. It serves `runs_stand_so`.
 use Rattle.std.proofs.Common.{◌≡◌, ◌⊎◌, ℕ, zero, suc, ◌≤◌, Bool, true, false, List, [], ◌∷◌, ◌++◌, inl, inr, Some, slice_get, sym, ap, ◌∙◌, subst, arith}
 use Rattle.std.specs.List.{AllByRecursion}
 use Rattle.std.proofs.lemmas.List.{append_assoc}

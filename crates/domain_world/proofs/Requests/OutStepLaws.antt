@@ -1,5 +1,5 @@
--- What a member keeps, and that its call that is out is that of its message, through a step at which no whole unit comes
--- on the link of its turn. It serves `runs_stand_so`.
+-- What a member keeps, and that its call that is out is that of its message, through a step at which no whole unit
+-- comes on the link of its turn. It serves `runs_stand_so`.
 use Rattle.std.proofs.Common.{◌≡◌, ◌≢◌, ℕ, ◌==◌, Bool, true, false, List, [], ◌∷◌, ◌++◌, map, inl, inr, Option, Some, None, Result, Ok, Err, refl, sym, ap, ◌∙◌, subst, slice_get, if◌then◌else◌}
 use Rattle.std.specs.Prelude.{flat_map}
 use Rattle.std.specs.List.{AllByRecursion}
@@ -82,8 +82,8 @@ OutFor units messages controller member (Some running) =
     lookup same_number pending.place running.logons.asked ≡ Some logon →
     OneOf (IsOutIn units member pending logon (standing_channel controller running.logons.channel)) messages
 
--- It asks for what it keeps, of each logon it took the message, it dialled the link of its turn, it accepted those whose
--- challenge hasn't served, and a Logon call that is out is that of its message.
+-- It asks for what it keeps, of each logon it took the message, it dialled the link of its turn, it accepted those
+-- whose challenge hasn't served, and a Logon call that is out is that of its message.
 pub record MemberHolds (links : List Route) (units : List Sent) (messages : List MessageTaken) (controller member : ℕ) (r : Option Running) : Type 0 where
   pub asks : AsksUnlessStopped r
   pub kept : KeptIn (HasOne member messages) (λ number. IsDialledBy links member number) r
