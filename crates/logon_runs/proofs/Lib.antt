@@ -1,0 +1,13 @@
+pub mod StayingLaws
+pub mod WaitingLaws
+pub mod SceneLaws
+pub mod TurningSceneLaws
+pub mod StartLaws
+pub mod LinkSceneLaws
+pub mod TurnSceneLaws
+pub mod AskSceneLaws
+pub mod TwoLinkLaws
+pub mod RunLaws
+pub mod FirstRunLaws
+pub mod LogonRunLaws
+pub mod FirstLogonRunLaws

@@ -1,0 +1,125 @@
+-- A whole turn of a member whose channel stands.
+-- Of `turns_run`.
+use Rattle.std.proofs.Common.{ℕ, ◌≡◌, ◌<◌, ◌^◌, List, [], ◌∷◌, length, Some, refl, ap, ap₂, ◌∙◌, arith}
+use Rattle.wire_base.specs.Maps.{lookup}
+use Rattle.wire_base.specs.Names.{same_name}
+use Rattle.outside.specs.declared.event.Event.TheVariants as event
+use Rattle.rpc_units.specs.Calls.{bytes_of_call}
+use Rattle.logon_stubs.specs.declared.calls.Reply.{Reply}
+use Rattle.account_table.specs.AccountTable.{AccountTable}
+use Rattle.account_table.specs.LookUps.{account_in}
+use Rattle.account_table.specs.declared.account.Account.{Account}
+use Rattle.sam_logon.specs.MayLogOn.{MayLogOn}
+use Rattle.channel_client.specs.Opened.{OpenState}
+use Rattle.domain_controller.specs.Channels.{ChannelState}
+use Rattle.domain_controller.specs.Step.{step_of as controller_step_of}
+use Rattle.logon_client.specs.Plans.{CanLogOn}
+use Rattle.logon_steps.specs.Answering.{IsInStep}
+use Rattle.logon_steps.specs.Answers.{AreDraws, HasUnits}
+use Rattle.logon_steps.specs.Calling.{HasShortCaller, HasShortInfo}
+use Rattle.logon_steps.specs.Granting.{cleared, info_told}
+use Rattle.logon_steps.specs.Turning.{turn_request}
+use Rattle.logon_runs.specs.LinkScenes.{Meeting}
+use Rattle.logon_runs.specs.Runs.{Asked}
+use Rattle.outside.specs.declared.action.Action.TheVariants as action
+use Rattle.outside.specs.declared.action.Judged.TheVariants as judged
+use Rattle.outside.specs.Machine.{whole_step}
+use Rattle.logon_stubs.specs.declared.calls.Call.{Call}
+use Rattle.logon_stubs.specs.declared.info.SamInfo.{SamInfo}
+use Rattle.logon_stubs.specs.declared.info.Verdict.{Verdict}
+use Rattle.authenticators.specs.Sequences.{return_of}
+use Rattle.channel_client.specs.declared.state.Question.TheVariants as question
+use Rattle.channel_client.specs.declared.state.Standing.{Standing}
+use Rattle.channel_client.specs.declared.state.Standing.TheVariants as standing
+use Rattle.channel_client.specs.declared.state.Step.TheVariants as step
+use Rattle.channel_client.specs.Machine.{after, logon_call}
+use Rattle.channel_client.specs.Opened.{after_call, open_key}
+use Rattle.domain_controller.specs.declared.state.Computers.{Computers}
+use Rattle.domain_controller.specs.Machine.{status_of}
+use Rattle.member_server.specs.Messages.{info_of}
+use Rattle.member_server.specs.Turns.{timestamp_of}
+use Rattle.world_moves.specs.declared.state.State.{State}
+use Rattle.logon_steps.specs.Answers.{logon_for}
+use Rattle.logon_steps.specs.ControllerTurns.{controller_at, passed_reply, reply_bytes, turn_link}
+use Rattle.logon_steps.specs.Meeting.{bound_for, flags_agreed}
+use Rattle.logon_steps.specs.MemberAnswers.{granting}
+use Rattle.logon_steps.specs.MemberLinks.{asked_talk}
+use Rattle.logon_steps.proofs.CallingLaws.{calls_can_go}
+use Rattle.logon_steps.proofs.ControllerTurnLaws.{controllers_step}
+use Rattle.logon_steps.proofs.GrantingLaws.{logons_are_granted}
+use Rattle.logon_runs.specs.AskScenes.{turn_of, with_talk}
+use Rattle.logon_runs.specs.LinkScenes.{its_link}
+use Rattle.logon_runs.specs.TurnScenes.{IsBetween, Turn, next_turn, with_accounts}
+use Rattle.logon_runs.specs.Runs.{TurnsRun, connects, goes, hidden, info_asked, message_for, sam_for, with_moved}
+use Rattle.logon_runs.proofs.AskSceneLaws.{logons_are_seen}
+use Rattle.logon_runs.proofs.LinkSceneLaws.{found_here}
+use Rattle.logon_runs.proofs.TurnSceneLaws.{turns_are_seen}
+use Rattle.logon_runs.proofs.TwoLinkLaws.{turns_have_links}
+
+pub timestamp_below : (now : ℕ) → timestamp_of now < 4294967296
+timestamp_below now = omega arith
+
+-- what the controller makes of the call: the logon passes and is granted, and the account's count of bad passwords is 0
+-- afterwards
+pub grants_so : (g : Meeting) (a : Asked) (o : OpenState) (c : ChannelState) (table : AccountTable) (name : List ℕ) (account : Account) (computers : Computers)
+    (link number moment : ℕ) (left : List (List ℕ)) → number < 2 ^ 32 → HasShortCaller g.caller → HasShortInfo (info_asked g a) →
+    lookup same_name g.caller.computer computers.channels ≡ Some c → IsInStep o c → CanLogOn g.task → HasUnits g.task → AreDraws a.one a.two a.three →
+    account_in table.accounts g.task.user ≡ Some account → account.hash ≡ g.task.hash → MayLogOn table (info_told g.task) moment →
+    let stamp : ℕ = timestamp_of moment in
+    let sam : SamInfo = sam_for g a table name account moment in
+    controller_step_of (controller_at table name computers (turn_link link))
+    (event.Bytes link (bytes_of_call (turn_request number (logon_call g.caller o stamp (info_asked g a))) 5840)) moment left
+    ≡ whole_step left left (action.Judged (judged.Passed 0) ∷ action.Send link (reply_bytes number (granting o stamp 0 1 (hidden o sam))) ∷ [])
+    (controller_at (cleared table g.task.user) name (with_moved g c stamp computers) (turn_link link))
+grants_so g a o c table name account computers link number moment left below caller info channel in_step can units draws found hash may =
+    let stamp : ℕ = timestamp_of moment in
+    let sam : SamInfo = sam_for g a table name account moment in
+    let later : Computers = with_moved g c stamp computers in
+    controllers_step.judged table name computers link moment number stamp g.caller o c (info_asked g a) left below
+    (calls_can_go.logon g.caller o stamp (info_asked g a) caller (timestamp_below moment) info) channel in_step
+    ∙ ap₂ (λ (v : Verdict) (accounts : AccountTable). whole_step left left
+    (action.Judged (judged.Passed (status_of v)) ∷ action.Send link (reply_bytes number (passed_reply (open_key o) (return_of (open_key o) o.seed stamp) v)) ∷ [])
+    (controller_at accounts name later (turn_link link)))
+    (logons_are_granted.verdict g.plan g.task a.challenge a.one a.two a.three a.then_now g.place moment table name account can units draws found hash may)
+    (logons_are_granted.table g.plan g.task a.challenge a.one a.two a.three a.then_now g.place moment table account can units draws found hash may)
+    ∙ ap (λ (r : Reply). whole_step left left (action.Judged (judged.Passed 0) ∷ action.Send link (reply_bytes number r) ∷ [])
+    (controller_at (cleared table g.task.user) name later (turn_link link))) (logons_are_granted.reply o stamp sam)
+
+-- the link of a turn is open still where the controller's accounts are others
+pub between_still : (t : Turn) (accounts : AccountTable) → IsBetween t → IsBetween (with_accounts accounts t)
+between_still t accounts between = record { route = between.route; opened = between.opened }
+
+pub turns_run : TurnsRun
+turns_run = record {
+  granted = λ s g a o c table name account computers waits left moment is reach who back shows.
+      let stamp : ℕ = timestamp_of moment in
+      let sam : SamInfo = sam_for g a table name account moment in
+      let how : Standing = standing.Open (after_call o stamp) in
+      let call : Call = logon_call g.caller o stamp (info_asked g a) in
+      let t : Turn = turn_of g waits (info_of (message_for g a) (flags_agreed g.task) a.challenge) (logon_for g.link g.task a.challenge (message_for g a))
+      (asked_talk (bound_for g.task) g.place []) table name in
+      let held : Turn = with_talk g.link (asked_talk (bound_for g.task) g.place (who.sent ∷ [])) t in
+      let turn : Turn = next_turn held (its_link g) how in
+      let later : Computers = with_moved g c stamp computers in
+      let answered = grants_so g a o c table name account computers (length g.links) (after g.number) moment left is.next is.caller is.info is.channel is.in_step is.can is.units
+      is.draws is.found is.hash is.may in
+      let accounts : AccountTable = cleared table g.task.user in
+      let s1 : State = goes s in
+      let s2 : State = goes s1 in
+      let s3 : State = connects s2 in
+      let s4 : State = goes s3 in
+      let s5 : State = goes s4 in
+      let s6 : State = goes s5 in
+      logons_are_seen.granted s6 g (with_accounts accounts turn) o waits a.challenge (message_for g a) (hidden o sam) (after (after g.number)) (after g.number) stamp 0 1 1 later
+      _ left moment is.next (between_still turn accounts (turns_have_links.between g held how is.joined)) is.joined is.reply is.short who back refl
+      (turns_have_links.met g held how is.joined) (turns_have_links.taken g held how is.joined)
+      (turns_are_seen.judges s5 turn (after (after g.number)) (after g.number) (step.Reply question.Logon) call (granting o stamp 0 1 (hidden o sam)) (judged.Passed 0) computers later accounts left left moment
+      (turns_have_links.between g held how is.joined)
+      (calls_can_go.logon g.caller o stamp (info_asked g a) is.caller (timestamp_below moment) is.info) answered
+      (turns_are_seen.asks s4 turn (after g.number) g.number call computers left moment (turns_have_links.between g held how is.joined) is.number
+      (turns_are_seen.bound s3 turn (after g.number) g.number call computers left moment (turns_have_links.between g held how is.joined) is.number
+      (turns_are_seen.dialled s2 held (its_link g) how (after g.number) g.number call computers [] left moment reach (turns_have_links.found g held is.joined)
+      (turns_have_links.new g held _ is.joined) (turns_have_links.between g held how is.joined)
+      (logons_are_seen.held_before s1 g t (its_link g) how (after g.number) g.number 1 2 0 call computers [] _ _ who [] left moment refl (found_here g)
+      (logons_are_seen.asks_again s g o waits a.challenge a.one a.two a.three who.sent a.then_now table name computers left moment is.stands is.can is.names is.draws shows))))));
+}

@@ -1,0 +1,13 @@
+pub mod Staying
+pub mod Waiting
+pub mod Scenes
+pub mod Turnings
+pub mod Starts
+pub mod LinkScenes
+pub mod TurnScenes
+pub mod AskScenes
+pub mod TwoLinks
+pub mod Runs
+pub mod FirstRuns
+pub mod LogonRuns
+pub mod FirstLogonRuns

@@ -1,0 +1,83 @@
+-- A whole logon by a channel that stands, from a client's start where no link is open to its end
+-- where none is (MS-NLMP 3.2.5.1.2, MS-NRPC 3.5.4.5.3), as it is seen of a scene where the moment
+-- stays and WhoAmI comes before the member's dial is answered.
+use Rattle.std.specs.Prelude.{ℕ, ◌≡◌, ◌≤◌, ◌==◌, true, false, List, [], ◌∷◌, length, Some, slice_get}
+use Rattle.wire_base.specs.Units.{AreUnits}
+use Rattle.logon_stubs.specs.declared.info.SamInfo.{SamInfo}
+use Rattle.account_table.specs.AccountTable.{AccountTable}
+use Rattle.account_table.specs.declared.account.Account.{Account}
+use Rattle.channel_client.specs.Opened.{OpenState, open_key}
+use Rattle.domain_controller.specs.Channels.{ChannelState}
+use Rattle.domain_controller.specs.declared.state.Computers.{Computers}
+use Rattle.logon_client.specs.State.{State as ClientState}
+use Rattle.logon_client.specs.declared.outcome.ClientOutcome.TheVariants.{In}
+use Rattle.member_server.specs.Outcomes.{name_in}
+use Rattle.member_server.specs.Turns.{timestamp_of}
+use Rattle.world_moves.specs.declared.links.EndId.TheVariants.{Controller, Member}
+use Rattle.world_moves.specs.declared.links.Route.{Route}
+use Rattle.world_moves.specs.declared.state.State.{State}
+use Rattle.world_moves.specs.Choosing.{chosen_place}
+use Rattle.world_moves.specs.Moving.{end_of_peer, start}
+use Rattle.logon_steps.specs.Answers.{answer_for, drawn_of}
+use Rattle.logon_steps.specs.Calling.{TravelsAsZeros}
+use Rattle.logon_steps.specs.ClientSteps.{client_ended}
+use Rattle.logon_steps.specs.Granting.{base_key, cleared}
+use Rattle.logon_steps.specs.MemberAnswers.{sam_shown}
+use Rattle.logon_runs.specs.AskScenes.{with_controller}
+use Rattle.logon_runs.specs.LinkScenes.{Meeting, joined, rest_scene}
+use Rattle.logon_runs.specs.Runs.{Asked, IsToBeGranted, connects, goes, hidden, message_for, rested, sam_for, with_moved}
+use Rattle.logon_runs.specs.Scenes.{Shows}
+
+abbrev pub starts : ℕ → State → State
+starts number s = (start number s).state
+
+-- after the client's dial is answered, and the CHALLENGE is
+abbrev pub meets : ℕ → State → State
+meets number s = goes (goes (connects (starts number s)))
+
+-- after the turn that follows
+abbrev pub turns : ℕ → State → State
+turns number s = goes (goes (goes (goes (connects (goes (goes (meets number s)))))))
+
+abbrev pub asked_at : List ℕ → List ℕ → List ℕ → List ℕ → ℕ → Asked
+asked_at challenge one two three now = record { challenge = challenge; one = one; two = two; three = three; then_now = now }
+
+-- which client starts, whom it reaches, and that its logon is granted on the next link
+pub record ComesIn (s : State) (g : Meeting) (number : ℕ) (links : List Route) (a : Asked) (o : OpenState) (c : ChannelState) (table : AccountTable) (name : List ℕ) (account : Account)
+    (computers : Computers) (moment : ℕ) : Type 0 where
+  pub chosen : chosen_place number (length s.ends.clients) ≡ Some g.at_client
+  pub planned : slice_get s.client_plans g.at_client ≡ Some g.task
+  pub server : end_of_peer g.task.server (starts number s).ends ≡ Some (Member g.at_member)
+  pub controller : end_of_peer g.plan.controller (goes (goes (meets number s))).ends ≡ Some (Controller g.at_controller)
+  pub eight : length a.challenge ≡ 8
+  pub granted : IsToBeGranted (joined g links) a o c table name account computers moment
+  pub key : TravelsAsZeros (open_key o) (base_key g.task (message_for (joined g links) a)) → ⊥
+  pub short : length (name_in (sam_shown o (hidden o (sam_for (joined g links) a table name account moment)))) ≤ 129
+  pub units : AreUnits (name_in (sam_shown o (hidden o (sam_for (joined g links) a table name account moment))))
+
+-- the member's channel, and the controller's, once it is granted
+abbrev pub after_logon : Meeting → List Route → OpenState → ChannelState → AccountTable → List ℕ → Computers → ℕ → Meeting
+after_logon g links o c table name computers moment =
+    with_controller (rested (joined g links) o (timestamp_of moment)) (cleared table g.task.user) name (with_moved (joined g links) c (timestamp_of moment) computers)
+
+pub record LogonsRun : Type 0 where
+  -- the client is in, with its own key, the name that the member found, and what it echoed
+  pub named : (s : State) (g : Meeting) (number : ℕ) (before : ClientState) (links : List Route) (challenge one two three : List ℕ) (o : OpenState) (c : ChannelState)
+      (table : AccountTable) (name : List ℕ) (account : Account) (computers : Computers) (left : List (List ℕ)) (moment : ℕ) →
+      let a : Asked = asked_at challenge one two three moment in
+      let sam : SamInfo = sam_for (joined g links) a table name account moment in
+      let end : Meeting = after_logon g links o c table name computers moment in
+      ComesIn s g number links a o c table name account computers moment → (g.task.echo == 0) ≡ true →
+      Shows s (rest_scene (with_controller g table name computers) before links (challenge ∷ one ∷ two ∷ three ∷ left) moment []) →
+      Shows (goes (turns number s))
+      (rest_scene end (client_ended g.task (In (name_in (sam_shown o (hidden o sam))) (answer_for g.plan g.task challenge moment (drawn_of one two three)).key 0)) end.links left moment [])
+  pub echoed : (s : State) (g : Meeting) (number : ℕ) (before : ClientState) (links : List Route) (challenge one two three : List ℕ) (o : OpenState) (c : ChannelState)
+      (table : AccountTable) (name : List ℕ) (account : Account) (computers : Computers) (left : List (List ℕ)) (moment : ℕ) →
+      let a : Asked = asked_at challenge one two three moment in
+      let sam : SamInfo = sam_for (joined g links) a table name account moment in
+      let end : Meeting = after_logon g links o c table name computers moment in
+      ComesIn s g number links a o c table name account computers moment → (g.task.echo == 0) ≡ false →
+      Shows s (rest_scene (with_controller g table name computers) before links (challenge ∷ one ∷ two ∷ three ∷ left) moment []) →
+      Shows (goes (goes (goes (turns number s))))
+      (rest_scene end (client_ended g.task (In (name_in (sam_shown o (hidden o sam))) (answer_for g.plan g.task challenge moment (drawn_of one two three)).key g.task.echo)) end.links
+      left moment [])
