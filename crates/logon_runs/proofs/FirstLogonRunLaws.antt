@@ -38,6 +38,9 @@ use Rattle.logon_runs.specs.FirstRuns.{opens_as}
 use Rattle.logon_runs.specs.FirstLogonRuns.{ComesInFirst, FirstLogonsRun, after_first, first_turns}
 use Rattle.logon_runs.specs.Scenes.{Shows}
 use Rattle.logon_runs.proofs.LinkSceneLaws.{meetings_are_seen}
+use Rattle.logon_runs.proofs.LogonRunLaws.{meets_same}
+use Rattle.logon_runs.proofs.StayingLaws.{reach_still, starts_same}
+use Rattle.world_moves.specs.declared.links.EndId.TheVariants.{Controller, Member}
 use Rattle.logon_runs.proofs.FirstRunLaws.{first_turns_run}
 use Rattle.logon_runs.proofs.StartLaws.{starts_are_seen}
 use Rattle.logon_runs.proofs.TwoLinkLaws.{got_first}
@@ -99,10 +102,11 @@ answered_so s g number before links challenge one two three client server table 
       other = who.next;
       back = back;
       shows =
-          first_turns_run.granted (meets number s) j a client server table name account machine computers _ left moment is.opened is.reach is.reach_again is.reach_last who back
+          first_turns_run.granted (meets number s) j a client server table name account machine computers _ left moment is.opened (reach_still g.plan.controller (Controller g.at_controller) s (meets number s) (meets_same number s) is.controller) who back
           (meetings_are_seen.answered _ k challenge one two three _ (client ∷ server ∷ left) moment is.opened.joined is.opened.can is.opened.names is.eight is.opened.draws who.goes
           (meetings_are_seen.challenged _ k challenge (one ∷ two ∷ three ∷ client ∷ server ∷ left) moment is.opened.joined is.opened.can is.opened.names is.eight
-          (meetings_are_seen.dialled (starts number s) (with_controller g table name computers) links (challenge ∷ one ∷ two ∷ three ∷ client ∷ server ∷ left) moment is.opened.joined is.there
+          (meetings_are_seen.dialled (starts number s) (with_controller g table name computers) links (challenge ∷ one ∷ two ∷ three ∷ client ∷ server ∷ left) moment is.opened.joined
+          (reach_still g.task.server (Member g.at_member) s (starts number s) (starts_same number s) is.member)
           (starts_are_seen.starts s (with_controller g table name computers) number before links (challenge ∷ one ∷ two ∷ three ∷ client ∷ server ∷ left) moment is.chosen is.planned shows))));
     }
 

@@ -36,11 +36,15 @@ use Rattle.logon_runs.specs.LinkScenes.{its_link}
 use Rattle.logon_runs.specs.TurnScenes.{Turn, dial_scene, next_turn, with_accounts}
 use Rattle.logon_runs.specs.TwoLinks.{HasMet}
 use Rattle.logon_runs.specs.FirstRuns.{FirstTurnsRun, channel_as, opened_at, opens_as, turned, with_pair}
-use Rattle.logon_runs.specs.Runs.{goes, hidden, info_asked, message_for, sam_for, with_moved}
+use Rattle.logon_runs.specs.Runs.{connects, goes, hidden, info_asked, message_for, sam_for, with_moved}
 use Rattle.logon_runs.specs.Scenes.{Shows}
 use Rattle.logon_runs.proofs.AskSceneLaws.{logons_are_seen}
 use Rattle.logon_runs.proofs.LinkSceneLaws.{found_here}
-use Rattle.logon_runs.proofs.RunLaws.{between_still, grants_so, timestamp_below}
+use Rattle.logon_runs.proofs.RunLaws.{between_still, grants_so, timestamp_below, twice_same}
+use Rattle.logon_runs.proofs.StayingLaws.{both_same, connects_same, reach_still}
+use Rattle.logon_runs.specs.Staying.{HasSameEnds}
+use Rattle.world_moves.specs.declared.links.EndId.{EndId}
+use Rattle.world_moves.specs.declared.links.EndId.TheVariants.{Controller}
 use Rattle.logon_runs.proofs.TurnSceneLaws.{turns_are_seen}
 use Rattle.logon_runs.proofs.TwoLinkLaws.{turns_have_links}
 
@@ -50,9 +54,15 @@ after_below n = omega arith
 same_computer : (name : List ℕ) → same_name name name ≡ true
 same_computer name = (same_name-Decides name name).1 refl
 
+turned_same : (s : State) → HasSameEnds s (turned s)
+turned_same s =
+    let s1 : State = connects s in
+    both_same s s1 (turned s) (connects_same s)
+    (both_same s1 (goes (goes s1)) (turned s) (twice_same s1) (twice_same (goes (goes s1))))
+
 pub first_turns_run : FirstTurnsRun
 first_turns_run = record {
-  granted = λ s g a client server table name account machine computers waits left moment is reach reach_again reach_last who back shows.
+  granted = λ s g a client server table name account machine computers waits left moment is reach who back shows.
       let stamp : ℕ = timestamp_of moment in
       let n1 : ℕ = after g.number in
       let n2 : ℕ = after n1 in
@@ -95,6 +105,11 @@ first_turns_run = record {
       let s2 : State = goes (goes s) in
       let s3 : State = turned s2 in
       let s4 : State = turned s3 in
+      let peer : List ℕ = g.plan.controller in
+      let at : EndId = Controller g.at_controller in
+      let same2 : HasSameEnds s s2 = twice_same s in
+      let same3 : HasSameEnds s s3 = both_same s s2 s3 same2 (turned_same s2) in
+      let same4 : HasSameEnds s s4 = both_same s s3 s4 same3 (turned_same s3) in
       let dial1 : Shows s2 (dial_scene held (its_link g) standing.Nothing n1 g.number first computers [] (server ∷ left) moment) =
       logons_are_seen.held_before (goes s) g t (its_link g) standing.Nothing n1 g.number 1 2 0 first computers [] _ _ who [] (server ∷ left) moment refl (found_here g)
       (logons_are_seen.asks_first s g waits a.challenge a.one a.two a.three client who.sent a.then_now table name computers (server ∷ left) moment is.stands is.can is.names is.draws shows) in
@@ -105,7 +120,7 @@ first_turns_run = record {
       (controllers_step.challenged table name computers t1.link moment n1 g.caller client server left (after_below g.number) can_first is.knows)
       (turns_are_seen.asks _ t1 n1 g.number first computers (server ∷ left) moment between1 is.number
       (turns_are_seen.bound _ t1 n1 g.number first computers (server ∷ left) moment between1 is.number
-      (turns_are_seen.dialled s2 held (its_link g) standing.Nothing n1 g.number first computers [] (server ∷ left) moment reach (turns_have_links.found g held is.joined)
+      (turns_are_seen.dialled s2 held (its_link g) standing.Nothing n1 g.number first computers [] (server ∷ left) moment (reach_still peer at s s2 same2 reach) (turns_have_links.found g held is.joined)
       (turns_have_links.new g held _ is.joined) between1 dial1))))) in
       let dial3 : Shows s4 (dial_scene t2 (its_link g) how n5 n4 third opened [] left moment) =
       subst (λ (map : OpenMap). Shows s4 (dial_scene t2 map how n5 n4 third opened [] left moment)) (turns_have_links.taken g t1 half met1)
@@ -115,13 +130,13 @@ first_turns_run = record {
       (lookup-put_same same_name g.caller.computer (pair_of client server) computers.pending (same_computer g.caller.computer)))
       (turns_are_seen.asks _ t2 n3 n2 second paired left moment between2 (after_below n1)
       (turns_are_seen.bound _ t2 n3 n2 second paired left moment between2 (after_below n1)
-      (turns_are_seen.dialled s3 t1 (its_link g) half n3 n2 second paired [] left moment reach_again (turns_have_links.found g t1 met1)
+      (turns_are_seen.dialled s3 t1 (its_link g) half n3 n2 second paired [] left moment (reach_still peer at s s3 same3 reach) (turns_have_links.found g t1 met1)
       (turns_have_links.new g t1 _ met1) between2 dial2))))) in
       logons_are_seen.granted _ g (with_accounts accounts t3) o waits a.challenge (message_for g a) (hidden o sam) n6 n5 stamp 0 1 1 later _ left moment (after_below n4) (between_still t3 accounts between3) is.joined is.logon_reply is.short who back refl
       (turns_have_links.met g t2 how met2) (turns_have_links.taken g t2 how met2)
       (turns_are_seen.judges _ t3 n6 n5 (step.Reply question.Logon) third third_reply (judged.Passed 0) opened later accounts left left moment between3 can_third answered
       (turns_are_seen.asks _ t3 n5 n4 third opened left moment between3 (after_below n3)
       (turns_are_seen.bound _ t3 n5 n4 third opened left moment between3 (after_below n3)
-      (turns_are_seen.dialled s4 t2 (its_link g) how n5 n4 third opened [] left moment reach_last (turns_have_links.found g t2 met2)
+      (turns_are_seen.dialled s4 t2 (its_link g) how n5 n4 third opened [] left moment (reach_still peer at s s4 same4 reach) (turns_have_links.found g t2 met2)
       (turns_have_links.new g t2 _ met2) between3 dial3))));
 }

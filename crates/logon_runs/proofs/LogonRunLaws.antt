@@ -33,11 +33,14 @@ use Rattle.logon_steps.proofs.GrantingLaws.{logons_are_granted}
 use Rattle.logon_steps.proofs.MemoCallLaws.{memo_calls_go}
 use Rattle.logon_runs.specs.AskScenes.{with_controller}
 use Rattle.logon_runs.specs.LinkScenes.{IsJoined, Meeting, joined, meeting_scene, rest_scene, unit_down}
-use Rattle.logon_runs.specs.Runs.{Asked, goes, hidden, message_for, on_for, sam_for}
+use Rattle.logon_runs.specs.Runs.{Asked, connects, goes, hidden, message_for, on_for, sam_for}
 use Rattle.logon_runs.specs.LogonRuns.{ComesIn, LogonsRun, after_logon, asked_at, meets, starts, turns}
 use Rattle.logon_runs.specs.Scenes.{Shows}
 use Rattle.logon_runs.proofs.LinkSceneLaws.{meetings_are_seen}
-use Rattle.logon_runs.proofs.RunLaws.{turns_run}
+use Rattle.logon_runs.proofs.RunLaws.{turns_run, twice_same}
+use Rattle.logon_runs.proofs.StayingLaws.{both_same, connects_same, reach_still, starts_same}
+use Rattle.logon_runs.specs.Staying.{HasSameEnds}
+use Rattle.world_moves.specs.declared.links.EndId.TheVariants.{Controller, Member}
 use Rattle.logon_runs.proofs.StartLaws.{starts_are_seen}
 use Rattle.logon_runs.proofs.TwoLinkLaws.{got_first}
 
@@ -62,6 +65,12 @@ sessions_are s g number links a o c table name account computers moment is =
     (logons_are_granted.sessions g.plan g.task a.challenge a.one a.two a.three a.then_now is.granted.can)
 
 -- ---- up to the answer of WhoAmI
+
+pub meets_same : (number : ℕ) (s : State) → HasSameEnds s (meets number s)
+meets_same number s =
+    let s1 : State = starts number s in
+    let s2 : State = connects s1 in
+    both_same s s2 (meets number s) (both_same s s1 s2 (starts_same number s) (connects_same s1)) (twice_same s2)
 
 record IsAnswered (s : State) (g : Meeting) (number : ℕ) (links : List Route) (a : Asked) (o : OpenState) (c : ChannelState) (table : AccountTable) (name : List ℕ) (account : Account)
     (computers : Computers) (left : List (List ℕ)) (moment : ℕ) : Type 0 where
@@ -97,10 +106,11 @@ answered_so s g number before links challenge one two three o c table name accou
       other = who.next;
       back = back;
       shows =
-          turns_run.granted (meets number s) j a o c table name account computers _ left moment is.granted is.controller who back
+          turns_run.granted (meets number s) j a o c table name account computers _ left moment is.granted (reach_still g.plan.controller (Controller g.at_controller) s (meets number s) (meets_same number s) is.controller) who back
           (meetings_are_seen.answered _ k challenge one two three _ left moment is.granted.joined is.granted.can is.granted.names is.eight is.granted.draws who.goes
           (meetings_are_seen.challenged _ k challenge (one ∷ two ∷ three ∷ left) moment is.granted.joined is.granted.can is.granted.names is.eight
-          (meetings_are_seen.dialled (starts number s) (with_controller g table name computers) links (challenge ∷ one ∷ two ∷ three ∷ left) moment is.granted.joined is.server
+          (meetings_are_seen.dialled (starts number s) (with_controller g table name computers) links (challenge ∷ one ∷ two ∷ three ∷ left) moment is.granted.joined
+          (reach_still g.task.server (Member g.at_member) s (starts number s) (starts_same number s) is.member)
           (starts_are_seen.starts s (with_controller g table name computers) number before links (challenge ∷ one ∷ two ∷ three ∷ left) moment is.chosen is.planned shows))));
     }
 

@@ -52,6 +52,9 @@ use Rattle.logon_runs.specs.LinkScenes.{its_link}
 use Rattle.logon_runs.specs.TurnScenes.{IsBetween, Turn, next_turn, with_accounts}
 use Rattle.logon_runs.specs.Runs.{TurnsRun, connects, goes, hidden, info_asked, message_for, sam_for, with_moved}
 use Rattle.logon_runs.proofs.AskSceneLaws.{logons_are_seen}
+use Rattle.logon_runs.proofs.StayingLaws.{both_same, goes_same, reach_still}
+use Rattle.logon_runs.specs.Staying.{HasSameEnds}
+use Rattle.world_moves.specs.declared.links.EndId.TheVariants.{Controller}
 use Rattle.logon_runs.proofs.LinkSceneLaws.{found_here}
 use Rattle.logon_runs.proofs.TurnSceneLaws.{turns_are_seen}
 use Rattle.logon_runs.proofs.TwoLinkLaws.{turns_have_links}
@@ -89,6 +92,9 @@ grants_so g a o c table name account computers link number moment left below cal
 pub between_still : (t : Turn) (accounts : AccountTable) → IsBetween t → IsBetween (with_accounts accounts t)
 between_still t accounts between = record { route = between.route; opened = between.opened }
 
+pub twice_same : (s : State) → HasSameEnds s (goes (goes s))
+twice_same s = both_same s (goes s) (goes (goes s)) (goes_same s) (goes_same (goes s))
+
 pub turns_run : TurnsRun
 turns_run = record {
   granted = λ s g a o c table name account computers waits left moment is reach who back shows.
@@ -118,7 +124,8 @@ turns_run = record {
       (calls_can_go.logon g.caller o stamp (info_asked g a) is.caller (timestamp_below moment) is.info) answered
       (turns_are_seen.asks s4 turn (after g.number) g.number call computers left moment (turns_have_links.between g held how is.joined) is.number
       (turns_are_seen.bound s3 turn (after g.number) g.number call computers left moment (turns_have_links.between g held how is.joined) is.number
-      (turns_are_seen.dialled s2 held (its_link g) how (after g.number) g.number call computers [] left moment reach (turns_have_links.found g held is.joined)
+      (turns_are_seen.dialled s2 held (its_link g) how (after g.number) g.number call computers [] left moment
+      (reach_still g.plan.controller (Controller g.at_controller) s s2 (twice_same s) reach) (turns_have_links.found g held is.joined)
       (turns_have_links.new g held _ is.joined) (turns_have_links.between g held how is.joined)
       (logons_are_seen.held_before s1 g t (its_link g) how (after g.number) g.number 1 2 0 call computers [] _ _ who [] left moment refl (found_here g)
       (logons_are_seen.asks_again s g o waits a.challenge a.one a.two a.three who.sent a.then_now table name computers left moment is.stands is.can is.names is.draws shows))))));

@@ -31,7 +31,7 @@ use Rattle.world_moves.specs.Bag.{first_waiting, pieces_of}
 use Rattle.world_moves.specs.Choosing.{chosen_in, chosen_place}
 use Rattle.world_moves.specs.Ends.{EndStates, acceptors_in, client_step, controller_step, count_of, end_at, end_in, member_step, renew_client, renew_controller, renew_member}
 use Rattle.world_moves.specs.Links.{acceptor_of, handed_links, hearer_of, hearer_on, is_accepted_by, kind_of, links_of, other_hearer}
-use Rattle.world_moves.specs.Moving.{act, answer_by, answered_link, begun, come_by, come_on_own, connect_by, connect_first, deliver_by, deliver_on, deliver_unit, end_of_peer, fail_first, hand_on, lose_by, onward_by, open_link, renew, renewed, restart_at, restart_by, route_to, settle, shut_at, shut_by, start_at, start_by, stranger_at, stranger_by, with_link, without_first}
+use Rattle.world_moves.specs.Moving.{act, answer_by, answered_link, begun, come_by, come_on_own, connect, connect_by, connect_first, deliver_by, deliver_on, deliver_unit, end_of_peer, fail_first, hand_on, lose_by, onward, onward_by, open_link, renew, renewed, restart_at, restart_by, route_to, settle, shut_at, shut_by, start, start_at, start_by, stranger_at, stranger_by, with_link, without_first}
 use Rattle.wire_base.specs.Maps.{lookup, same_number}
 use Rattle.logon_runs.specs.Staying.{AreAsMany, EndsStay, HasSameEnds}
 
@@ -45,7 +45,7 @@ same_ends s = record { ends = as_many s.ends; members = refl; clients = refl }
 of_ends : (s after : State) → after.member_plans ≡ s.member_plans → after.client_plans ≡ s.client_plans → AreAsMany s.ends after.ends → HasSameEnds s after
 of_ends s after members clients ends = record { ends = ends; members = members; clients = clients }
 
-both_same : (s between after : State) → HasSameEnds s between → HasSameEnds between after → HasSameEnds s after
+pub both_same : (s between after : State) → HasSameEnds s between → HasSameEnds between after → HasSameEnds s after
 both_same s between after first then_same = record {
   ends = record {
     controllers = then_same.ends.controllers ∙ first.ends.controllers;
@@ -311,3 +311,17 @@ ends_stay = record {
   both = both_same;
   reach = reach_same;
 }
+
+-- ---- of several moves
+
+pub goes_same : (s : State) → HasSameEnds s (onward s).state
+goes_same s = ends_stay.acts s move.Onward
+
+pub connects_same : (s : State) → HasSameEnds s (connect s).state
+connects_same s = ends_stay.acts s move.Connect
+
+pub starts_same : (number : ℕ) (s : State) → HasSameEnds s (start number s).state
+starts_same number s = ends_stay.acts s (move.Start number)
+
+pub reach_still : (peer : List ℕ) (end : EndId) (s after : State) → HasSameEnds s after → end_of_peer peer s.ends ≡ Some end → end_of_peer peer after.ends ≡ Some end
+reach_still peer end s after same reach = reach_same peer s.ends after.ends same.ends ∙ reach

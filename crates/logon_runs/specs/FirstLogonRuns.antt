@@ -26,7 +26,7 @@ use Rattle.logon_runs.specs.AskScenes.{with_controller}
 use Rattle.logon_runs.specs.LinkScenes.{Meeting, joined, rest_scene}
 use Rattle.logon_runs.specs.Runs.{Asked, goes, hidden, message_for, sam_for, with_moved}
 use Rattle.logon_runs.specs.FirstRuns.{IsToBeOpened, channel_as, opened_at, opens_as, rested_first, turned}
-use Rattle.logon_runs.specs.LogonRuns.{asked_at, meets, starts}
+use Rattle.logon_runs.specs.LogonRuns.{asked_at, meets}
 use Rattle.logon_runs.specs.Scenes.{Shows}
 
 -- after the three turns that follow
@@ -38,10 +38,8 @@ pub record ComesInFirst (s : State) (g : Meeting) (number : ℕ) (links : List R
     (moment : ℕ) : Type 0 where
   pub chosen : chosen_place number (length s.ends.clients) ≡ Some g.at_client
   pub planned : slice_get s.client_plans g.at_client ≡ Some g.task
-  pub there : end_of_peer g.task.server (starts number s).ends ≡ Some (Member g.at_member)
-  pub reach : end_of_peer g.plan.controller (goes (goes (meets number s))).ends ≡ Some (Controller g.at_controller)
-  pub reach_again : end_of_peer g.plan.controller (turned (goes (goes (meets number s)))).ends ≡ Some (Controller g.at_controller)
-  pub reach_last : end_of_peer g.plan.controller (turned (turned (goes (goes (meets number s))))).ends ≡ Some (Controller g.at_controller)
+  pub member : end_of_peer g.task.server s.ends ≡ Some (Member g.at_member)
+  pub controller : end_of_peer g.plan.controller s.ends ≡ Some (Controller g.at_controller)
   pub eight : length a.challenge ≡ 8
   pub opened : IsToBeOpened (joined g links) a client server table name account machine moment
   pub key : TravelsAsZeros (open_key (opens_as g client server)) (base_key g.task (message_for (joined g links) a)) → ⊥

@@ -104,9 +104,7 @@ rested_first g o timestamp = record g {
 pub record FirstTurnsRun : Type 0 where
   pub granted : (s : State) (g : Meeting) (a : Asked) (client server : List ℕ) (table : AccountTable) (name : List ℕ) (account machine : Account) (computers : Computers)
       (waits : ClientPhase) (left : List (List ℕ)) (moment : ℕ) → IsToBeOpened g a client server table name account machine moment →
-      end_of_peer g.plan.controller (goes (goes s)).ends ≡ Some (Controller g.at_controller) →
-      end_of_peer g.plan.controller (turned (goes (goes s))).ends ≡ Some (Controller g.at_controller) →
-      end_of_peer g.plan.controller (turned (turned (goes (goes s)))).ends ≡ Some (Controller g.at_controller) →
+      end_of_peer g.plan.controller s.ends ≡ Some (Controller g.at_controller) →
       let o : OpenState = opens_as g client server in
       let sam : SamInfo = sam_for g a table name account moment in
       let on : LoggedOn = on_for g a o sam in

@@ -47,8 +47,8 @@ pub record ComesIn (s : State) (g : Meeting) (number : ℕ) (links : List Route)
     (computers : Computers) (moment : ℕ) : Type 0 where
   pub chosen : chosen_place number (length s.ends.clients) ≡ Some g.at_client
   pub planned : slice_get s.client_plans g.at_client ≡ Some g.task
-  pub server : end_of_peer g.task.server (starts number s).ends ≡ Some (Member g.at_member)
-  pub controller : end_of_peer g.plan.controller (goes (goes (meets number s))).ends ≡ Some (Controller g.at_controller)
+  pub member : end_of_peer g.task.server s.ends ≡ Some (Member g.at_member)
+  pub controller : end_of_peer g.plan.controller s.ends ≡ Some (Controller g.at_controller)
   pub eight : length a.challenge ≡ 8
   pub granted : IsToBeGranted (joined g links) a o c table name account computers moment
   pub key : TravelsAsZeros (open_key o) (base_key g.task (message_for (joined g links) a)) → ⊥

@@ -113,7 +113,7 @@ rested g o timestamp = record g {
 pub record TurnsRun : Type 0 where
   pub granted : (s : State) (g : Meeting) (a : Asked) (o : OpenState) (c : ChannelState) (table : AccountTable) (name : List ℕ) (account : Account) (computers : Computers)
       (waits : ClientPhase) (left : List (List ℕ)) (moment : ℕ) → IsToBeGranted g a o c table name account computers moment →
-      end_of_peer g.plan.controller (goes (goes s)).ends ≡ Some (Controller g.at_controller) →
+      end_of_peer g.plan.controller s.ends ≡ Some (Controller g.at_controller) →
       let sam : SamInfo = sam_for g a table name account moment in
       let on : LoggedOn = on_for g a o sam in
       (who : RequestGoes 1 g.task.level 2 0 [] (terms_for g.plan g.task a.challenge a.then_now (drawn_of a.one a.two a.three)).session on.session)
