@@ -8,6 +8,8 @@ pub mod TurnSceneLaws
 pub mod AskSceneLaws
 pub mod TwoLinkLaws
 pub mod RunLaws
+pub mod GrantLaws
 pub mod FirstRunLaws
 pub mod LogonRunLaws
 pub mod FirstLogonRunLaws
+pub mod FirstWorldLaws

@@ -8,6 +8,8 @@ pub mod TurnScenes
 pub mod AskScenes
 pub mod TwoLinks
 pub mod Runs
+pub mod Grants
 pub mod FirstRuns
 pub mod LogonRuns
 pub mod FirstLogonRuns
+pub mod FirstWorlds

@@ -4,6 +4,8 @@
 ghost use Rattle.logon_runs.specs.AskScenes.{LogonsAreSeen};
 ghost use Rattle.logon_runs.specs.FirstLogonRuns.{FirstLogonsRun};
 ghost use Rattle.logon_runs.specs.FirstRuns.{FirstTurnsRun};
+ghost use Rattle.logon_runs.specs.FirstWorlds.{FirstWorldsRun};
+ghost use Rattle.logon_runs.specs.Grants.{GrantsAreTold};
 ghost use Rattle.logon_runs.specs.LinkScenes.{MeetingsAreSeen};
 ghost use Rattle.logon_runs.specs.LogonRuns.{LogonsRun};
 ghost use Rattle.logon_runs.specs.Runs.{TurnsRun};
@@ -84,6 +86,13 @@ pub fn turns_run()
     ensures { TurnsRun }
 {}
 
+/// What a controller grants by accounts that are in their ranges can be told, and the member finds
+/// the domain's name, a backslash and the account's name in it.
+#[tactic(auto, using(crate::proofs::GrantLaws::grants_are_told))]
+pub fn grants_are_told()
+    ensures { GrantsAreTold }
+{}
+
 /// The three turns of a member that has no channel yet, from the AUTHENTICATE of its client to the
 /// answer of WhoAmI. The channel stands afterwards, and the account's count of bad passwords is 0.
 #[tactic(auto, using(crate::proofs::FirstRunLaws::first_turns_run))]
@@ -103,4 +112,11 @@ pub fn logons_run()
 #[tactic(auto, using(crate::proofs::FirstLogonRunLaws::first_logons_run))]
 pub fn first_logons_run()
     ensures { FirstLogonsRun }
+{}
+
+/// The first logon in a world is granted by the values of its plan: after these moves the client is
+/// in, no link is open, and the account's count of bad passwords is 0.
+#[tactic(auto, using(crate::proofs::FirstWorldLaws::first_worlds_run))]
+pub fn first_worlds_run()
+    ensures { FirstWorldsRun }
 {}

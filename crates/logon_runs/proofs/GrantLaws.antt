@@ -1,0 +1,62 @@
+-- That what a controller grants by its accounts can be told.
+-- Of `grants_are_told`.
+use Rattle.std.proofs.Common.{◌≡◌, ℕ, ◌≤◌, List, ◌∷◌, ◌++◌, length, sym, subst, arith, length-append, inl, inr}
+use Rattle.std.specs.Prelude.{All}
+use Rattle.std.proofs.lemmas.Bool.{cases_lt}
+use Rattle.std.proofs.lemmas.List.{get_or_past}
+use Rattle.std.proofs.lemmas.List.Elements.{All-append, All-cons, All-get_or}
+use Rattle.wire_base.specs.Names.{IsName, IsNameByte}
+use Rattle.wire_base.specs.Units.{AreUnits}
+use Rattle.ntlm_responses.proofs.ResponseLaws.{All-base_key_of, length-base_key_of}
+use Rattle.logon_stubs.specs.Ranges.{IsBlock}
+use Rattle.logon_stubs.specs.declared.info.SamInfo.{SamInfo}
+use Rattle.channel_client.specs.Hidden.{crypt_key}
+use Rattle.channel_client.specs.Opened.{open_key}
+use Rattle.channel_client.specs.declared.state.Question.TheVariants as question
+use Rattle.logon_client.specs.declared.plan.ClientPlan.{ClientPlan}
+use Rattle.ntlm_messages.specs.declared.messages.Authenticate.{Authenticate}
+use Rattle.member_server.specs.Outcomes.{name_in}
+use Rattle.member_server.specs.Turns.{timestamp_of}
+use Rattle.logon_steps.specs.Granting.{base_key}
+use Rattle.logon_steps.specs.MemberAnswers.{granting, sam_shown}
+use Rattle.logon_steps.specs.Turning.{IsTurnReply}
+use Rattle.logon_steps.proofs.CallingLaws.{are_bytes, calls_can_go}
+use Rattle.logon_steps.proofs.GrantingLaws.{logons_are_granted}
+use Rattle.logon_runs.specs.Grants.{GrantsAreTold}
+use Rattle.logon_runs.specs.Runs.{hidden, message_for, sam_for}
+
+-- the bytes of names are units
+are_units : (bytes : List ℕ) → All IsNameByte bytes → AreUnits bytes
+are_units bytes all place =
+    elim (cases_lt place (length bytes)) [
+      | inl within ↦ omega (arith, (All-get_or IsNameByte bytes place 0 within all).1)
+      | inr past ↦ rw (get_or_past bytes place 0 past) (omega arith)
+    ]
+
+base_block : (task : ClientPlan) (message : Authenticate) → IsBlock 16 (base_key task message)
+base_block task message =
+    (length-base_key_of task.hash task.user task.domain message.nt, are_bytes (base_key task message) (All-base_key_of task.hash task.user task.domain message.nt))
+
+name_bytes : (domain account : List ℕ) → IsName domain → IsName account → All IsNameByte (domain ++ 0x5C ∷ account)
+name_bytes domain account is_domain is_account =
+    All-append IsNameByte domain (0x5C ∷ account) is_domain.1 (All-cons IsNameByte 0x5C account (omega arith, omega arith) is_account.1)
+
+name_short : (domain account : List ℕ) → IsName domain → IsName account → length (domain ++ 0x5C ∷ account) ≤ 129
+name_short domain account is_domain is_account = omega (arith, length-append domain (0x5C ∷ account), is_domain.0, is_account.0)
+
+pub grants_are_told : GrantsAreTold
+grants_are_told = record {
+  told = λ g a o table name account moment is_domain is_sid is_name is_account below.
+      let sam : SamInfo = sam_for g a table name account moment in
+      let key : List ℕ = base_key g.task (message_for g a) in
+      let found : name_in (sam_shown o (hidden o sam)) ≡ table.domain ++ 0x5C ∷ account.name =
+      logons_are_granted.name table name account key (crypt_key (open_key o) (crypt_key (open_key o) sam.key)) moment in
+      record {
+        reply = subst (λ (k : List ℕ). IsTurnReply question.Logon (granting o (timestamp_of moment) 0 1 (record sam { key = crypt_key (open_key o) k })))
+            (sym (logons_are_granted.has_key table name account key moment))
+            (calls_can_go.granted o (timestamp_of moment) table name account key moment is_domain is_sid is_name is_account (base_block g.task (message_for g a)) below);
+        found = found;
+        short = subst (λ (n : List ℕ). length n ≤ 129) (sym found) (name_short table.domain account.name is_domain is_account.name);
+        units = subst AreUnits (sym found) (are_units (table.domain ++ 0x5C ∷ account.name) (name_bytes table.domain account.name is_domain is_account.name));
+      };
+}
