@@ -3,29 +3,27 @@
 use Rattle.std.proofs.Common.{◌≡◌, ℕ, ◌≤◌, ◌<◌, ◌+◌, ◌^◌, true, List, [], ◌∷◌, ◌++◌, length, Option, Some, None, refl, sym, ap, subst, ◌∙◌, arith, append-nil, slice_get}
 use Rattle.wire_base.specs.Maps.{same_number, take_out}
 use Rattle.ntlm_messages.specs.declared.messages.Authenticate.{Authenticate}
-use Rattle.ntlm_seal.specs.Sessions.{SessionState}
 use Rattle.outside.specs.declared.action.Action.TheVariants as action
 use Rattle.outside.specs.declared.action.CloseCause.TheVariants as close
 use Rattle.outside.specs.declared.action.Outcome.TheVariants as outcome
 use Rattle.outside.specs.declared.event.Event.TheVariants as event
+use Rattle.ntlm_seal.specs.Sessions.{SessionState}
 use Rattle.rpc_units.specs.Writing.{written}
 use Rattle.logon_stubs.specs.declared.info.NetworkInfo.{NetworkInfo}
 use Rattle.logon_stubs.specs.declared.info.SamInfo.{SamInfo}
+use Rattle.memo_stubs.specs.Memo.{written_who_reply}
+use Rattle.account_table.specs.AccountTable.{AccountTable}
 use Rattle.channel_client.specs.declared.state.Question.TheVariants as question
 use Rattle.channel_client.specs.declared.state.Standing.{Standing}
 use Rattle.channel_client.specs.declared.state.Standing.TheVariants as standing
 use Rattle.channel_client.specs.declared.state.Step.TheVariants as step
 use Rattle.channel_client.specs.Machine.{after}
 use Rattle.channel_client.specs.Opened.{OpenState, after_call, after_return}
-use Rattle.account_table.specs.AccountTable.{AccountTable}
 use Rattle.domain_controller.specs.declared.state.Computers.{Computers}
 use Rattle.logon_client.specs.declared.state.Phase.{Phase as ClientPhase}
 use Rattle.member_server.specs.declared.state.LoggedOn.{LoggedOn}
 use Rattle.member_server.specs.Outcomes.{key_in, name_in}
 use Rattle.member_server.specs.Requests.{talk_in}
-use Rattle.memo_stubs.specs.Memo.{written_who_reply}
-use Rattle.logon_steps.specs.MemoCalls.{ReplyGoes, RequestGoes, logged_on}
-use Rattle.logon_steps.specs.Turning.{IsTurnReply}
 use Rattle.member_server.specs.declared.state.Dialling.TheVariants as dialling
 use Rattle.member_server.specs.declared.state.Logon.{Logon}
 use Rattle.member_server.specs.Machine.{step_of as member_step_of}
@@ -36,6 +34,8 @@ use Rattle.world_moves.specs.declared.links.Route.TheVariants.{ToMember}
 use Rattle.world_moves.specs.declared.state.State.{State}
 use Rattle.world_moves.specs.Links.{OpenMap}
 use Rattle.world_moves.specs.Moving.{onward}
+use Rattle.logon_steps.specs.MemoCalls.{ReplyGoes, RequestGoes, logged_on}
+use Rattle.logon_steps.specs.Turning.{IsTurnReply}
 use Rattle.logon_steps.specs.Answers.{answer_for, auth3_for, drawn_of, logon_for}
 use Rattle.logon_steps.specs.ControllerTurns.{reply_bytes, turn_link}
 use Rattle.logon_steps.specs.Meeting.{bound_for, challenged_talk}

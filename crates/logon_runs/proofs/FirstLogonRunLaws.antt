@@ -1,10 +1,10 @@
 -- A whole first logon, by a channel that is opened for it.
 -- Of `first_logons_run`.
 use Rattle.std.proofs.Common.{◌≡◌, ℕ, ◌≤◌, List, [], ◌∷◌, ◌++◌, length, Option, None, refl, sym, ap, subst, ◌∙◌, arith}
-use Rattle.memo_stubs.specs.Memo.{written_echo_reply, written_echo_request, written_who_reply}
-use Rattle.memo_stubs.proofs.MemoLaws.{reply_stub, request_stub, who_stub}
 use Rattle.ntlm_seal.specs.Sessions.{SessionState}
 use Rattle.logon_stubs.specs.declared.info.SamInfo.{SamInfo}
+use Rattle.memo_stubs.specs.Memo.{written_echo_reply, written_echo_request, written_who_reply}
+use Rattle.memo_stubs.proofs.MemoLaws.{reply_stub, request_stub, who_stub}
 use Rattle.account_table.specs.AccountTable.{AccountTable}
 use Rattle.account_table.specs.declared.account.Account.{Account}
 use Rattle.channel_client.specs.Hidden.{crypt_key}
@@ -21,6 +21,7 @@ use Rattle.member_server.specs.Requests.{talk_in}
 use Rattle.world_moves.specs.declared.links.Route.{Route}
 use Rattle.world_moves.specs.declared.links.Route.TheVariants.{ToController}
 use Rattle.world_moves.specs.declared.state.State.{State}
+use Rattle.world_moves.specs.declared.links.EndId.TheVariants.{Controller, Member}
 use Rattle.logon_steps.specs.Answers.{answer_for, drawn_of, logon_for, terms_for}
 use Rattle.logon_steps.specs.Granting.{base_key}
 use Rattle.logon_steps.specs.Meeting.{flags_agreed}
@@ -40,7 +41,6 @@ use Rattle.logon_runs.specs.Scenes.{Shows}
 use Rattle.logon_runs.proofs.LinkSceneLaws.{meetings_are_seen}
 use Rattle.logon_runs.proofs.LogonRunLaws.{meets_same}
 use Rattle.logon_runs.proofs.StayingLaws.{reach_still, starts_same}
-use Rattle.world_moves.specs.declared.links.EndId.TheVariants.{Controller, Member}
 use Rattle.logon_runs.proofs.FirstRunLaws.{first_turns_run}
 use Rattle.logon_runs.proofs.StartLaws.{starts_are_seen}
 use Rattle.logon_runs.proofs.TwoLinkLaws.{got_first}

@@ -1,29 +1,31 @@
 -- The three turns of a member that has no channel yet.
 -- Of `first_turns_run`.
-use Rattle.std.proofs.Common.{◌≡◌, ℕ, ◌<◌, ◌^◌, true, List, [], ◌∷◌, refl, subst, arith}
-use Rattle.account_table.specs.AccountTable.{AccountTable}
-use Rattle.logon_steps.specs.Granting.{cleared}
+use Rattle.std.proofs.Common.{ℕ, ◌<◌, ◌^◌, true, List, [], ◌∷◌, refl, subst, arith}
+use Rattle.wire_base.specs.Maps.{take_out}
 use Rattle.wire_base.specs.Names.{same_name}
 use Rattle.wire_base.proofs.MapLaws.{lookup-put_same}
-use Rattle.wire_base.proofs.NameLaws.{same_name-Decides}
 use Rattle.outside.specs.declared.action.Judged.TheVariants as judged
 use Rattle.logon_stubs.specs.declared.calls.Call.{Call}
 use Rattle.logon_stubs.specs.declared.calls.Reply.{Reply}
 use Rattle.logon_stubs.specs.declared.calls.Reply.TheVariants as reply
 use Rattle.logon_stubs.specs.declared.info.SamInfo.{SamInfo}
+use Rattle.account_table.specs.AccountTable.{AccountTable}
 use Rattle.channel_client.specs.declared.state.Question.TheVariants as question
 use Rattle.channel_client.specs.declared.state.Standing.{Standing}
 use Rattle.channel_client.specs.declared.state.Standing.TheVariants as standing
 use Rattle.channel_client.specs.declared.state.Step.TheVariants as step
 use Rattle.channel_client.specs.Machine.{after, auth_call, challenge_call, logon_call, offered_flags, server_credential}
-use Rattle.channel_client.specs.Opened.{OpenState, after_call}
+use Rattle.channel_client.specs.Opened.{OpenState, after_call, after_return}
 use Rattle.domain_controller.specs.Channels.{ChannelState}
 use Rattle.domain_controller.specs.declared.state.Computers.{Computers}
 use Rattle.member_server.specs.Messages.{info_of}
 use Rattle.member_server.specs.Turns.{timestamp_of}
 use Rattle.world_moves.specs.declared.state.State.{State}
 use Rattle.world_moves.specs.Links.{OpenMap}
-use Rattle.logon_steps.specs.Answering.{pair_of}
+use Rattle.world_moves.specs.declared.links.EndId.{EndId}
+use Rattle.world_moves.specs.declared.links.EndId.TheVariants.{Controller}
+use Rattle.logon_steps.specs.Granting.{cleared}
+use Rattle.logon_steps.specs.Answering.{moved, pair_of}
 use Rattle.logon_steps.specs.Answers.{logon_for}
 use Rattle.logon_steps.specs.Meeting.{bound_for, flags_agreed}
 use Rattle.logon_steps.specs.MemberAnswers.{granting}
@@ -38,21 +40,16 @@ use Rattle.logon_runs.specs.TwoLinks.{HasMet}
 use Rattle.logon_runs.specs.FirstRuns.{FirstTurnsRun, channel_as, opened_at, opens_as, turned, with_pair}
 use Rattle.logon_runs.specs.Runs.{connects, goes, hidden, info_asked, message_for, sam_for, with_moved}
 use Rattle.logon_runs.specs.Scenes.{Shows}
+use Rattle.logon_runs.specs.Staying.{HasSameEnds}
 use Rattle.logon_runs.proofs.AskSceneLaws.{logons_are_seen}
 use Rattle.logon_runs.proofs.LinkSceneLaws.{found_here}
-use Rattle.logon_runs.proofs.RunLaws.{between_still, grants_so, timestamp_below, twice_same}
+use Rattle.logon_runs.proofs.RunLaws.{between_still, grants_so, same_computer, timestamp_below, twice_same}
 use Rattle.logon_runs.proofs.StayingLaws.{both_same, connects_same, reach_still}
-use Rattle.logon_runs.specs.Staying.{HasSameEnds}
-use Rattle.world_moves.specs.declared.links.EndId.{EndId}
-use Rattle.world_moves.specs.declared.links.EndId.TheVariants.{Controller}
 use Rattle.logon_runs.proofs.TurnSceneLaws.{turns_are_seen}
 use Rattle.logon_runs.proofs.TwoLinkLaws.{turns_have_links}
 
 after_below : (n : ℕ) → after n < 2 ^ 32
 after_below n = omega arith
-
-same_computer : (name : List ℕ) → same_name name name ≡ true
-same_computer name = (same_name-Decides name name).1 refl
 
 turned_same : (s : State) → HasSameEnds s (turned s)
 turned_same s =
@@ -139,4 +136,15 @@ first_turns_run = record {
       (turns_are_seen.bound _ t3 n5 n4 third opened left moment between3 (after_below n3)
       (turns_are_seen.dialled s4 t2 (its_link g) how n5 n4 third opened [] left moment (reach_still peer at s s4 same4 reach) (turns_have_links.found g t2 met2)
       (turns_have_links.new g t2 _ met2) between3 dial3))));
+  stays = λ g client server machine computers timestamp secret.
+      let o : OpenState = opens_as g client server in
+      let c : ChannelState = channel_as g machine client server in
+      record {
+        member = after_return true (after_call o timestamp);
+        stands = refl;
+        controller = moved c timestamp;
+        channel = lookup-put_same same_name g.caller.computer (moved c timestamp)
+            (take_out same_name g.caller.computer (opened_at g machine client server computers).channels) (same_computer g.caller.computer);
+        in_step = calls_are_answered.stays o c timestamp (calls_are_answered.in_step g.caller client server machine secret);
+      };
 }

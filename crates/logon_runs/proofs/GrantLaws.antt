@@ -7,6 +7,7 @@ use Rattle.std.proofs.lemmas.List.{get_or_past}
 use Rattle.std.proofs.lemmas.List.Elements.{All-append, All-cons, All-get_or}
 use Rattle.wire_base.specs.Names.{IsName, IsNameByte}
 use Rattle.wire_base.specs.Units.{AreUnits}
+use Rattle.ntlm_messages.specs.declared.messages.Authenticate.{Authenticate}
 use Rattle.ntlm_responses.proofs.ResponseLaws.{All-base_key_of, length-base_key_of}
 use Rattle.logon_stubs.specs.Ranges.{IsBlock}
 use Rattle.logon_stubs.specs.declared.info.SamInfo.{SamInfo}
@@ -14,7 +15,6 @@ use Rattle.channel_client.specs.Hidden.{crypt_key}
 use Rattle.channel_client.specs.Opened.{open_key}
 use Rattle.channel_client.specs.declared.state.Question.TheVariants as question
 use Rattle.logon_client.specs.declared.plan.ClientPlan.{ClientPlan}
-use Rattle.ntlm_messages.specs.declared.messages.Authenticate.{Authenticate}
 use Rattle.member_server.specs.Outcomes.{name_in}
 use Rattle.member_server.specs.Turns.{timestamp_of}
 use Rattle.logon_steps.specs.Granting.{base_key}

@@ -1,63 +1,65 @@
 -- A whole turn of a member whose channel stands.
 -- Of `turns_run`.
-use Rattle.std.proofs.Common.{ℕ, ◌≡◌, ◌<◌, ◌^◌, List, [], ◌∷◌, length, Some, refl, ap, ap₂, ◌∙◌, arith}
-use Rattle.wire_base.specs.Maps.{lookup}
+use Rattle.std.proofs.Common.{ℕ, ◌≡◌, ◌<◌, ◌^◌, true, List, [], ◌∷◌, length, Some, refl, ap, ap₂, ◌∙◌, arith}
+use Rattle.wire_base.specs.Maps.{lookup, take_out}
 use Rattle.wire_base.specs.Names.{same_name}
+use Rattle.wire_base.proofs.MapLaws.{lookup-put_same}
+use Rattle.wire_base.proofs.NameLaws.{same_name-Decides}
+use Rattle.authenticators.specs.Sequences.{return_of}
 use Rattle.outside.specs.declared.event.Event.TheVariants as event
+use Rattle.outside.specs.declared.action.Action.TheVariants as action
+use Rattle.outside.specs.declared.action.Judged.TheVariants as judged
+use Rattle.outside.specs.Machine.{whole_step}
 use Rattle.rpc_units.specs.Calls.{bytes_of_call}
 use Rattle.logon_stubs.specs.declared.calls.Reply.{Reply}
+use Rattle.logon_stubs.specs.declared.calls.Call.{Call}
+use Rattle.logon_stubs.specs.declared.info.SamInfo.{SamInfo}
+use Rattle.logon_stubs.specs.declared.info.Verdict.{Verdict}
 use Rattle.account_table.specs.AccountTable.{AccountTable}
 use Rattle.account_table.specs.LookUps.{account_in}
 use Rattle.account_table.specs.declared.account.Account.{Account}
 use Rattle.sam_logon.specs.MayLogOn.{MayLogOn}
-use Rattle.channel_client.specs.Opened.{OpenState}
-use Rattle.domain_controller.specs.Channels.{ChannelState}
-use Rattle.domain_controller.specs.Step.{step_of as controller_step_of}
-use Rattle.logon_client.specs.Plans.{CanLogOn}
-use Rattle.logon_steps.specs.Answering.{IsInStep}
-use Rattle.logon_steps.specs.Answers.{AreDraws, HasUnits}
-use Rattle.logon_steps.specs.Calling.{HasShortCaller, HasShortInfo}
-use Rattle.logon_steps.specs.Granting.{cleared, info_told}
-use Rattle.logon_steps.specs.Turning.{turn_request}
-use Rattle.logon_runs.specs.LinkScenes.{Meeting}
-use Rattle.logon_runs.specs.Runs.{Asked}
-use Rattle.outside.specs.declared.action.Action.TheVariants as action
-use Rattle.outside.specs.declared.action.Judged.TheVariants as judged
-use Rattle.outside.specs.Machine.{whole_step}
-use Rattle.logon_stubs.specs.declared.calls.Call.{Call}
-use Rattle.logon_stubs.specs.declared.info.SamInfo.{SamInfo}
-use Rattle.logon_stubs.specs.declared.info.Verdict.{Verdict}
-use Rattle.authenticators.specs.Sequences.{return_of}
+use Rattle.channel_client.specs.Opened.{OpenState, after_call, after_return, open_key}
 use Rattle.channel_client.specs.declared.state.Question.TheVariants as question
 use Rattle.channel_client.specs.declared.state.Standing.{Standing}
 use Rattle.channel_client.specs.declared.state.Standing.TheVariants as standing
 use Rattle.channel_client.specs.declared.state.Step.TheVariants as step
 use Rattle.channel_client.specs.Machine.{after, logon_call}
-use Rattle.channel_client.specs.Opened.{after_call, open_key}
+use Rattle.domain_controller.specs.Channels.{ChannelState}
+use Rattle.domain_controller.specs.Step.{step_of as controller_step_of}
 use Rattle.domain_controller.specs.declared.state.Computers.{Computers}
 use Rattle.domain_controller.specs.Machine.{status_of}
+use Rattle.logon_client.specs.Plans.{CanLogOn}
 use Rattle.member_server.specs.Messages.{info_of}
 use Rattle.member_server.specs.Turns.{timestamp_of}
 use Rattle.world_moves.specs.declared.state.State.{State}
-use Rattle.logon_steps.specs.Answers.{logon_for}
+use Rattle.world_moves.specs.declared.links.EndId.TheVariants.{Controller}
+use Rattle.logon_steps.specs.Answering.{IsInStep, moved}
+use Rattle.logon_steps.specs.Answers.{AreDraws, HasUnits, logon_for}
+use Rattle.logon_steps.specs.Calling.{HasShortCaller, HasShortInfo}
+use Rattle.logon_steps.specs.Granting.{cleared, info_told}
+use Rattle.logon_steps.specs.Turning.{turn_request}
 use Rattle.logon_steps.specs.ControllerTurns.{controller_at, passed_reply, reply_bytes, turn_link}
 use Rattle.logon_steps.specs.Meeting.{bound_for, flags_agreed}
 use Rattle.logon_steps.specs.MemberAnswers.{granting}
 use Rattle.logon_steps.specs.MemberLinks.{asked_talk}
+use Rattle.logon_steps.proofs.AnsweringLaws.{calls_are_answered}
 use Rattle.logon_steps.proofs.CallingLaws.{calls_can_go}
 use Rattle.logon_steps.proofs.ControllerTurnLaws.{controllers_step}
 use Rattle.logon_steps.proofs.GrantingLaws.{logons_are_granted}
+use Rattle.logon_runs.specs.LinkScenes.{Meeting, its_link}
+use Rattle.logon_runs.specs.Runs.{Asked, TurnsRun, connects, goes, hidden, info_asked, message_for, sam_for, with_moved}
 use Rattle.logon_runs.specs.AskScenes.{turn_of, with_talk}
-use Rattle.logon_runs.specs.LinkScenes.{its_link}
 use Rattle.logon_runs.specs.TurnScenes.{IsBetween, Turn, next_turn, with_accounts}
-use Rattle.logon_runs.specs.Runs.{TurnsRun, connects, goes, hidden, info_asked, message_for, sam_for, with_moved}
+use Rattle.logon_runs.specs.Staying.{HasSameEnds}
 use Rattle.logon_runs.proofs.AskSceneLaws.{logons_are_seen}
 use Rattle.logon_runs.proofs.StayingLaws.{both_same, goes_same, reach_still}
-use Rattle.logon_runs.specs.Staying.{HasSameEnds}
-use Rattle.world_moves.specs.declared.links.EndId.TheVariants.{Controller}
 use Rattle.logon_runs.proofs.LinkSceneLaws.{found_here}
 use Rattle.logon_runs.proofs.TurnSceneLaws.{turns_are_seen}
 use Rattle.logon_runs.proofs.TwoLinkLaws.{turns_have_links}
+
+pub same_computer : (name : List ℕ) → same_name name name ≡ true
+same_computer name = (same_name-Decides name name).1 refl
 
 pub timestamp_below : (now : ℕ) → timestamp_of now < 4294967296
 timestamp_below now = omega arith
@@ -129,4 +131,11 @@ turns_run = record {
       (turns_have_links.new g held _ is.joined) (turns_have_links.between g held how is.joined)
       (logons_are_seen.held_before s1 g t (its_link g) how (after g.number) g.number 1 2 0 call computers [] _ _ who [] left moment refl (found_here g)
       (logons_are_seen.asks_again s g o waits a.challenge a.one a.two a.three who.sent a.then_now table name computers left moment is.stands is.can is.names is.draws shows))))));
+  stays = λ g o c computers timestamp in_step. record {
+    member = after_return true (after_call o timestamp);
+    stands = refl;
+    controller = moved c timestamp;
+    channel = lookup-put_same same_name g.caller.computer (moved c timestamp) (take_out same_name g.caller.computer computers.channels) (same_computer g.caller.computer);
+    in_step = calls_are_answered.stays o c timestamp in_step;
+  };
 }

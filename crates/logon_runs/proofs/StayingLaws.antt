@@ -2,6 +2,7 @@
 -- Of `ends_stay`.
 use Rattle.std.proofs.Common.{◌≡◌, ℕ, Bool, true, false, List, [], ◌∷◌, length, Option, Some, None, refl, ap, ap₂, ◌∙◌, slice_get, slice_set}
 use Rattle.std.proofs.lemmas.List.{length-set}
+use Rattle.wire_base.specs.Maps.{lookup, same_number}
 use Rattle.outside.specs.declared.action.Action.{Action}
 use Rattle.outside.specs.declared.action.Action.TheVariants.{Keep, Send, Dial, Close, Told, Judged}
 use Rattle.outside.specs.declared.event.Event.{Event}
@@ -32,7 +33,6 @@ use Rattle.world_moves.specs.Choosing.{chosen_in, chosen_place}
 use Rattle.world_moves.specs.Ends.{EndStates, acceptors_in, client_step, controller_step, count_of, end_at, end_in, member_step, renew_client, renew_controller, renew_member}
 use Rattle.world_moves.specs.Links.{acceptor_of, handed_links, hearer_of, hearer_on, is_accepted_by, kind_of, links_of, other_hearer}
 use Rattle.world_moves.specs.Moving.{act, answer_by, answered_link, begun, come_by, come_on_own, connect, connect_by, connect_first, deliver_by, deliver_on, deliver_unit, end_of_peer, fail_first, hand_on, lose_by, onward, onward_by, open_link, renew, renewed, restart_at, restart_by, route_to, settle, shut_at, shut_by, start, start_at, start_by, stranger_at, stranger_by, with_link, without_first}
-use Rattle.wire_base.specs.Maps.{lookup, same_number}
 use Rattle.logon_runs.specs.Staying.{AreAsMany, EndsStay, HasSameEnds}
 
 as_many : (ends : EndStates) → AreAsMany ends ends

@@ -1,30 +1,30 @@
 -- One turn of a member with its controller, as it is seen of a scene.
 -- Of `turns_are_seen`.
 use Rattle.std.proofs.Common.{◌≡◌, ℕ, ◌<◌, ◌^◌, Bool, true, false, List, [], ◌∷◌, ◌++◌, length, Option, refl, ap, subst, ◌∙◌, slice_get}
-use Rattle.outside.specs.declared.action.Action.TheVariants as action
-use Rattle.outside.specs.declared.event.Event.TheVariants as event
-use Rattle.rpc_units.specs.Calls.{bytes_of_call}
-use Rattle.rpc_units.specs.Writing.{written}
-use Rattle.logon_stubs.specs.declared.calls.Reply.{Reply}
-use Rattle.logon_stubs.specs.declared.calls.Reply.TheVariants as reply
-use Rattle.end_links.specs.Binding.{bind_of}
 use Rattle.std.specs.Prelude.{◌&&◌}
 use Rattle.wire_base.specs.Maps.{same_number, take_out}
 use Rattle.ntlm_flags.specs.Flags.{has_flag}
 use Rattle.channel_keys.specs.Flags.{rc4_flag}
+use Rattle.outside.specs.declared.action.Action.TheVariants as action
+use Rattle.outside.specs.declared.event.Event.TheVariants as event
 use Rattle.outside.specs.declared.action.CloseCause.TheVariants as close
+use Rattle.rpc_units.specs.Calls.{bytes_of_call}
+use Rattle.rpc_units.specs.Writing.{written}
+use Rattle.end_links.specs.Binding.{bind_of}
+use Rattle.logon_stubs.specs.declared.calls.Reply.{Reply}
+use Rattle.logon_stubs.specs.declared.calls.Reply.TheVariants as reply
 use Rattle.channel_client.specs.Opened.{OpenState, after_call, first_state}
 use Rattle.channel_client.specs.declared.state.Question.TheVariants as question
 use Rattle.channel_client.specs.declared.state.Standing.{Standing}
 use Rattle.channel_client.specs.declared.state.Standing.TheVariants as standing
-use Rattle.member_server.specs.Machine.{step_of as member_step_of}
-use Rattle.member_server.specs.Turns.{timestamp_of}
 use Rattle.channel_client.specs.declared.state.Step.{Step}
 use Rattle.channel_client.specs.declared.state.Step.TheVariants as step
 use Rattle.channel_client.specs.Machine.{after, auth_call, logon_call, netlogon_syntax, offered_flags, question_of, server_credential}
 use Rattle.domain_controller.specs.Hearing.{first_talk}
 use Rattle.domain_controller.specs.Step.{LinkMap}
 use Rattle.domain_controller.specs.declared.state.Computers.{Computers}
+use Rattle.member_server.specs.Machine.{step_of as member_step_of}
+use Rattle.member_server.specs.Turns.{timestamp_of}
 use Rattle.world_moves.specs.declared.bag.BagUnit.{BagUnit}
 use Rattle.world_moves.specs.declared.links.EndId.TheVariants.{Controller, Member}
 use Rattle.world_moves.specs.declared.links.LinkKind.TheVariants as kind

@@ -4,6 +4,8 @@ use Rattle.std.proofs.Common.{◌≡◌, ℕ, suc, zero, ◌≤◌, ◌<◌, Boo
 use Rattle.std.specs.Prelude.{not}
 use Rattle.std.specs.Option.{option_map}
 use Rattle.std.proofs.lemmas.Bool.{cases_Bool}
+use Rattle.std.proofs.Math.ListN.{drop_of_length-le}
+use Rattle.std.proofs.lemmas.List.{take-append-drop}
 use Rattle.wire_base.specs.Maps.{lookup, same_number}
 use Rattle.outside.specs.declared.event.Event.TheVariants as event
 use Rattle.outside.specs.Machine.{Stepped}
@@ -20,8 +22,6 @@ use Rattle.world_moves.specs.Bag.{first_waiting, is_waiting, pieces_in, pieces_o
 use Rattle.world_moves.specs.Ends.{client_done, client_step, controller_done, controller_step, member_done, member_step}
 use Rattle.world_moves.specs.Links.{hearer_of, hearer_on}
 use Rattle.world_moves.specs.Moving.{come_by, come_on_own, onward, onward_by, settle}
-use Rattle.std.proofs.Math.ListN.{drop_of_length-le}
-use Rattle.std.proofs.lemmas.List.{take-append-drop}
 use Rattle.logon_runs.specs.Waiting.{Comes, IsOldest, WaitingComes, waiting}
 
 -- ---- the bag

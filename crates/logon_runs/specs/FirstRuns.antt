@@ -4,10 +4,10 @@
 use Rattle.std.specs.Prelude.{ℕ, ◌≡◌, true, ◌≤◌, ◌<◌, ◌^◌, List, [], ◌∷◌, ◌++◌, length, Some, None}
 use Rattle.wire_base.specs.Maps.{put, take_out}
 use Rattle.wire_base.specs.Names.{same_name}
-use Rattle.memo_stubs.specs.Memo.{written_who_reply}
 use Rattle.rpc_units.specs.Writing.{written}
 use Rattle.logon_stubs.specs.Ranges.{IsBlock}
 use Rattle.logon_stubs.specs.declared.info.SamInfo.{SamInfo}
+use Rattle.memo_stubs.specs.Memo.{written_who_reply}
 use Rattle.account_table.specs.AccountTable.{AccountTable}
 use Rattle.account_table.specs.LookUps.{account_in, knows_in}
 use Rattle.account_table.specs.declared.account.Account.{Account}
@@ -40,7 +40,7 @@ use Rattle.logon_steps.specs.MemoCalls.{ReplyGoes, RequestGoes, logged_on}
 use Rattle.logon_steps.specs.Turning.{IsTurnReply}
 use Rattle.logon_runs.specs.AskScenes.{with_controller}
 use Rattle.logon_runs.specs.LinkScenes.{IsJoined, Meeting, meeting_scene, unit_down, unit_up}
-use Rattle.logon_runs.specs.Runs.{Asked, connects, goes, hidden, info_asked, message_for, on_for, sam_for, with_moved}
+use Rattle.logon_runs.specs.Runs.{Asked, StandsInStep, connects, goes, hidden, info_asked, message_for, on_for, sam_for, with_moved}
 use Rattle.logon_runs.specs.Scenes.{Shows}
 
 -- the channel as it opens, at the member and at the controller
@@ -87,12 +87,15 @@ with_channel g machine client server computers = record {
   channels = put same_name g.caller.computer (channel_as g machine client server) computers.channels;
 }
 
+-- the controller's computers once the channel stands there
 abbrev pub opened_at : Meeting → Account → List ℕ → List ℕ → Computers → Computers
 opened_at g machine client server computers = with_channel g machine client server (with_pair g client server computers)
 
+-- all links, and that of one more turn
 abbrev pub one_more : Meeting → List Route → List Route
 one_more g links = links ++ ToController g.at_member g.at_controller ∷ []
 
+-- the member's channel rests, after three turns
 abbrev pub rested_first : Meeting → OpenState → ℕ → Meeting
 rested_first g o timestamp = record g {
   how = standing.Open (after_return true (after_call o timestamp));
@@ -116,3 +119,7 @@ pub record FirstTurnsRun : Type 0 where
       (meeting_scene (with_controller (rested_first g o (timestamp_of moment)) (cleared table g.task.user) name
       (with_moved g (channel_as g machine client server) (timestamp_of moment) (opened_at g machine client server computers))) waits
       (talk_in None (logged_on on back.later)) (unit_down g back.sent ∷ []) left moment)
+  -- the channel is ready for the next logon
+  pub stays : (g : Meeting) (client server : List ℕ) (machine : Account) (computers : Computers) (timestamp : ℕ) → machine.hash ≡ g.caller.secret →
+      StandsInStep (rested_first g (opens_as g client server) timestamp)
+      (with_moved g (channel_as g machine client server) timestamp (opened_at g machine client server computers))

@@ -91,6 +91,7 @@ first_asked plan = asked_at (draw plan 0) (draw plan 1) (draw plan 2) (draw plan
 
 -- ---- what it comes to
 
+-- what a controller keeps of computers at first
 abbrev pub no_computers : Computers
 no_computers = record { pending = []; channels = [] }
 
@@ -126,6 +127,7 @@ abbrev pub key_then : (plan : Plan) (client member controller : ℕ) → CanCome
 key_then plan client member controller can =
     (answer_for can.member_plan can.task (draw plan 0) plan.now (drawn_of (draw plan 1) (draw plan 2) (draw plan 3))).key
 
+-- what the run over these moves comes to
 pub record IsLoggedOn (plan : Plan) (client member controller number : ℕ) (can : CanComeIn plan client member controller) : Type 0 where
   -- the client is in, with its key, the domain and the account's name, and its whole echo
   pub outcome : outcome_of (run (logon_moves number (can.task.echo == 0)) (first_world plan)) client

@@ -3,13 +3,14 @@
 -- 12.6.3, 12.6.4).
 use Rattle.std.specs.Prelude.{ℕ, ◌≡◌, ◌+◌, ◌≤◌, ◌==◌, true, false, List, [], ◌∷◌, ◌++◌, length, Option, Some, None, slice_get}
 use Rattle.wire_base.specs.Units.{AreUnits}
+use Rattle.wire_base.specs.Numbers.{AreBytes}
 use Rattle.ntlm_messages.specs.declared.messages.Authenticate.{Authenticate}
 use Rattle.ntlm_seal.specs.Sessions.{SessionState}
-use Rattle.memo_stubs.specs.Memo.{written_echo_reply, written_echo_request, written_who_reply}
 use Rattle.rpc_units.specs.Writing.{written}
+use Rattle.end_links.specs.Sending.{request_of}
+use Rattle.memo_stubs.specs.Memo.{written_echo_reply, written_echo_request, written_who_reply}
 use Rattle.channel_client.specs.declared.caller.Caller.{Caller}
 use Rattle.channel_client.specs.declared.state.Standing.{Standing}
-use Rattle.end_links.specs.Sending.{request_of}
 use Rattle.domain_controller.specs.State.{State as ControllerState}
 use Rattle.logon_client.specs.declared.answering.Drawn.{Drawn}
 use Rattle.logon_client.specs.declared.outcome.ClientOutcome.TheVariants.{In}
@@ -45,7 +46,6 @@ use Rattle.logon_steps.specs.Meeting.{HasShortNames, ack_for, bound_for, challen
 use Rattle.logon_steps.specs.MemberLinks.{logons_at_rest, one_link}
 use Rattle.logon_steps.specs.MemberTurns.{member_at}
 use Rattle.logon_steps.specs.MemoCalls.{ReplyGoes, RequestGoes, logged_on, with_session}
-use Rattle.wire_base.specs.Numbers.{AreBytes}
 use Rattle.logon_runs.specs.Scenes.{Scene, Shows}
 
 -- what stays while the member's channel rests
@@ -67,6 +67,7 @@ pub record Meeting : Type 0 where
 abbrev pub IsJoined : Meeting → Type 0
 IsJoined g = slice_get g.links g.link ≡ Some (ToMember g.at_client g.at_member)
 
+-- it alone is open, at both sides
 abbrev pub its_link : Meeting → OpenMap
 its_link g = (g.link, record { route = ToMember g.at_client g.at_member; dialler = true; acceptor = true }) ∷ []
 

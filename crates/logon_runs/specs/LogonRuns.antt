@@ -28,6 +28,7 @@ use Rattle.logon_runs.specs.LinkScenes.{Meeting, joined, rest_scene}
 use Rattle.logon_runs.specs.Runs.{Asked, IsToBeGranted, connects, goes, hidden, message_for, rested, sam_for, with_moved}
 use Rattle.logon_runs.specs.Scenes.{Shows}
 
+-- after the client's start
 abbrev pub starts : ℕ → State → State
 starts number s = (start number s).state
 
@@ -39,6 +40,7 @@ meets number s = goes (goes (connects (starts number s)))
 abbrev pub turns : ℕ → State → State
 turns number s = goes (goes (goes (goes (connects (goes (goes (meets number s)))))))
 
+-- what the client answers, where these are drawn
 abbrev pub asked_at : List ℕ → List ℕ → List ℕ → List ℕ → ℕ → Asked
 asked_at challenge one two three now = record { challenge = challenge; one = one; two = two; three = three; then_now = now }
 

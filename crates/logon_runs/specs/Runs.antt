@@ -3,11 +3,11 @@
 use Rattle.std.specs.Prelude.{ℕ, ◌≡◌, true, ◌≤◌, ◌<◌, ◌^◌, List, [], ◌∷◌, ◌++◌, length, Some, None}
 use Rattle.wire_base.specs.Maps.{lookup, put, take_out}
 use Rattle.wire_base.specs.Names.{same_name}
-use Rattle.memo_stubs.specs.Memo.{written_who_reply}
 use Rattle.ntlm_messages.specs.declared.messages.Authenticate.{Authenticate}
 use Rattle.rpc_units.specs.Writing.{written}
 use Rattle.logon_stubs.specs.declared.info.NetworkInfo.{NetworkInfo}
 use Rattle.logon_stubs.specs.declared.info.SamInfo.{SamInfo}
+use Rattle.memo_stubs.specs.Memo.{written_who_reply}
 use Rattle.account_table.specs.AccountTable.{AccountTable}
 use Rattle.account_table.specs.LookUps.{account_in}
 use Rattle.account_table.specs.declared.account.Account.{Account}
@@ -52,9 +52,11 @@ pub record Asked : Type 0 where
   pub three : List ℕ
   pub then_now : ℕ
 
+-- the AUTHENTICATE
 abbrev pub message_for : Meeting → Asked → Authenticate
 message_for g a = (answer_for g.plan g.task a.challenge a.then_now (drawn_of a.one a.two a.three)).message
 
+-- what the member's Logon call tells of it
 abbrev pub info_asked : Meeting → Asked → NetworkInfo
 info_asked g a = info_at g.place (info_of (message_for g a) (flags_agreed g.task) a.challenge)
 
@@ -62,6 +64,7 @@ info_asked g a = info_at g.place (info_of (message_for g a) (flags_agreed g.task
 abbrev pub sam_for : Meeting → Asked → AccountTable → List ℕ → Account → ℕ → SamInfo
 sam_for g a table name account now = sam_info_of table name account (base_key g.task (message_for g a)) now
 
+-- the key is hidden under the channel's
 abbrev pub hidden : OpenState → SamInfo → SamInfo
 hidden o sam = record sam { key = crypt_key (open_key o) sam.key }
 
@@ -89,9 +92,11 @@ pub record IsToBeGranted (g : Meeting) (a : Asked) (o : OpenState) (c : ChannelS
   pub number : g.number < 2 ^ 32
   pub next : after g.number < 2 ^ 32
 
+-- the state after the oldest unit came
 abbrev pub goes : State → State
 goes s = (onward s).state
 
+-- the state after the oldest dial was answered
 abbrev pub connects : State → State
 connects s = (connect s).state
 
@@ -110,6 +115,14 @@ rested g o timestamp = record g {
   links = g.links ++ ToController g.at_member g.at_controller ∷ [];
 }
 
+-- the member's channel stands, and the controller keeps it in step
+pub record StandsInStep (g : Meeting) (computers : Computers) : Type 0 where
+  pub member : OpenState
+  pub stands : g.how ≡ standing.Open member
+  pub controller : ChannelState
+  pub channel : lookup same_name g.caller.computer computers.channels ≡ Some controller
+  pub in_step : IsInStep member controller
+
 pub record TurnsRun : Type 0 where
   pub granted : (s : State) (g : Meeting) (a : Asked) (o : OpenState) (c : ChannelState) (table : AccountTable) (name : List ℕ) (account : Account) (computers : Computers)
       (waits : ClientPhase) (left : List (List ℕ)) (moment : ℕ) → IsToBeGranted g a o c table name account computers moment →
@@ -123,3 +136,6 @@ pub record TurnsRun : Type 0 where
       Shows (goes (goes (goes (goes (connects (goes (goes s)))))))
       (meeting_scene (with_controller (rested g o (timestamp_of moment)) (cleared table g.task.user) name (with_moved g c (timestamp_of moment) computers)) waits
       (talk_in None (logged_on on back.later)) (unit_down g back.sent ∷ []) left moment)
+  -- the channel is ready for the next logon
+  pub stays : (g : Meeting) (o : OpenState) (c : ChannelState) (computers : Computers) (timestamp : ℕ) → IsInStep o c →
+      StandsInStep (rested g o timestamp) (with_moved g c timestamp computers)

@@ -26,6 +26,7 @@ use Rattle.world_moves.specs.Links.{OpenMap, hearer_on}
 use Rattle.world_moves.specs.Moving.{onward}
 use Rattle.logon_runs.specs.Waiting.{unit_on, waiting}
 
+-- a scene: one client, one member and one controller, and what is under way between them
 pub record Scene : Type 0 where
   -- which ends, and how far they are
   pub at_client : ℕ
@@ -43,6 +44,7 @@ pub record Scene : Type 0 where
   pub left : List (List ℕ)
   pub moment : ℕ
 
+-- the state looks so
 pub record Shows (s : State) (v : Scene) : Type 0 where
   pub client : slice_get s.ends.clients v.at_client ≡ Some v.client
   pub member : slice_get s.ends.members v.at_member ≡ Some v.member
@@ -56,12 +58,14 @@ pub record Shows (s : State) (v : Scene) : Type 0 where
 
 -- ---- what actions leave that close nothing
 
+-- the unit that is sent on a route, unless it is a stranger's
 abbrev pub sent_if : Option Route → EndId → ℕ → List ℕ → List BagUnit
 sent_if None end link bytes = []
 sent_if (Some (Stranger to)) end link bytes = []
 sent_if (Some (ToMember client member)) end link bytes = unit_on (ToMember client member) end link bytes ∷ []
 sent_if (Some (ToController member controller)) end link bytes = unit_on (ToController member controller) end link bytes ∷ []
 
+-- the units that an action sends
 abbrev pub units_of_action : List Route → EndId → Action → List BagUnit
 units_of_action links end (action.Keep bytes) = []
 units_of_action links end (action.Send link bytes) = sent_if (slice_get links link) end link bytes
@@ -70,10 +74,12 @@ units_of_action links end (action.Close link cause) = []
 units_of_action links end (action.Told link what) = []
 units_of_action links end (action.Judged how) = []
 
+-- the units that actions send, in order
 abbrev pub units_sent : List Route → EndId → List Action → List BagUnit
 units_sent links end [] = []
 units_sent links end (what ∷ actions) = units_of_action links end what ++ units_sent links end actions
 
+-- the dials that an action makes
 abbrev pub dials_of_action : EndId → Action → List Waiting
 dials_of_action end (action.Dial peer) = record { end = end; peer = peer } ∷ []
 dials_of_action end (action.Keep bytes) = []
@@ -82,14 +88,17 @@ dials_of_action end (action.Close link cause) = []
 dials_of_action end (action.Told link what) = []
 dials_of_action end (action.Judged how) = []
 
+-- the dials that actions make, in order
 abbrev pub dials_made : EndId → List Action → List Waiting
 dials_made end [] = []
 dials_made end (what ∷ actions) = dials_of_action end what ++ dials_made end actions
 
+-- an action that isn't `Close`
 abbrev pub IsNoClose : Action → Type 0
 IsNoClose (action.Close link cause) = ⊥
 IsNoClose _ = Unit {0}
 
+-- the scene after the actions of an end, with the challenges that are left
 abbrev pub with_actions : EndId → List Action → List (List ℕ) → Scene → Scene
 with_actions end actions left v = record v {
   units = v.units ++ units_sent v.links end actions;
@@ -117,6 +126,7 @@ pub record HasFirst (v : Scene) (unit : BagUnit) (later : List BagUnit) (end : E
   pub found : lookup same_number unit.link v.opened ≡ Some there
   pub hearer : hearer_on unit.back there ≡ Some end
 
+-- these units wait
 abbrev pub without_unit : List BagUnit → Scene → Scene
 without_unit later v = record v { units = later }
 

@@ -3,22 +3,22 @@
 -- dialled for, and the reply, are others' subject.
 use Rattle.std.specs.Prelude.{ℕ, ◌≡◌, ◌<◌, ◌^◌, ◌&&◌, true, false, List, [], ◌∷◌, ◌++◌, length, Some, slice_get}
 use Rattle.wire_base.specs.Maps.{lookup, put, same_number, take_out}
+use Rattle.ntlm_flags.specs.Flags.{has_flag}
+use Rattle.channel_keys.specs.Flags.{rc4_flag}
 use Rattle.outside.specs.declared.action.Action.TheVariants as action
 use Rattle.outside.specs.declared.action.Judged.{Judged}
 use Rattle.outside.specs.declared.event.Event.TheVariants as event
 use Rattle.outside.specs.Machine.{whole_step}
 use Rattle.rpc_units.specs.Calls.{bytes_of_call}
 use Rattle.rpc_units.specs.Writing.{written}
+use Rattle.end_links.specs.Binding.{bind_of}
+use Rattle.end_links.specs.Links.{LinkState}
 use Rattle.logon_stubs.specs.declared.calls.Call.{Call}
 use Rattle.logon_stubs.specs.declared.calls.Reply.{Reply}
 use Rattle.logon_stubs.specs.declared.calls.Reply.TheVariants as reply
 use Rattle.logon_stubs.specs.declared.info.NetworkInfo.{NetworkInfo}
 use Rattle.account_table.specs.AccountTable.{AccountTable}
-use Rattle.end_links.specs.Binding.{bind_of}
-use Rattle.end_links.specs.Links.{LinkState}
 use Rattle.channel_client.specs.declared.caller.Caller.{Caller}
-use Rattle.ntlm_flags.specs.Flags.{has_flag}
-use Rattle.channel_keys.specs.Flags.{rc4_flag}
 use Rattle.channel_client.specs.Opened.{OpenState, after_call, first_state}
 use Rattle.channel_client.specs.declared.state.Question.TheVariants as question
 use Rattle.channel_client.specs.declared.state.Standing.TheVariants as standing

@@ -32,6 +32,7 @@ pub record ClosesTo (v : Scene) (end other : EndId) (link : ℕ) : Type 0 where
   pub found : lookup same_number link v.opened ≡ Some there
   pub side : other_hearer end there ≡ Some other
 
+-- the link is open no more
 abbrev pub shut_in : ℕ → Scene → Scene
 shut_in link v = record v { opened = take_out same_number link v.opened }
 

@@ -71,6 +71,7 @@ after_hearing ends left actions s = record {
 abbrev pub unit_on : Route → EndId → ℕ → List ℕ → BagUnit
 unit_on route end link bytes = record { bytes = bytes; link = link; kind = kind_of route; back = is_accepted_by end route; is_settled = false }
 
+-- the unit is in the bag, behind the others
 abbrev pub with_unit : BagUnit → State → State
 with_unit unit s = record s { bag = s.bag ++ unit ∷ [] }
 
