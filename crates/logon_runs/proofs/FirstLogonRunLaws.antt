@@ -1,114 +1,25 @@
 -- A whole first logon, by a channel that is opened for it.
 -- Of `first_logons_run`.
-use Rattle.std.proofs.Common.{◌≡◌, ℕ, ◌≤◌, List, [], ◌∷◌, ◌++◌, length, Option, None, refl, sym, ap, subst, ◌∙◌, arith}
-use Rattle.ntlm_seal.specs.Sessions.{SessionState}
-use Rattle.logon_stubs.specs.declared.info.SamInfo.{SamInfo}
-use Rattle.memo_stubs.specs.Memo.{written_echo_reply, written_echo_request, written_who_reply}
-use Rattle.memo_stubs.proofs.MemoLaws.{reply_stub, request_stub, who_stub}
+use Rattle.std.proofs.Common.{ℕ, ◌≤◌, List, [], ◌∷◌, ◌++◌, length, refl, arith}
+use Rattle.memo_stubs.specs.Memo.{written_echo_reply, written_echo_request}
+use Rattle.memo_stubs.proofs.MemoLaws.{reply_stub, request_stub}
 use Rattle.account_table.specs.AccountTable.{AccountTable}
 use Rattle.account_table.specs.declared.account.Account.{Account}
-use Rattle.channel_client.specs.Hidden.{crypt_key}
-use Rattle.channel_client.specs.Opened.{OpenState, open_key}
 use Rattle.domain_controller.specs.declared.state.Computers.{Computers}
-use Rattle.logon_client.specs.State.{State as ClientState}
-use Rattle.logon_client.specs.declared.state.Phase.TheVariants as client_phase
-use Rattle.logon_client.specs.declared.state.Question.TheVariants as client_question
-use Rattle.logon_client.specs.declared.state.Terms.{Terms}
 use Rattle.logon_client.specs.Machine as steps
-use Rattle.member_server.specs.declared.state.LoggedOn.{LoggedOn}
-use Rattle.member_server.specs.Outcomes.{key_in, name_in, session_in}
-use Rattle.member_server.specs.Requests.{talk_in}
 use Rattle.world_moves.specs.declared.links.Route.{Route}
 use Rattle.world_moves.specs.declared.links.Route.TheVariants.{ToController}
-use Rattle.world_moves.specs.declared.state.State.{State}
-use Rattle.world_moves.specs.declared.links.EndId.TheVariants.{Controller, Member}
-use Rattle.logon_steps.specs.Answers.{answer_for, drawn_of, logon_for, terms_for}
-use Rattle.logon_steps.specs.Granting.{base_key}
-use Rattle.logon_steps.specs.Meeting.{flags_agreed}
-use Rattle.logon_steps.specs.MemberAnswers.{sam_shown}
-use Rattle.logon_steps.specs.MemoCalls.{AreSessions, ReplyGoes, RequestGoes, logged_on, with_session}
-use Rattle.logon_steps.proofs.CallingLaws.{calls_can_go}
+use Rattle.logon_steps.specs.MemoCalls.{ReplyGoes, RequestGoes}
 use Rattle.logon_steps.proofs.ClientStepLaws.{echo_are, echo_length}
-use Rattle.logon_steps.proofs.GrantingLaws.{logons_are_granted}
 use Rattle.logon_steps.proofs.MemoCallLaws.{memo_calls_go}
-use Rattle.logon_runs.specs.AskScenes.{with_controller}
-use Rattle.logon_runs.specs.LinkScenes.{IsJoined, Meeting, joined, meeting_scene, rest_scene, unit_down}
-use Rattle.logon_runs.specs.Runs.{Asked, goes, hidden, message_for, on_for, sam_for}
-use Rattle.logon_runs.specs.LogonRuns.{asked_at, meets, starts}
-use Rattle.logon_runs.specs.FirstRuns.{opens_as}
-use Rattle.logon_runs.specs.FirstLogonRuns.{ComesInFirst, FirstLogonsRun, after_first, first_turns}
-use Rattle.logon_runs.specs.Scenes.{Shows}
+use Rattle.logon_runs.specs.LinkScenes.{IsJoined, Meeting, joined}
+use Rattle.logon_runs.specs.Runs.{Asked, goes}
+use Rattle.logon_runs.specs.LogonRuns.{asked_at}
+use Rattle.logon_runs.specs.FirstTraces.{FirstLogonSeen}
+use Rattle.logon_runs.specs.FirstLogonRuns.{FirstLogonsRun, after_first, first_turns}
+use Rattle.logon_runs.proofs.FirstLogonTraceLaws.{first_logons_are_seen}
 use Rattle.logon_runs.proofs.LinkSceneLaws.{meetings_are_seen}
-use Rattle.logon_runs.proofs.LogonRunLaws.{meets_same}
-use Rattle.logon_runs.proofs.StayingLaws.{reach_still, starts_same}
-use Rattle.logon_runs.proofs.FirstRunLaws.{first_turns_run}
-use Rattle.logon_runs.proofs.StartLaws.{starts_are_seen}
 use Rattle.logon_runs.proofs.TwoLinkLaws.{got_first}
-
--- ---- the sessions of both ends
-
-key_found : (s : State) (g : Meeting) (number : ℕ) (links : List Route) (a : Asked) (client server : List ℕ) (table : AccountTable) (name : List ℕ) (account machine : Account)
-    (moment : ℕ) → ComesInFirst s g number links a client server table name account machine moment →
-    key_in (sam_shown (opens_as g client server) (hidden (opens_as g client server) (sam_for (joined g links) a table name account moment))) (logon_for (length links) g.task a.challenge (message_for (joined g links) a))
-    ≡ (answer_for g.plan g.task a.challenge a.then_now (drawn_of a.one a.two a.three)).key
-key_found s g number links a client server table name account machine moment is =
-    logons_are_granted.key g.plan g.task a.challenge a.one a.two a.three a.then_now (length links) (sam_shown (opens_as g client server) (hidden (opens_as g client server) (sam_for (joined g links) a table name account moment))) is.opened.draws
-    (ap (λ (k : List ℕ). crypt_key (open_key (opens_as g client server)) (crypt_key (open_key (opens_as g client server)) k)) (logons_are_granted.has_key table name account (base_key g.task (message_for (joined g links) a)) moment)
-    ∙ calls_can_go.shown (open_key (opens_as g client server)) (base_key g.task (message_for (joined g links) a)) is.key)
-
-sessions_are : (s : State) (g : Meeting) (number : ℕ) (links : List Route) (a : Asked) (client server : List ℕ) (table : AccountTable) (name : List ℕ) (account machine : Account)
-    (moment : ℕ) → ComesInFirst s g number links a client server table name account machine moment →
-    AreSessions 1 g.task.level (terms_for g.plan g.task a.challenge a.then_now (drawn_of a.one a.two a.three)).session
-    (on_for (joined g links) a (opens_as g client server) (sam_for (joined g links) a table name account moment)).session
-sessions_are s g number links a client server table name account machine moment is =
-    subst (λ (k : List ℕ). AreSessions 1 g.task.level (terms_for g.plan g.task a.challenge a.then_now (drawn_of a.one a.two a.three)).session (session_in k (flags_agreed g.task)))
-    (sym (key_found s g number links a client server table name account machine moment is))
-    (logons_are_granted.sessions g.plan g.task a.challenge a.one a.two a.three a.then_now is.opened.can)
-
--- ---- up to the answer of WhoAmI
-
-record IsAnswered (s : State) (g : Meeting) (number : ℕ) (links : List Route) (a : Asked) (client server : List ℕ) (table : AccountTable) (name : List ℕ) (account machine : Account)
-    (computers : Computers) (left : List (List ℕ)) (moment : ℕ) : Type 0 where
-  one : Option SessionState
-  other : Option SessionState
-  back : ReplyGoes 2 g.task.level 2 (written_who_reply (name_in (sam_shown (opens_as g client server) (hidden (opens_as g client server) (sam_for (joined g links) a table name account moment))))) other one
-  shows : Shows (first_turns number s)
-      (meeting_scene (after_first g links machine client server table name computers moment)
-      (client_phase.Asked (with_session (terms_for g.plan g.task a.challenge a.then_now (drawn_of a.one a.two a.three)) one) client_question.Who)
-      (talk_in None (logged_on (on_for (joined g links) a (opens_as g client server) (sam_for (joined g links) a table name account moment)) back.later)) (unit_down (joined g links) back.sent ∷ []) left moment)
-
-answered_so : (s : State) (g : Meeting) (number : ℕ) (before : ClientState) (links : List Route) (challenge one two three client server : List ℕ)
-    (table : AccountTable) (name : List ℕ) (account machine : Account) (computers : Computers) (left : List (List ℕ)) (moment : ℕ) →
-    ComesInFirst s g number links (asked_at challenge one two three moment) client server table name account machine moment →
-    Shows s (rest_scene (with_controller g table name computers) before links (challenge ∷ one ∷ two ∷ three ∷ client ∷ server ∷ left) moment []) →
-    IsAnswered s g number links (asked_at challenge one two three moment) client server table name account machine computers left moment
-answered_so s g number before links challenge one two three client server table name account machine computers left moment is shows =
-    let a : Asked = asked_at challenge one two three moment in
-    let j : Meeting = joined g links in
-    let k : Meeting = with_controller j table name computers in
-    let o : OpenState = opens_as g client server in
-    let sam : SamInfo = sam_for j a table name account moment in
-    let on : LoggedOn = on_for j a o sam in
-    let told : List ℕ = name_in (sam_shown o (hidden o sam)) in
-    let terms : Terms = terms_for g.plan g.task challenge moment (drawn_of one two three) in
-    let who : RequestGoes 1 g.task.level 2 0 [] terms.session on.session =
-    memo_calls_go.request 1 g.task.level 2 0 [] terms.session on.session (omega arith) (omega arith) (omega arith) (omega arith)
-    (sessions_are s g number links a client server table name account machine moment is) in
-    let back : ReplyGoes 2 g.task.level 2 (written_who_reply told) who.next who.later =
-    memo_calls_go.reply 2 g.task.level 2 (written_who_reply told) who.later who.next (omega arith) (omega arith)
-    (omega (arith, is.short, (who_stub told (omega (arith, is.short)) is.units).short)) who.sessions in
-    record {
-      one = who.later;
-      other = who.next;
-      back = back;
-      shows =
-          first_turns_run.granted (meets number s) j a client server table name account machine computers _ left moment is.opened (reach_still g.plan.controller (Controller g.at_controller) s (meets number s) (meets_same number s) is.controller) who back
-          (meetings_are_seen.answered _ k challenge one two three _ (client ∷ server ∷ left) moment is.opened.joined is.opened.can is.opened.names is.eight is.opened.draws who.goes
-          (meetings_are_seen.challenged _ k challenge (one ∷ two ∷ three ∷ client ∷ server ∷ left) moment is.opened.joined is.opened.can is.opened.names is.eight
-          (meetings_are_seen.dialled (starts number s) (with_controller g table name computers) links (challenge ∷ one ∷ two ∷ three ∷ client ∷ server ∷ left) moment is.opened.joined
-          (reach_still g.task.server (Member g.at_member) s (starts number s) (starts_same number s) is.member)
-          (starts_are_seen.starts s (with_controller g table name computers) number before links (challenge ∷ one ∷ two ∷ three ∷ client ∷ server ∷ left) moment is.chosen is.planned shows))));
-    }
 
 joined_still : (g : Meeting) (links : List Route) (machine : Account) (client server : List ℕ) (table : AccountTable) (name : List ℕ) (computers : Computers) (moment : ℕ) →
     IsJoined (joined g links) → IsJoined (after_first g links machine client server table name computers moment)
@@ -120,15 +31,15 @@ pub first_logons_run : FirstLogonsRun
 first_logons_run = record {
   named = λ s g number before links challenge one two three client server table name account machine computers left moment is none shows.
       let a : Asked = asked_at challenge one two three moment in
-      let so : IsAnswered s g number links a client server table name account machine computers left moment =
-      answered_so s g number before links challenge one two three client server table name account machine computers left moment is shows in
-      meetings_are_seen.ends_named (first_turns number s) (after_first g links machine client server table name computers moment) _ _ 2 so.other _ left moment
-      (joined_still g links machine client server table name computers moment is.opened.joined) so.back (omega (arith, is.short)) is.units none so.shows;
+      let so : FirstLogonSeen s g number links a client server table name account machine computers left moment =
+      first_logons_are_seen.logon s g number before links challenge one two three client server table name account machine computers left moment is shows in
+      meetings_are_seen.ends_named (first_turns number s) (after_first g links machine client server table name computers moment) _ _ 2 so.who.next _ left moment
+      (joined_still g links machine client server table name computers moment is.opened.joined) so.back (omega (arith, is.short)) is.units none so.granted;
   echoed = λ s g number before links challenge one two three client server table name account machine computers left moment is some shows.
       let a : Asked = asked_at challenge one two three moment in
       let end : Meeting = after_first g links machine client server table name computers moment in
-      let so : IsAnswered s g number links a client server table name account machine computers left moment =
-      answered_so s g number before links challenge one two three client server table name account machine computers left moment is shows in
+      let so : FirstLogonSeen s g number links a client server table name account machine computers left moment =
+      first_logons_are_seen.logon s g number before links challenge one two three client server table name account machine computers left moment is shows in
       let bytes : List ℕ = steps.echo_bytes g.task.echo in
       let few : length bytes ≤ 4096 = omega (arith, echo_length g.task.echo, is.opened.can.echo) in
       let asks : RequestGoes 3 g.task.level 3 1 (written_echo_request bytes) so.back.next so.back.later =
@@ -140,5 +51,5 @@ first_logons_run = record {
       let still : IsJoined end = joined_still g links machine client server table name computers moment is.opened.joined in
       meetings_are_seen.ends_echoed (goes (goes (first_turns number s))) end _ _ 4 asks.next _ left moment still is.opened.can again
       (meetings_are_seen.echoes (goes (first_turns number s)) end _ 3 _ bytes so.back.next left moment still refl few (echo_are g.task.echo) asks again
-      (meetings_are_seen.named (first_turns number s) end _ _ 2 so.other _ _ left moment still so.back (omega (arith, is.short)) is.units some refl asks.goes so.shows));
+      (meetings_are_seen.named (first_turns number s) end _ _ 2 so.who.next _ _ left moment still so.back (omega (arith, is.short)) is.units some refl asks.goes so.granted));
 }

@@ -45,6 +45,7 @@ use Rattle.logon_runs.specs.LinkScenes.{Meeting, joined, rest_scene}
 use Rattle.logon_runs.specs.Runs.{goes}
 use Rattle.logon_runs.specs.Scenes.{Shows}
 use Rattle.logon_runs.proofs.FirstLogonRunLaws.{first_logons_run}
+use Rattle.logon_runs.proofs.FirstLogonTraceLaws.{first_logons_are_seen}
 use Rattle.logon_runs.proofs.GrantLaws.{grants_are_told}
 
 -- ---- lists
@@ -236,6 +237,9 @@ first_worlds_run = record {
   comes_in = λ plan client member controller number is forms chosen can shown.
       let rests = runs_so plan client member controller number can is forms chosen shown (can.task.echo == 0) refl in
       record {
+        seen = first_logons_are_seen.logon (first_world plan).state (first_meeting plan client member controller can) number (fresh_client can.task) [] (draw plan 0) (draw plan 1)
+            (draw plan 2) (draw plan 3) (draw plan 4) (draw plan 5) can.table can.name can.account can.machine no_computers (left_then plan) plan.now
+            (comes_first plan client member controller can is forms number chosen shown) (first_shows plan client member controller can);
         outcome = ap outcome_by rests.client;
         rests = rests;
       };

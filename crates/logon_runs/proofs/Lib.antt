@@ -9,7 +9,9 @@ pub mod AskSceneLaws
 pub mod TwoLinkLaws
 pub mod RunLaws
 pub mod GrantLaws
+pub mod FirstTraceLaws
 pub mod FirstRunLaws
 pub mod LogonRunLaws
+pub mod FirstLogonTraceLaws
 pub mod FirstLogonRunLaws
 pub mod FirstWorldLaws

@@ -29,6 +29,7 @@ use Rattle.logon_steps.specs.ClientSteps.{client_ended}
 use Rattle.logon_steps.specs.Granting.{base_key, info_told}
 use Rattle.logon_runs.specs.FirstLogonRuns.{after_first}
 use Rattle.logon_runs.specs.FirstRuns.{opens_as}
+use Rattle.logon_runs.specs.FirstTraces.{FirstLogonSeen}
 use Rattle.logon_runs.specs.LinkScenes.{Meeting, joined, rest_scene}
 use Rattle.logon_runs.specs.LogonRuns.{asked_at}
 use Rattle.logon_runs.specs.Runs.{Asked, message_for}
@@ -127,8 +128,10 @@ abbrev pub key_then : (plan : Plan) (client member controller : ℕ) → CanCome
 key_then plan client member controller can =
     (answer_for can.member_plan can.task (draw plan 0) plan.now (drawn_of (draw plan 1) (draw plan 2) (draw plan 3))).key
 
--- what the run over these moves comes to
+-- what is seen at each of these moves, and what the run over them comes to
 pub record IsLoggedOn (plan : Plan) (client member controller number : ℕ) (can : CanComeIn plan client member controller) : Type 0 where
+  pub seen : FirstLogonSeen (first_world plan).state (first_meeting plan client member controller can) number [] (first_asked plan) (draw plan 4) (draw plan 5)
+      can.table can.name can.account can.machine no_computers (left_then plan) plan.now
   -- the client is in, with its key, the domain and the account's name, and its whole echo
   pub outcome : outcome_of (run (logon_moves number (can.task.echo == 0)) (first_world plan)) client
       ≡ Some (In (can.table.domain ++ 0x5C ∷ can.account.name) (key_then plan client member controller can) can.task.echo)

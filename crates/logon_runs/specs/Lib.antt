@@ -12,4 +12,5 @@ pub mod Grants
 pub mod FirstRuns
 pub mod LogonRuns
 pub mod FirstLogonRuns
+pub mod FirstTraces
 pub mod FirstWorlds

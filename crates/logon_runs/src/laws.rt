@@ -4,6 +4,7 @@
 ghost use Rattle.logon_runs.specs.AskScenes.{LogonsAreSeen};
 ghost use Rattle.logon_runs.specs.FirstLogonRuns.{FirstLogonsRun};
 ghost use Rattle.logon_runs.specs.FirstRuns.{FirstTurnsRun};
+ghost use Rattle.logon_runs.specs.FirstTraces.{FirstLogonsAreSeen, FirstTurnsAreSeen};
 ghost use Rattle.logon_runs.specs.FirstWorlds.{FirstWorldsRun};
 ghost use Rattle.logon_runs.specs.Grants.{GrantsAreTold};
 ghost use Rattle.logon_runs.specs.LinkScenes.{MeetingsAreSeen};
@@ -93,6 +94,12 @@ pub fn grants_are_told()
     ensures { GrantsAreTold }
 {}
 
+/// What is seen at each move of the three turns of a member that has no channel yet.
+#[tactic(auto, using(crate::proofs::FirstTraceLaws::first_turns_are_seen))]
+pub fn first_turns_are_seen()
+    ensures { FirstTurnsAreSeen }
+{}
+
 /// The three turns of a member that has no channel yet, from the AUTHENTICATE of its client to the
 /// answer of WhoAmI. The channel stands afterwards, and the account's count of bad passwords is 0.
 #[tactic(auto, using(crate::proofs::FirstRunLaws::first_turns_run))]
@@ -105,6 +112,12 @@ pub fn first_turns_run()
 #[tactic(auto, using(crate::proofs::LogonRunLaws::logons_run))]
 pub fn logons_run()
     ensures { LogonsRun }
+{}
+
+/// What is seen at each move of a first logon, from the client's start to the answer of WhoAmI.
+#[tactic(auto, using(crate::proofs::FirstLogonTraceLaws::first_logons_are_seen))]
+pub fn first_logons_are_seen()
+    ensures { FirstLogonsAreSeen }
 {}
 
 /// A whole first logon, by a channel that is opened for it, from the client's start to its end: the
