@@ -39,7 +39,7 @@ use Rattle.logon_steps.proofs.TellingLaws.{logons_are_short}
 use Rattle.logon_runs.specs.AskScenes.{with_controller}
 use Rattle.logon_runs.specs.FirstLogonRuns.{ComesInFirst, after_first, first_turns}
 use Rattle.logon_runs.specs.FirstRuns.{IsToBeOpened}
-use Rattle.logon_runs.specs.FirstWorlds.{CanComeIn, FirstWorldsRun, KeyIsShown, draw, first_asked, first_channel, first_meeting, key_then, left_then, logon_moves, no_computers}
+use Rattle.logon_runs.specs.FirstWorlds.{CanComeIn, FirstWorldsRun, FirstKeyArrives, draw, first_asked, first_channel, first_meeting, key_then, left_then, logon_moves, no_computers}
 use Rattle.logon_runs.specs.Grants.{CanBeTold}
 use Rattle.logon_runs.specs.LinkScenes.{Meeting, joined, rest_scene}
 use Rattle.logon_runs.specs.Runs.{goes}
@@ -183,7 +183,7 @@ module _ (plan : Plan) (client member controller : ℕ) (can : CanComeIn plan cl
       number = omega arith;
     }
 
-    module _ (number : ℕ) (chosen : chosen_place number (length plan.clients) ≡ Some client) (shown : KeyIsShown plan client member controller can) where
+    module _ (number : ℕ) (chosen : chosen_place number (length plan.clients) ≡ Some client) (shown : FirstKeyArrives plan client member controller can) where
       comes_first : ComesInFirst (first_world plan).state (first_meeting plan client member controller can) number [] (first_asked plan) (draw plan 4) (draw plan 5) can.table can.name
           can.account can.machine plan.now
       comes_first = record {
@@ -205,7 +205,7 @@ zero_so count is = grind (arith, nat_tests)
 
 -- the run has these moves where nothing is echoed, and two more else
 runs_so : (plan : Plan) (client member controller number : ℕ) (can : CanComeIn plan client member controller) → IsPlan plan → HasForms plan →
-    chosen_place number (length plan.clients) ≡ Some client → KeyIsShown plan client member controller can → (silent : Bool) → (can.task.echo == 0) ≡ silent →
+    chosen_place number (length plan.clients) ≡ Some client → FirstKeyArrives plan client member controller can → (silent : Bool) → (can.task.echo == 0) ≡ silent →
     let end : Meeting = after_first (first_meeting plan client member controller can) [] can.machine (draw plan 4) (draw plan 5) can.table can.name no_computers plan.now in
     Shows (run (logon_moves number silent) (first_world plan)).state
     (rest_scene end (client_ended can.task (In (can.table.domain ++ 0x5C ∷ can.account.name) (key_then plan client member controller can) can.task.echo)) end.links

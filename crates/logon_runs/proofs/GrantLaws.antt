@@ -1,6 +1,23 @@
 -- That what a controller grants by its accounts can be told.
 -- Of `grants_are_told`.
-use Rattle.std.proofs.Common.{◌≡◌, ℕ, ◌≤◌, List, ◌∷◌, ◌++◌, length, sym, subst, arith, length-append, inl, inr}
+use Rattle.std.proofs.Common.{◌≡◌, ℕ, ◌≤◌, Bool, true, false, refl, List, ◌∷◌, ◌++◌, length, sym, subst, arith, length-append, inl, inr}
+use Rattle.account_table.specs.AccountTable.{AccountTable}
+use Rattle.account_table.specs.declared.account.Account.{Account}
+use Rattle.channel_client.specs.Opened.{OpenState}
+use Rattle.logon_runs.specs.LinkScenes.{Meeting}
+use Rattle.logon_runs.specs.Runs.{Asked, sam_for, message_for, hidden}
+use Rattle.std.proofs.Common.{ap, ◌∙◌}
+use Rattle.std.specs.Prelude.{◌&&◌}
+use Rattle.ntlm_flags.specs.Flags.{has_flag, negotiate_extended_sessionsecurity}
+use Rattle.logon_client.specs.Plans.{is_signed}
+use Rattle.logon_client.specs.Securing.{session_for, session_if}
+use Rattle.member_server.specs.Levels.{is_plain}
+use Rattle.member_server.specs.Outcomes.{session_in}
+use Rattle.logon_steps.specs.Answers.{AreDraws, answer_for, drawn_of}
+use Rattle.logon_steps.specs.Calling.{TravelsAsZeros}
+use Rattle.logon_steps.specs.Meeting.{flags_agreed, offer_for}
+use Rattle.logon_steps.specs.MemoCalls.{AreSessions}
+use Rattle.logon_runs.specs.Runs.{on_for}
 use Rattle.std.specs.Prelude.{All}
 use Rattle.std.proofs.lemmas.Bool.{cases_lt}
 use Rattle.std.proofs.lemmas.List.{get_or_past}
@@ -44,6 +61,25 @@ name_bytes domain account is_domain is_account =
 name_short : (domain account : List ℕ) → IsName domain → IsName account → length (domain ++ 0x5C ∷ account) ≤ 129
 name_short domain account is_domain is_account = omega (arith, length-append domain (0x5C ∷ account), is_domain.0, is_account.0)
 
+-- ---- the member's key and session
+
+key_so : (g : Meeting) (a : Asked) (o : OpenState) (table : AccountTable) (name : List ℕ) (account : Account) (moment : ℕ) → AreDraws a.one a.two a.three →
+    (TravelsAsZeros (open_key o) (base_key g.task (message_for g a)) → ⊥) →
+    (on_for g a o (sam_for g a table name account moment)).key ≡ (answer_for g.plan g.task a.challenge a.then_now (drawn_of a.one a.two a.three)).key
+key_so g a o table name account moment draws arrives =
+    logons_are_granted.key g.plan g.task a.challenge a.one a.two a.three a.then_now g.link (sam_shown o (hidden o (sam_for g a table name account moment))) draws
+    (ap (λ (k : List ℕ). crypt_key (open_key o) (crypt_key (open_key o) k)) (logons_are_granted.has_key table name account (base_key g.task (message_for g a)) moment)
+    ∙ calls_can_go.shown (open_key o) (base_key g.task (message_for g a)) arrives)
+
+-- the argument: whether units are signed
+sessions_so : (signed : Bool) (level : ℕ) (key found : List ℕ) (flags agreed : ℕ) → is_signed level ≡ signed → (signed ≡ true → found ≡ key) →
+    AreSessions 1 level (session_for level key flags) (session_in key agreed) → AreSessions 1 level (session_for level key flags) (session_in found agreed)
+sessions_so true level key found flags agreed signed same are = subst (λ (k : List ℕ). AreSessions 1 level (session_for level key flags) (session_in k agreed)) (sym (same refl)) are
+sessions_so false level key found flags agreed unsigned same are =
+    let by : Bool → List ℕ → Type 0 = λ (b : Bool) (k : List ℕ). AreSessions 1 level (session_if (b && has_flag flags negotiate_extended_sessionsecurity) key flags) (session_in k agreed) in
+    let plain : is_plain level ≡ true = subst (λ (b : Bool). by b key) unsigned are in
+    subst (λ (b : Bool). by b found) (sym unsigned) plain
+
 pub grants_are_told : GrantsAreTold
 grants_are_told = record {
   told = λ g a o table name account moment is_domain is_sid is_name is_account below.
@@ -59,4 +95,10 @@ grants_are_told = record {
         short = subst (λ (n : List ℕ). length n ≤ 129) (sym found) (name_short table.domain account.name is_domain is_account.name);
         units = subst AreUnits (sym found) (are_units (table.domain ++ 0x5C ∷ account.name) (name_bytes table.domain account.name is_domain is_account.name));
       };
+  key = key_so;
+  sessions = λ g a o table name account moment can draws arrives.
+      sessions_so (is_signed g.task.level) g.task.level (answer_for g.plan g.task a.challenge a.then_now (drawn_of a.one a.two a.three)).key
+      (on_for g a o (sam_for g a table name account moment)).key (offer_for g.plan g.task a.challenge a.then_now).flags (flags_agreed g.task) refl
+      (λ signed. key_so g a o table name account moment draws (arrives signed))
+      (logons_are_granted.sessions g.plan g.task a.challenge a.one a.two a.three a.then_now can);
 }

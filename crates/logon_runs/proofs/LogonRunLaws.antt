@@ -1,14 +1,13 @@
 -- A whole logon by a channel that stands.
 -- Of `logons_run`.
-use Rattle.std.proofs.Common.{◌≡◌, ℕ, ◌≤◌, List, [], ◌∷◌, length, Option, None, refl, sym, ap, subst, ◌∙◌, arith}
+use Rattle.std.proofs.Common.{ℕ, ◌≤◌, List, [], ◌∷◌, length, Option, None, refl, arith}
 use Rattle.ntlm_seal.specs.Sessions.{SessionState}
 use Rattle.logon_stubs.specs.declared.info.SamInfo.{SamInfo}
 use Rattle.memo_stubs.specs.Memo.{written_echo_reply, written_echo_request, written_who_reply}
 use Rattle.memo_stubs.proofs.MemoLaws.{reply_stub, request_stub, who_stub}
 use Rattle.account_table.specs.AccountTable.{AccountTable}
 use Rattle.account_table.specs.declared.account.Account.{Account}
-use Rattle.channel_client.specs.Hidden.{crypt_key}
-use Rattle.channel_client.specs.Opened.{OpenState, open_key}
+use Rattle.channel_client.specs.Opened.{OpenState}
 use Rattle.domain_controller.specs.Channels.{ChannelState}
 use Rattle.domain_controller.specs.declared.state.Computers.{Computers}
 use Rattle.logon_client.specs.State.{State as ClientState}
@@ -17,24 +16,20 @@ use Rattle.logon_client.specs.declared.state.Question.TheVariants as client_ques
 use Rattle.logon_client.specs.declared.state.Terms.{Terms}
 use Rattle.logon_client.specs.Machine as client
 use Rattle.member_server.specs.declared.state.LoggedOn.{LoggedOn}
-use Rattle.member_server.specs.Outcomes.{key_in, name_in, session_in}
+use Rattle.member_server.specs.Outcomes.{name_in}
 use Rattle.member_server.specs.Requests.{talk_in}
 use Rattle.world_moves.specs.declared.links.Route.{Route}
 use Rattle.world_moves.specs.declared.links.Route.TheVariants.{ToController}
 use Rattle.world_moves.specs.declared.state.State.{State}
 use Rattle.world_moves.specs.declared.links.EndId.TheVariants.{Controller, Member}
-use Rattle.logon_steps.specs.Answers.{answer_for, drawn_of, logon_for, terms_for}
-use Rattle.logon_steps.specs.Granting.{base_key}
-use Rattle.logon_steps.specs.Meeting.{flags_agreed}
+use Rattle.logon_steps.specs.Answers.{drawn_of, terms_for}
 use Rattle.logon_steps.specs.MemberAnswers.{sam_shown}
-use Rattle.logon_steps.specs.MemoCalls.{AreSessions, ReplyGoes, RequestGoes, logged_on, with_session}
-use Rattle.logon_steps.proofs.CallingLaws.{calls_can_go}
+use Rattle.logon_steps.specs.MemoCalls.{ReplyGoes, RequestGoes, logged_on, with_session}
 use Rattle.logon_steps.proofs.ClientStepLaws.{echo_are, echo_length}
-use Rattle.logon_steps.proofs.GrantingLaws.{logons_are_granted}
 use Rattle.logon_steps.proofs.MemoCallLaws.{memo_calls_go}
 use Rattle.logon_runs.specs.AskScenes.{with_controller}
 use Rattle.logon_runs.specs.LinkScenes.{IsJoined, Meeting, joined, meeting_scene, rest_scene, unit_down}
-use Rattle.logon_runs.specs.Runs.{Asked, connects, goes, hidden, message_for, on_for, sam_for}
+use Rattle.logon_runs.specs.Runs.{Asked, connects, goes, hidden, on_for, sam_for}
 use Rattle.logon_runs.specs.LogonRuns.{ComesIn, LogonsRun, after_logon, asked_at, meets, starts, turns}
 use Rattle.logon_runs.specs.Scenes.{Shows}
 use Rattle.logon_runs.specs.Staying.{HasSameEnds}
@@ -43,26 +38,7 @@ use Rattle.logon_runs.proofs.RunLaws.{turns_run, twice_same}
 use Rattle.logon_runs.proofs.StayingLaws.{both_same, connects_same, reach_still, starts_same}
 use Rattle.logon_runs.proofs.StartLaws.{starts_are_seen}
 use Rattle.logon_runs.proofs.TwoLinkLaws.{got_first}
-
--- ---- the sessions of both ends
-
-key_found : (s : State) (g : Meeting) (number : ℕ) (links : List Route) (a : Asked) (o : OpenState) (c : ChannelState) (table : AccountTable) (name : List ℕ) (account : Account)
-    (computers : Computers) (moment : ℕ) → ComesIn s g number links a o c table name account computers moment →
-    key_in (sam_shown o (hidden o (sam_for (joined g links) a table name account moment))) (logon_for (length links) g.task a.challenge (message_for (joined g links) a))
-    ≡ (answer_for g.plan g.task a.challenge a.then_now (drawn_of a.one a.two a.three)).key
-key_found s g number links a o c table name account computers moment is =
-    logons_are_granted.key g.plan g.task a.challenge a.one a.two a.three a.then_now (length links) (sam_shown o (hidden o (sam_for (joined g links) a table name account moment))) is.granted.draws
-    (ap (λ (k : List ℕ). crypt_key (open_key o) (crypt_key (open_key o) k)) (logons_are_granted.has_key table name account (base_key g.task (message_for (joined g links) a)) moment)
-    ∙ calls_can_go.shown (open_key o) (base_key g.task (message_for (joined g links) a)) is.key)
-
-sessions_are : (s : State) (g : Meeting) (number : ℕ) (links : List Route) (a : Asked) (o : OpenState) (c : ChannelState) (table : AccountTable) (name : List ℕ) (account : Account)
-    (computers : Computers) (moment : ℕ) → ComesIn s g number links a o c table name account computers moment →
-    AreSessions 1 g.task.level (terms_for g.plan g.task a.challenge a.then_now (drawn_of a.one a.two a.three)).session
-    (on_for (joined g links) a o (sam_for (joined g links) a table name account moment)).session
-sessions_are s g number links a o c table name account computers moment is =
-    subst (λ (k : List ℕ). AreSessions 1 g.task.level (terms_for g.plan g.task a.challenge a.then_now (drawn_of a.one a.two a.three)).session (session_in k (flags_agreed g.task)))
-    (sym (key_found s g number links a o c table name account computers moment is))
-    (logons_are_granted.sessions g.plan g.task a.challenge a.one a.two a.three a.then_now is.granted.can)
+use Rattle.logon_runs.proofs.GrantLaws.{grants_are_told}
 
 -- ---- up to the answer of WhoAmI
 
@@ -97,7 +73,7 @@ answered_so s g number before links challenge one two three o c table name accou
     let terms : Terms = terms_for g.plan g.task challenge moment (drawn_of one two three) in
     let who : RequestGoes 1 g.task.level 2 0 [] terms.session on.session =
     memo_calls_go.request 1 g.task.level 2 0 [] terms.session on.session (omega arith) (omega arith) (omega arith) (omega arith)
-    (sessions_are s g number links a o c table name account computers moment is) in
+    (grants_are_told.sessions j a o table name account moment is.granted.can is.granted.draws is.key) in
     let back : ReplyGoes 2 g.task.level 2 (written_who_reply told) who.next who.later =
     memo_calls_go.reply 2 g.task.level 2 (written_who_reply told) who.later who.next (omega arith) (omega arith)
     (omega (arith, is.short, (who_stub told (omega (arith, is.short)) is.units).short)) who.sessions in

@@ -6,7 +6,7 @@ use Rattle.wire_base.specs.Units.{AreUnits}
 use Rattle.logon_stubs.specs.declared.info.SamInfo.{SamInfo}
 use Rattle.account_table.specs.AccountTable.{AccountTable}
 use Rattle.account_table.specs.declared.account.Account.{Account}
-use Rattle.channel_client.specs.Opened.{OpenState, open_key}
+use Rattle.channel_client.specs.Opened.{OpenState}
 use Rattle.domain_controller.specs.declared.state.Computers.{Computers}
 use Rattle.logon_client.specs.State.{State as ClientState}
 use Rattle.logon_client.specs.declared.outcome.ClientOutcome.TheVariants.{In}
@@ -18,13 +18,13 @@ use Rattle.world_moves.specs.declared.state.State.{State}
 use Rattle.world_moves.specs.Choosing.{chosen_place}
 use Rattle.world_moves.specs.Moving.{end_of_peer}
 use Rattle.logon_steps.specs.Answers.{answer_for, drawn_of}
-use Rattle.logon_steps.specs.Calling.{TravelsAsZeros}
 use Rattle.logon_steps.specs.ClientSteps.{client_ended}
-use Rattle.logon_steps.specs.Granting.{base_key, cleared}
+use Rattle.logon_steps.specs.Granting.{cleared}
 use Rattle.logon_steps.specs.MemberAnswers.{sam_shown}
 use Rattle.logon_runs.specs.AskScenes.{with_controller}
+use Rattle.logon_runs.specs.Grants.{KeyArrives}
 use Rattle.logon_runs.specs.LinkScenes.{Meeting, joined, rest_scene}
-use Rattle.logon_runs.specs.Runs.{Asked, goes, hidden, message_for, sam_for, with_moved}
+use Rattle.logon_runs.specs.Runs.{Asked, goes, hidden, sam_for, with_moved}
 use Rattle.logon_runs.specs.FirstRuns.{IsToBeOpened, channel_as, opened_at, opens_as, rested_first, turned}
 use Rattle.logon_runs.specs.LogonRuns.{asked_at, meets}
 use Rattle.logon_runs.specs.Scenes.{Shows}
@@ -42,7 +42,7 @@ pub record ComesInFirst (s : State) (g : Meeting) (number : ℕ) (links : List R
   pub controller : end_of_peer g.plan.controller s.ends ≡ Some (Controller g.at_controller)
   pub eight : length a.challenge ≡ 8
   pub opened : IsToBeOpened (joined g links) a client server table name account machine moment
-  pub key : TravelsAsZeros (open_key (opens_as g client server)) (base_key g.task (message_for (joined g links) a)) → ⊥
+  pub key : KeyArrives (joined g links) a (opens_as g client server)
   pub short : length (name_in (sam_shown (opens_as g client server) (hidden (opens_as g client server) (sam_for (joined g links) a table name account moment)))) ≤ 129
   pub units : AreUnits (name_in (sam_shown (opens_as g client server) (hidden (opens_as g client server) (sam_for (joined g links) a table name account moment))))
 

@@ -7,7 +7,7 @@ use Rattle.account_table.specs.LookUps.{account_in, machine_name}
 use Rattle.account_table.specs.declared.account.Account.{Account}
 use Rattle.account_table.specs.declared.account.Kind.TheVariants.{Workstation}
 use Rattle.sam_logon.specs.MayLogOn.{MayLogOn}
-use Rattle.channel_client.specs.Opened.{OpenState, open_key}
+use Rattle.channel_client.specs.Opened.{OpenState}
 use Rattle.channel_client.specs.declared.state.Standing.TheVariants as standing
 use Rattle.domain_controller.specs.Step.{first_state}
 use Rattle.domain_controller.specs.declared.state.Computers.{Computers}
@@ -24,15 +24,15 @@ use Rattle.world_moves.specs.Forms.{HasForms}
 use Rattle.world_moves.specs.Moving.{end_of_peer}
 use Rattle.world_moves.specs.World.{IsPlan, first_ends, first_world, outcome_of, run}
 use Rattle.logon_steps.specs.Answers.{answer_for, drawn_of}
-use Rattle.logon_steps.specs.Calling.{TravelsAsZeros}
 use Rattle.logon_steps.specs.ClientSteps.{client_ended}
-use Rattle.logon_steps.specs.Granting.{base_key, info_told}
+use Rattle.logon_steps.specs.Granting.{info_told}
 use Rattle.logon_runs.specs.FirstLogonRuns.{after_first}
 use Rattle.logon_runs.specs.FirstRuns.{opens_as}
 use Rattle.logon_runs.specs.FirstTraces.{FirstLogonSeen}
+use Rattle.logon_runs.specs.Grants.{KeyArrives}
 use Rattle.logon_runs.specs.LinkScenes.{Meeting, joined, rest_scene}
 use Rattle.logon_runs.specs.LogonRuns.{asked_at}
-use Rattle.logon_runs.specs.Runs.{Asked, message_for}
+use Rattle.logon_runs.specs.Runs.{Asked}
 use Rattle.logon_runs.specs.Scenes.{Shows}
 
 -- ---- the moves
@@ -117,11 +117,10 @@ first_meeting plan client member controller can = record {
 abbrev pub first_channel : (plan : Plan) (client member controller : ℕ) → CanComeIn plan client member controller → OpenState
 first_channel plan client member controller can = opens_as (first_meeting plan client member controller can) (draw plan 4) (draw plan 5)
 
--- the session base key, hidden under the channel's key, isn't zeros
-abbrev pub KeyIsShown : (plan : Plan) (client member controller : ℕ) → CanComeIn plan client member controller → Type 0
-KeyIsShown plan client member controller can =
-    let g : Meeting = first_meeting plan client member controller can in
-    TravelsAsZeros (open_key (first_channel plan client member controller can)) (base_key can.task (message_for (joined g []) (first_asked plan))) → ⊥
+-- where units are signed, the session base key doesn't travel as zeros
+abbrev pub FirstKeyArrives : (plan : Plan) (client member controller : ℕ) → CanComeIn plan client member controller → Type 0
+FirstKeyArrives plan client member controller can =
+    KeyArrives (joined (first_meeting plan client member controller can) []) (first_asked plan) (first_channel plan client member controller can)
 
 -- the client's exported key
 abbrev pub key_then : (plan : Plan) (client member controller : ℕ) → CanComeIn plan client member controller → List ℕ
@@ -144,4 +143,4 @@ pub record IsLoggedOn (plan : Plan) (client member controller number : ℕ) (can
 
 pub record FirstWorldsRun : Type 0 where
   pub comes_in : (plan : Plan) (client member controller number : ℕ) → IsPlan plan → HasForms plan → chosen_place number (length plan.clients) ≡ Some client →
-      (can : CanComeIn plan client member controller) → KeyIsShown plan client member controller can → IsLoggedOn plan client member controller number can
+      (can : CanComeIn plan client member controller) → FirstKeyArrives plan client member controller can → IsLoggedOn plan client member controller number can

@@ -6,7 +6,7 @@ use Rattle.wire_base.specs.Units.{AreUnits}
 use Rattle.logon_stubs.specs.declared.info.SamInfo.{SamInfo}
 use Rattle.account_table.specs.AccountTable.{AccountTable}
 use Rattle.account_table.specs.declared.account.Account.{Account}
-use Rattle.channel_client.specs.Opened.{OpenState, open_key}
+use Rattle.channel_client.specs.Opened.{OpenState}
 use Rattle.domain_controller.specs.Channels.{ChannelState}
 use Rattle.domain_controller.specs.declared.state.Computers.{Computers}
 use Rattle.logon_client.specs.State.{State as ClientState}
@@ -19,13 +19,13 @@ use Rattle.world_moves.specs.declared.state.State.{State}
 use Rattle.world_moves.specs.Choosing.{chosen_place}
 use Rattle.world_moves.specs.Moving.{end_of_peer, start}
 use Rattle.logon_steps.specs.Answers.{answer_for, drawn_of}
-use Rattle.logon_steps.specs.Calling.{TravelsAsZeros}
 use Rattle.logon_steps.specs.ClientSteps.{client_ended}
-use Rattle.logon_steps.specs.Granting.{base_key, cleared}
+use Rattle.logon_steps.specs.Granting.{cleared}
 use Rattle.logon_steps.specs.MemberAnswers.{sam_shown}
 use Rattle.logon_runs.specs.AskScenes.{with_controller}
+use Rattle.logon_runs.specs.Grants.{KeyArrives}
 use Rattle.logon_runs.specs.LinkScenes.{Meeting, joined, rest_scene}
-use Rattle.logon_runs.specs.Runs.{Asked, IsToBeGranted, connects, goes, hidden, message_for, rested, sam_for, with_moved}
+use Rattle.logon_runs.specs.Runs.{Asked, IsToBeGranted, connects, goes, hidden, rested, sam_for, with_moved}
 use Rattle.logon_runs.specs.Scenes.{Shows}
 
 -- after the client's start
@@ -53,7 +53,7 @@ pub record ComesIn (s : State) (g : Meeting) (number : ℕ) (links : List Route)
   pub controller : end_of_peer g.plan.controller s.ends ≡ Some (Controller g.at_controller)
   pub eight : length a.challenge ≡ 8
   pub granted : IsToBeGranted (joined g links) a o c table name account computers moment
-  pub key : TravelsAsZeros (open_key o) (base_key g.task (message_for (joined g links) a)) → ⊥
+  pub key : KeyArrives (joined g links) a o
   pub short : length (name_in (sam_shown o (hidden o (sam_for (joined g links) a table name account moment)))) ≤ 129
   pub units : AreUnits (name_in (sam_shown o (hidden o (sam_for (joined g links) a table name account moment))))
 
