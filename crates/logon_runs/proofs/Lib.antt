@@ -15,3 +15,4 @@ pub mod LogonRunLaws
 pub mod FirstLogonTraceLaws
 pub mod FirstLogonRunLaws
 pub mod FirstWorldLaws
+pub mod ExampleLogonLaws

@@ -14,3 +14,4 @@ pub mod LogonRuns
 pub mod FirstLogonRuns
 pub mod FirstTraces
 pub mod FirstWorlds
+pub mod ExampleLogon

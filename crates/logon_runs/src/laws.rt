@@ -2,6 +2,7 @@
 //! clause is the law.
 
 ghost use Rattle.logon_runs.specs.AskScenes.{LogonsAreSeen};
+ghost use Rattle.logon_runs.specs.ExampleLogon.{AnnLogsOn};
 ghost use Rattle.logon_runs.specs.FirstLogonRuns.{FirstLogonsRun};
 ghost use Rattle.logon_runs.specs.FirstRuns.{FirstTurnsRun};
 ghost use Rattle.logon_runs.specs.FirstTraces.{FirstLogonsAreSeen, FirstTurnsAreSeen};
@@ -132,4 +133,11 @@ pub fn first_logons_run()
 #[tactic(auto, using(crate::proofs::FirstWorldLaws::first_worlds_run))]
 pub fn first_worlds_run()
     ensures { FirstWorldsRun }
+{}
+
+/// There is such a world: in one of a controller, a member and a client, the client's logon is
+/// granted, and it is in after 24 moves.
+#[tactic(auto, using(crate::proofs::ExampleLogonLaws::an_example_logs_on))]
+pub fn an_example_logs_on()
+    ensures { AnnLogsOn }
 {}
