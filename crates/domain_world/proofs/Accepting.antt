@@ -6,6 +6,9 @@ pub mod ChallengeLinkLaws
 pub mod ChallengeReadLaws
 pub mod ClientOfferLaws
 pub mod ClientPlanLaws
+pub mod HeardUnitLaws
+pub mod JudgedRunLaws
+pub mod JudgedUnitLaws
 pub mod KeyLaws
 pub mod LetInLaws
 pub mod LetInStepLaws

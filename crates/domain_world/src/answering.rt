@@ -7,9 +7,9 @@ ghost use Rattle.world_moves.specs.Bag.{AreShortUnits, HaveBytes};
 ghost use Rattle.world_moves.specs.Draws.{DrawsAreBlocks, DrawsDiffer};
 ghost use Rattle.world_moves.specs.Forms.{IsSchedule};
 ghost use Rattle.domain_world.specs.Accepting.Answered.{AnswersAreHeard, IsProved, MarksHaveTheirWay, MessagesAreApart, PassesAreUnclashed};
-ghost use Rattle.domain_world.specs.Accepting.Carried.{CarriedCallsAreHeard, MessagesAreCalled};
+ghost use Rattle.domain_world.specs.Accepting.Carried.{CarriedCallsAreHeard, JudgedAsCarried, MessagesAreCalled};
 ghost use Rattle.domain_world.specs.Accepting.KeysMade.{KeysAreFoundAsMade, MessagesAreMade, MessagesAreTakenAsSent};
-ghost use Rattle.domain_world.specs.Accepting.ReadBack.{OutcomesAreReadBack};
+ghost use Rattle.domain_world.specs.Accepting.ReadBack.{OutcomesAreReadBack, RepliesAreReadBack};
 ghost use Rattle.domain_world.specs.Accepting.Runs.{IsQuiet, RunsBegin, RunsStandSo};
 ghost use Rattle.domain_world.specs.Accepting.Units.{RunsAreHeard};
 ghost use Rattle.domain_world.specs.Claims.{AcceptsAllGranted, AcceptsOnlyGranted, IsClear, KeysAgree, ShortResponsesServeOnce};
@@ -154,3 +154,20 @@ pub fn runs_stand_so()
     calls_stay_apart();
     channel_steps_are_known();
 }
+
+/// In every schedule each Logon call that a controller judged, and that came in a unit of the bag, is the call which
+/// that unit carries, with its number.
+#[tactic(auto, using(crate::proofs::Accepting::JudgedRunLaws::judged_as_carried))]
+pub fn calls_are_judged_as_carried()
+    ensures { (plan : Plan) (moves : List Move) → IsSchedule plan moves →
+        AreShortUnits (past plan moves).world.state.bag → HaveBytes (past plan moves).world.state.bag →
+        JudgedAsCarried (past plan moves) }
+{}
+
+/// In every schedule a reply to a call that passed is read as its controller made it.
+#[tactic(auto, using(crate::proofs::Accepting::JudgedRunLaws::replies_back))]
+pub fn replies_are_read_back()
+    ensures { (plan : Plan) (moves : List Move) → IsSchedule plan moves →
+        AreShortUnits (past plan moves).world.state.bag → HaveBytes (past plan moves).world.state.bag →
+        RepliesAreReadBack (past plan moves) }
+{}

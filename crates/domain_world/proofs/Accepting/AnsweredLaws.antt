@@ -1,7 +1,7 @@
 -- A member accepts only what its controller granted, and all of it, and client and member hold one key, where what is
 -- said of units that are heard whole holds of the run. No call passes twice, since no seed comes round.
 -- It serves `what_is_heard_is_accepted`.
-use Rattle.std.proofs.Common.{◌≡◌, ℕ, ◌<◌, ◌&&◌, Bool, true, false, not, List, [], ◌∷◌, inl, inr, Option, Some, None, IsSomeAnd, slice_get, refl, sym, ap, ap₂, ◌∙◌, subst}
+use Rattle.std.proofs.Common.{◌≡◌, ℕ, ◌<◌, ◌&&◌, Bool, true, false, not, List, [], ◌∷◌, inl, inr, Option, Some, None, slice_get, refl, sym, ap, ap₂, ◌∙◌, subst}
 use Rattle.std.specs.Prelude.{replicate}
 use Rattle.std.specs.List.{AllByRecursion}
 use Rattle.std.proofs.lemmas.Bool.Decides.{Decides-eqb}
@@ -322,10 +322,10 @@ module _ (past : Past) (known : IsProved past) (heard : AnswersAreHeard past) (c
   told_as : (place : ℕ) (message : MessageTaken) (unit : ℕ) → slice_get past.book.messages place ≡ Some message → message.reply ≡ Some unit → (judged_so : IsJudgedAs past message unit) →
       OneOf (IsToldAsRead judged_so.in_reply.channel message judged_so.j) past.book.told
   told_as place message unit there reply judged_so =
-      all_at (λ (m : MessageTaken). (u : ℕ) → m.reply ≡ Some u → (carrier : BagUnit) (sent : Sent) (channel : Channel) (number request : ℕ) (j : Judging) →
-      slice_get past.world.state.bag u ≡ Some carrier → slice_get past.book.sent u ≡ Some sent → sent.mark ≡ ReplyTo channel number request →
+      all_at (λ (m : MessageTaken). (u : ℕ) → m.reply ≡ Some u → (carrier : BagUnit) (sent : Sent) (channel : Channel) (number request k : ℕ) (j : Judging) →
+      slice_get past.world.state.bag u ≡ Some carrier → slice_get past.book.sent u ≡ Some sent → slice_get past.book.judged k ≡ Some j → sent.mark ≡ ReplyTo channel number request →
       IsReplyOfCall channel number request j carrier.bytes → OneOf (IsToldAsRead channel m j) past.book.told) past.book.messages place message (heard.told clear.apart) there unit reply
-      judged_so.carrier judged_so.in_reply.sent judged_so.in_reply.channel judged_so.in_reply.number judged_so.in_reply.request judged_so.j judged_so.carried judged_so.in_reply.there judged_so.in_reply.mark judged_so.of
+      judged_so.carrier judged_so.in_reply.sent judged_so.in_reply.channel judged_so.in_reply.number judged_so.in_reply.request judged_so.place judged_so.j judged_so.carried judged_so.in_reply.there judged_so.there judged_so.in_reply.mark judged_so.of
 
   -- what is told where somebody is let in is what is read in the reply
   read_at : (k : ℕ) (told : OutcomeTold) → slice_get past.book.told k ≡ Some told → is_in told.outcome ≡ true → Placed (IsLetInAsRead past told) past.book.messages
@@ -336,7 +336,7 @@ module _ (past : Past) (known : IsProved past) (heard : AnswersAreHeard past) (c
   read_is : (message : MessageTaken) (told : OutcomeTold) (by : IsLetInAsRead past told message) (judged_so : IsJudgedAs past message by.unit) →
       told.outcome ≡ outcome_read judged_so.in_reply.channel judged_so.j message
   read_is message told by judged_so =
-      by.outcome judged_so.carrier judged_so.in_reply.sent judged_so.in_reply.channel judged_so.in_reply.number judged_so.in_reply.request judged_so.j judged_so.carried judged_so.in_reply.there judged_so.in_reply.mark judged_so.of
+      by.outcome judged_so.carrier judged_so.in_reply.sent judged_so.in_reply.channel judged_so.in_reply.number judged_so.in_reply.request judged_so.place judged_so.j judged_so.carried judged_so.in_reply.there judged_so.there judged_so.in_reply.mark judged_so.of
 
   granted_at : (k : ℕ) (j : Judging) → slice_get all_judged k ≡ Some j → (j.how ≡ Some (judged.Passed 0) → IsToBeGranted j) × (IsToBeGranted j → j.how ≡ Some (judged.Passed 0))
   granted_at k j there = (all_at _ all_judged k j known.grants there).granted

@@ -97,9 +97,9 @@ reply_is found one other is also = cc
 
 module _ (past : Past) (back : RepliesAreReadBack past) where
   -- the unit as the member read it, and the judging that it answers
-  read_of : (message : MessageTaken) (u : ℕ) (result : Outcome) (read : IsReadIn past message u result) (channel : Channel) (number request : ℕ) (j : Judging) →
-      read.sent.mark ≡ ReplyTo channel number request → IsReplyOfCall channel number request j read.carrier.bytes → result ≡ outcome_read channel j message
-  read_of message u result read channel number request j mark reply =
+  read_of : (message : MessageTaken) (u : ℕ) (result : Outcome) (read : IsReadIn past message u result) (channel : Channel) (number request place : ℕ) (j : Judging) →
+      slice_get past.book.judged place ≡ Some j → read.sent.mark ≡ ReplyTo channel number request → IsReplyOfCall channel number request j read.carrier.bytes → result ≡ outcome_read channel j message
+  read_of message u result read channel number request place j judged mark reply =
       let next : IsNext j.computers j.logon = reply.carries.next in
       let found : passed_channel j ≡ Some (channel_with j.controller next.computer next.channel) =
       ap (λ (how : _). channel_if (has_passed how) j) reply.carries.how ∙ ap (λ (name : Option (List ℕ)). channel_in j.controller name j.computers) next.named
@@ -109,7 +109,7 @@ module _ (past : Past) (back : RepliesAreReadBack past) where
       let named : read.named ≡ channel = some_is read.named channel (sym read.made ∙ ap mark_channel mark) in
       let stood : open_key read.stood ≡ key_of_channel next.channel =
       read.key ∙ sym (channel_key-same read.named read.channel read.same) ∙ ap channel_key named ∙ sym key in
-      let same = reply_is (reply_of 2 (stub_of read.whole.unit.body)) read.read _ read.reads (back u read.carrier read.sent read.there read.noted channel number request j mark reply read.whole) in
+      let same = reply_is (reply_of 2 (stub_of read.whole.unit.body)) read.read _ read.reads (back u read.carrier read.sent read.there read.noted channel number request place j judged mark reply read.whole) in
       let verdict : read.verdict ≡ verdict_read (key_of_channel next.channel) (verdict_passed j) =
       read_as (status_of (verdict_passed j) == access_denied) (verdict_passed j) (key_of_channel next.channel) _ j.logon.validation read.stood read.later read.verdict stood
       (subst (λ (r : LogonReply). judge_logon (r.status == access_denied) (standing.Open read.stood) r.returned r.status r.level r.info ≡ judgement.Answer read.later read.verdict)
@@ -117,31 +117,31 @@ module _ (past : Past) (back : RepliesAreReadBack past) where
       read.is ∙ ap (λ (v : Verdict). outcome_of (ending_of v) message.logon) (verdict ∙ ap (λ (k : List ℕ). verdict_read k (verdict_passed j)) key)
 
   -- whichever unit and mark are meant, they are those
-  outcome_is : (message : MessageTaken) (u : ℕ) (result : Outcome) → IsReadIn past message u result → (carrier : BagUnit) (sent : Sent) (channel : Channel) (number request : ℕ)
-      (j : Judging) → slice_get past.world.state.bag u ≡ Some carrier → slice_get past.book.sent u ≡ Some sent → sent.mark ≡ ReplyTo channel number request →
+  outcome_is : (message : MessageTaken) (u : ℕ) (result : Outcome) → IsReadIn past message u result → (carrier : BagUnit) (sent : Sent) (channel : Channel) (number request place : ℕ)
+      (j : Judging) → slice_get past.world.state.bag u ≡ Some carrier → slice_get past.book.sent u ≡ Some sent → slice_get past.book.judged place ≡ Some j → sent.mark ≡ ReplyTo channel number request →
       IsReplyOfCall channel number request j carrier.bytes → result ≡ outcome_read channel j message
-  outcome_is message u result read carrier sent channel number request j there noted mark reply =
+  outcome_is message u result read carrier sent channel number request place j there noted judged mark reply =
       let one : carrier ≡ read.carrier = some_is carrier read.carrier (sym there ∙ read.there) in
       let same : sent ≡ read.sent = some_is sent read.sent (sym noted ∙ read.noted) in
-      read_of message u result read channel number request j (sym (ap (λ (s : Sent). s.mark) same) ∙ mark)
+      read_of message u result read channel number request place j judged (sym (ap (λ (s : Sent). s.mark) same) ∙ mark)
       (subst (λ (c : BagUnit). IsReplyOfCall channel number request j c.bytes) one reply)
 
   told_as_read : TurnsAreTold past → past.book.clash ≡ false →
       AllByRecursion (λ (message : MessageTaken). (unit : ℕ) → message.reply ≡ Some unit → (carrier : BagUnit) (sent : Sent)
-      (channel : Channel) (number request : ℕ) (j : Judging) → slice_get past.world.state.bag unit ≡ Some carrier → slice_get past.book.sent unit ≡ Some sent →
-      sent.mark ≡ ReplyTo channel number request → IsReplyOfCall channel number request j carrier.bytes → OneOf (IsToldAsRead channel message j) past.book.told) past.book.messages
+      (channel : Channel) (number request place : ℕ) (j : Judging) → slice_get past.world.state.bag unit ≡ Some carrier → slice_get past.book.sent unit ≡ Some sent →
+      slice_get past.book.judged place ≡ Some j → sent.mark ≡ ReplyTo channel number request → IsReplyOfCall channel number request j carrier.bytes → OneOf (IsToldAsRead channel message j) past.book.told) past.book.messages
   told_as_read turns clear =
       all_weaker (λ (message : MessageTaken). (u : ℕ) → message.reply ≡ Some u → OneOf (λ (told : OutcomeTold). IsToldInTurn past message u told) past.book.told)
       (λ (message : MessageTaken). (unit : ℕ) → message.reply ≡ Some unit → (carrier : BagUnit) (sent : Sent)
-      (channel : Channel) (number request : ℕ) (j : Judging) → slice_get past.world.state.bag unit ≡ Some carrier → slice_get past.book.sent unit ≡ Some sent →
-      sent.mark ≡ ReplyTo channel number request → IsReplyOfCall channel number request j carrier.bytes → OneOf (IsToldAsRead channel message j) past.book.told)
+      (channel : Channel) (number request place : ℕ) (j : Judging) → slice_get past.world.state.bag unit ≡ Some carrier → slice_get past.book.sent unit ≡ Some sent →
+      slice_get past.book.judged place ≡ Some j → sent.mark ≡ ReplyTo channel number request → IsReplyOfCall channel number request j carrier.bytes → OneOf (IsToldAsRead channel message j) past.book.told)
       past.book.messages
-      (λ message each unit taken carrier sent channel number request j there noted mark reply.
+      (λ message each unit taken carrier sent channel number request place j there noted judged mark reply.
       one_weaker (λ (told : OutcomeTold). IsToldInTurn past message unit told) (IsToldAsRead channel message j) past.book.told
       (λ told turn. record {
         link = turn.link;
         member = turn.member;
-        outcome = outcome_is message unit told.outcome turn.reading carrier sent channel number request j there noted mark reply;
+        outcome = outcome_is message unit told.outcome turn.reading carrier sent channel number request place j there noted judged mark reply;
       }) (each unit taken))
       (turns clear)
 

@@ -62,11 +62,11 @@ module _ (Fits : Judging → Type 0) where
   passing_holds None j holds = holds
   passing_holds (Some channel) j holds = holds
 
-  judging_holds : (passed : Bool) (j : Judging) → Fits j → HoldsIf Fits (judging_by passed j).judging
+  pub judging_holds : (passed : Bool) (j : Judging) → Fits j → HoldsIf Fits (judging_by passed j).judging
   judging_holds false j holds = holds
   judging_holds true j holds = passing_holds (channel_in j.controller j.logon.computer j.computers) j holds
 
-  opening_holds : (channel : Option Channel) (w : Where) (number : ℕ) → HoldsIf Fits (opening channel w number).judging
+  pub opening_holds : (channel : Option Channel) (w : Where) (number : ℕ) → HoldsIf Fits (opening channel w number).judging
   opening_holds None w number = tt
   opening_holds (Some channel) w number = tt
 

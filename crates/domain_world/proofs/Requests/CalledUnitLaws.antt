@@ -232,7 +232,7 @@ module _ (route : Route) (end : EndId) (link controller : ℕ) (messages : List 
       let sent : IsLogonSent before.work.logons.asked place its.bytes = its.sent in
       let same : came ≡ its.done = some_is came its.done (sym comes ∙ its.comes) in
       let one : bytes ≡ its.bytes = bytes_are before.link bytes its.bytes
-          (last_is before.work.actions (action.Send before.link bytes) (action.Send before.link its.bytes) (sym sends ∙ ap (λ (a : AtTurn). a.work.actions) same ∙ its.sends)) in
+      (last_is before.work.actions (action.Send before.link bytes) (action.Send before.link its.bytes) (sym sends ∙ ap (λ (a : AtTurn). a.work.actions) same ∙ its.sends)) in
       let here : sent.own.link ≡ on = some_is sent.own.link on (sym (ap link_of_logon sent.kept) ∙ found) in
       record {
         carrier = unit;
@@ -272,8 +272,7 @@ module _ (route : Route) (end : EndId) (link controller : ℕ) (messages : List 
       actions_stay (MoreOf u.links u.bag) (goes_on u.links u.bag) end more u (no_more u.links u.bag) in
       let bag : later.bag ≡ (t.bag ++ unit ∷ []) ++ others.units = ap (λ (x : State). x.bag) (sym goes) ∙ others.is in
       subst (λ (numbers : List ℕ). GoodTurn (CallIn later) called before.work.logons (first_of numbers) × GoodTurns (CallIn later) controller units (later_of true numbers))
-      (sym (numbers_first link t.bag unit others.units later.bag bag (passes false link unit refl way)))
-      (
+      (sym (numbers_first link t.bag unit others.units later.bag bag (passes false link unit refl way))) (
         (λ at n found number. call_here called before first.2 after t later bytes others.units at n bag first.4 first.5 out each found (some_is (length t.bag) n number)),
         rest more u goes made first.6,
       )
@@ -370,8 +369,8 @@ module _ (m : MemberState) (at : ℕ) (w : Coming) (piece : List ℕ) (s : State
       let first : Book = note_messages at m w piece s b in
       let still : StillHas s.bag member_after.bag = actions_stay (StillIn s.bag) (kept_sent s.bag) (Member at) member_heard.actions member_heard.state (kept_same s.bag) in
       let old : AllGood Now b.messages = good_so (IsCallAt s.bag b.messages) Now
-          (λ link n one. call_still s.bag member_after.bag b.messages now_messages link n still
-          (λ logon asked. member_stays (IsAskedOn link logon) (asked_call link logon) (asked_answer link logon) at m w piece s member_after b asked) one) b.messages called in
+      (λ link n one. call_still s.bag member_after.bag b.messages now_messages link n still
+      (λ logon asked. member_stays (IsAskedOn link logon) (asked_call link logon) (asked_answer link logon) at m w piece s member_after b asked) one) b.messages called in
       turns_good Now (controller_of at s) own_units w.unit own_numbers first (turns_called (controller_of at s) there side kept)
       (good_append Now b.messages (flat_map (message_note (at_member at w s)) (link_units m w.link piece s.moment s.chances.left)) old
       (notes_good Now (at_member at w s) (link_units m w.link piece s.moment s.chances.left)))

@@ -104,8 +104,8 @@ pub record IsToldAsRead (channel : Channel) (message : MessageTaken) (j : Judgin
 abbrev pub AnswersAreTold : Past → Type 0
 AnswersAreTold past =
     past.book.clash ≡ false → AllByRecursion (λ (message : MessageTaken). (unit : ℕ) → message.reply ≡ Some unit → (carrier : BagUnit) (sent : Sent)
-    (channel : Channel) (number request : ℕ) (j : Judging) → slice_get past.world.state.bag unit ≡ Some carrier → slice_get past.book.sent unit ≡ Some sent →
-    sent.mark ≡ ReplyTo channel number request → IsReplyOfCall channel number request j carrier.bytes →
+    (channel : Channel) (number request place : ℕ) (j : Judging) → slice_get past.world.state.bag unit ≡ Some carrier → slice_get past.book.sent unit ≡ Some sent →
+    slice_get past.book.judged place ≡ Some j → sent.mark ≡ ReplyTo channel number request → IsReplyOfCall channel number request j carrier.bytes →
     OneOf (IsToldAsRead channel message j) past.book.told) past.book.messages
 
 -- so is what is told where somebody is let in: the message came on that link, its answer was taken in a unit, and what
@@ -115,9 +115,9 @@ pub record IsLetInAsRead (past : Past) (told : OutcomeTold) (message : MessageTa
   pub member : message.member ≡ told.member
   pub unit : ℕ
   pub reply : message.reply ≡ Some unit
-  pub outcome : (carrier : BagUnit) (sent : Sent) (channel : Channel) (number request : ℕ) (j : Judging) →
-      slice_get past.world.state.bag unit ≡ Some carrier → slice_get past.book.sent unit ≡ Some sent → sent.mark ≡ ReplyTo channel number request →
-      IsReplyOfCall channel number request j carrier.bytes → told.outcome ≡ outcome_read channel j message
+  pub outcome : (carrier : BagUnit) (sent : Sent) (channel : Channel) (number request place : ℕ) (j : Judging) →
+      slice_get past.world.state.bag unit ≡ Some carrier → slice_get past.book.sent unit ≡ Some sent → slice_get past.book.judged place ≡ Some j →
+      sent.mark ≡ ReplyTo channel number request → IsReplyOfCall channel number request j carrier.bytes → told.outcome ≡ outcome_read channel j message
 
 abbrev pub LetsInAsRead : Past → Type 0
 LetsInAsRead past =

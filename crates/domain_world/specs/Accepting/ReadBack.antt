@@ -26,11 +26,13 @@ use Rattle.domain_world.specs.Accepting.Answered.{AnswersAreTold, LetsInAsRead}
 use Rattle.domain_world.specs.Accepting.Carried.{IsWholeUnit}
 use Rattle.domain_world.specs.Past.{Past}
 
--- a unit that is the reply to a call that passed is read as the reply that its controller made
+-- a unit that is the reply to a call that was judged in the run, and that passed, is read as the reply that its
+-- controller made; a call that wasn't judged there could have names out of their ranges, which are written alike
 abbrev pub RepliesAreReadBack : Past → Type 0
 RepliesAreReadBack past =
     (n : ℕ) (unit : BagUnit) (one : Sent) → slice_get past.world.state.bag n ≡ Some unit → slice_get past.book.sent n ≡ Some one →
-    (channel : Channel) (number request : ℕ) (j : Judging) → one.mark ≡ ReplyTo channel number request → (is : IsReplyOfCall channel number request j unit.bytes) →
+    (channel : Channel) (number request place : ℕ) (j : Judging) → slice_get past.book.judged place ≡ Some j → one.mark ≡ ReplyTo channel number request →
+    (is : IsReplyOfCall channel number request j unit.bytes) →
     (whole : IsWholeUnit unit.bytes) → reply_of 2 (stub_of whole.unit.body) ≡ Ok (reply_passed j is.carries.next.channel is.carries.next.given)
 
 -- The outcome is what the member read in that unit, on a channel that stood, by the logon of a message; and the unit
