@@ -3,6 +3,7 @@
 use Rattle.std.specs.Prelude.{ℕ, ◌≡◌, Bool, true, false, List, [], ◌∷◌, Option, Some, None, Ok, map}
 use Rattle.authenticators.specs.Channels.{Channel}
 use Rattle.authenticators.specs.Sequences.{return_of}
+use Rattle.channel_keys.specs.Credentials.{cred_of}
 use Rattle.wire_base.specs.declared.authenticator.Authenticator.{Authenticator}
 use Rattle.outside.specs.declared.action.Action.{Action}
 use Rattle.outside.specs.declared.action.Judged.TheVariants as judged
@@ -16,6 +17,7 @@ use Rattle.end_links.specs.Sending.{response_of}
 use Rattle.domain_controller.specs.Channels.{ChannelState, key_of_channel}
 use Rattle.domain_controller.specs.Laws.{IsNext}
 use Rattle.domain_controller.specs.Machine.{info_of, judge_info, status_of}
+use Rattle.domain_controller.specs.ReadBack.{opened_reply}
 use Rattle.domain_controller.specs.State.{State as ControllerState}
 use Rattle.domain_controller.specs.Step.{step_of as controller_step}
 use Rattle.channel_events.specs.Marks.{Mark, Plain, Opening, Opened, Calling, ReplyTo}
@@ -64,14 +66,26 @@ pub record IsReplyOfCall (channel : Channel) (number request : ℕ) (j : Judging
   pub call : j.number ≡ number
   pub carries : IsItsReply j bytes
 
+-- These bytes are all frames of the reply that opens a channel (MS-NRPC 3.5.4.4.2), under some call's number: it has the
+-- credential of a server challenge under some session key, and the flags that are granted of those offered.
+pub record IsOpeningReply (bytes : List ℕ) : Type 0 where
+  pub number : ℕ
+  pub context : ℕ
+  pub limit : ℕ
+  pub key : List ℕ
+  pub server : List ℕ
+  pub offered : ℕ
+  pub frames : bytes ≡ bytes_of_call (response_of number context (written_reply (opened_reply (cred_of key server) offered))) limit
+
 -- ---- at one step
 
--- a unit that is marked as a reply carries that of the call that was judged
+-- a unit that is marked as a reply carries that of the call that was judged, and one that is marked as the reply to an
+-- opening is a reply that opens a channel; none is marked as a request
 abbrev pub CarriesReply : Mark → Option Judging → List ℕ → Type 0
 CarriesReply Plain j bytes = Unit {0}
-CarriesReply (Opening channel number) j bytes = Unit {0}
-CarriesReply (Opened channel number request) j bytes = Unit {0}
-CarriesReply (Calling channel number timestamp) j bytes = Unit {0}
+CarriesReply (Opening channel number) j bytes = ⊥
+CarriesReply (Opened channel number request) j bytes = IsOpeningReply bytes
+CarriesReply (Calling channel number timestamp) j bytes = ⊥
 CarriesReply (ReplyTo channel number request) None bytes = ⊥
 CarriesReply (ReplyTo channel number request) (Some j) bytes = IsReplyOfCall channel number request j bytes
 
@@ -93,7 +107,8 @@ abbrev pub standing_at : ℕ → ℕ → Option ℕ → ControllerState → ℕ 
 standing_at at controller unit c now = record { at = at; controller = controller; unit = unit; name = c.name; moment = now }
 
 -- Whatever bytes come at a controller, and whoever sent them: it sends one unit of bytes for each unit that is written
--- down as answered, in their order, and each that is marked as a reply carries what its call came to.
+-- down as answered, in their order. Each that is marked as a reply carries what its call came to, and each that is
+-- marked as the reply to an opening is a reply that opens a channel. None is marked as a request.
 abbrev pub RepliesAreSentAsJudged : Type 0
 RepliesAreSentAsJudged =
     (c : ControllerState) (at controller : ℕ) (unit : Option ℕ) (link : ℕ) (piece : List ℕ) (now : ℕ) (left : List (List ℕ)) (actions : List Action) →

@@ -21,7 +21,9 @@ pub fn grants_carry_their_key()
 /// Where bytes come, whoever sent them, a controller sends one unit of bytes for each unit that is written down as
 /// answered, in their order. Each that is marked as a reply is all frames of the reply to the call that is written down
 /// with it: that call passed on the channel of the mark, and the reply carries what it came to, with the credential
-/// that is returned and, where it was granted, the key under the session key of the channel (MS-NRPC 3.5.4.5.3).
+/// that is returned and, where it was granted, the key under the session key of the channel (MS-NRPC 3.5.4.5.3). Each
+/// that is marked as the reply to an opening is all frames of a reply that opens a channel (3.5.4.4.2). None is marked
+/// as a request.
 #[tactic(auto, using(crate::proofs::Controllers::ReplyStepLaws::replies_sent))]
 pub fn replies_are_sent_as_judged()
     ensures { RepliesAreSentAsJudged }

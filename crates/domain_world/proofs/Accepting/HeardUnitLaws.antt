@@ -47,7 +47,7 @@ read_ok unit = Ok unit
 abbrev pub AreReadAs : List RpcUnit → Type 0
 AreReadAs frames = map unit_of (map written frames) ≡ map read_ok frames
 
-first_read : (f : RpcUnit) (frames : List RpcUnit) → AreReadAs (f ∷ frames) → unit_of (written f) ≡ Ok f
+pub first_read : (f : RpcUnit) (frames : List RpcUnit) → AreReadAs (f ∷ frames) → unit_of (written f) ≡ Ok f
 first_read f frames read = cc
 
 later_read : (f : RpcUnit) (frames : List RpcUnit) → AreReadAs (f ∷ frames) → AreReadAs frames
@@ -79,7 +79,7 @@ heard_stub bytes frames unit are heard =
 
 -- ---- the level that a Logon call asks for
 
-call_is : (found : Result Call StubRefused) (c : Call) → call_read found ≡ Some c → found ≡ Ok c
+pub call_is : (found : Result Call StubRefused) (c : Call) → call_read found ≡ Some c → found ≡ Ok c
 call_is (Err why) c is = absurd (let never = is in cc)
 call_is (Ok other) c is = cc
 

@@ -1,5 +1,5 @@
--- What a controller sends when bytes come is, in order, what its units come to; and a unit that is marked as a reply
--- carries what its call came to. It serves `replies_are_sent_as_judged`.
+-- What a controller sends when bytes come is, in order, what its units come to; a unit that is marked as a reply carries
+-- what its call came to, and one that is marked as the reply to an opening opens a channel. It serves `replies_are_sent_as_judged`.
 use Rattle.std.proofs.Common.{◌≡◌, ℕ, Bool, true, false, List, [], ◌∷◌, ◌++◌, drop, length, map, Option, Some, None, Ok, Err, refl, sym, ap, ◌∙◌, subst, bytes_eq}
 use Rattle.std.proofs.lemmas.List.{append_assoc, append-nil}
 use Rattle.std.proofs.lemmas.List.Concat.{flat_map-append}
@@ -38,10 +38,10 @@ use Rattle.domain_controller.specs.declared.state.Running.{Running}
 use Rattle.domain_controller.specs.declared.state.Talk.{Talk}
 use Rattle.domain_controller.specs.declared.state.Work.{Work}
 use Rattle.step_notes.specs.ChannelNames.{sends_in, sent_by}
-use Rattle.step_notes.specs.ControllerNotes.{Answered, Where, answer_on, channel_in, has_passed, heard_answer, judged_in, judging_by, judging_of, logon_answer, new_actions, opened_by, opened_mark, opening, passing, plain, reply_mark, units_at, units_by}
+use Rattle.step_notes.specs.ControllerNotes.{Answered, Where, answer_on, channel_in, channel_by, channel_with, has_passed, heard_answer, judged_in, judging_by, judging_of, logon_answer, new_actions, opened_account, opened_if, opened_mark, opened_offer, opened_pair, opening, passing, plain, reply_mark, units_at, units_by}
 use Rattle.step_notes.specs.Judged.{channel_if}
 use Rattle.step_notes.specs.Records.{Judging}
-use Rattle.step_notes.specs.ReplySends.{AreSentFor, CarriesReply, IsItsReply, IsSentIf, RepliesAreSentAsJudged, standing_at}
+use Rattle.step_notes.specs.ReplySends.{AreSentFor, CarriesReply, IsItsReply, IsOpeningReply, IsSentIf, RepliesAreSentAsJudged, standing_at}
 use Rattle.step_notes.specs.Served.{ServedUnit, served_units, units_if_taken, units_on, units_then, work_after}
 use Rattle.step_notes.proofs.Controllers.JudgedStepLaws.{Told, by_names}
 use Rattle.step_notes.proofs.Controllers.ReplySendLaws.{IsSentAsPassed, dropped, passed_sends}
@@ -98,31 +98,60 @@ drawn_one (server ∷ left) line c talk d =
     sends_after d.work.actions (put_pair_if knows c.computer pair d.work).actions line.link _ (pair_actions knows c.computer pair d.work) in
     record { new = one.bytes ∷ []; is = one.is; each = (tt, tt) }
 
-opened_one : (right : Bool) (channel : ChannelState) (line : Line) (c : AuthCall) (work : Work) → SendsOne work.actions (open_channel right channel line c work).actions
-opened_one false channel line c work = sends_one work.actions line.link _
-opened_one true channel line c work = sends_one work.actions line.link _
+-- what opens a channel is the reply that does
+abbrev OpensBy : Option ChannelState → List ℕ → Type 0
+OpensBy None bytes = Unit {0}
+OpensBy (Some channel) bytes = IsOpeningReply bytes
 
-pair_one : (pair : Option Pending) (account : Account) (line : Line) (c : AuthCall) (work : Work) → SendsOne work.actions (judge_pair pair account line c work).actions
-pair_one None account line c work = sends_one work.actions line.link _
+-- one unit more, by the channel that is opened, if one is
+record SendsOpening (opened : Option ChannelState) (old all : List Action) : Type 0 where
+  bytes : List ℕ
+  is : sends_in all ≡ sends_in old ++ bytes ∷ []
+  opens : OpensBy opened bytes
+
+sends_opening : (opened : Option ChannelState) (old : List Action) (link : ℕ) (bytes : List ℕ) → OpensBy opened bytes → SendsOpening opened old (old ++ action.Send link bytes ∷ [])
+sends_opening opened old link bytes opens = record { bytes = bytes; is = one_more old link bytes; opens = opens }
+
+opened_one : (right : Bool) (channel : ChannelState) (line : Line) (c : AuthCall) (work : Work) →
+    SendsOpening (opened_if right channel) work.actions (open_channel right channel line c work).actions
+opened_one false channel line c work = sends_opening None work.actions line.link _ tt
+opened_one true channel line c work =
+    sends_opening (Some channel) work.actions line.link _
+    (record {
+      number = line.call;
+      context = line.context;
+      limit = line.limit;
+      key = key_of_channel channel;
+      server = channel.server;
+      offered = c.flags;
+      frames = refl;
+    })
+
+pair_one : (pair : Option Pending) (account : Account) (line : Line) (c : AuthCall) (work : Work) →
+    SendsOpening (opened_pair pair account c) work.actions (judge_pair pair account line c work).actions
+pair_one None account line c work = sends_opening None work.actions line.link _ tt
 pair_one (Some pair) account line c work = opened_one (bytes_eq c.credential (cred_of (key_of_channel (channel_for account pair c)) pair.client)) (channel_for account pair c) line c work
 
-offer_one : (offers : Bool) (pair : Option Pending) (account : Account) (line : Line) (c : AuthCall) (work : Work) → SendsOne work.actions (judge_offer offers pair account line c work).actions
-offer_one false pair account line c work = sends_one work.actions line.link _
+offer_one : (offers : Bool) (pair : Option Pending) (account : Account) (line : Line) (c : AuthCall) (work : Work) →
+    SendsOpening (opened_offer offers pair account c) work.actions (judge_offer offers pair account line c work).actions
+offer_one false pair account line c work = sends_opening None work.actions line.link _ tt
 offer_one true pair account line c work = pair_one pair account line c work
 
-account_one : (account : Option Account) (pair : Option Pending) (line : Line) (c : AuthCall) (work : Work) → SendsOne work.actions (judge_account account pair line c work).actions
-account_one None pair line c work = sends_one work.actions line.link _
+account_one : (account : Option Account) (pair : Option Pending) (line : Line) (c : AuthCall) (work : Work) →
+    SendsOpening (opened_account account pair c) work.actions (judge_account account pair line c work).actions
+account_one None pair line c work = sends_opening None work.actions line.link _ tt
 account_one (Some account) pair line c work = offer_one (has_flag c.flags rc4_flag) pair account line c work
 
--- and isn't marked as a reply
+-- and isn't marked as a reply to a Logon call
 
-opened_carries : (unit : Option ℕ) (channel : Channel) (number : ℕ) (bytes : List ℕ) → CarriesReply (opened_mark unit channel number) None bytes
-opened_carries None channel number bytes = tt
-opened_carries (Some unit) channel number bytes = tt
+opened_carries : (unit : Option ℕ) (channel : Channel) (number : ℕ) (bytes : List ℕ) → IsOpeningReply bytes → CarriesReply (opened_mark unit channel number) None bytes
+opened_carries None channel number bytes opens = tt
+opened_carries (Some unit) channel number bytes opens = opens
 
-opening_sent : (channel : Option Channel) (w : Where) (number : ℕ) (bytes : List ℕ) → AreSentFor (opening channel w number ∷ []) (bytes ∷ [])
-opening_sent None w number bytes = (tt, tt)
-opening_sent (Some channel) w number bytes = (opened_carries w.unit channel number bytes, tt)
+opening_sent : (opened : Option ChannelState) (w : Where) (computer : List ℕ) (number : ℕ) (bytes : List ℕ) → OpensBy opened bytes →
+    AreSentFor (opening (channel_by w.controller computer opened) w number ∷ []) (bytes ∷ [])
+opening_sent None w computer number bytes opens = (tt, tt)
+opening_sent (Some channel) w computer number bytes opens = (opened_carries w.unit (channel_with w.controller computer channel) number bytes opens, tt)
 
 -- ---- a Logon call
 
@@ -177,9 +206,10 @@ heard_sent (heard.Answer bytes talk) w link d left = record { new = bytes ∷ []
 heard_sent (heard.Waits talk) w link d left = nothing_new d.work.actions _ _ refl tt
 heard_sent (heard.Asked line (call.Challenge c) talk) w link d left = drawn_one left line c talk d
 heard_sent (heard.Asked line (call.Authenticate c) talk) w link d left =
-    let one : SendsOne d.work.actions (judge_account (account_for d.table c) (lookup same_name c.computer d.work.computers.pending) line c (take_pair c.computer d.work)).actions =
+    let opened : Option ChannelState = opened_account (account_for d.table c) (lookup same_name c.computer d.work.computers.pending) c in
+    let one : SendsOpening opened d.work.actions (judge_account (account_for d.table c) (lookup same_name c.computer d.work.computers.pending) line c (take_pair c.computer d.work)).actions =
     account_one (account_for d.table c) (lookup same_name c.computer d.work.computers.pending) line c (take_pair c.computer d.work) in
-    record { new = one.bytes ∷ []; is = one.is; each = opening_sent (opened_by w.controller c d) w line.call one.bytes }
+    record { new = one.bytes ∷ []; is = one.is; each = opening_sent opened w c.computer line.call one.bytes one.opens }
 heard_sent (heard.Asked line (call.Logon c) talk) w link d left = logon_sent w line c d
 heard_sent (heard.Asked line (call.Logoff c) talk) w link d left = record { new = _; is = one_more d.work.actions line.link _; each = (tt, tt) }
 
