@@ -6,12 +6,15 @@ pub mod ChallengeLinkLaws
 pub mod ChallengeReadLaws
 pub mod ClientOfferLaws
 pub mod ClientPlanLaws
+pub mod HeardFrontLaws
 pub mod HeardUnitLaws
 pub mod JudgedRunLaws
 pub mod JudgedUnitLaws
 pub mod KeyLaws
 pub mod LetInLaws
 pub mod LetInStepLaws
+pub mod MarkSentLaws
+pub mod MarkWholeLaws
 pub mod MessageMadeLaws
 pub mod MessageNoteLaws
 pub mod MessageTakenLaws

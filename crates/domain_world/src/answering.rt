@@ -7,7 +7,7 @@ ghost use Rattle.world_moves.specs.Bag.{AreShortUnits, HaveBytes};
 ghost use Rattle.world_moves.specs.Draws.{DrawsAreBlocks, DrawsDiffer};
 ghost use Rattle.world_moves.specs.Forms.{IsSchedule};
 ghost use Rattle.domain_world.specs.Accepting.Answered.{AnswersAreHeard, IsProved, MarksHaveTheirWay, MessagesAreApart, PassesAreUnclashed};
-ghost use Rattle.domain_world.specs.Accepting.Carried.{CarriedCallsAreHeard, JudgedAsCarried, MessagesAreCalled};
+ghost use Rattle.domain_world.specs.Accepting.Carried.{CarriedCallsAreHeard, JudgedAsCarried, MarkedUnitsAreWhole, MessagesAreCalled};
 ghost use Rattle.domain_world.specs.Accepting.KeysMade.{KeysAreFoundAsMade, MessagesAreMade, MessagesAreTakenAsSent};
 ghost use Rattle.domain_world.specs.Accepting.ReadBack.{OutcomesAreReadBack, RepliesAreReadBack};
 ghost use Rattle.domain_world.specs.Accepting.Runs.{IsQuiet, RunsBegin, RunsStandSo};
@@ -160,7 +160,8 @@ pub fn runs_stand_so()
 #[tactic(auto, using(crate::proofs::Accepting::JudgedRunLaws::judged_as_carried))]
 pub fn calls_are_judged_as_carried()
     ensures { (plan : Plan) (moves : List Move) → IsSchedule plan moves →
-        AreShortUnits (past plan moves).world.state.bag → HaveBytes (past plan moves).world.state.bag →
+        AreShortUnits (past plan moves).world.state.bag →
+        HaveBytes (past plan moves).world.state.bag →
         JudgedAsCarried (past plan moves) }
 {}
 
@@ -168,6 +169,17 @@ pub fn calls_are_judged_as_carried()
 #[tactic(auto, using(crate::proofs::Accepting::JudgedRunLaws::replies_back))]
 pub fn replies_are_read_back()
     ensures { (plan : Plan) (moves : List Move) → IsSchedule plan moves →
-        AreShortUnits (past plan moves).world.state.bag → HaveBytes (past plan moves).world.state.bag →
+        AreShortUnits (past plan moves).world.state.bag →
+        HaveBytes (past plan moves).world.state.bag →
         RepliesAreReadBack (past plan moves) }
+{}
+
+/// In every schedule each unit that was made for a secure channel is one whole unit, and what its mark says: no Logon
+/// call and no answer to one, or a request or a reply of the number that is written down.
+#[tactic(auto, using(crate::proofs::Accepting::MarkWholeLaws::marked_whole))]
+pub fn marked_units_are_whole()
+    ensures { (plan : Plan) (moves : List Move) → IsSchedule plan moves →
+        AreShortUnits (past plan moves).world.state.bag →
+        HaveBytes (past plan moves).world.state.bag →
+        MarkedUnitsAreWhole (past plan moves) }
 {}

@@ -8,8 +8,8 @@ mod driving;
 
 pub use answering::{
     calls_are_judged_as_carried, carried_calls_are_heard, keys_are_found_as_made,
-    marks_have_their_way, messages_are_apart, messages_are_called, messages_are_made,
-    messages_are_taken_as_sent, outcomes_are_read_back, passes_are_unclashed,
+    marked_units_are_whole, marks_have_their_way, messages_are_apart, messages_are_called,
+    messages_are_made, messages_are_taken_as_sent, outcomes_are_read_back, passes_are_unclashed,
     replies_are_read_back, runs_are_heard, runs_are_proved, runs_begin, runs_stand_so,
     short_responses_serve_once, what_is_heard_is_accepted,
 };

@@ -66,8 +66,8 @@ pub record IsReplyOfCall (channel : Channel) (number request : ℕ) (j : Judging
   pub call : j.number ≡ number
   pub carries : IsItsReply j bytes
 
--- These bytes are all frames of the reply that opens a channel (MS-NRPC 3.5.4.4.2), under some call's number: it has the
--- credential of a server challenge under some session key, and the flags that are granted of those offered.
+-- These bytes are all frames of the reply that opens a channel (MS-NRPC 3.5.4.4.2), under some call's number: it has
+-- the credential of a server challenge under some session key, and the flags that are granted of those offered.
 pub record IsOpeningReply (bytes : List ℕ) : Type 0 where
   pub number : ℕ
   pub context : ℕ

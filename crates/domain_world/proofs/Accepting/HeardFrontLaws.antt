@@ -1,6 +1,6 @@
--- What stands in front of bytes is what is heard of them: of a request's frames, whatever their size, a whole unit has the
--- request's number and its opnum; and of a reply's frames it is no call. It serves `runs_stand_so`.
-use Rattle.std.proofs.Common.{◌≡◌, ℕ, zero, suc, ◌%◌, ◌<◌, ◌≤◌, ◌^◌, Bool, true, false, List, [], ◌∷◌, ◌++◌, drop, take, length, map, nat_le, Option, Some, None, Result, Ok, Err, refl, sym, ap, subst, ◌∙◌, arith, append-nil, if◌then◌else◌}
+-- What stands in front of bytes is what is heard of them: of a request's frames, whatever their size, a whole unit has
+-- the request's number and its opnum; and of a reply's frames it is no call. It serves `marked_units_are_whole`.
+use Rattle.std.proofs.Common.{◌≡◌, ℕ, zero, suc, ◌<◌, ◌^◌, Bool, true, false, List, [], ◌∷◌, ◌++◌, drop, take, length, map, nat_le, Some, None, Ok, refl, sym, ap, subst, ◌∙◌, arith, if◌then◌else◌}
 use Rattle.std.specs.Int.{w16, w32}
 use Rattle.std.specs.List.{AllByRecursion, flat_map}
 use Rattle.std.proofs.lemmas.List.{append_assoc}
@@ -26,7 +26,7 @@ use Rattle.end_links.specs.Sending.{frames_of, joined_frames, request_of, respon
 use Rattle.end_links.proofs.BoundLaws.{frames_joined}
 use Rattle.end_links.proofs.WholeLaws.{cut_bytes}
 use Rattle.step_notes.specs.HeardWhole.{call_carried}
-use Rattle.domain_world.proofs.Accepting.HeardUnitLaws.{AreReadAs, call_is, first_read, heard_stub}
+use Rattle.domain_world.proofs.Accepting.HeardUnitLaws.{AreReadAs, call_is, first_read}
 
 -- ---- the first frame
 

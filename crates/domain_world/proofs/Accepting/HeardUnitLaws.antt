@@ -1,5 +1,5 @@
--- What is known of the whole unit that bytes are: its stub has bytes, its number stands in front of them, and the level
--- that a Logon call asks for has 16 bits. It serves `runs_stand_so`.
+-- What is known of the whole unit that bytes are: its stub has bytes, and the level that a Logon call asks for has 16
+-- bits. It serves `calls_are_judged_as_carried`, `replies_are_read_back` and `marked_units_are_whole`.
 use Rattle.std.proofs.Common.{◌≡◌, ℕ, ◌-◌, ◌<◌, ◌^◌, List, [], ◌∷◌, ◌++◌, drop, map, Some, Result, Ok, Err, sym, subst}
 use Rattle.std.specs.List.{AllByRecursion}
 use Rattle.wire_base.specs.Numbers.{AreBytes}

@@ -1,6 +1,6 @@
--- In every schedule each Logon call that a controller judged, and that came in a unit of the bag, is the call which that
--- unit carries, whole; and a reply to one that passed is read as it was made: kept by each step, over what is quiet.
--- It serves `runs_stand_so`.
+-- In every schedule each Logon call that a controller judged, and that came in a unit of the bag, is the call which
+-- that unit carries, whole; and a reply to one that passed is read as it was made: kept by each step, over what is
+-- quiet. It serves `calls_are_judged_as_carried`, `replies_are_read_back` and `marked_units_are_whole`.
 use Rattle.std.proofs.Common.{◌≡◌, ℕ, ◌+◌, true, List, [], ◌∷◌, length, map, Option, Some, None, slice_get, refl, sym, subst, ◌∙◌}
 use Rattle.std.specs.List.{AllByRecursion}
 use Rattle.wire_base.specs.Numbers.{AreBytes}

@@ -1,8 +1,8 @@
--- In every schedule each Logon call that a controller judged, and that came in a unit of the bag, is the call which that
--- unit carries, whole; and each is judged in ranges. It serves `runs_stand_so`.
-use Rattle.std.proofs.Common.{◌≡◌, ℕ, ◌<◌, ◌≤◌, ◌^◌, Bool, true, false, List, [], ◌∷◌, ◌++◌, drop, length, inl, inr, Option, Some, None, Result, Ok, Err, slice_get, refl, sym, ap, subst, ◌∙◌}
+-- In every schedule each Logon call that a controller judged, and that came in a unit of the bag, is the call which
+-- that unit carries, whole; and each is judged in ranges. It serves `calls_are_judged_as_carried`,
+-- `replies_are_read_back` and `marked_units_are_whole`.
+use Rattle.std.proofs.Common.{◌≡◌, ℕ, ◌<◌, ◌^◌, Bool, true, false, List, [], ◌∷◌, ◌++◌, inl, inr, Option, Some, None, Result, Ok, Err, slice_get, refl, sym, ap, subst, ◌∙◌}
 use Rattle.std.specs.List.{AllByRecursion}
-use Rattle.std.proofs.lemmas.List.{drop_all, take_all}
 use Rattle.wire_base.specs.Maps.{lookup, same_number}
 use Rattle.wire_base.specs.Numbers.{AreBytes}
 use Rattle.outside.specs.declared.action.Action.{Action}
@@ -28,7 +28,6 @@ use Rattle.domain_controller.specs.declared.hearing.Heard.TheVariants as heard
 use Rattle.domain_controller.specs.declared.line.Line.{Line}
 use Rattle.domain_controller.specs.declared.state.Running.{Running}
 use Rattle.domain_controller.specs.declared.state.Talk.{Talk}
-use Rattle.channel_events.specs.Marks.{OneOf}
 use Rattle.step_notes.specs.ControllerNotes.{Where, has_passed, heard_answer, judging_of, opened_by, units_at, units_by}
 use Rattle.step_notes.specs.HeardWhole.{IsCallOf, call_carried as carried_there, call_read as read_there}
 use Rattle.step_notes.specs.JudgedInRange.{IsJudgedInRange}
@@ -44,7 +43,7 @@ use Rattle.world_moves.specs.declared.links.Route.{Route}
 use Rattle.world_moves.specs.declared.links.Route.TheVariants.{ToMember, ToController, Stranger}
 use Rattle.world_moves.specs.declared.state.State.{State}
 use Rattle.world_moves.specs.Acting.{bag_unit, perform_quietly, send_on}
-use Rattle.world_moves.specs.Bag.{piece_limit, pieces_in, pieces_of, settle_at}
+use Rattle.world_moves.specs.Bag.{settle_at}
 use Rattle.world_moves.specs.Links.{is_accepted_by, kind_of}
 use Rattle.domain_world.specs.Accepting.Carried.{IsWholeUnit, call_carried, call_read}
 use Rattle.domain_world.specs.Accepting.Runs.{IsOfMember}
@@ -52,7 +51,8 @@ use Rattle.domain_world.specs.Past.{Coming}
 use Rattle.channel_events.proofs.ListLaws.{at_end, got_append, some_is}
 use Rattle.domain_world.proofs.Accepting.HeardUnitLaws.{heard_level}
 use Rattle.domain_world.proofs.Accepting.QuietListenLaws.{ListensWell, WellUnlessStopped, entries_found}
-use Rattle.domain_world.proofs.Accepting.QuietStepLaws.{IsMade, WholeBag, WholeIfCarried}
+use Rattle.domain_world.proofs.Accepting.QuietRunLaws.{one_piece, whole_by}
+use Rattle.domain_world.proofs.Accepting.QuietStepLaws.{IsMade, WholeBag}
 use Rattle.domain_world.proofs.Frames.ComingLaws.{IsPieceOf, IsStill, StillHas, kept_settled}
 use Rattle.domain_world.proofs.Frames.MarkPlaceLaws.{got_beside, settled_length}
 use Rattle.domain_world.proofs.Frames.OpenMadeLaws.{IsAtSide, side_of}
@@ -165,27 +165,8 @@ acts_stand end (Judged how) s js stand = stand
 
 -- ---- where a piece comes from that a controller hears
 
-none_later : (most : ℕ) (rest piece : List ℕ) → rest ≡ [] → OneOf (λ (one : List ℕ). one ≡ piece) (pieces_in most rest) → ⊥
-none_later most [] piece is one = one
-none_later most (byte ∷ rest) piece is one = absurd (let never = is in cc)
-
--- what is short comes in one piece
-pub whole_piece : (bytes piece : List ℕ) → length bytes ≤ 65536 → OneOf (λ (one : List ℕ). one ≡ piece) (pieces_of bytes) → bytes ≡ piece
-unfolding pieces_of
-whole_piece [] piece few one = absurd one
-whole_piece (byte ∷ bytes) piece few one =
-    elim one [
-      | inl here ↦ sym (take_all piece_limit (byte ∷ bytes) few) ∙ here
-      | inr later ↦ absurd (none_later (length bytes) (drop piece_limit (byte ∷ bytes)) piece (drop_all piece_limit (byte ∷ bytes) few) later)
-    ]
-
-whole_by : (k : LinkKind) (bytes : List ℕ) → k ≡ kind.ToController → WholeIfCarried k bytes → IsWholeSend bytes
-whole_by kind.ToController bytes is whole = whole
-whole_by kind.ToMember bytes is whole = absurd (let never = is in cc)
-whole_by kind.Stranger bytes is whole = absurd (let never = is in cc)
-
 -- a controller hears on links to it and on a stranger's, and on no other
-route_of : (back : Bool) (route : Route) (at : ℕ) → side_of back route ≡ Some (Controller at) → (kind_of route ≡ kind.Stranger → ⊥) → (member : ℕ) × (route ≡ ToController member at)
+pub route_of : (back : Bool) (route : Route) (at : ℕ) → side_of back route ≡ Some (Controller at) → (kind_of route ≡ kind.Stranger → ⊥) → (member : ℕ) × (route ≡ ToController member at)
 route_of back (Stranger to) at is between = absurd (between refl)
 route_of false (ToController member controller) at is between = (member, ap (λ (n : ℕ). ToController member n) (let same : controller ≡ at = cc in same))
 route_of true (ToController member controller) at is between = absurd cc
@@ -210,7 +191,7 @@ whole_carried s number at w piece whole none side came =
     record {
       unit = came.unit;
       there = came.there;
-      same = whole_piece came.unit.bytes piece send.few came.part;
+      same = one_piece came.unit.bytes piece send.few came.part;
       send = send;
       own = (route.0, at, side.made ∙ ap (λ (r : Route). Some r) route.1);
     }
@@ -276,7 +257,7 @@ same_read : (found : Result Call StubRefused) → read_there found ≡ call_read
 same_read (Err why) = refl
 same_read (Ok c) = refl
 
-same_carried : (b : Body) → carried_there b ≡ call_carried b
+pub same_carried : (b : Body) → carried_there b ≡ call_carried b
 same_carried (Request hint context opnum stub) = same_read (call_of opnum stub)
 same_carried (Response hint context stub) = refl
 same_carried (Bind send receive group contexts) = refl

@@ -203,7 +203,7 @@ none_later most [] piece is one = one
 none_later most (byte ∷ rest) piece is one = absurd (let never = is in cc)
 
 -- what is short comes in one piece
-one_piece : (bytes piece : List ℕ) → length bytes ≤ 65536 → OneOf (λ (one : List ℕ). one ≡ piece) (pieces_of bytes) → bytes ≡ piece
+pub one_piece : (bytes piece : List ℕ) → length bytes ≤ 65536 → OneOf (λ (one : List ℕ). one ≡ piece) (pieces_of bytes) → bytes ≡ piece
 unfolding pieces_of
 one_piece [] piece few one = absurd one
 one_piece (byte ∷ bytes) piece few one =
@@ -212,13 +212,13 @@ one_piece (byte ∷ bytes) piece few one =
       | inr later ↦ absurd (none_later (length bytes) (drop piece_limit (byte ∷ bytes)) piece (drop_all piece_limit (byte ∷ bytes) few) later)
     ]
 
-whole_by : (k : LinkKind) (bytes : List ℕ) → k ≡ kind.ToController → WholeIfCarried k bytes → IsWholeSend bytes
+pub whole_by : (k : LinkKind) (bytes : List ℕ) → k ≡ kind.ToController → WholeIfCarried k bytes → IsWholeSend bytes
 whole_by kind.ToController bytes is whole = whole
 whole_by kind.ToMember bytes is whole = absurd (let never = is in cc)
 whole_by kind.Stranger bytes is whole = absurd (let never = is in cc)
 
 -- what comes on a link between a member and a controller is one whole unit
-comes_whole : (unit : Option ℕ) (s : State) (w : Coming) (piece : List ℕ) → WholeBag s.bag → CameFrom unit s w piece → IsOfMember s.links w.link → IsOneUnit piece
+pub comes_whole : (unit : Option ℕ) (s : State) (w : Coming) (piece : List ℕ) → WholeBag s.bag → CameFrom unit s w piece → IsOfMember s.links w.link → IsOneUnit piece
 comes_whole None s w piece whole came own = absurd (came own.0 own.1 own.2)
 comes_whole (Some number) s w piece whole came own =
     let route : came.route ≡ ToController own.0 own.1 = some_is came.route (ToController own.0 own.1) (sym came.made ∙ own.2) in

@@ -71,7 +71,7 @@ member_marks at m w piece s = turn_marks (map (turn_note (controller_of at s)) (
 -- ---- more is written down
 
 -- The part of the book is now that: the units that had marks have them, and it holds of each new one.
-goes_on_with : {X : Type 0} (P : UnitFact X) (x now : X) (bag units : List BagUnit) (sent : List Sent) (marks : List Mark) (at : ℕ) → length sent ≡ length bag →
+pub goes_on_with : {X : Type 0} (P : UnitFact X) (x now : X) (bag units : List BagUnit) (sent : List Sent) (marks : List Mark) (at : ℕ) → length sent ≡ length bag →
     ((number : ℕ) (unit : BagUnit) (one : Sent) → slice_get bag number ≡ Some unit → slice_get sent number ≡ Some one → P x number unit one.mark → P now number unit one.mark) →
     length marks ≡ length units →
     ((place : ℕ) (unit : BagUnit) (mark : Mark) → slice_get units place ≡ Some unit → slice_get marks place ≡ Some mark → P now (length bag + place) unit mark) →

@@ -1,7 +1,7 @@
 -- What holds of the bag and the book in every run: whatever stays as units stay in the bag, and holds on with what is
 -- written down where an end has heard bytes and done all that it then does. It may rest on a fact that is carried
 -- through each step (`StepFrameLaws`), and on one of the ends that goes with the book (`FrameLaws`). It serves
--- `messages_are_called`.
+-- `messages_are_called` and `marked_units_are_whole`.
 use Rattle.std.proofs.Common.{◌≡◌, ℕ, ◌+◌, ◌*◌, Bool, List, [], ◌∷◌, ◌++◌, length, inl, inr, Option, Some, None, slice_get, refl}
 use Rattle.std.specs.Prelude.{◌%◌}
 use Rattle.std.specs.List.{AllByRecursion}
@@ -26,7 +26,7 @@ use Rattle.world_moves.specs.World.{World, first_world, given_at, happens, run}
 use Rattle.domain_world.specs.Past.{Coming, book, note, note_at, note_chosen, note_coming, note_deliver, note_given, note_hand, note_on, note_onward, note_own, note_pieces, note_unit, past}
 use Rattle.channel_events.proofs.ListLaws.{got_nothing}
 use Rattle.world_moves.proofs.LinkFrameLaws.{heard_if_stays}
-use Rattle.domain_world.proofs.Frames.BagFrameLaws.{Begins, Goes, IsOfUnit, StepsMark, UnitFact, first_goes, note_begins, piece_goes, settled_begins}
+use Rattle.domain_world.proofs.Frames.BagFrameLaws.{Begins, Goes, IsOfUnit, IsServer, StepsMark, UnitFact, first_goes, note_begins, piece_goes, settled_begins}
 use Rattle.domain_world.proofs.Frames.ComingLaws.{CameFrom, HaveKinds, IsFromOutside, IsLinkOf, StillHas, act_still, chosen_of, handed_outside, kept_same, kept_settled, kinds_stay, piece_bytes, run_still}
 use Rattle.domain_world.proofs.Frames.FrameLaws.{Fact, HoldsIn, StaysWritten}
 use Rattle.domain_world.proofs.Frames.OpenMadeLaws.{IsAtSide, hears_side}
@@ -39,11 +39,12 @@ abbrev pub BookFact : Type 1
 BookFact = List BagUnit → Book → Type 0
 
 -- It stays as the units of the bag stay there, and as what ends gave is written down. Where an end hears bytes, it
--- holds with what is written down of them once the end has done all that it then does.
+-- holds with what is written down of them once the end has done all that it then does; each unit of the bag has its
+-- mark before, where a controller or a member hears them.
 pub record BagKeeps {X : Type 0} (Holds : RunFact) (part : Book → X) (Side : X → Fact) (Fits : BookFact) : Type 0 where
   pub still : (old bag : List BagUnit) (b : Book) → StillHas old bag → Fits old b → Fits bag b
   pub comes : (n : ℕ) (end : EndId) (w : Coming) (piece : List ℕ) (s : State) (given : Given) (b : Book) → IsAtSide s.links w.link w.back end → CameFrom w.unit s w piece → AreBytes piece →
-      Holds n s given b → HoldsIn (Side (part b)) s → Fits s.bag b →
+      (IsServer end → length b.sent ≡ length s.bag) → Holds n s given b → HoldsIn (Side (part b)) s → Fits s.bag b →
       Fits (hears end (event.Bytes w.link piece) s).state.bag (note_at (Some end) w piece s (hears end (event.Bytes w.link piece) s).state b)
   pub over : (at : ℕ) (given : Given) (s : State) (b : Book) → Fits s.bag b → Fits s.bag (note_given at given s b)
 
@@ -98,7 +99,8 @@ module _ {X : Type 0} (Holds : RunFact) (Fine : ActionFact) (keeps : Keeps NoFac
       Fits (hears_if end (event.Bytes w.link piece) s).state.bag (note_at end w piece s (hears_if end (event.Bytes w.link piece) s).state b)
   piece_fits None w piece n s given b is came bytes goes holds fits = fits
   piece_fits (Some end) w piece n s given b is came bytes goes holds fits =
-      bag_keeps.comes n end w piece s given b (hears_side w.back w.link s.links s.open_links end goes.made is) came bytes holds goes.side fits
+      let here : IsAtSide s.links w.link w.back end = hears_side w.back w.link s.links s.open_links end goes.made is in
+      bag_keeps.comes n end w piece s given b here came bytes (goes.all end here) holds goes.side fits
 
   pieces_fit : (w : Coming) (links : List Route) (old : List BagUnit) (pieces : List (List ℕ)) (n : ℕ) (s : State) (given : Given) (b : Book) →
       ((later : State) (piece : List ℕ) → Since links old later.links later.bag → OneOf (λ (one : List ℕ). one ≡ piece) pieces → CameFrom w.unit later w piece) →

@@ -144,7 +144,7 @@ module _ (p : Pending) (next : ℕ) where
   numbered_of_turn false unit = tt
   numbered_of_turn true unit = body_of_turn unit.body
 
-of_turn : (turn : Option Pending) (unit : RpcUnit) (next : ℕ) → IsOfTurn turn next (hear turn unit next)
+pub of_turn : (turn : Option Pending) (unit : RpcUnit) (next : ℕ) → IsOfTurn turn next (hear turn unit next)
 of_turn None unit next = tt
 of_turn (Some p) unit next = numbered_of_turn p next (unit.call == p.number) unit
 

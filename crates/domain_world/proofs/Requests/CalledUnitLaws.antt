@@ -418,6 +418,6 @@ end_called (Client at) w piece s b side kept called =
 pub called_keep : (Holds : RunFact) → ((n : ℕ) (s : State) (given : Given) (b : Book) → Holds n s given b → CallSide s) → BagKeeps Holds messages_in AllKept CalledIn
 called_keep Holds gives = record {
   still = still_called;
-  comes = λ n end w piece s given b at came bytes holds kept called. end_called end w piece s b (gives n s given b holds) kept called;
+  comes = λ n end w piece s given b at came bytes marked holds kept called. end_called end w piece s b (gives n s given b holds) kept called;
   over = λ at given s b called. called;
 }

@@ -1,5 +1,6 @@
--- What a controller sends when bytes come is, in order, what its units come to; a unit that is marked as a reply carries
--- what its call came to, and one that is marked as the reply to an opening opens a channel. It serves `replies_are_sent_as_judged`.
+-- What a controller sends when bytes come is, in order, what its units come to; a unit that is marked as a reply
+-- carries what its call came to, and one that is marked as the reply to an opening opens a channel. It serves
+-- `replies_are_sent_as_judged`.
 use Rattle.std.proofs.Common.{◌≡◌, ℕ, Bool, true, false, List, [], ◌∷◌, ◌++◌, drop, length, map, Option, Some, None, Ok, Err, refl, sym, ap, ◌∙◌, subst, bytes_eq}
 use Rattle.std.proofs.lemmas.List.{append_assoc, append-nil}
 use Rattle.std.proofs.lemmas.List.Concat.{flat_map-append}
