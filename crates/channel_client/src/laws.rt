@@ -28,7 +28,8 @@ pub fn each_step_has_its_effect()
 {}
 
 /// What is sent is whole: a bind and a request are each the bytes of one whole unit, in one fragment or more, with room
-/// in one piece of a link, where names, numbers and what is told of logons are in their ranges; each step leaves them so.
+/// in one piece of a link, where names, numbers and what is told of logons are in their ranges; each step leaves them
+/// so.
 #[tactic(auto, using(crate::proofs::WholeLaws::requesters_send_whole))]
 pub fn requesters_send_whole()
     ensures { RequestersSendWhole }

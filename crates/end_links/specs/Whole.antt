@@ -27,8 +27,8 @@ IsWholeIfSent (action.Judged how) = Unit {0}
 
 -- ---- laws
 
--- The units that ends send are whole, where their numbers have their widths. A stub of 58,209 bytes or fewer leaves room
--- for the headers of its fragments, which have 1,432 bytes or more.
+-- The units that ends send are whole, where their numbers have their widths. A stub of 58,209 bytes or fewer leaves
+-- room for the headers of its fragments, which have 1,432 bytes or more.
 pub record UnitsAreWhole : Type 0 where
   pub bind : (interface : Syntax) (call : ℕ) → length interface.uuid ≡ 16 → interface.version < 2 ^ 32 → call < 2 ^ 32 →
       IsWholeSend (written (bind_of interface call))

@@ -1,6 +1,6 @@
--- That what a member sends on the links of its turns is whole: each send is the bytes of one whole unit, in one fragment
--- or more (C706 12.6.2), and has room in one piece of a link (this project's own choice). It holds where what the
--- member has is in its ranges, and a step leaves it so.
+-- That what a member sends on the links of its turns is whole: each send is the bytes of one whole unit, in one
+-- fragment or more (C706 12.6.2), and has room in one piece of a link (this project's own choice). It holds where what
+-- the member has is in its ranges, and a step leaves it so.
 use Rattle.std.specs.Prelude.{ℕ, ◌≡◌, ◌⊎◌, List, Option, Some, None}
 use Rattle.std.specs.List.{AllByRecursion}
 use Rattle.wire_base.specs.Maps.{lookup, same_number}
