@@ -1,16 +1,16 @@
 -- Small runs that meet a claim, and some that don't.
 -- It serves `claims_tell_apart`.
-use Rattle.std.proofs.Common.{◌≡◌, ◌≢◌, ℕ, ◌+◌, Bool, true, false, List, [], ◌∷◌, ◌++◌, inl, inr, Option, Some, None, refl, sym, ap, ◌∙◌, arith}
-use Rattle.std.specs.Prelude.{◌%◌, ◌^◌, AllPairs, codes, ◌⊎◌}
+use Rattle.std.proofs.Common.{◌≡◌, ◌≢◌, ℕ, ◌≤◌, ◌+◌, Bool, true, false, List, [], ◌∷◌, ◌++◌, length, inl, inr, Option, Some, None, refl, sym, ap, ◌∙◌, arith}
+use Rattle.std.specs.Prelude.{◌%◌, ◌^◌, codes, ◌⊎◌}
 use Rattle.std.proofs.lemmas.List.Elements.{All-nil}
 use Rattle.wire_base.specs.Maps.{lookup}
+use Rattle.wire_base.specs.Numbers.{AreBytes}
+use Rattle.end_links.specs.Bounds.{send_limit}
 use Rattle.wire_base.specs.Names.{same_name}
 use Rattle.wire_base.specs.Names as names
-use Rattle.channel_keys.specs.Des.{IsBlock}
 use Rattle.authenticators.specs.Channels.{Channel}
 use Rattle.authenticators.specs.Sequences.{authenticator_of}
 use Rattle.authenticators.proofs.ChannelLaws.{same_channel-Decides}
-use Rattle.outside.specs.Counter.{challenges_from}
 use Rattle.outside.specs.declared.action.Judged.TheVariants as judged
 use Rattle.member_server.specs.declared.state.AtTurn.{AtTurn}
 use Rattle.member_server.specs.declared.state.TurnTalk.{TurnTalk}
@@ -26,29 +26,24 @@ use Rattle.step_notes.specs.Served.{ServedUnit}
 use Rattle.world_moves.specs.declared.links.Route.TheVariants.{ToMember}
 use Rattle.world_moves.specs.declared.moves.Move.{Move}
 use Rattle.world_moves.specs.declared.plan.Plan.{Plan}
-use Rattle.world_moves.specs.Draws.{DrawsAreBlocks, DrawsDiffer}
+use Rattle.world_moves.specs.declared.bag.BagUnit.{BagUnit}
+use Rattle.world_moves.specs.Bag.{AreShortUnits, HaveBytes}
 use Rattle.world_moves.specs.World.{first_world}
 use Rattle.domain_world.specs.Claims.{IsAccepted, PassesTheNextCredential, Wraps, moved_if, moved_on, passed_on, timestamp_of}
 use Rattle.domain_world.specs.Headline.{IsClaimed, Proved}
 use Rattle.domain_world.specs.Past.{past}
 use Rattle.claim_examples.specs.ClaimExamples.{OfAll, OfClashes, OfCredentials, OfReplays, OfTakenAnswers, OfWraps, call_with, elsewhere, judged_as, judged_once, last_timestamp, message, next_call, no_computers, on_channel, passed_in, second_timestamp, seed_after_one, small_challenge, small_channel, small_computers, small_name, small_seed, taken_in, third_timestamp, told_as, whole_book, whole_call, whole_run}
 use Rattle.claim_examples.specs.TellApart.{ClaimsTellApart}
-use Rattle.channel_events.proofs.ListLaws.{got_nothing}
 use Rattle.step_notes.proofs.Controllers.JudgedStepLaws.{next_unbarred, right_passed}
 use Rattle.claim_examples.proofs.CompletenessLaws.{of_completeness, of_success}
 use Rattle.claim_examples.proofs.LogonLaws.{granted_small, of_accepting_all, of_accepting_only, of_challenges, of_keys, of_short_responses, only_draw}
 use Rattle.claim_examples.proofs.SequenceLaws.{fresh_shares, kept_small, of_in_step, of_sequences, of_soundness, one_apart, one_stamp, shares_by}
 
-none_apart : {T : Type 0} (R : T → T → Type 0) → AllPairs R []
-none_apart R i j d before within = absurd (omega arith)
+none_short : (plan : Plan) → AreShortUnits (first_world plan).state.bag
+none_short plan = All-nil (λ (unit : BagUnit). length unit.bytes ≤ send_limit)
 
-drew_none : (plan : Plan) → DrawsDiffer (first_world plan)
-unfolding challenges_from
-drew_none plan = none_apart (λ one other. one ≢ other)
-
-no_blocks : (plan : Plan) → DrawsAreBlocks (first_world plan)
-unfolding challenges_from
-no_blocks plan = All-nil IsBlock
+no_bytes : (plan : Plan) → HaveBytes (first_world plan).state.bag
+no_bytes plan = All-nil (λ (unit : BagUnit). AreBytes unit.bytes)
 
 -- ---- parts of short lists
 
@@ -360,16 +355,12 @@ of_all = record {
 -- what is proved of runs holds of each
 abbrev Holds : Type 0
 Holds =
-    (plan : Plan) (moves : List Move) → DrawsDiffer (past plan moves).world → DrawsAreBlocks (past plan moves).world → Proved plan moves
+    (plan : Plan) (moves : List Move) → AreShortUnits (past plan moves).world.state.bag → HaveBytes (past plan moves).world.state.bag → Proved plan moves
 
 at_first : Holds → (plan : Plan) → IsClaimed plan []
 at_first holds plan schedule = record {
-  proved = holds plan [] (drew_none plan) (no_blocks plan);
+  proved = holds plan [] (none_short plan) (no_bytes plan);
   stated = record {
-    only = λ clear. tt;
-    all = λ clear. tt;
-    keys = λ clear. tt;
-    counts = λ clear one other unit first second here there came too raised also. absurd (got_nothing one first here);
     sequences = λ clear. fresh_shares (past plan []) plan.members refl;
     complete = λ come. tt;
   };

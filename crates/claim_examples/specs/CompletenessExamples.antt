@@ -1,6 +1,5 @@
 -- Logons one at a time: small runs in which a client succeeds or not (this project's own choice).
-use Rattle.std.specs.Prelude.{ℕ, ◌≡◌, ◌+◌, ◌-◌, Bool, true, false, List, [], ◌∷◌, ◌++◌, length, replicate, Some, None, codes}
-use Rattle.outside.specs.declared.action.Outcome.TheVariants as outcome
+use Rattle.std.specs.Prelude.{ℕ, ◌≡◌, Bool, true, false, List, [], ◌∷◌, ◌++◌, length, replicate, Some, None, codes}
 use Rattle.account_table.specs.AccountTable.{AccountTable}
 use Rattle.account_table.specs.declared.account.Account.{Account}
 use Rattle.account_table.specs.declared.account.Kind.TheVariants.{User, Workstation}

@@ -1,7 +1,5 @@
 -- That each claim on whole runs is met by some run and not by another (this project's own choice).
-use Rattle.std.specs.Prelude.{◌-◌, []}
-use Rattle.step_notes.specs.Marking.{clashes}
-use Rattle.world_moves.specs.declared.moves.Move.TheVariants as move
+use Rattle.std.specs.Prelude.{[]}
 use Rattle.world_moves.specs.declared.plan.Plan.{Plan}
 use Rattle.domain_world.specs.Headline.{IsClaimed}
 use Rattle.claim_examples.specs.ClaimExamples.{OfAcceptingAll, OfAcceptingOnly, OfAll, OfChallenges, OfClashes, OfCredentials, OfInStep, OfKeys, OfReplays, OfSequences, OfShortResponses, OfSoundness, OfTakenAnswers, OfWraps}

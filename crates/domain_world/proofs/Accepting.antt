@@ -1,4 +1,5 @@
 -- What holds in every run of the answers that members take, and the claims that rest on them.
+pub mod AnswerReadLaws
 pub mod AnsweredLaws
 pub mod AnsweredRunLaws
 pub mod CarriedLaws
@@ -25,5 +26,15 @@ pub mod QuietStepLaws
 pub mod QuietTurnLaws
 pub mod ReadBackLaws
 pub mod RunBeginLaws
+pub mod ScheduleLaws
 pub mod ShortResponseLaws
+pub mod TurnChangedLaws
+pub mod TurnFactLaws
+pub mod TurnKeepLaws
+pub mod TurnMarkLaws
+pub mod TurnNotedLaws
+pub mod TurnQuietLaws
+pub mod TurnRunLaws
+pub mod TurnSideLaws
+pub mod TurnWholeLaws
 pub mod UnitLaws

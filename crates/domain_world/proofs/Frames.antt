@@ -1,9 +1,9 @@
 -- How a fact is carried through all moves of a run.
 pub mod BagFrameLaws
+pub mod BagRunLaws
 pub mod BagStepLaws
 pub mod BookFrameLaws
 pub mod ComingLaws
-pub mod DrawnLaws
 pub mod DrawnRunLaws
 pub mod FrameLaws
 pub mod FrontLaws

@@ -1,9 +1,11 @@
 -- What is proved of every run, gathered.
 -- It serves `claims_hold_of_runs`, and so `drive`.
 use Rattle.std.proofs.Common.{List}
-use Rattle.world_moves.specs.Draws.{DrawsAreBlocks, DrawsDiffer}
+use Rattle.world_moves.specs.Bag.{AreShortUnits, HaveBytes}
 use Rattle.world_moves.specs.declared.moves.Move.{Move}
 use Rattle.world_moves.specs.declared.plan.Plan.{Plan}
+use Rattle.world_moves.specs.Forms.{IsSchedule}
+use Rattle.domain_world.specs.Accepting.Units.{UnitsAreHeard}
 use Rattle.domain_world.specs.Claims.AskedFor.{MembersAskForMessages, SendsAskForMessages}
 use Rattle.domain_world.specs.Claims.LetIn.{LetsInWhoAsked}
 use Rattle.domain_world.specs.Headline.{Proved}
@@ -12,7 +14,9 @@ use Rattle.domain_world.proofs.Accepting.AnsweredRunLaws.{short_responses}
 use Rattle.domain_world.proofs.Challenges.MessageApartLaws.{messages_apart}
 use Rattle.domain_world.proofs.Challenges.MessageOnceLaws.{messages_once}
 use Rattle.domain_world.proofs.Challenges.OwnChallengeLaws.{messages_own}
+use Rattle.domain_world.proofs.Accepting.UnitLaws.{runs_heard}
 use Rattle.domain_world.proofs.Frames.BagFrameLaws.{each_marked}
+use Rattle.domain_world.proofs.Frames.DrawnRunLaws.{draws_are_blocks, draws_differ}
 use Rattle.domain_world.proofs.Judgements.GrantLaws.{grants_who_may}
 use Rattle.domain_world.proofs.Judgements.ReplayLaws.{replays_by_sum}
 use Rattle.domain_world.proofs.Judgements.ReplyLaws.{replies_carry}
@@ -25,12 +29,17 @@ use Rattle.domain_world.proofs.Requests.MarkWayLaws.{marks_have_their_way}
 abbrev pub OfRuns : (Past → Type 0) → Type 0
 OfRuns Holds = (plan : Plan) (moves : List Move) → Holds (past plan moves)
 
-pub all_proved : OfRuns LetsInWhoAsked → OfRuns MembersAskForMessages → OfRuns SendsAskForMessages → (plan : Plan) (moves : List Move) → DrawsDiffer (past plan moves).world →
-    DrawsAreBlocks (past plan moves).world → Proved plan moves
-all_proved let_in asked sends plan moves differ blocks = record {
-  challenges = record { draws = differ; messages = messages_once plan moves };
-  messages = messages_own plan moves differ;
-  responses = short_responses plan moves differ blocks;
+-- of every schedule
+abbrev pub OfSchedules : (Past → Type 0) → Type 0
+OfSchedules Holds =
+    (plan : Plan) (moves : List Move) → IsSchedule plan moves → AreShortUnits (past plan moves).world.state.bag → HaveBytes (past plan moves).world.state.bag → Holds (past plan moves)
+
+pub all_proved : OfRuns LetsInWhoAsked → OfRuns MembersAskForMessages → OfRuns SendsAskForMessages → OfSchedules UnitsAreHeard → (plan : Plan) (moves : List Move) →
+    AreShortUnits (past plan moves).world.state.bag → HaveBytes (past plan moves).world.state.bag → Proved plan moves
+all_proved let_in asked sends heard plan moves short bytes = record {
+  challenges = record { draws = draws_differ plan moves; messages = messages_once plan moves };
+  messages = messages_own plan moves (draws_differ plan moves);
+  responses = short_responses plan moves (draws_differ plan moves) (draws_are_blocks plan moves);
   apart = messages_apart plan moves;
   credentials = passes_the_next plan moves;
   replays = replays_by_sum plan moves;
@@ -41,6 +50,10 @@ all_proved let_in asked sends plan moves differ blocks = record {
   asked = asked plan moves;
   sends = sends plan moves;
   let_in = let_in plan moves;
+  only = λ schedule clear. runs_heard.only plan moves (heard plan moves schedule short bytes) (draws_differ plan moves) clear;
+  all = λ schedule clear. runs_heard.all plan moves (heard plan moves schedule short bytes) (draws_differ plan moves) clear;
+  keys = λ schedule clear. runs_heard.keys plan moves (heard plan moves schedule short bytes) (draws_differ plan moves) clear;
+  counts = λ schedule clear. runs_heard.counts plan moves (heard plan moves schedule short bytes) (draws_differ plan moves) clear;
   marked = each_marked plan moves;
   ways = marks_have_their_way plan moves;
 }

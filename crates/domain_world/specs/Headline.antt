@@ -18,9 +18,9 @@ use Rattle.domain_world.specs.Claims.Replies.{RepliesCarryTheirJudgement}
 use Rattle.domain_world.specs.Claims.SharedSequences.{SequencesAreShared}
 use Rattle.domain_world.specs.Past.{past}
 
--- What holds of the run of every list of moves from any plan, where no two challenges that were drawn are alike and
--- each has 8 bytes, as in every world that was made: `claims_hold_of_runs`, and the clause of `drive`. Whether the run
--- is clear doesn't matter.
+-- What holds of the run of every list of moves from any plan: `claims_hold_of_runs`, and the clause of `drive`. What
+-- members accept is of schedules that are clear, in which no credential passed on a unit made for another channel and
+-- no seed came round; whether the run is clear doesn't matter else.
 pub record Proved (plan : Plan) (moves : List Move) : Type 0 where
   -- challenges, and the messages that are made for them
   pub challenges : ChallengesServeOnce (past plan moves)
@@ -38,19 +38,19 @@ pub record Proved (plan : Plan) (moves : List Move) : Type 0 where
   pub asked : MembersAskForMessages (past plan moves)
   pub sends : SendsAskForMessages (past plan moves)
   pub let_in : LetsInWhoAsked (past plan moves)
+  -- a member accepts exactly what its controller granted, client and member hold one key, and a call raises a count of
+  -- bad passwords at most once
+  pub only : IsSchedule plan moves → IsClear (past plan moves).book → AcceptsOnlyGranted (past plan moves)
+  pub all : IsSchedule plan moves → IsClear (past plan moves).book → AcceptsAllGranted (past plan moves)
+  pub keys : IsSchedule plan moves → IsClear (past plan moves).book → KeysAgree (past plan moves)
+  pub counts : IsSchedule plan moves → IsClear (past plan moves).book → EachCallRaisesOnce (past plan moves)
   -- the units of the bag, and which way they go
   pub marked : EachUnitIsMarked (past plan moves)
   pub ways : MarksHaveTheirWay (past plan moves)
 
--- What is stated of a run and not proved yet: no call rests on it. Of a run that is clear, in which no credential
--- passed on a unit made for another channel and no seed came round: a member accepts exactly what is granted, keys
--- agree, a call raises a count of bad passwords at most once, and the ends of a channel share its sequence. Of any run:
--- logons that come one at a time succeed.
+-- What is stated of a run and not proved yet: no call rests on it. Of a run that is clear: the ends of a channel share
+-- its sequence. Of any run: logons that come one at a time succeed.
 pub record Stated (plan : Plan) (moves : List Move) : Type 0 where
-  pub only : IsClear (past plan moves).book → AcceptsOnlyGranted (past plan moves)
-  pub all : IsClear (past plan moves).book → AcceptsAllGranted (past plan moves)
-  pub keys : IsClear (past plan moves).book → KeysAgree (past plan moves)
-  pub counts : IsClear (past plan moves).book → EachCallRaisesOnce (past plan moves)
   pub sequences : IsClear (past plan moves).book → SequencesAreShared (past plan moves)
   pub complete : EachSucceeds (past plan moves) moves
 

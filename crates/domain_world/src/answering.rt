@@ -9,14 +9,14 @@ ghost use Rattle.world_moves.specs.Forms.{IsSchedule};
 ghost use Rattle.domain_world.specs.Accepting.Answered.{AnswersAreHeard, IsProved, MarksHaveTheirWay, MessagesAreApart, PassesAreUnclashed};
 ghost use Rattle.domain_world.specs.Accepting.Carried.{CarriedCallsAreHeard, JudgedAsCarried, MarkedUnitsAreWhole, MessagesAreCalled};
 ghost use Rattle.domain_world.specs.Accepting.KeysMade.{KeysAreFoundAsMade, MessagesAreMade, MessagesAreTakenAsSent};
-ghost use Rattle.domain_world.specs.Accepting.ReadBack.{OutcomesAreReadBack, RepliesAreReadBack};
+ghost use Rattle.domain_world.specs.Accepting.ReadBack.{OutcomesAreReadBack, RepliesAreReadBack, TurnsAreHeard};
 ghost use Rattle.domain_world.specs.Accepting.Runs.{IsQuiet, RunsBegin, RunsStandSo};
-ghost use Rattle.domain_world.specs.Accepting.Units.{RunsAreHeard};
+ghost use Rattle.domain_world.specs.Accepting.Units.{RunsAreHeard, UnitsAreHeard};
 ghost use Rattle.domain_world.specs.Claims.{AcceptsAllGranted, AcceptsOnlyGranted, IsClear, KeysAgree, ShortResponsesServeOnce};
 ghost use Rattle.domain_world.specs.Past.{Past, past};
 
 use channel_events::{calls_stay_apart, requesters_keep_calls_apart};
-use member_server::channel_steps_are_known;
+use member_server::{channel_steps_are_known, in_is_told_of_a_granted_logon};
 
 /// Where the challenges that were drawn are blocks of 8 bytes of which no two are alike, a response of 24 bytes is
 /// accepted on one link alone.
@@ -183,3 +183,31 @@ pub fn marked_units_are_whole()
         HaveBytes (past plan moves).world.state.bag →
         MarkedUnitsAreWhole (past plan moves) }
 {}
+
+/// In every schedule the answer of a message was taken in its turn, its outcome is told, and who is let in is so by an
+/// answer that was taken.
+#[tactic(auto, using(crate::proofs::Accepting::TurnRunLaws::turns_run))]
+pub fn answers_are_taken_in_turn()
+    ensures { (plan : Plan) (moves : List Move) → IsSchedule plan moves →
+        AreShortUnits (past plan moves).world.state.bag →
+        HaveBytes (past plan moves).world.state.bag → TurnsAreHeard (past plan moves) }
+{
+    // What a member tells of a granted logon, what a requester's step does to calls, and a member's to its requester,
+    // are laws of their own.
+    in_is_told_of_a_granted_logon();
+    requesters_keep_calls_apart();
+    calls_stay_apart();
+    channel_steps_are_known();
+}
+
+/// In every schedule all holds on which the claims on answers rest: units are heard whole, calls have different
+/// numbers, answers are taken in their turns and told, and keys are found as they were made.
+pub fn schedules_are_heard()
+    ensures { (plan : Plan) (moves : List Move) → IsSchedule plan moves →
+        AreShortUnits (past plan moves).world.state.bag →
+        HaveBytes (past plan moves).world.state.bag → UnitsAreHeard (past plan moves) }
+{
+    runs_stand_so();
+    answers_are_taken_in_turn();
+    marked_units_are_whole();
+}

@@ -3,7 +3,8 @@
 ghost use Rattle.std.specs.Prelude.{◌≢◌, ℕ, List, AllPairs};
 ghost use Rattle.world_moves.specs.declared.moves.Move.{Move};
 ghost use Rattle.world_moves.specs.declared.plan.Plan.{Plan};
-ghost use Rattle.world_moves.specs.Draws.{DrawsAreBlocks, DrawsDiffer};
+ghost use Rattle.world_moves.specs.Bag.{AreShortUnits, HaveBytes};
+ghost use Rattle.world_moves.specs.Draws.{DrawsDiffer};
 ghost use Rattle.domain_world.specs.Claims.{PassesTheNextCredential, ReplaysBySum};
 ghost use Rattle.domain_world.specs.Claims.AskedFor.{MembersAskForKept, MembersAskForMessages, SendsAskForMessages};
 ghost use Rattle.domain_world.specs.Claims.Grants.{GrantsWhoMayLogOn};
@@ -15,6 +16,7 @@ ghost use Rattle.domain_world.specs.Claims.NamedLinks.{LinksReachTheNamed};
 ghost use Rattle.domain_world.specs.Headline.{Proved};
 ghost use Rattle.domain_world.specs.Past.{past};
 
+use crate::answering::schedules_are_heard;
 use member_server::in_is_told_of_a_granted_logon;
 
 /// In every run, over all moves from a plan on, whatever a controller tells of a Logon call is told of one that it
@@ -125,14 +127,15 @@ pub fn links_reach_the_named()
     ensures { LinksReachTheNamed }
 {}
 
-/// All that is proved of runs holds of the run of every list of moves from any plan, where no two challenges that were
-/// drawn are alike and each has 8 bytes, as in every world that was made.
+/// All that is proved of runs holds of the run of every list of moves from any plan, where the units of its bag have
+/// bytes, and no more than an end sends at once, as in every world that was made.
 pub fn claims_hold_of_runs()
-    ensures { (plan : Plan) (moves : List Move) → DrawsDiffer (past plan moves).world →
-        DrawsAreBlocks (past plan moves).world → Proved plan moves }
+    ensures { (plan : Plan) (moves : List Move) → AreShortUnits (past plan moves).world.state.bag →
+        HaveBytes (past plan moves).world.state.bag → Proved plan moves }
 {
     // These have what a member tells at a step, which is a law of its own.
     members_let_in_who_asked();
     members_ask_for_messages();
     sends_ask_for_messages();
+    schedules_are_heard();
 }

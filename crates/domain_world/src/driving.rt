@@ -49,8 +49,8 @@ pub fn drive(alloc: Global, world: &mut World, moves: &Moves) -> Result<Report, 
             Err(why) => return Err(why),
         }
     }
-    world.draws_differ();
-    world.draws_are_blocks();
+    world.units_are_short();
+    world.units_have_bytes();
     claims_hold_of_runs();
     Ok(world.report())
 }

@@ -7,11 +7,12 @@ mod claims;
 mod driving;
 
 pub use answering::{
-    calls_are_judged_as_carried, carried_calls_are_heard, keys_are_found_as_made,
-    marked_units_are_whole, marks_have_their_way, messages_are_apart, messages_are_called,
-    messages_are_made, messages_are_taken_as_sent, outcomes_are_read_back, passes_are_unclashed,
-    replies_are_read_back, runs_are_heard, runs_are_proved, runs_begin, runs_stand_so,
-    short_responses_serve_once, what_is_heard_is_accepted,
+    answers_are_taken_in_turn, calls_are_judged_as_carried, carried_calls_are_heard,
+    keys_are_found_as_made, marked_units_are_whole, marks_have_their_way, messages_are_apart,
+    messages_are_called, messages_are_made, messages_are_taken_as_sent, outcomes_are_read_back,
+    passes_are_unclashed, replies_are_read_back, runs_are_heard, runs_are_proved, runs_begin,
+    runs_stand_so, schedules_are_heard, schedules_stand_quiet, short_responses_serve_once,
+    what_is_heard_is_accepted,
 };
 pub use claims::{
     claims_hold_of_runs, controllers_grant_who_may_log_on, controllers_pass_the_next,

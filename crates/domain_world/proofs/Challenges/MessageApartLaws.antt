@@ -83,7 +83,7 @@ differ_among (x ∷ xs) (y ∷ ys) among pairs = elim among [
   | inr later ↦ differ_among (x ∷ xs) ys later (pairs_later y ys pairs)
 ]
 
-abbrev links_in : List MessageTaken → List ℕ
+abbrev pub links_in : List MessageTaken → List ℕ
 links_in messages = map (λ (one : MessageTaken). one.link) messages
 
 all_links : (n : ℕ) (messages : List MessageTaken) → AllByRecursion (λ (other : ℕ). n ≢ other) (links_in messages) →
@@ -119,7 +119,7 @@ by_among : (challenged : Bool) (unit : ServedUnit AtLink Talk) (w : LinkAt) → 
 by_among false unit w = tt
 by_among true unit w = after_among (talk_after unit.part) (work_after unit.part) w unit.bytes
 
-links_append : (messages more : List MessageTaken) → links_in (messages ++ more) ≡ links_in messages ++ links_in more
+pub links_append : (messages more : List MessageTaken) → links_in (messages ++ more) ≡ links_in messages ++ links_in more
 links_append [] more = refl
 links_append (one ∷ messages) more = ap (λ (links : List ℕ). one.link ∷ links) (links_append messages more)
 
@@ -142,7 +142,7 @@ same_all link change same [] = refl
 same_all link change same (one ∷ messages) =
     ap₂ (λ (first : ℕ) (links : List ℕ). first ∷ links) (same_if (one.link == link) change one (same one)) (same_all link change same messages)
 
-change_same : (link : Option ℕ) (change : MessageTaken → MessageTaken) → ((one : MessageTaken) → (change one).link ≡ one.link) → (messages : List MessageTaken) →
+pub change_same : (link : Option ℕ) (change : MessageTaken → MessageTaken) → ((one : MessageTaken) → (change one).link ≡ one.link) → (messages : List MessageTaken) →
     links_in (change_message link change messages) ≡ links_in messages
 change_same None change same messages = refl
 change_same (Some link) change same messages = same_all link change same messages

@@ -73,7 +73,7 @@ client_draws (Some running) c what now left rest = outcome_draws c.outcome runni
 
 -- ---- what was drawn and what is left
 
-abbrev all_of : Drawing → List (List ℕ)
+abbrev pub all_of : Drawing → List (List ℕ)
 all_of chances = chances.drawn ++ chances.left
 
 same_all : (chances : Drawing) (drawn left : List (List ℕ)) → drawn ++ left ≡ chances.left → (chances.drawn ++ drawn) ++ left ≡ all_of chances
@@ -97,7 +97,7 @@ client_all None at what now ends chances rest = refl
 client_all (Some c) at what now ends chances rest =
     same_all chances (client.step_of c what now chances.left).drawn (client.step_of c what now chances.left).left (client_draws c.running c what now chances.left rest)
 
-end_all : (end : EndId) (what : Event) (now : ℕ) (ends : EndStates) (chances : Drawing) → all_of (end_step end what now ends chances).chances ≡ all_of chances
+pub end_all : (end : EndId) (what : Event) (now : ℕ) (ends : EndStates) (chances : Drawing) → all_of (end_step end what now ends chances).chances ≡ all_of chances
 end_all (Controller at) what now ends chances = controller_all (slice_get ends.controllers at) at what now ends chances (end_rests (Controller at) what now ends chances)
 end_all (Member at) what now ends chances = member_all (slice_get ends.members at) at what now ends chances (end_rests (Member at) what now ends chances)
 end_all (Client at) what now ends chances = client_all (slice_get ends.clients at) at what now ends chances (end_rests (Client at) what now ends chances)
@@ -121,7 +121,7 @@ of_stays all = record {
 }
 
 -- all that the maker of a plan gives
-abbrev given_all : Plan → List (List ℕ)
+abbrev pub given_all : Plan → List (List ℕ)
 given_all plan = challenges_from plan.seed 0 0 (most_draws - 0)
 
 run_all : (plan : Plan) (moves : List Move) → all_of (past plan moves).world.state.chances ≡ given_all plan

@@ -172,6 +172,48 @@ with_side Side More Holds Fine so keeps = record {
   over = λ n at s given b more holds. keeps.over n at s given b (so n s given b more) holds;
 }
 
+-- nothing is asked of actions
+abbrev pub AnyAction : ActionFact
+AnyAction end links what = Unit {0}
+
+pub all_any : (actions : List Action) → AllByRecursion (λ (what : Action). Unit {0}) actions
+all_any [] = tt
+all_any (what ∷ actions) = (tt, all_any actions)
+
+-- The same while few steps were taken: that fewer were taken before is known then.
+abbrev pub WhileFew : ℕ → RunFact → RunFact
+WhileFew most Holds n s given b = n ≤ most → Holds n s given b
+
+module _ (most : ℕ) (Side Holds : RunFact) (keeps : Keeps Side Holds AnyAction) where
+  few_heard : (n : ℕ) (end : EndId) (heard : Heard) (given : Given) (b : Book) → (n + 1 ≤ most → HasHeard Holds AnyAction (n + 1) end heard given b) →
+      HasHeard (WhileFew most Holds) AnyAction (n + 1) end heard given b
+  few_heard n end heard given b so = record { holds = λ few. (so few).holds; fine = all_any heard.actions }
+
+  pub while_few : Keeps (WhileFew most Side) (WhileFew most Holds) AnyAction
+  while_few = record {
+    calm = λ n end what s given b quiet side holds.
+        few_heard n end (hear end what s) given b (λ few. keeps.calm n end what s given b quiet (side (omega (arith, few))) (holds (omega (arith, few))));
+    dialled = λ n end link s given b at side holds.
+        few_heard n end (hear end (event.Dialled link) s) given b (λ few. keeps.dialled n end link s given b at (side (omega (arith, few))) (holds (omega (arith, few))));
+    opens = λ n route s given b side holds.
+        few_heard n (acceptor_of route) (hear (acceptor_of route) (event.Opened (length s.links)) (with_link route s)) given b
+        (λ few. keeps.opens n route s given b (side (omega (arith, few))) (holds (omega (arith, few))));
+    begins = λ n client plan s given b is side holds.
+        few_heard n (Client client) (begun client plan s) given b (λ few. keeps.begins n client plan s given b is (side (omega (arith, few))) (holds (omega (arith, few))));
+    comes = λ n end w piece s given b at came bytes marked side holds.
+        few_heard n end (hear end (event.Bytes w.link piece) s) given (note_at (Some end) w piece s (hears end (event.Bytes w.link piece) s).state b)
+        (λ few. keeps.comes n end w piece s given b at came bytes marked (side (omega (arith, few))) (holds (omega (arith, few))));
+    acts = λ n end what s given b fine side holds few. keeps.acts n end what s given b fine (side few) (holds few);
+    shuts = λ n link s given b side holds few. keeps.shuts n link s given b (side few) (holds few);
+    answers = λ n link there s given b is side holds few. keeps.answers n link there s given b is (side few) (holds few);
+    forgets = λ n end s given b side holds few. keeps.forgets n end s given b (side few) (holds few);
+    settles = λ n number s given b side holds few. keeps.settles n number s given b (side few) (holds few);
+    dials = λ n s given b side holds few. keeps.dials n s given b (side few) (holds few);
+    renews = λ n end s given b side holds few. keeps.renews n end s given b (side few) (holds few);
+    ticks = λ n more s given b side holds few. keeps.ticks n more s given b (side few) (holds few);
+    over = λ n at s given b side holds few. keeps.over n at s given b (side few) (holds few);
+  }
+
 -- ---- how many links are open
 
 abbrev FewOpen : ℕ → LinkFact

@@ -55,14 +55,14 @@ use Rattle.domain_world.specs.Accepting.Carried.{IsWholeUnit}
 use Rattle.domain_world.specs.Accepting.Runs.{AskedIsOut, BagIsWhole, IsOut, IsQuiet, IsQuietTurn, RunsStandSo, Shows}
 use Rattle.domain_world.specs.Past.{Coming, Past, controller_of, note_at, note_given, note_member, past, sent_at}
 use Rattle.domain_world.proofs.Accepting.LetInStepLaws.{IsDialledBy, Meets, last_accepted}
-use Rattle.domain_world.proofs.Accepting.QuietRunLaws.{has_bytes, is_quiet, quiet_first, quiet_keeps}
+use Rattle.domain_world.proofs.Accepting.QuietRunLaws.{one_piece, has_bytes, is_quiet, quiet_first, quiet_keeps}
 use Rattle.domain_world.proofs.Accepting.QuietStepLaws.{QuietAction, QuietFact}
 use Rattle.domain_world.proofs.Accepting.RunBeginLaws.{first_apart}
 use Rattle.domain_world.proofs.Frames.BagFrameLaws.{IsServer}
 use Rattle.domain_world.proofs.Frames.ComingLaws.{CameFrom}
 use Rattle.domain_world.proofs.Frames.MarkPlaceLaws.{got_map}
 use Rattle.domain_world.proofs.Frames.OpenMadeLaws.{IsAtSide}
-use Rattle.domain_world.proofs.Frames.StepFrameLaws.{ActionFact, BothFacts, BothFine, HasBytes, HoldsAfterRun, IsCalm, Keeps, NoFact, RunFact, join, run_keeps, with_side}
+use Rattle.domain_world.proofs.Frames.StepFrameLaws.{AnyAction, ActionFact, BothFacts, BothFine, HasBytes, HoldsAfterRun, IsCalm, Keeps, NoFact, RunFact, join, run_keeps, with_side}
 use Rattle.domain_world.proofs.Requests.CallComesLaws.{IsWhole, KeptAfter, KeptIn, client_comes, controller_comes, other_comes, whole_comes}
 use Rattle.domain_world.proofs.Requests.CallHoldsLaws.{CallsHold, differ_front, link_more, marks_in, requests_at, sent_more}
 use Rattle.domain_world.proofs.Requests.CallStepLaws.{CallLaws, client_anew, client_hears, controller_anew, controller_hears, member_anew, member_hears}
@@ -70,21 +70,6 @@ use Rattle.domain_world.proofs.Requests.LooserLaws.{NoCalls}
 use Rattle.domain_world.proofs.Requests.OutStepLaws.{IsOther, IsOutIn, MemberHolds, OutFor, none_out}
 
 -- ---- a unit that comes on the link of a turn is whole, and comes in one piece
-
-one_of_one : (one other piece : List ℕ) (pieces : List (List ℕ)) → pieces ≡ one ∷ [] → OneOf (λ (each : List ℕ). each ≡ piece) pieces → one ≡ piece
-one_of_one one other piece pieces is some =
-    elim (subst (λ (all : List (List ℕ)). OneOf (λ (each : List ℕ). each ≡ piece) all) is some) [ inl here ↦ here | inr never ↦ absurd never ]
-
-one_piece : (bytes piece : List ℕ) → length bytes ≤ 65536 → OneOf (λ (one : List ℕ). one ≡ piece) (pieces_of bytes) → bytes ≡ piece
-one_piece [] piece short some = absurd (subst (λ (all : List (List ℕ)). OneOf (λ (one : List ℕ). one ≡ piece) all) pieces_none some)
-one_piece (byte ∷ bytes) piece short some =
-    let all : List ℕ = byte ∷ bytes in
-    one_of_one all all piece (pieces_of all)
-    (pieces_more all (omega arith)
-    ∙ ap (λ (first : List ℕ). first ∷ pieces_of (drop piece_limit all)) (take_all piece_limit all short)
-    ∙ ap (λ (rest : List ℕ). all ∷ pieces_of rest) (drop_all piece_limit all short)
-    ∙ ap (λ (later : List (List ℕ)). all ∷ later) pieces_none)
-    some
 
 came_whole : (unit : Option ℕ) (s : State) (w : Coming) (piece : List ℕ) (at : ℕ) → CameFrom unit s w piece → IsDialledBy s.links at w.link → BagIsWhole s → IsWholeUnit piece
 came_whole None s w piece at came dialled whole = absurd (came at dialled.controller dialled.at)
@@ -130,10 +115,6 @@ QuietSide n s given b = IsQuiet s
 -- what is known of calls, where few steps were taken and the draws so far differ
 abbrev pub CallsKept : RunFact
 CallsKept n s given b = KeptIn n s b
-
--- nothing is asked of actions
-abbrev pub AnyAction : ActionFact
-AnyAction end links what = Unit {0}
 
 any_fine : (end : EndId) (links : List Route) (actions : List Action) → AllByRecursion (AnyAction end links) actions
 any_fine end links [] = tt
@@ -319,7 +300,7 @@ pub record CallsStand (plan : Plan) (moves : List Move) : Type 0 where
   pub apart : CallsAreApart requests
   pub out : AskedIsOut (past plan moves)
 
-out_of : (p : Past) (member : ℕ) (pending : Pending) (logon : Logon) (standing : Option _) (message : MessageTaken) → IsOutIn p.book.sent member pending logon standing message →
+pub out_of : (p : Past) (member : ℕ) (pending : Pending) (logon : Logon) (standing : Option _) (message : MessageTaken) → IsOutIn p.book.sent member pending logon standing message →
     IsOut p member pending logon standing message
 out_of p member pending logon standing message is = record {
   link = is.link;

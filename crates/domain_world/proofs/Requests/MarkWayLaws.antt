@@ -41,7 +41,7 @@ use Rattle.domain_world.proofs.Frames.FrameLaws.{Fact, StaysWritten}
 -- ---- what each end marks
 
 -- no reply; and no request
-abbrev IsRequest : Mark → Type 0
+abbrev pub IsRequest : Mark → Type 0
 IsRequest mark = IsItsWay false mark
 
 abbrev IsReply : Mark → Type 0
@@ -102,7 +102,7 @@ heard_way (heard.Answer bytes talk) w before after = tt
 heard_way (heard.Waits talk) w before after = tt
 heard_way (heard.Asked line c talk) w before after = call_way c line w before after
 
-if_marked : (P : Mark → Type 0) (sends : Bool) (mark : Mark) (more : List Mark) → P mark → AllByRecursion P more → AllByRecursion P (mark_if sends mark ++ more)
+pub if_marked : (P : Mark → Type 0) (sends : Bool) (mark : Mark) (more : List Mark) → P mark → AllByRecursion P more → AllByRecursion P (mark_if sends mark ++ more)
 if_marked P false mark more is each = each
 if_marked P true mark more is each = (is, each)
 
@@ -112,7 +112,7 @@ answers_way link w (unit ∷ units) =
     if_marked IsReply (answer_on link w unit).sends (answer_on link w unit).mark (answered_marks (map (answer_on link w) units))
     (heard_way (hear link unit.bytes unit.talk) w unit.work (work_after unit.part)) (answers_way link w units)
 
-turns_way : (controller : ℕ) (units : List (ServedUnit AtTurn TurnTalk)) → AllByRecursion IsRequest (turn_marks (map (turn_note controller) units))
+pub turns_way : (controller : ℕ) (units : List (ServedUnit AtTurn TurnTalk)) → AllByRecursion IsRequest (turn_marks (map (turn_note controller) units))
 turns_way controller [] = tt
 turns_way controller (unit ∷ units) =
     if_marked IsRequest (turn_note controller unit).sends (turn_note controller unit).mark (turn_marks (map (turn_note controller) units))
@@ -120,7 +120,7 @@ turns_way controller (unit ∷ units) =
 
 -- ---- which unit gets which mark
 
-all_at : {T : Type 0} (P : T → Type 0) (items : List T) (place : ℕ) (item : T) → AllByRecursion P items → slice_get items place ≡ Some item → P item
+pub all_at : {T : Type 0} (P : T → Type 0) (items : List T) (place : ℕ) (item : T) → AllByRecursion P items → slice_get items place ≡ Some item → P item
 all_at P [] place item each there = absurd (got_nothing place item there)
 all_at P (first ∷ items) zero item each there = subst P (some_is first item there) each.0
 all_at P (first ∷ items) (suc place) item each there = all_at P items place item each.1 there

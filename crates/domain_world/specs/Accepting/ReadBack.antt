@@ -23,7 +23,7 @@ use Rattle.step_notes.specs.ReplySends.{IsReplyOfCall, reply_passed}
 use Rattle.world_moves.specs.declared.bag.BagUnit.{BagUnit}
 use Rattle.world_moves.specs.Counting.{is_in}
 use Rattle.domain_world.specs.Accepting.Answered.{AnswersAreTold, LetsInAsRead}
-use Rattle.domain_world.specs.Accepting.Carried.{IsWholeUnit}
+use Rattle.domain_world.specs.Accepting.Carried.{AnswersAreInTurn, IsWholeUnit}
 use Rattle.domain_world.specs.Past.{Past}
 
 -- a unit that is the reply to a call that was judged in the run, and that passed, is read as the reply that its
@@ -75,6 +75,12 @@ abbrev pub TurnsLetIn : Past → Type 0
 TurnsLetIn past =
     past.book.clash ≡ false → AllByRecursion (λ (told : OutcomeTold). is_in told.outcome ≡ true →
     OneOf (λ (message : MessageTaken). IsLetInInTurn past told message) past.book.messages) past.book.told
+
+-- answers are taken in turn, their outcomes are told, and who is let in is so by one
+pub record TurnsAreHeard (past : Past) : Type 0 where
+  pub turns : AnswersAreInTurn past
+  pub told : TurnsAreTold past
+  pub let_in : TurnsLetIn past
 
 pub record OutcomesAreReadBack : Type 0 where
   pub told : (past : Past) → RepliesAreReadBack past → TurnsAreTold past → AnswersAreTold past

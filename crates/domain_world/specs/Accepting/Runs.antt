@@ -1,5 +1,5 @@
--- The invariants of a run from which the facts of `Units` are to be had (open, but for their first world): what is
--- under way is whole, calls stay apart, and a call that is out is that of its message.
+-- What stands after every schedule, and from which the facts of `Units` are had: what is under way is whole, calls stay
+-- apart, and a call that is out is that of its message.
 use Rattle.std.specs.Prelude.{ℕ, ◌≡◌, ◌≤◌, ◌<◌, ◌+◌, ◌*◌, ◌^◌, List, [], length, Option, Some, None, slice_get}
 use Rattle.std.specs.List.{AllByRecursion}
 use Rattle.wire_base.specs.Maps.{lookup, same_number}
@@ -112,13 +112,6 @@ pub record RunsStandSo (plan : Plan) (moves : List Move) : Type 0 where
   pub shows : Shows requests (past plan moves) (length moves)
   pub apart : CallsAreApart requests
   pub out : AskedIsOut (past plan moves)
-
--- to be shown
-abbrev pub SchedulesStandSo : Type 0
-SchedulesStandSo = (plan : Plan) (moves : List Move) → IsSchedule plan moves → DrawsDiffer (past plan moves).world → RunsStandSo plan moves
-
-abbrev pub SchedulesAreHeard : Type 0
-SchedulesAreHeard = (plan : Plan) (moves : List Move) → IsSchedule plan moves → DrawsDiffer (past plan moves).world → UnitsAreHeard (past plan moves)
 
 -- no number comes round within a schedule
 abbrev pub NumbersSuffice : Type 0

@@ -1,5 +1,5 @@
--- All that is left to show of a run whose draws differ, so that the claims on answers hold of it: each fact is of one
--- unit of the bag, one message or one step.
+-- What the claims on answers rest on in a run whose draws differ: each fact is of one unit of the bag, one message or
+-- one step.
 use Rattle.std.specs.Prelude.{ℕ, ◌≡◌, List, map}
 use Rattle.channel_events.specs.Requests.{CallsAreApart, Requests}
 use Rattle.step_notes.specs.Records.{Sent}

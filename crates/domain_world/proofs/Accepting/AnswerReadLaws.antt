@@ -1,0 +1,395 @@
+-- What a member reads where it takes an answer in its turn, and what it tells then: the reply, how it is judged on the
+-- channel that stands, the outcome of the logon of the place, and which logons it keeps.
+-- It serves `schedules_are_heard`.
+use Rattle.std.proofs.Common.{◌≡◌, ◌≢◌, ℕ, ◌==◌, Bool, true, false, List, [], ◌∷◌, ◌++◌, map, replicate, Option, Some, None, Result, Ok, Err, refl, sym, ap, subst, ◌∙◌, if◌then◌else◌}
+use Rattle.std.specs.List.{AllByRecursion}
+use Rattle.std.proofs.lemmas.Bool.Decides.{Decides-eqb}
+use Rattle.wire_base.specs.Maps.{has_key, lookup, same_number, take_out}
+use Rattle.wire_base.specs.declared.authenticator.Authenticator.{Authenticator}
+use Rattle.outside.specs.Machine.{Part, then_part}
+use Rattle.outside.specs.declared.action.Action.{Action}
+use Rattle.outside.specs.declared.action.Action.TheVariants as action
+use Rattle.outside.specs.declared.action.CloseCause.TheVariants as close
+use Rattle.outside.specs.declared.action.StepRefused.{StepRefused}
+use Rattle.outside.specs.declared.event.Event.TheVariants as event
+use Rattle.rpc_units.specs.Calls.{IsHeard}
+use Rattle.rpc_units.specs.Joining.{AddsTo, open_after, stub_of}
+use Rattle.rpc_units.specs.Stream.{cut_stream}
+use Rattle.rpc_units.specs.Writing.{written}
+use Rattle.rpc_units.specs.declared.refused.JoinRefused.{JoinRefused}
+use Rattle.rpc_units.specs.declared.unit.Body.{Body}
+use Rattle.rpc_units.specs.declared.unit.Body.TheVariants.{Bind, BindAck, BindNak, Auth3, Request, Response, Fault}
+use Rattle.rpc_units.specs.declared.unit.Unit.{Unit as RpcUnit}
+use Rattle.logon_stubs.specs.Calls.{reply_of}
+use Rattle.logon_stubs.specs.Status.{access_denied}
+use Rattle.logon_stubs.specs.declared.calls.LogonReply.{LogonReply}
+use Rattle.logon_stubs.specs.declared.calls.Reply.{Reply}
+use Rattle.logon_stubs.specs.declared.calls.Reply.TheVariants as reply
+use Rattle.logon_stubs.specs.declared.info.Verdict.{Verdict}
+use Rattle.logon_stubs.specs.declared.refused.StubRefused.{StubRefused}
+use Rattle.end_links.specs.Links.{LinkState}
+use Rattle.end_links.specs.Serving.{ServedPart}
+use Rattle.channel_client.specs.Effects.{ArePlacesApart}
+use Rattle.channel_client.specs.Machine.{Starting, Taking, act, can_start, hear, hear_ack, hear_body, hear_by, hear_reply, hear_stub, is_accepting, judge, judge_auth, judge_challenge, judge_credential, judge_flags, judge_logon, needs_challenge, opnum_asked, settle, start_of, take_of}
+use Rattle.channel_client.specs.Opened.{OpenState}
+use Rattle.channel_client.specs.State.{Requester}
+use Rattle.channel_client.specs.declared.answers.Taken.{Taken}
+use Rattle.channel_client.specs.declared.answers.Taken.TheVariants as taken
+use Rattle.channel_client.specs.declared.hearing.Hearing.{Hearing}
+use Rattle.channel_client.specs.declared.hearing.Hearing.TheVariants as hearing
+use Rattle.channel_client.specs.declared.judging.Judgement.{Judgement}
+use Rattle.channel_client.specs.declared.judging.Judgement.TheVariants as judgement
+use Rattle.channel_client.specs.declared.state.Pending.{Pending}
+use Rattle.channel_client.specs.declared.state.Question.{Question}
+use Rattle.channel_client.specs.declared.state.Question.TheVariants as question
+use Rattle.channel_client.specs.declared.state.Standing.{Standing}
+use Rattle.channel_client.specs.declared.state.Standing.TheVariants as standing
+use Rattle.channel_client.specs.declared.state.Step.{Step}
+use Rattle.channel_client.specs.declared.state.Step.TheVariants as step
+use Rattle.channel_client.specs.declared.state.Waiting.{Waiting}
+use Rattle.member_server.specs.Laws.{heard_if, heard_in, then_whole, whole_by, whole_units}
+use Rattle.member_server.specs.Machine.{after_turn, at_turn, by_event, bytes_by, event_part, keep_turn, serve_dialled, work_of}
+use Rattle.member_server.specs.Outcomes.{after_link, at_link, end_found, end_logon, keep_link, outcome_of, phase_after, reach_link, tell_outcome, turn_link, turn_waiting, waiting_at, without_link, without_logon}
+use Rattle.member_server.specs.Turns.{Desk, desk_part, dial_by, dial_for, do_taken, ending_of, next_turn, take_by, tell_turn_closed, timestamp_of, turn_by, with_requester, with_work}
+use Rattle.member_server.specs.Units.{serve_held}
+use Rattle.member_server.specs.declared.outcomes.Ending.{Ending}
+use Rattle.member_server.specs.declared.state.AtLink.{AtLink}
+use Rattle.member_server.specs.declared.state.AtTurn.{AtTurn}
+use Rattle.member_server.specs.declared.state.Bound.{Bound}
+use Rattle.member_server.specs.declared.state.Dialling.{Dialling}
+use Rattle.member_server.specs.declared.state.Dialling.TheVariants as dialling
+use Rattle.member_server.specs.declared.state.Logon.{Logon}
+use Rattle.member_server.specs.declared.state.Running.{Running}
+use Rattle.member_server.specs.declared.state.Talk.{Talk}
+use Rattle.member_server.specs.declared.state.TurnTalk.{TurnTalk}
+use Rattle.member_server.specs.declared.state.Work.{Work}
+use Rattle.member_server.specs.Work.{Served}
+use Rattle.channel_events.specs.Marks.{OneOf}
+use Rattle.channel_events.proofs.ListLaws.{one_last, some_is}
+use Rattle.step_notes.specs.CallLogons.{waiting_for}
+use Rattle.step_notes.proofs.Controllers.HeardLaws.{AreRead, each_read}
+use Rattle.step_notes.proofs.Members.KeptLogonLaws.{OfEach, one_before}
+use Rattle.step_notes.proofs.Members.SameLogonLaws.{Grows, grows_not, held_idle}
+use Rattle.step_notes.proofs.Members.TurnHeardLaws.{members_take}
+use Rattle.step_notes.proofs.Members.UnservedLaws.{ended_serves}
+
+-- ---- the reply that is taken as an answer
+
+-- The turn waited for the reply to a Logon call of the place, on a channel that stood; the unit has its number, and the
+-- reply that is read in it has an authenticator and is judged so.
+pub record IsAnswerOf (c : Requester) (unit : RpcUnit) (place : ℕ) (verdict : Verdict) : Type 0 where
+  pub pending : Pending
+  pub turn : c.turn ≡ Some pending
+  pub same_place : place ≡ pending.place
+  pub asked : pending.step ≡ step.Reply question.Logon
+  pub number : unit.call ≡ pending.number
+  pub stood : OpenState
+  pub stands : c.standing ≡ standing.Open stood
+  pub read : LogonReply
+  pub reads : reply_of 2 (stub_of unit.body) ≡ Ok (reply.Logon read)
+  pub given : Authenticator
+  pub returned : read.returned ≡ Some given
+  pub later : OpenState
+  pub judged : judge_logon (read.status == access_denied) (standing.Open stood) read.returned read.status read.level read.info ≡ judgement.Answer later verdict
+
+-- a reply that answers
+abbrev IsReplyTo : Judgement → Standing → Question → Reply → Verdict → Type 0
+IsReplyTo j how q r verdict =
+    (q ≡ question.Logon) × (read : LogonReply) × (r ≡ reply.Logon read) × (given : Authenticator) × (read.returned ≡ Some given) × (stood : OpenState) × (how ≡ standing.Open stood)
+    × (later : OpenState) × (judge_logon (read.status == access_denied) (standing.Open stood) read.returned read.status read.level read.info ≡ judgement.Answer later verdict)
+
+abbrev IfAnswer : Judgement → (Verdict → Type 0) → Type 0
+IfAnswer (judgement.Half client server) Is = Unit {0}
+IfAnswer (judgement.Opened o) Is = Unit {0}
+IfAnswer (judgement.Answer o verdict) Is = Is verdict
+IfAnswer (judgement.Drop cause) Is = Unit {0}
+
+challenge_no : (zero : Bool) (client server : List ℕ) (Is : Verdict → Type 0) → IfAnswer (judge_challenge zero client server) Is
+challenge_no false client server Is = tt
+challenge_no true client server Is = tt
+
+flags_no : (right : Bool) (secret client server : List ℕ) (Is : Verdict → Type 0) → IfAnswer (judge_flags right secret client server) Is
+flags_no false secret client server Is = tt
+flags_no true secret client server Is = tt
+
+credential_no : (right : Bool) (secret client server : List ℕ) (flags : ℕ) (Is : Verdict → Type 0) → IfAnswer (judge_credential right secret client server flags) Is
+credential_no false secret client server flags Is = tt
+credential_no true secret client server flags Is = flags_no _ secret client server Is
+
+auth_no : (zero : Bool) (how : Standing) (secret credential : List ℕ) (flags : ℕ) (Is : Verdict → Type 0) → IfAnswer (judge_auth zero how secret credential flags) Is
+auth_no false how secret credential flags Is = tt
+auth_no true standing.Nothing secret credential flags Is = tt
+auth_no true (standing.Half client server) secret credential flags Is = credential_no _ secret client server flags Is
+auth_no true (standing.Open o) secret credential flags Is = tt
+
+answer_if : (j : Judgement) (Is : Verdict → Type 0) → ((later : OpenState) (verdict : Verdict) → j ≡ judgement.Answer later verdict → Is verdict) → IfAnswer j Is
+answer_if (judgement.Half client server) Is so = tt
+answer_if (judgement.Opened o) Is so = tt
+answer_if (judgement.Answer o verdict) Is so = so o verdict refl
+answer_if (judgement.Drop cause) Is so = tt
+
+return_answer : (denied : Bool) (how : Standing) (given : Option Authenticator) (read : LogonReply) → (read.status == access_denied) ≡ denied → read.returned ≡ given →
+    IfAnswer (judge_logon denied how given read.status read.level read.info)
+    (λ verdict. IsReplyTo (judge_logon denied how given read.status read.level read.info) how question.Logon (reply.Logon read) verdict)
+return_answer true how given read denied is = tt
+return_answer false standing.Nothing given read denied is = tt
+return_answer false (standing.Half client server) given read denied is = tt
+return_answer false (standing.Open o) None read denied is = tt
+return_answer false (standing.Open o) (Some given) read denied is =
+    answer_if (judge_logon false (standing.Open o) (Some given) read.status read.level read.info)
+    (λ verdict. IsReplyTo (judge_logon false (standing.Open o) (Some given) read.status read.level read.info) (standing.Open o) question.Logon (reply.Logon read) verdict)
+    (λ later verdict judged. (
+      refl,
+      read,
+      refl,
+      given,
+      is,
+      o,
+      refl,
+      later,
+      ap (λ (b : Bool). judge_logon b (standing.Open o) read.returned read.status read.level read.info) denied
+          ∙ ap (λ (g : Option Authenticator). judge_logon false (standing.Open o) g read.status read.level read.info) is ∙ judged,
+    ))
+
+judge_answer : (q : Question) (r : Reply) (how : Standing) (secret : List ℕ) → IfAnswer (judge q r how secret) (λ verdict. IsReplyTo (judge q r how secret) how q r verdict)
+judge_answer (question.Challenge client) (reply.Challenge r) how secret = challenge_no (r.status == 0) client r.challenge _
+judge_answer (question.Challenge client) (reply.Authenticate r) how secret = tt
+judge_answer (question.Challenge client) (reply.Logon r) how secret = tt
+judge_answer (question.Challenge client) (reply.Logoff r) how secret = tt
+judge_answer question.Authenticate (reply.Challenge r) how secret = tt
+judge_answer question.Authenticate (reply.Authenticate r) how secret = auth_no (r.status == 0) how secret r.credential r.flags _
+judge_answer question.Authenticate (reply.Logon r) how secret = tt
+judge_answer question.Authenticate (reply.Logoff r) how secret = tt
+judge_answer question.Logon (reply.Challenge r) how secret = tt
+judge_answer question.Logon (reply.Authenticate r) how secret = tt
+judge_answer question.Logon (reply.Logon r) how secret = return_answer (r.status == access_denied) how r.returned r refl refl
+judge_answer question.Logon (reply.Logoff r) how secret = tt
+
+-- what is heard is judged as that
+settled_answer : (j : Judgement) (c : Requester) (place : ℕ) (verdict : Verdict) (Is : Verdict → Type 0) → (settle j c).taken ≡ taken.Answer place verdict → IfAnswer j Is → (pending : Pending) → c.turn ≡ Some pending →
+    (place ≡ pending.place) × Is verdict
+settled_answer (judgement.Half client server) c place verdict Is is answers pending turn = let x = is in cc
+settled_answer (judgement.Opened o) c place verdict Is is answers pending turn = let x = is in cc
+settled_answer (judgement.Answer o v) c place verdict Is is answers pending turn =
+    let both : taken.Answer pending.place v ≡ taken.Answer place verdict = ap (λ (t : Option Pending). (settle (judgement.Answer o v) (record c { turn = t })).taken) (sym turn) ∙ is in
+    let places : pending.place ≡ place = (let x = both in cc) in
+    let verdicts : v ≡ verdict = (let x = both in cc) in
+    (sym places, subst Is verdicts answers)
+settled_answer (judgement.Drop cause) c place verdict Is is answers pending turn = let x = is in cc
+
+module _ (c : Requester) (unit : RpcUnit) (place : ℕ) (verdict : Verdict) where
+  abbrev Acts : Hearing → Type 0
+  Acts h = (act h c).taken ≡ taken.Answer place verdict → IsAnswerOf c unit place verdict
+
+  dropped : (h : Hearing) (cause : _) → h ≡ hearing.Drop cause → Acts h
+  dropped h cause is acts = let never : taken.Dropped _ cause ≡ taken.Answer place verdict = sym (ap (λ (h : Hearing). (act h c).taken) is) ∙ acts in absurd (let x = never in cc)
+
+  ack_acts : (accepts : Bool) (s : Step) (receive : ℕ) → Acts (hear_ack accepts s receive c.next_call)
+  ack_acts false s receive acts = let x = acts in cc
+  ack_acts true (step.Bind call) receive acts = let x = acts in cc
+  ack_acts true (step.Reply q) receive acts = let x = acts in cc
+
+  reply_acts : (pending : Pending) (stub : List ℕ) (q : Question) (found : Result Reply StubRefused) → c.turn ≡ Some pending → unit.call ≡ pending.number → pending.step ≡ step.Reply q →
+      stub_of unit.body ≡ stub → reply_of (opnum_asked q) stub ≡ found → Acts (hear_reply q found)
+  reply_acts pending stub q (Err why) turn number asked carried is acts = let x = acts in cc
+  reply_acts pending stub q (Ok r) turn number asked carried is acts =
+      let so = settled_answer (judge q r c.standing c.caller.secret) c place verdict (λ v. IsReplyTo (judge q r c.standing c.caller.secret) c.standing q r v) acts
+      (judge_answer q r c.standing c.caller.secret) pending turn in
+      let its = so.1 in
+      record {
+        pending = pending;
+        turn = turn;
+        same_place = so.0;
+        asked = asked ∙ ap step.Reply its.0;
+        number = number;
+        stood = its.5;
+        stands = its.6;
+        read = its.1;
+        reads = ap (λ (s : List ℕ). reply_of 2 s) carried ∙ sym (ap (λ (x : Question). reply_of (opnum_asked x) stub) its.0) ∙ is ∙ ap (λ (x : Reply). Ok x) its.2;
+        given = its.3;
+        returned = its.4;
+        later = its.7;
+        judged = its.8;
+      }
+
+  stub_acts : (pending : Pending) (s : Step) (stub : List ℕ) → c.turn ≡ Some pending → unit.call ≡ pending.number → pending.step ≡ s → stub_of unit.body ≡ stub → Acts (hear_stub s stub)
+  stub_acts pending (step.Bind call) stub turn number is carried acts = let x = acts in cc
+  stub_acts pending (step.Reply q) stub turn number is carried acts = reply_acts pending stub q (reply_of (opnum_asked q) stub) turn number is carried refl acts
+
+  body_acts : (pending : Pending) (body : Body) → c.turn ≡ Some pending → unit.call ≡ pending.number → unit.body ≡ body → Acts (hear_body body pending.step c.next_call)
+  body_acts pending (BindNak reason) turn number is acts = let x = acts in cc
+  body_acts pending (BindAck send receive group results) turn number is acts = ack_acts (is_accepting results) pending.step receive acts
+  body_acts pending (Fault hint context status) turn number is acts = let x = acts in cc
+  body_acts pending (Response hint context stub) turn number is acts = stub_acts pending pending.step stub turn number refl (ap stub_of is) acts
+  body_acts pending (Bind send receive group contexts) turn number is acts = let x = acts in cc
+  body_acts pending (Request hint context opnum stub) turn number is acts = let x = acts in cc
+  body_acts pending Auth3 turn number is acts = let x = acts in cc
+
+  numbered_acts : (hit : Bool) (pending : Pending) → c.turn ≡ Some pending → (unit.call == pending.number) ≡ hit → Acts (hear_by hit pending unit c.next_call)
+  numbered_acts false pending turn is acts = let x = acts in cc
+  numbered_acts true pending turn is acts = body_acts pending unit.body turn ((Decides-eqb unit.call pending.number).0 is) refl acts
+
+  turn_acts : (turn : Option Pending) → c.turn ≡ turn → Acts (hear turn unit c.next_call)
+  turn_acts None is acts = let x = acts in cc
+  turn_acts (Some pending) is acts = numbered_acts (unit.call == pending.number) pending is refl acts
+
+  -- what is taken as an answer
+  pub answer_is : (take_of c unit).taken ≡ taken.Answer place verdict → IsAnswerOf c unit place verdict
+  answer_is is = turn_acts c.turn refl is
+
+-- ---- what is heard of a whole unit
+
+frames_whole : (unit : RpcUnit) (frames : List RpcUnit) (joiner : Option RpcUnit) → AreRead frames → AddsTo joiner frames unit → whole_units (map written frames) joiner ≡ unit ∷ []
+frames_whole unit [] joiner read adds = absurd adds
+frames_whole unit (frame ∷ []) joiner read adds =
+    ap (λ (r : _). whole_by r joiner (λ after. whole_units [] after)) read.0 ∙ ap (λ (a : Result (Option RpcUnit) JoinRefused). then_whole a []) adds
+frames_whole unit (frame ∷ next ∷ frames) joiner read adds =
+    ap (λ (r : _). whole_by r joiner (λ after. whole_units (map written (next ∷ frames)) after)) read.0
+    ∙ ap (λ (a : Result (Option RpcUnit) JoinRefused). then_whole a (whole_units (map written (next ∷ frames)) (open_after joiner frame))) adds.0
+    ∙ frames_whole unit (next ∷ frames) (open_after joiner frame) read.1 adds.1
+
+-- The turn is on that link, nothing is open on it, and the bytes are those of one whole unit.
+pub record HearsWhole (running : Running) (number : ℕ) (bytes : List ℕ) (unit : RpcUnit) : Type 0 where
+  pub said : LinkState TurnTalk
+  pub frames : List RpcUnit
+  pub on : running.dialling ≡ dialling.On number said
+  pub rest : said.rest ≡ []
+  pub none : said.talk.joiner ≡ None
+  pub heard : IsHeard bytes frames unit
+
+pub heard_whole : (running : Running) (number : ℕ) (bytes : List ℕ) (unit : RpcUnit) → HearsWhole running number bytes unit → heard_in (event.Bytes number bytes) running.dialling ≡ unit ∷ []
+heard_whole running number bytes unit hears =
+    ap (λ (how : Dialling). heard_in (event.Bytes number bytes) how) hears.on
+    ∙ ap (λ (hit : Bool). heard_if hit hears.said bytes) ((Decides-eqb number number).1 refl)
+    ∙ ap (λ (r : List ℕ). whole_units (cut_stream (r ++ bytes)).units hears.said.talk.joiner) hears.rest
+    ∙ ap (λ (cut : _). whole_units cut.units hears.said.talk.joiner) hears.heard.stream
+    ∙ ap (λ (joiner : Option RpcUnit). whole_units (map written hears.frames) joiner) hears.none
+    ∙ frames_whole unit hears.frames None (each_read hears.frames hears.heard.read) hears.heard.joined
+
+-- ---- what the event comes to
+
+abbrev taken_part : ℕ → List ℕ → RpcUnit → Work → List (List ℕ) → Result (Part Desk) StepRefused
+taken_part number bytes unit w left =
+    after_turn (Ok (record { value = take_by (take_of w.logons.channel unit) None (at_turn number w); left = left })) (cut_stream bytes).rest number
+
+event_takes : (running : Running) (number : ℕ) (bytes : List ℕ) (unit : RpcUnit) (left : List (List ℕ)) → HearsWhole running number bytes unit →
+    by_event (event.Bytes number bytes) running.dialling (work_of running) left ≡ taken_part number bytes unit (work_of running) left
+event_takes running number bytes unit left hears =
+    let w : Work = work_of running in
+    let said : LinkState TurnTalk = hears.said in
+    ap (λ (how : Dialling). by_event (event.Bytes number bytes) how w left) hears.on
+    ∙ ap (λ (hit : Bool). bytes_by hit said number bytes (dialling.On number said) w left) ((Decides-eqb number number).1 refl)
+    ∙ ap (λ (r : List ℕ). serve_dialled (cut_stream (r ++ bytes)) number said.talk w left) hears.rest
+    ∙ ap (λ (p : ServedPart AtTurn TurnTalk). after_turn p (cut_stream bytes).rest number)
+    (members_take.comes bytes hears.frames unit (at_turn number w) said.talk left hears.heard hears.none)
+
+-- ---- what is done behind the outcome, and when the next turn starts: logons are kept, and actions come behind
+
+record IsDone (before after : Work) : Type 0 where
+  asked : after.logons.asked ≡ before.logons.asked
+  grows : Grows before.actions after.actions
+
+kept_done : (said : Option Talk) (rest : List ℕ) (number : ℕ) (at : AtLink) (w : Work) → at.logons ≡ w.logons → Grows w.actions at.actions → IsDone w (keep_link said rest number (after_link at w))
+kept_done None rest number at w same grows = record { asked = ap (λ (l : _). l.asked) same; grows = grows }
+kept_done (Some talk) rest number at w same grows = record { asked = ap (λ (l : _). l.asked) same; grows = grows }
+
+waiting_done : (x : Bound × List (List ℕ)) (link : LinkState Talk) (how : Ending) (logon : Logon) (w : Work) → IsDone w (turn_waiting x link how logon w)
+waiting_done x link how logon w =
+    let at : AtLink = at_link logon.link w in
+    let talk : Talk = record { joiner = link.talk.joiner; phase = phase_after how logon x.0 } in
+    let served : Served = serve_held x.1 at talk in
+    let idle = held_idle x.1 at talk (ended_serves how logon x.0) in
+    kept_done served.1 link.rest logon.link served.0 w idle.0 idle.2
+
+link_done : (x : Option (Bound × List (List ℕ))) (link : LinkState Talk) (how : Ending) (logon : Logon) (w : Work) → IsDone w (turn_link x link how logon w)
+link_done None link how logon w = record { asked = refl; grows = grows_not w.actions }
+link_done (Some x) link how logon w =
+    let done : IsDone (without_link logon.link w) (turn_waiting x link how logon (without_link logon.link w)) = waiting_done x link how logon (without_link logon.link w) in
+    record { asked = done.asked; grows = done.grows }
+
+reach_done : (found : Option (LinkState Talk)) (place : ℕ) (how : Ending) (logon : Logon) (w : Work) → IsDone w (reach_link found place how logon w)
+reach_done None place how logon w = record { asked = refl; grows = grows_not w.actions }
+reach_done (Some link) place how logon w = link_done (waiting_at place link.talk.phase) link how logon w
+
+dialled_done : (start : Option (Unit {0} × List (List ℕ))) (w : Work) (how : Dialling) → IsDone w (dial_for start w how).0
+dialled_done None w how = record { asked = refl; grows = grows_not w.actions }
+dialled_done (Some start) w how = record { asked = refl; grows = record { more = action.Dial w.logons.plan.controller ∷ []; is = refl } }
+
+started_done : (starting : Starting) (w : Work) (how : Dialling) → IsDone w (dial_by starting w how).0
+started_done starting w how =
+    let done : IsDone (with_requester w starting.state) (dial_by starting w how).0 = dialled_done starting.answer (with_requester w starting.state) how in
+    record { asked = done.asked; grows = done.grows }
+
+same_done : (w : Work) (desk : Desk) (left : List (List ℕ)) (part : Part Desk) → IsDone w desk.0 → desk_part desk.0 desk.1 left ≡ Ok part → IsDone w part.value.0
+same_done w desk left part done is =
+    let same : record { value = desk; left = left } ≡ part = (let x = is in cc) in
+    subst (λ (p : Part Desk). IsDone w p.value.0) same done
+
+next_done : (starts needs : Bool) (now : ℕ) (w : Work) (how : Dialling) (left : List (List ℕ)) (part : Part Desk) → turn_by starts needs now w how left ≡ Ok part → IsDone w part.value.0
+next_done false needs now w how left part is = same_done w (w, how) left part (record { asked = refl; grows = grows_not w.actions }) is
+next_done true false now w how left part is = same_done w (dial_by (start_of w.logons.channel (timestamp_of now) (replicate 8 0)) w how) left part (started_done _ w how) is
+next_done true true now w how [] part is = let x = is in cc
+next_done true true now w how (challenge ∷ left) part is = same_done w (dial_by (start_of w.logons.channel (timestamp_of now) challenge) w how) left part (started_done _ w how) is
+
+-- ---- the outcome of the logon of an answer
+
+-- the outcome is told, and the logon of the place is kept no more
+pub record TellsAnswer (running : Running) (place : ℕ) (logon : Logon) (verdict : Verdict) (part : Part Desk) : Type 0 where
+  pub told : OneOf (λ (what : Action). what ≡ action.Told logon.link (outcome_of (ending_of verdict) logon)) part.value.0.actions
+  pub asked : part.value.0.logons.asked ≡ take_out same_number place running.logons.asked
+
+ended : (found : Option Logon) (place : ℕ) (how : Ending) (logon : Logon) (w : Work) → found ≡ Some logon →
+    OneOf (λ (what : Action). what ≡ action.Told logon.link (outcome_of how logon)) (end_found found place how w).actions × ((end_found found place how w).logons.asked ≡ w.logons.asked)
+ended None place how logon w is = let x = is in cc
+ended (Some other) place how logon w is =
+    let same : other ≡ logon = some_is other logon is in
+    let tells : Action → Type 0 = λ (what : Action). what ≡ action.Told logon.link (outcome_of how logon) in
+    let told : Work = tell_outcome how other w in
+    let done : IsDone told (end_found (Some other) place how w) = reach_done (lookup same_number other.link w.links) place how other told in (
+      subst (λ (actions : List Action). OneOf tells actions) (sym done.grows.is)
+          (one_before tells told.actions done.grows.more
+          (one_last tells w.actions (action.Told other.link (outcome_of how other)) (ap (λ (l : Logon). action.Told l.link (outcome_of how l)) same))),
+      done.asked,
+    )
+
+pub answer_tells : (running : Running) (number : ℕ) (bytes : List ℕ) (unit : RpcUnit) (now : ℕ) (left : List (List ℕ)) (part : Part Desk) (place : ℕ) (verdict : Verdict) (logon : Logon) →
+    HearsWhole running number bytes unit → event_part running (event.Bytes number bytes) now left ≡ Ok part →
+    (take_of running.logons.channel unit).taken ≡ taken.Answer place verdict → lookup same_number place running.logons.asked ≡ Some logon → TellsAnswer running place logon verdict part
+answer_tells running number bytes unit now left part place verdict logon hears is answers there =
+    let w : Work = work_of running in
+    let taking : Taking = take_of running.logons.channel unit in
+    let at : AtTurn = with_work (at_turn number w) (with_requester w taking.state) in
+    let closed : Work = without_logon place (tell_turn_closed close.CallDone at) in
+    let after : Work = end_logon place (ending_of verdict) (tell_turn_closed close.CallDone at) in
+    let taken_work : (do_taken taking.taken None at).0.work ≡ after = ap (λ (t : Taken). (do_taken t None at).0.work) answers in
+    let mid : Work = (take_by taking None (at_turn number w)).0.work in
+    let how : Dialling = keep_turn (take_by taking None (at_turn number w)).1 (cut_stream bytes).rest number in
+    let next : turn_by (can_start mid.logons.channel.turn mid.logons.channel.waiting) (needs_challenge mid.logons.channel.standing) now mid how left ≡ Ok part =
+    sym (ap (λ (p : Result (Part Desk) StepRefused). then_part p (next_turn now)) (event_takes running number bytes unit left hears)) ∙ is in
+    let done : IsDone mid part.value.0 =
+    next_done (can_start mid.logons.channel.turn mid.logons.channel.waiting) (needs_challenge mid.logons.channel.standing) now mid how left part next in
+    let tells : Action → Type 0 = λ (what : Action). what ≡ action.Told logon.link (outcome_of (ending_of verdict) logon) in
+    let its = ended (lookup same_number place running.logons.asked) place (ending_of verdict) logon closed there in
+    record {
+      told = subst (λ (actions : List Action). OneOf tells actions) (sym done.grows.is)
+          (one_before tells mid.actions done.grows.more (subst (λ (x : Work). OneOf tells x.actions) (sym taken_work) its.0));
+      asked = done.asked ∙ ap (λ (x : Work). x.logons.asked) taken_work ∙ its.1;
+    }
+
+-- ---- the other logons have other places
+
+others_differ : (place : ℕ) (asked : List (ℕ × Logon)) → AllByRecursion (λ (later : Waiting). place ≢ later.place) (map waiting_for asked) → OfEach (λ (other : ℕ) (logon : Logon). other ≢ place) asked
+others_differ place [] apart = tt
+others_differ place (entry ∷ asked) apart = ((λ is. apart.0 (sym is)), others_differ place asked apart.1)
+
+out_differ_if : (hit : Bool) (place : ℕ) (entry : ℕ × Logon) (asked rest : List (ℕ × Logon)) → (place == entry.0) ≡ hit → AllByRecursion (λ (later : Waiting). entry.0 ≢ later.place) (map waiting_for asked) →
+    OfEach (λ (other : ℕ) (logon : Logon). other ≢ place) rest → OfEach (λ (other : ℕ) (logon : Logon). other ≢ place) (if hit then asked else entry ∷ rest)
+out_differ_if true place entry asked rest is apart later =
+    others_differ place asked (subst (λ (n : ℕ). AllByRecursion (λ (w : Waiting). n ≢ w.place) (map waiting_for asked)) (sym ((Decides-eqb place entry.0).0 is)) apart)
+out_differ_if false place entry asked rest is apart later =
+    ((λ same. let both : true ≡ false = sym ((Decides-eqb place entry.0).1 (sym same)) ∙ is in absurd (let x = both in cc)), later)
+
+pub out_differ : (place : ℕ) (asked : List (ℕ × Logon)) → ArePlacesApart (map waiting_for asked) → OfEach (λ (other : ℕ) (logon : Logon). other ≢ place) (take_out same_number place asked)
+out_differ place [] apart = tt
+out_differ place (entry ∷ asked) apart =
+    out_differ_if (has_key same_number place entry) place entry asked (take_out same_number place asked) refl apart.0 (out_differ place asked apart.1)
