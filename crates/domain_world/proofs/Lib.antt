@@ -1,6 +1,6 @@
 mod Accepting
 mod Challenges
-mod Frames
+pub mod Frames
 mod HeadlineLaws
 pub mod Judgements
 mod Requests
