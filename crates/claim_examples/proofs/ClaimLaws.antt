@@ -60,7 +60,7 @@ the_last : (b : Judging) (between : List Judging) (first : Judging) (earlier : L
 the_last b [] first earlier is = (refl, cc)
 the_last b (one ∷ between) first earlier is = absurd (not_empty between first earlier (let rest : [] ≡ between ++ first ∷ earlier = cc in rest))
 
-the_two : (a b : Judging) (later : List Judging) (second : Judging) (between : List Judging) (first : Judging) (earlier : List Judging) →
+pub the_two : (a b : Judging) (later : List Judging) (second : Judging) (between : List Judging) (first : Judging) (earlier : List Judging) →
     a ∷ b ∷ [] ≡ later ++ second ∷ (between ++ first ∷ earlier) → (second ≡ a) × (between ≡ []) × (first ≡ b)
 the_two a b [] second between first earlier is =
     let rest : b ∷ [] ≡ between ++ first ∷ earlier = cc in
@@ -88,7 +88,7 @@ the_three a b c (one ∷ later) second between first earlier is =
     inr (the_two b c later second between first earlier (let rest : b ∷ c ∷ [] ≡ later ++ second ∷ (between ++ first ∷ earlier) = cc in rest))
 
 -- a call that passed alone moved the seed by its timestamp and one
-moved_by_one : (channel : Channel) (between : List Judging) (first j : Judging) → between ≡ [] → first ≡ j → passed_on channel first ≡ true → moved_on channel (between ++ first ∷ []) ≡ timestamp_of j + 1 + 0
+pub moved_by_one : (channel : Channel) (between : List Judging) (first j : Judging) → between ≡ [] → first ≡ j → passed_on channel first ≡ true → moved_on channel (between ++ first ∷ []) ≡ timestamp_of j + 1 + 0
 moved_by_one channel between first j none is passed =
     ap (λ (all : List Judging). moved_on channel (all ++ first ∷ [])) none
     ∙ ap (λ (one : Judging). moved_on channel (one ∷ [])) is
@@ -149,7 +149,7 @@ of_call : (passes : Bool) (j : Judging) (channel : Channel) → is_channel (chan
 of_call false j channel is = absurd cc
 of_call true j channel is = of_computer j.controller j.logon.computer j.computers channel is
 
-its_controller : (channel : Channel) (j : Judging) → passed_on channel j ≡ true → j.controller ≡ channel.controller
+pub its_controller : (channel : Channel) (j : Judging) → passed_on channel j ≡ true → j.controller ≡ channel.controller
 its_controller channel j is = of_call (has_passed j.how) j channel is
 
 wraps_apart : Wraps (elsewhere (on_channel last_timestamp) ∷ on_channel last_timestamp ∷ []) → ⊥
@@ -159,7 +159,7 @@ wraps_apart wraps =
     let first : 0 ≡ wraps.channel.controller = sym (ap Judging.controller parts.2) ∙ its_controller wraps.channel wraps.first wraps.first_passed in
     absurd (let never : 1 ≡ 0 = second ∙ sym first in cc)
 
-of_wraps : OfWraps
+pub of_wraps : OfWraps
 of_wraps = record {
   meets = record {
     channel = small_name;

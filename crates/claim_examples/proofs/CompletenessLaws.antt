@@ -284,7 +284,7 @@ client_follows = record {
   workstation = omega arith;
 }
 
-lost_schedule : IsSchedule lost_plan lost_moves
+pub lost_schedule : IsSchedule lost_plan lost_moves
 lost_schedule = record {
   start = record { tables = refl; clients = All-from_recursion CanLogOn lost_plan.clients (client_follows, tt) };
   forms = record {

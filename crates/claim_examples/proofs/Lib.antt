@@ -3,6 +3,7 @@ mod CompletenessLaws
 mod GrantExampleLaws
 mod LetInExampleLaws
 mod LogonLaws
+mod NearMissLaws
 mod OwnChallengeExampleLaws
 mod ReplyExampleLaws
 mod SequenceLaws

@@ -79,7 +79,7 @@ accepted_second = record {
 }
 
 -- the step that gave the answer is this one
-this_step : (j other : Judging) → Some j ≡ Some other → j ≡ other
+pub this_step : (j other : Judging) → Some j ≡ Some other → j ≡ other
 this_step j other is = cc
 
 -- ---- accepting only what is granted
@@ -185,7 +185,7 @@ of_accepting_all = record {
 }
 
 -- no channel is kept, and a base key isn't empty
-free_small : TravelsAsZeros judging (info_asked message) → ⊥
+pub free_small : TravelsAsZeros judging (info_asked message) → ⊥
 free_small is = absurd (let none : 16 ≡ 0 = sym (length-base_key_of (stored_hash judging (info_asked message)) _ _ _) ∙ ap length is in cc)
 
 pub of_keys : OfKeys
@@ -223,7 +223,7 @@ not_short : (hash : List ℕ) (link : ℕ) → IsPlainlyAccepted (small_run (two
 not_short hash link one = absurd (let never : 25 ≡ 24 = one.short in cc)
 
 -- a response of extended session security answers a hashed challenge
-extended_pair : is_ess_pair extended_flags extended_message.lm extended_message.nt ≡ true
+pub extended_pair : is_ess_pair extended_flags extended_message.lm extended_message.nt ≡ true
 unfolding is_ess_pair
 extended_pair = ap (λ (n : ℕ). n == 24) (length-response_ess_of small_hash small_challenge (replicate 8 1))
 

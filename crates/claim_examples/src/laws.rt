@@ -3,6 +3,7 @@
 ghost use Rattle.claim_examples.specs.TellApart.{ClaimsTellApart};
 ghost use Rattle.claim_examples.specs.GrantExamples.{GrantsTellApart};
 ghost use Rattle.claim_examples.specs.LetInExamples.{OfLettingIn};
+ghost use Rattle.claim_examples.specs.NearMisses.{NearMissesTellApart};
 ghost use Rattle.claim_examples.specs.OwnChallengeExamples.{OfOwnChallenges};
 ghost use Rattle.claim_examples.specs.ReplyExamples.{OfReplies};
 
@@ -42,4 +43,11 @@ pub fn grants_tell_apart()
 #[tactic(auto, using(crate::proofs::OwnChallengeExampleLaws::of_own_challenges))]
 pub fn own_challenges_tell_apart()
     ensures { OfOwnChallenges }
+{}
+
+/// Claims on accepting, keys, counts, clear runs, units of the bag and schedules aren't met by runs that differ in one
+/// thing more from those that meet them, and ask nothing besides of those that do.
+#[tactic(auto, using(crate::proofs::NearMissLaws::near_misses))]
+pub fn near_misses_tell_apart()
+    ensures { NearMissesTellApart }
 {}

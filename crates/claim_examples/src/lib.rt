@@ -5,6 +5,6 @@
 mod laws;
 
 pub use laws::{
-    claims_tell_apart, grants_tell_apart, letting_in_tells_apart, own_challenges_tell_apart,
-    replies_tell_apart,
+    claims_tell_apart, grants_tell_apart, letting_in_tells_apart, near_misses_tell_apart,
+    own_challenges_tell_apart, replies_tell_apart,
 };

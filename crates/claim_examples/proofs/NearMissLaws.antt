@@ -1,0 +1,260 @@
+-- Near misses that were written down by hand.
+-- It serves `near_misses_tell_apart`.
+use Rattle.std.proofs.Common.{◌≡◌, ◌≢◌, ◌+◌, ℕ, zero, suc, Bool, true, false, List, [], ◌∷◌, inl, inr, Some, None, refl, sym, ap, ◌∙◌, subst, arith, slice_get, replicate}
+use Rattle.std.specs.Prelude.{◌%◌, ◌^◌}
+use Rattle.std.proofs.lemmas.List.Elements.{All-from_recursion}
+use Rattle.wire_base.specs.Names.{same_name}
+use Rattle.wire_base.specs.Names as names
+use Rattle.wire_base.specs.Units.{units_of}
+use Rattle.authenticators.specs.Channels.{Channel}
+use Rattle.outside.specs.declared.action.Judged.TheVariants as judged
+use Rattle.ntlm_responses.specs.Responses.{is_ess_pair}
+use Rattle.ntlm_responses.specs.Verification.{verifies}
+use Rattle.ntlm_responses.proofs.ResponseLaws.{Verifies-challenge_for_of, Verifies-proof_of}
+use Rattle.sam_logon.specs.Verdict.{judgement_of, table_after}
+use Rattle.account_table.specs.LookUps.{place_in, route_in}
+use Rattle.channel_events.specs.Marks.{Calling, Mark, Opened, Opening, Plain, ReplyTo}
+use Rattle.channel_events.proofs.ListLaws.{got_nothing, some_is}
+use Rattle.step_notes.specs.Records.{Judging, MessageTaken, Sent}
+use Rattle.world_moves.specs.declared.bag.BagUnit.{BagUnit}
+use Rattle.world_moves.specs.declared.links.Route.TheVariants.{ToMember}
+use Rattle.world_moves.specs.Forms.{HasMoveForm, IsByte}
+use Rattle.world_moves.specs.World.{IsMove}
+use Rattle.domain_world.specs.Accepting.Answered.{IsItsWay, MarksHaveTheirWay, PassesAreUnclashed}
+use Rattle.domain_world.specs.Claims.{IsAccepted, IsClear, IsGrantedBy, IsItsControllersAnswer, passed_on, timestamp_of}
+use Rattle.domain_world.specs.Claims.Counts.{RaisesCount}
+use Rattle.domain_world.specs.Past.{sent_at}
+use Rattle.claim_examples.specs.ClaimExamples.{elsewhere, extended_flags, judged_as, judging, last_timestamp, message, on_channel, one_logon, small_account, small_challenge, small_hash, small_name, small_run}
+use Rattle.claim_examples.specs.GrantExamples.{wrong_call}
+use Rattle.claim_examples.specs.NearMisses.{NearMissesTellApart, OfAcceptingAll, OfAcceptingOnly, OfClearRuns, OfCounts, OfKeys, OfSchedules, OfUnits, barred_again, bob, each_move, extended_taken, foreign, half_timestamp, judged_two, long_taken, passed_for, sent_one, taking, untold, wrong_among}
+use Rattle.claim_examples.proofs.ClaimLaws.{its_controller, moved_by_one, of_wraps, the_two}
+use Rattle.claim_examples.proofs.CompletenessLaws.{lost_schedule}
+use Rattle.claim_examples.proofs.LogonLaws.{extended_pair, free_small, granted_small, only_draw, stored_small, this_step}
+use Rattle.claim_examples.proofs.SequenceLaws.{one_apart}
+
+-- ---- clear runs
+
+-- two calls wrap by what the first one moved
+clear_by : (second first : Judging) →
+    ((channel : Channel) → passed_on channel second ≡ true → passed_on channel first ≡ true → (timestamp_of first + 1 + 0) % 2 ^ 32 ≡ 0 → ⊥) →
+    IsClear (judged_two second first)
+clear_by second first never = record {
+  apart = refl;
+  onward = λ wraps.
+      let parts = the_two second first wraps.later wraps.second wraps.between wraps.first wraps.earlier wraps.all in
+      never wraps.channel
+      (sym (ap (λ (j : Judging). passed_on wraps.channel j) parts.0) ∙ wraps.second_passed)
+      (sym (ap (λ (j : Judging). passed_on wraps.channel j) parts.2) ∙ wraps.first_passed)
+      (ap (λ (n : ℕ). n % 2 ^ 32) (sym (moved_by_one wraps.channel wraps.between wraps.first first parts.1 parts.2 wraps.first_passed)) ∙ wraps.around);
+}
+
+of_clear : OfClearRuns
+of_clear = record {
+  two = clear_by (on_channel 0) (on_channel 0) (λ channel second first around. absurd (let never : 1 ≡ 0 = around in cc));
+  half = clear_by (on_channel half_timestamp) (on_channel half_timestamp) (λ channel second first around. absurd (let never : 2147483648 ≡ 0 = around in cc));
+  apart = clear_by (on_channel last_timestamp) (elsewhere (on_channel last_timestamp)) (λ channel second first around.
+      absurd (let never : 0 ≡ 1 = its_controller channel (on_channel last_timestamp) second ∙ sym (its_controller channel (elsewhere (on_channel last_timestamp)) first) in cc));
+  barred = clear_by (judged_as judged.Barred (on_channel last_timestamp)) (on_channel last_timestamp) (λ channel second first around. absurd (let never : false ≡ true = second in cc));
+  outside = clear_by (foreign (on_channel 0)) (on_channel 0) (λ channel second first around. absurd (let never : 1 ≡ 0 = around in cc));
+  fails_round = λ clear. clear.onward of_wraps.meets;
+}
+
+-- ---- accepting
+
+granted_long : IsGrantedBy long_taken judging
+unfolding place_in same_name names.upper_of units_of is_ess_pair
+granted_long = record {
+  may = record { there = granted_small.may.there; taken_response = inl refl };
+  verifies = Verifies-proof_of small_hash (97 ∷ 110 ∷ 110 ∷ []) [] small_challenge (replicate 28 0) (omega arith);
+}
+
+granted_extended : IsGrantedBy extended_taken judging
+unfolding place_in same_name names.upper_of units_of
+granted_extended = record {
+  may = record { there = granted_small.may.there; taken_response = inl refl };
+  verifies = Verifies-challenge_for_of extended_flags small_hash (97 ∷ 110 ∷ 110 ∷ []) [] small_challenge (replicate 8 1) (replicate 24 1) refl extended_pair;
+}
+
+accepted_long : IsAccepted (small_run (taking long_taken)) long_taken
+accepted_long = record {
+  own = record { route = ToMember 0 0; at = refl; acceptor = refl };
+  judging = judging;
+  answer = record { taken = refl; controller = refl; once = (λ same. refl, tt) };
+  granted = granted_long;
+  unused = inl (record { link = refl; challenge = refl; drawn = refl; only = only_draw small_challenge; first = refl });
+}
+
+accepted_extended : IsAccepted (small_run (taking extended_taken)) extended_taken
+accepted_extended = record {
+  own = record { route = ToMember 0 0; at = refl; acceptor = refl };
+  judging = judging;
+  answer = record { taken = refl; controller = refl; once = (λ same. refl, tt) };
+  granted = granted_extended;
+  unused = inl (record { link = refl; challenge = refl; drawn = refl; only = only_draw small_challenge; first = refl });
+}
+
+accepted_barred : IsAccepted (small_run (record one_logon { judged = barred_again ∷ judging ∷ [] })) message
+accepted_barred = record {
+  own = record { route = ToMember 0 0; at = refl; acceptor = refl };
+  judging = judging;
+  answer = record { taken = refl; controller = refl; once = (λ same. absurd (let never : false ≡ true = same in cc), (λ same. refl, tt)) };
+  granted = granted_small;
+  unused = inl (record { link = refl; challenge = refl; drawn = refl; only = only_draw small_challenge; first = refl });
+}
+
+of_only : OfAcceptingOnly
+of_only = record {
+  meets_long = (λ told. inl (refl, refl, accepted_long), tt);
+  meets_extended = (λ told. inl (refl, refl, accepted_extended), tt);
+  meets_barred = (λ told. inl (refl, refl, accepted_barred), tt);
+  fails_link = λ claim. elim (claim.0 refl) [ inl is ↦ absurd (let link : 3 ≡ 4 = is.0 in cc) | inr none ↦ none ];
+  fails_second = λ claim. elim (claim.1.0 refl) [ inl is ↦ absurd (let link : 3 ≡ 4 = is.0 in cc) | inr none ↦ none ];
+}
+
+not_twice : IsItsControllersAnswer (small_run (record (untold one_logon) { judged = record judging { at = 7; reply = Some 9 } ∷ judging ∷ [] })) message judging → ⊥
+not_twice answer = absurd (let never : 7 ≡ 6 = answer.once.0 refl in cc)
+
+of_all : OfAcceptingAll
+of_all = record {
+  fails_member = λ claim. elim (claim.0 judging (record { taken = refl; controller = refl; once = (λ same. refl, tt) }) granted_small) [ inl is ↦ absurd (let member : 1 ≡ 0 = is.1 in cc) | inr none ↦ none ];
+  fails_second = λ claim. elim (claim.1.0 judging (record { taken = refl; controller = refl; once = (λ same. refl, tt) }) (record { may = granted_small.may; verifies = granted_small.verifies })) [
+    | inl is ↦ absurd (let link : 3 ≡ 4 = is.0 in cc)
+    | inr none ↦ none
+  ];
+  fails_unsent = λ claim. claim.0 judging (record { taken = refl; controller = refl; once = (λ same. refl, tt) }) granted_small;
+  fails_unlinked = λ claim. claim.0 judging (record { taken = refl; controller = refl; once = (λ same. refl, tt) }) granted_small;
+  fails_barred = λ claim.
+      claim.0 judging (record { taken = refl; controller = refl; once = (λ same. absurd (let never : false ≡ true = same in cc), (λ same. refl, tt)) }) granted_small;
+  fails_long = λ claim. claim.0 judging (record { taken = refl; controller = refl; once = (λ same. refl, tt) }) granted_long;
+  fails_extended = λ claim. claim.0 judging (record { taken = refl; controller = refl; once = (λ same. refl, tt) }) granted_extended;
+  twice = (λ j answer granted. absurd (not_twice (subst (λ (one : Judging). IsItsControllersAnswer (small_run (record (untold one_logon) { judged = record judging { at = 7; reply = Some 9 } ∷ judging ∷ [] })) message one) (sym (this_step judging j answer.taken)) answer)), tt);
+}
+
+-- ---- keys
+
+not_the_key : (one other : List ℕ) → one ≡ 1 ∷ [] → other ≡ 2 ∷ [] → one ≡ other → ⊥
+not_the_key one other is also same = absurd (let never : 1 ∷ [] ≡ 2 ∷ [] = sym is ∙ same ∙ also in cc)
+
+of_keys : OfKeys
+of_keys = record {
+  fails_relayed = λ claim. not_the_key (1 ∷ []) (2 ∷ []) refl refl ((claim.0.0 refl judging refl free_small).0.0 (record { link = refl; challenge = refl; bytes = refl; hash = sym stored_small }));
+  fails_plan = λ claim. not_the_key (1 ∷ []) (2 ∷ []) refl refl ((claim.0.0 refl judging refl free_small).0.0 (record { link = refl; challenge = refl; bytes = refl; hash = sym stored_small }));
+  fails_second = λ claim. not_the_key (1 ∷ []) (2 ∷ []) refl refl ((claim.0.0 refl judging refl free_small).0.1.0 (record { link = refl; challenge = refl; bytes = refl; hash = sym stored_small }));
+}
+
+-- ---- counts
+
+raised_at : (at controller : ℕ) → RaisesCount (record wrong_call { at = at; controller = controller })
+unfolding judgement_of table_after route_in place_in same_name names.upper_of units_of verifies
+raised_at at controller = record {
+  passed = refl;
+  place = 0;
+  before = small_account;
+  after = record small_account { bad_count = 1 };
+  was = refl;
+  is = refl;
+  grew = omega arith;
+}
+
+raised_more : RaisesCount (wrong_among (record small_account { bad_count = 3 } ∷ []))
+unfolding judgement_of table_after route_in place_in same_name names.upper_of units_of verifies
+raised_more = record {
+  passed = refl;
+  place = 0;
+  before = record small_account { bad_count = 3 };
+  after = record small_account { bad_count = 4 };
+  was = refl;
+  is = refl;
+  grew = omega arith;
+}
+
+raised_second : RaisesCount (wrong_among (bob ∷ small_account ∷ []))
+unfolding judgement_of table_after route_in place_in same_name names.upper_of units_of verifies
+raised_second = record {
+  passed = refl;
+  place = 1;
+  before = small_account;
+  after = record small_account { bad_count = 1 };
+  was = refl;
+  is = refl;
+  grew = omega arith;
+}
+
+from_outside : (place : ℕ) (j : Judging) → slice_get (foreign wrong_call ∷ foreign wrong_call ∷ []) place ≡ Some j → j.unit ≡ None
+from_outside zero j there = sym (ap Judging.unit (some_is (foreign wrong_call) j there))
+from_outside (suc zero) j there = sym (ap Judging.unit (some_is (foreign wrong_call) j there))
+from_outside (suc (suc place)) j there = absurd (got_nothing place j there)
+
+of_counts : OfCounts
+of_counts = record {
+  raises_more = raised_more;
+  raises_second = raised_second;
+  fails_later = λ claim. absurd (let never : 0 ≡ 1 = claim 0 1 7 (record wrong_call { at = 9 }) wrong_call refl refl refl refl (raised_at 9 0) (raised_at 6 0) in cc);
+  fails_elsewhere = λ claim. absurd (let never : 0 ≡ 1 = claim 0 1 7 (record wrong_call { controller = 1 }) wrong_call refl refl refl refl (raised_at 6 1) (raised_at 6 0) in cc);
+  outside = λ one other unit first second here there came too raises more.
+      absurd (let never : None ≡ Some unit = sym (from_outside one first here) ∙ came in cc);
+}
+
+-- ---- units of the bag, and messages
+
+way_of_one : (back : Bool) (mark : Mark) → IsItsWay back mark → MarksHaveTheirWay (sent_one back mark)
+way_of_one back mark is zero unit sent there marked =
+    let same : back ≡ unit.back = ap BagUnit.back (some_is _ unit there) in
+    let also : mark ≡ sent.mark = ap Sent.mark (some_is _ sent marked) in
+    subst (λ (b : Bool). IsItsWay b sent.mark) same (subst (λ (m : Mark). IsItsWay back m) also is)
+way_of_one back mark is (suc number) unit sent there marked = absurd (got_nothing number unit there)
+
+its_way : (back : Bool) (mark : Mark) → MarksHaveTheirWay (sent_one back mark) → IsItsWay back mark
+its_way back mark claim = claim 0 _ (sent_at 6 mark) refl refl
+
+passes_alike : PassesAreUnclashed (passed_for (Calling small_name 3 0) false)
+unfolding same_name names.upper_of
+passes_alike none = (refl, tt)
+
+not_alike : PassesAreUnclashed (passed_for Plain false) → ⊥
+unfolding same_name names.upper_of
+not_alike claim = absurd (let never : true ≡ false = (claim refl).0 in cc)
+
+of_units : OfUnits
+of_units = record {
+  marked = refl;
+  fails_less = λ claim. absurd (let never : 0 ≡ 1 = claim in cc);
+  fails_more = λ claim. absurd (let never : 1 ≡ 0 = claim in cc);
+  request = way_of_one false (Calling small_name 3 0) refl;
+  reply = way_of_one true (ReplyTo small_name 3 7) refl;
+  fails_opening = λ claim. absurd (let never : true ≡ false = its_way true (Opening small_name 3) claim in cc);
+  fails_call = λ claim. absurd (let never : true ≡ false = its_way true (Calling small_name 3 0) claim in cc);
+  fails_opened = λ claim. absurd (let never : false ≡ true = its_way false (Opened small_name 3 7) claim in cc);
+  fails_reply = λ claim. absurd (let never : false ≡ true = its_way false (ReplyTo small_name 3 7) claim in cc);
+  messages = one_apart (λ (one other : MessageTaken). one.link ≢ other.link) message;
+  fails_messages = λ claim. claim 0 1 message (omega arith) (omega arith) refl;
+  passes = passes_alike;
+  clashed = λ none. absurd (let never : true ≡ false = none in cc);
+  fails_passes = not_alike;
+}
+
+-- ---- schedules
+
+of_schedules : OfSchedules
+of_schedules = record {
+  meets = record {
+    start = lost_schedule.start;
+    forms = lost_schedule.forms;
+    few = omega arith;
+    each = All-from_recursion IsMove each_move (tt, (tt, (tt, (tt, (tt, (tt, (omega arith, (tt, (tt, (tt, (tt, tt)))))))))));
+    move_forms = All-from_recursion HasMoveForm each_move
+        (omega arith, (omega arith, (tt, (tt, (tt, ((omega arith, omega arith), ((omega arith, All-from_recursion IsByte (5 ∷ []) (omega arith, tt)), (tt, (omega arith, (omega arith, (omega arith, tt)))))))))));
+  };
+}
+
+pub near_misses : NearMissesTellApart
+near_misses = record {
+  clear = of_clear;
+  only = of_only;
+  all = of_all;
+  answers = record { none = refl };
+  keys = of_keys;
+  counts = of_counts;
+  units = of_units;
+  schedules = of_schedules;
+}

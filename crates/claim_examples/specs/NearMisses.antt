@@ -1,0 +1,200 @@
+-- Near misses beside those of the other files (this project's own choice): runs that differ in one thing more from one
+-- that meets a claim, so that a claim which leaves that thing out, or which asks it besides, is told apart. Responses are
+-- the values of their functions.
+use Rattle.std.specs.Prelude.{ℕ, ◌≡◌, ◌-◌, ◌^◌, Bool, true, false, List, [], ◌∷◌, ◌++◌, replicate, Some, None, codes}
+use Rattle.outside.specs.declared.action.Judged.TheVariants as judged
+use Rattle.ntlm_responses.specs.Hashes.{key_v2_of}
+use Rattle.ntlm_responses.specs.Responses.{proof_of}
+use Rattle.account_table.specs.declared.account.Account.{Account}
+use Rattle.logon_client.specs.declared.plan.AuthKind.TheVariants as auth
+use Rattle.channel_events.specs.Marks.{Calling, Mark, Opened, Opening, Plain, ReplyTo}
+use Rattle.step_notes.specs.Records.{Book, Judging, MessageMade, MessageTaken, blank}
+use Rattle.world_moves.specs.declared.links.LinkKind.TheVariants as kind
+use Rattle.world_moves.specs.declared.moves.Move.{Move}
+use Rattle.world_moves.specs.declared.moves.Move.TheVariants as move
+use Rattle.world_moves.specs.Forms.{IsSchedule}
+use Rattle.domain_world.specs.Accepting.Answered.{MarksHaveTheirWay, MessagesAreApart, PassesAreUnclashed}
+use Rattle.domain_world.specs.Claims.{AcceptsAllGranted, AcceptsOnlyGranted, IsClear, KeysAgree, taken_answer_on}
+use Rattle.domain_world.specs.Claims.Counts.{EachCallRaisesOnce, RaisesCount}
+use Rattle.domain_world.specs.Claims.MarkedUnits.{EachUnitIsMarked}
+use Rattle.domain_world.specs.Past.{Past, sent_at}
+use Rattle.claim_examples.specs.ClaimExamples.{client_plan, elsewhere, extended_flags, extended_message, judged_as, judging, last_timestamp, made_as, made_keeping, message, on_channel, one_logon, run_in, small_account, small_challenge, small_hash, small_name, small_run, small_table, small_world, taken_as, told_of_link, two_logons, with_response, world_of}
+use Rattle.claim_examples.specs.CompletenessExamples.{lost_plan}
+use Rattle.claim_examples.specs.GrantExamples.{judged_all, wrong_call}
+
+-- ---- clear runs
+
+abbrev pub judged_two : Judging → Judging → Book
+judged_two second first = record blank { judged = second ∷ first ∷ [] }
+
+-- the call came in bytes from outside
+abbrev pub foreign : Judging → Judging
+foreign j = record j { unit = None }
+
+-- a timestamp that moves a seed by 2^31
+abbrev pub half_timestamp : ℕ
+half_timestamp = 2 ^ 31 - 1
+
+-- Clear runs are those in which two calls passed and the seed moved by 1 or by 2^31 between, or the first passed on
+-- another channel, or the second was barred, whoever sent them. A run in which a seed comes round is none, though it has
+-- no clash.
+pub record OfClearRuns : Type 0 where
+  pub two : IsClear (judged_two (on_channel 0) (on_channel 0))
+  pub half : IsClear (judged_two (on_channel half_timestamp) (on_channel half_timestamp))
+  pub apart : IsClear (judged_two (on_channel last_timestamp) (elsewhere (on_channel last_timestamp)))
+  pub barred : IsClear (judged_two (judged_as judged.Barred (on_channel last_timestamp)) (on_channel last_timestamp))
+  pub outside : IsClear (judged_two (foreign (on_channel 0)) (on_channel 0))
+  pub fails_round : IsClear (judged_two (on_channel last_timestamp) (on_channel last_timestamp)) → ⊥
+
+-- ---- accepting
+
+-- the call came once more at a later step, and was barred there
+abbrev pub barred_again : Judging
+barred_again = record (judged_as judged.Barred judging) { at = 7; reply = Some 9 }
+
+-- her NTLMv2 response to the challenge of the link, over a rest of 28 zeros
+abbrev pub long_response : List ℕ
+long_response = proof_of (key_v2_of small_hash (97 ∷ 110 ∷ 110 ∷ []) []) small_challenge (replicate 28 0) ++ replicate 28 0
+
+abbrev pub long_taken : MessageTaken
+long_taken = with_response long_response
+
+-- her response of extended session security, which answers the hashed challenge
+abbrev pub extended_taken : MessageTaken
+extended_taken = taken_as extended_message extended_flags message
+
+abbrev pub taking : MessageTaken → Book
+taking one = record one_logon { messages = one ∷ [] }
+
+abbrev pub untold : Book → Book
+untold book = record book { told = [] }
+
+-- Accepting only what is granted: also by an NTLMv2 response, by one to a hashed challenge, and where the call was barred
+-- at another step; not where the message came on another link than the one that is let in, nor where that is so of a
+-- second outcome.
+pub record OfAcceptingOnly : Type 0 where
+  pub meets_long : AcceptsOnlyGranted (small_run (taking long_taken))
+  pub meets_extended : AcceptsOnlyGranted (small_run (taking extended_taken))
+  pub meets_barred : AcceptsOnlyGranted (small_run (record one_logon { judged = barred_again ∷ judging ∷ [] }))
+  pub fails_link : AcceptsOnlyGranted (small_run (record one_logon { told = told_of_link 4 ∷ [] })) → ⊥
+  pub fails_second : AcceptsOnlyGranted (small_run (record one_logon { told = told_of_link 3 ∷ told_of_link 4 ∷ [] })) → ⊥
+
+-- Accepting all that is granted: not where another member tells it, or it is told of the first of two links alone. The
+-- claim asks nothing besides: it isn't met where nothing is told though no CHALLENGE was sent, the link isn't there, the
+-- call was barred at another step, or the response is an NTLMv2 one or answers a hashed challenge. It says nothing of a
+-- call that passed at two steps.
+pub record OfAcceptingAll : Type 0 where
+  pub fails_member : AcceptsAllGranted (small_run (record one_logon { told = record (told_of_link 3) { member = 1 } ∷ [] })) → ⊥
+  pub fails_second : AcceptsAllGranted (small_run (record two_logons { told = told_of_link 3 ∷ [] })) → ⊥
+  pub fails_unsent : AcceptsAllGranted (small_run (record (untold one_logon) { challenges = [] })) → ⊥
+  pub fails_unlinked : AcceptsAllGranted (run_in (world_of [] []) (untold one_logon)) → ⊥
+  pub fails_barred : AcceptsAllGranted (small_run (record (untold one_logon) { judged = barred_again ∷ judging ∷ [] })) → ⊥
+  pub fails_long : AcceptsAllGranted (small_run (untold (taking long_taken))) → ⊥
+  pub fails_extended : AcceptsAllGranted (small_run (untold (taking extended_taken))) → ⊥
+  pub twice : AcceptsAllGranted (small_run (record (untold one_logon) { judged = record judging { at = 7; reply = Some 9 } ∷ judging ∷ [] }))
+
+-- no answer was taken for a message whose call didn't go out, though a call from outside passed
+pub record OfTakenAnswers : Type 0 where
+  pub none : taken_answer_on 3 (record one_logon { messages = record message { call = None; reply = None } ∷ []; judged = record judging { unit = None; reply = None } ∷ [] })
+      ≡ None
+
+-- ---- keys
+
+abbrev pub other_key : MessageMade
+other_key = made_keeping (2 ∷ [])
+
+-- Keys that agree: not where the client kept another key, though its message came over another link than its own, was
+-- made by another plan, or is the second of two.
+pub record OfKeys : Type 0 where
+  pub fails_relayed : KeysAgree (made_as (record other_key { link = 9 })) → ⊥
+  pub fails_plan : KeysAgree (made_as (record other_key { plan = record client_plan { level = 6; auth = auth.V2 } })) → ⊥
+  pub fails_second : KeysAgree (small_run (record one_logon { made = made_keeping (1 ∷ []) ∷ other_key ∷ [] })) → ⊥
+
+-- ---- counts
+
+-- ann's account is the second one, or had this count
+abbrev pub bob : Account
+bob = record small_account { name = codes "bob" }
+
+abbrev pub wrong_among : List Account → Judging
+wrong_among accounts = record wrong_call { table = record small_table { accounts = accounts } }
+
+-- Counts: a call raises one also where it stood higher, and of an account behind another; not twice, though one judging
+-- was at a later step, or at another controller. Of calls from outside nothing is said.
+pub record OfCounts : Type 0 where
+  pub raises_more : RaisesCount (wrong_among (record small_account { bad_count = 3 } ∷ []))
+  pub raises_second : RaisesCount (wrong_among (bob ∷ small_account ∷ []))
+  pub fails_later : EachCallRaisesOnce (judged_all (record wrong_call { at = 9 } ∷ wrong_call ∷ [])) → ⊥
+  pub fails_elsewhere : EachCallRaisesOnce (judged_all (record wrong_call { controller = 1 } ∷ wrong_call ∷ [])) → ⊥
+  pub outside : EachCallRaisesOnce (judged_all (foreign wrong_call ∷ foreign wrong_call ∷ []))
+
+-- ---- units of the bag, and messages
+
+-- the bag has one unit, in that direction and with this mark
+abbrev pub sent_one : Bool → Mark → Past
+sent_one back mark =
+    run_in
+    (record small_world {
+      state = record small_world.state {
+        bag = record { bytes = []; link = 0; kind = kind.ToController; back = back; is_settled = false } ∷ [];
+      };
+    })
+    (record blank { sent = sent_at 6 mark ∷ [] })
+
+-- a call passed in unit 0, which was made for this, and it was written down whether there was a clash
+abbrev pub passed_for : Mark → Bool → Past
+passed_for mark clash =
+    small_run (record blank { sent = sent_at 0 mark ∷ []; judged = record (on_channel 0) { unit = Some 0 } ∷ []; clash = clash })
+
+-- Each unit has its mark: not where there is one less or one more. Requests go on and replies back, and not the other way.
+-- Messages come on two links, not on one. A call passes on the channel for which its unit was made, unless there was a
+-- clash.
+pub record OfUnits : Type 0 where
+  pub marked : EachUnitIsMarked (sent_one true Plain)
+  pub fails_less : EachUnitIsMarked (run_in (sent_one true Plain).world blank) → ⊥
+  pub fails_more : EachUnitIsMarked (small_run (record blank { sent = sent_at 0 Plain ∷ [] })) → ⊥
+  pub request : MarksHaveTheirWay (sent_one false (Calling small_name 3 0))
+  pub reply : MarksHaveTheirWay (sent_one true (ReplyTo small_name 3 7))
+  pub fails_opening : MarksHaveTheirWay (sent_one true (Opening small_name 3)) → ⊥
+  pub fails_call : MarksHaveTheirWay (sent_one true (Calling small_name 3 0)) → ⊥
+  pub fails_opened : MarksHaveTheirWay (sent_one false (Opened small_name 3 7)) → ⊥
+  pub fails_reply : MarksHaveTheirWay (sent_one false (ReplyTo small_name 3 7)) → ⊥
+  pub messages : MessagesAreApart (small_run one_logon)
+  pub fails_messages : MessagesAreApart (small_run (record one_logon { messages = message ∷ record message { at = 8; place = 1 } ∷ [] })) → ⊥
+  pub passes : PassesAreUnclashed (passed_for (Calling small_name 3 0) false)
+  pub clashed : PassesAreUnclashed (passed_for Plain true)
+  pub fails_passes : PassesAreUnclashed (passed_for Plain false) → ⊥
+
+-- ---- schedules
+
+-- one of each kind
+abbrev pub each_move : List Move
+each_move =
+    move.Start 0
+    ∷ move.Stranger 0
+    ∷ move.Connect
+    ∷ move.FailDial
+    ∷ move.Onward
+    ∷ move.Deliver 0 0
+    ∷ move.Hand 0 false (5 ∷ [])
+    ∷ move.Lose
+    ∷ move.Shut 0
+    ∷ move.Restart 0
+    ∷ move.Tick 1
+    ∷ []
+
+-- moves of each kind are a schedule
+pub record OfSchedules : Type 0 where
+  pub meets : IsSchedule lost_plan each_move
+
+-- ---- all of them
+
+pub record NearMissesTellApart : Type 0 where
+  pub clear : OfClearRuns
+  pub only : OfAcceptingOnly
+  pub all : OfAcceptingAll
+  pub answers : OfTakenAnswers
+  pub keys : OfKeys
+  pub counts : OfCounts
+  pub units : OfUnits
+  pub schedules : OfSchedules
