@@ -1,6 +1,6 @@
 -- Near misses that were written down by hand.
 -- It serves `near_misses_tell_apart`.
-use Rattle.std.proofs.Common.{◌≡◌, ◌≢◌, ◌+◌, ℕ, zero, suc, Bool, true, false, List, [], ◌∷◌, inl, inr, Some, None, refl, sym, ap, ◌∙◌, subst, arith, slice_get, replicate}
+use Rattle.std.proofs.Common.{◌≡◌, ◌≢◌, ◌+◌, ℕ, zero, suc, Bool, true, false, List, [], ◌∷◌, length, inl, inr, Some, None, refl, sym, ap, ◌∙◌, subst, arith, slice_get, replicate}
 use Rattle.std.specs.Prelude.{◌%◌, ◌^◌}
 use Rattle.std.proofs.lemmas.List.Elements.{All-from_recursion}
 use Rattle.wire_base.specs.Names.{same_name}
@@ -13,7 +13,15 @@ use Rattle.ntlm_responses.specs.Verification.{verifies}
 use Rattle.ntlm_responses.proofs.ResponseLaws.{Verifies-challenge_for_of, Verifies-proof_of}
 use Rattle.sam_logon.specs.Verdict.{judgement_of, table_after}
 use Rattle.account_table.specs.LookUps.{place_in, route_in}
-use Rattle.channel_events.specs.Marks.{Calling, Mark, Opened, Opening, Plain, ReplyTo}
+use Rattle.std.specs.List.{AllByRecursion}
+use Rattle.member_server.specs.declared.state.AtTurn.{AtTurn}
+use Rattle.member_server.specs.declared.state.TurnTalk.{TurnTalk}
+use Rattle.step_notes.specs.CallLogons.{IfCalling}
+use Rattle.step_notes.specs.MemberNotes.{turn_note}
+use Rattle.step_notes.specs.Served.{ServedUnit, work_after}
+use Rattle.step_notes.proofs.Members.CallLogonLaws.{calls_carry}
+use Rattle.domain_world.specs.Claims.AskedFor.{AsksForItsMessage, IsForItsMessage, IsOfMessage, MembersAskForKept}
+use Rattle.channel_events.specs.Marks.{OneOf, Calling, Mark, Opened, Opening, Plain, ReplyTo}
 use Rattle.channel_events.proofs.ListLaws.{got_nothing, some_is}
 use Rattle.step_notes.specs.Records.{Judging, MessageTaken, Sent}
 use Rattle.world_moves.specs.declared.bag.BagUnit.{BagUnit}
@@ -24,9 +32,9 @@ use Rattle.domain_world.specs.Accepting.Answered.{IsItsWay, MarksHaveTheirWay, P
 use Rattle.domain_world.specs.Claims.{IsAccepted, IsClear, IsGrantedBy, IsItsControllersAnswer, passed_on, timestamp_of}
 use Rattle.domain_world.specs.Claims.Counts.{RaisesCount}
 use Rattle.domain_world.specs.Past.{sent_at}
-use Rattle.claim_examples.specs.ClaimExamples.{elsewhere, extended_flags, judged_as, judging, last_timestamp, message, on_channel, one_logon, small_account, small_challenge, small_hash, small_name, small_run}
+use Rattle.claim_examples.specs.ClaimExamples.{elsewhere, extended_flags, judged_as, judging, last_timestamp, message, on_channel, one_logon, small_account, small_challenge, small_hash, small_logon, small_member, small_name, small_run}
 use Rattle.claim_examples.specs.GrantExamples.{wrong_call}
-use Rattle.claim_examples.specs.NearMisses.{NearMissesTellApart, OfAcceptingAll, OfAcceptingOnly, OfClearRuns, OfCounts, OfKeys, OfSchedules, OfUnits, barred_again, bob, each_move, extended_taken, foreign, half_timestamp, judged_two, long_taken, passed_for, sent_one, taking, untold, wrong_among}
+use Rattle.claim_examples.specs.NearMisses.{NearMissesTellApart, OfAcceptingAll, OfAcceptingOnly, OfAsking, OfClearRuns, OfCounts, OfKeys, OfSchedules, OfUnits, barred_again, bob, each_move, extended_taken, foreign, half_timestamp, judged_two, keeping, long_taken, passed_for, sent_one, taking, untold, wrong_among}
 use Rattle.claim_examples.proofs.ClaimLaws.{its_controller, moved_by_one, of_wraps, the_two}
 use Rattle.claim_examples.proofs.CompletenessLaws.{lost_schedule}
 use Rattle.claim_examples.proofs.LogonLaws.{extended_pair, free_small, granted_small, only_draw, stored_small, this_step}
@@ -233,6 +241,32 @@ of_units = record {
   fails_passes = not_alike;
 }
 
+-- ---- what members ask
+
+-- a Logon call that goes out asks what some message does
+some_message : (member : ℕ) (messages : List MessageTaken) (controller : ℕ) (unit : ServedUnit AtTurn TurnTalk) (mark : Mark) (channel : Channel) (call timestamp : ℕ) →
+    messages ≡ [] → mark ≡ Calling channel call timestamp →
+    IfCalling (IsForItsMessage member messages controller unit.work (work_after unit.part) (turn_note controller unit).called) mark → ⊥
+some_message member messages controller unit mark channel call timestamp none is asks =
+    let here : IsForItsMessage member messages controller unit.work (work_after unit.part) (turn_note controller unit).called channel call timestamp =
+        subst (λ (m : Mark). IfCalling (IsForItsMessage member messages controller unit.work (work_after unit.part) (turn_note controller unit).called) m) is asks in
+    subst (λ (all : List MessageTaken). OneOf (IsOfMessage member here.carries.asks.place here.carries.asks.logon) all) none here.message
+
+nothing_waits : MembersAskForKept (keeping ((0, small_logon 3) ∷ [])) → ⊥
+nothing_waits claim = absurd (let waits : 0 ≡ 1 = ap length claim.0.waits in cc)
+
+of_asking : OfAsking
+of_asking = record {
+  meets = (calls_carry.fresh small_member, tt);
+  fails = nothing_waits;
+  fails_messages = λ run member m controller number piece now left unit more channel call timestamp at none goes is claim.
+      some_message member run.book.messages controller unit (turn_note controller unit).mark channel call timestamp none is
+      (let all : AllByRecursion (AsksForItsMessage member run.book.messages controller) (unit ∷ more) =
+          subst (λ (units : List (ServedUnit AtTurn TurnTalk)). AllByRecursion (AsksForItsMessage member run.book.messages controller) units) goes
+          (claim member m at controller number piece now left) in
+      all.0);
+}
+
 -- ---- schedules
 
 of_schedules : OfSchedules
@@ -256,5 +290,6 @@ near_misses = record {
   keys = of_keys;
   counts = of_counts;
   units = of_units;
+  asking = of_asking;
   schedules = of_schedules;
 }

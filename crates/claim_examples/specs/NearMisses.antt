@@ -1,12 +1,21 @@
 -- Near misses beside those of the other files (this project's own choice): runs that differ in one thing more from one
 -- that meets a claim, so that a claim which leaves that thing out, or which asks it besides, is told apart. Responses are
 -- the values of their functions.
-use Rattle.std.specs.Prelude.{ℕ, ◌≡◌, ◌-◌, ◌^◌, Bool, true, false, List, [], ◌∷◌, ◌++◌, replicate, Some, None, codes}
+use Rattle.std.specs.Prelude.{ℕ, ◌≡◌, ◌-◌, ◌^◌, Bool, true, false, List, [], ◌∷◌, ◌++◌, replicate, Some, None, codes, slice_get}
 use Rattle.outside.specs.declared.action.Judged.TheVariants as judged
 use Rattle.ntlm_responses.specs.Hashes.{key_v2_of}
 use Rattle.ntlm_responses.specs.Responses.{proof_of}
 use Rattle.account_table.specs.declared.account.Account.{Account}
 use Rattle.logon_client.specs.declared.plan.AuthKind.TheVariants as auth
+use Rattle.authenticators.specs.Channels.{Channel}
+use Rattle.member_server.specs.State.{State as MemberState}
+use Rattle.member_server.specs.declared.state.AtTurn.{AtTurn}
+use Rattle.member_server.specs.declared.state.Logon.{Logon}
+use Rattle.member_server.specs.declared.state.Running.{Running as MemberRunning}
+use Rattle.member_server.specs.declared.state.TurnTalk.{TurnTalk}
+use Rattle.step_notes.specs.MemberNotes.{turn_note, turn_units}
+use Rattle.step_notes.specs.Served.{ServedUnit}
+use Rattle.domain_world.specs.Claims.AskedFor.{MembersAskForKept, MembersAskForMessages}
 use Rattle.channel_events.specs.Marks.{Calling, Mark, Opened, Opening, Plain, ReplyTo}
 use Rattle.step_notes.specs.Records.{Book, Judging, MessageMade, MessageTaken, blank}
 use Rattle.world_moves.specs.declared.links.LinkKind.TheVariants as kind
@@ -18,7 +27,7 @@ use Rattle.domain_world.specs.Claims.{AcceptsAllGranted, AcceptsOnlyGranted, IsC
 use Rattle.domain_world.specs.Claims.Counts.{EachCallRaisesOnce, RaisesCount}
 use Rattle.domain_world.specs.Claims.MarkedUnits.{EachUnitIsMarked}
 use Rattle.domain_world.specs.Past.{Past, sent_at}
-use Rattle.claim_examples.specs.ClaimExamples.{client_plan, elsewhere, extended_flags, extended_message, judged_as, judging, last_timestamp, made_as, made_keeping, message, on_channel, one_logon, run_in, small_account, small_challenge, small_hash, small_name, small_run, small_table, small_world, taken_as, told_of_link, two_logons, with_response, world_of}
+use Rattle.claim_examples.specs.ClaimExamples.{client_plan, elsewhere, extended_flags, extended_message, judged_as, judging, last_timestamp, made_as, made_keeping, message, on_channel, one_logon, open_running, small_logon, run_in, small_account, small_challenge, small_hash, small_name, small_run, small_table, small_world, taken_as, told_of_link, two_logons, with_response, world_of}
 use Rattle.claim_examples.specs.CompletenessExamples.{lost_plan}
 use Rattle.claim_examples.specs.GrantExamples.{judged_all, wrong_call}
 
@@ -165,6 +174,32 @@ pub record OfUnits : Type 0 where
   pub clashed : PassesAreUnclashed (passed_for Plain true)
   pub fails_passes : PassesAreUnclashed (passed_for Plain false) → ⊥
 
+-- ---- what members ask
+
+-- a member keeps these logons, and nothing waits for its turn
+abbrev pub keeping : List (ℕ × Logon) → Past
+keeping asked =
+    let running : MemberRunning = open_running None [] in
+    run_in
+    (record small_world {
+      state = record small_world.state {
+        ends = record small_world.state.ends {
+          members = record { running = Some (record running { logons = record running.logons { asked = asked } }) } ∷ [];
+        };
+      };
+    })
+    blank
+
+-- What waits at a member is what is asked for what it keeps: so at a member that is begun anew, and not where it keeps a
+-- logon for which nothing waits. Where no message was taken no Logon call goes out, by whatever unit it would.
+pub record OfAsking : Type 0 where
+  pub meets : MembersAskForKept (small_run blank)
+  pub fails : MembersAskForKept (keeping ((0, small_logon 3) ∷ [])) → ⊥
+  pub fails_messages : (run : Past) (member : ℕ) (m : MemberState) (controller number : ℕ) (piece : List ℕ) (now : ℕ) (left : List (List ℕ))
+      (unit : ServedUnit AtTurn TurnTalk) (more : List (ServedUnit AtTurn TurnTalk)) (channel : Channel) (call timestamp : ℕ) →
+      slice_get run.world.state.ends.members member ≡ Some m → run.book.messages ≡ [] → turn_units m number piece now left ≡ unit ∷ more →
+      (turn_note controller unit).mark ≡ Calling channel call timestamp → MembersAskForMessages run → ⊥
+
 -- ---- schedules
 
 -- one of each kind
@@ -197,4 +232,5 @@ pub record NearMissesTellApart : Type 0 where
   pub keys : OfKeys
   pub counts : OfCounts
   pub units : OfUnits
+  pub asking : OfAsking
   pub schedules : OfSchedules
