@@ -201,7 +201,7 @@ of_keys = record {
 
 -- ---- short responses
 
-plain_small : (link : ℕ) → challenge_for_of (message_of_link link).logon.agreed small_challenge [] (message_of_link link).logon.message.nt ≡ small_challenge
+pub plain_small : (link : ℕ) → challenge_for_of (message_of_link link).logon.agreed small_challenge [] (message_of_link link).logon.message.nt ≡ small_challenge
 unfolding is_ess_pair
 plain_small link = refl
 

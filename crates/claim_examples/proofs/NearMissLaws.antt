@@ -10,7 +10,7 @@ use Rattle.authenticators.specs.Channels.{Channel}
 use Rattle.outside.specs.declared.action.Judged.TheVariants as judged
 use Rattle.ntlm_responses.specs.Responses.{is_ess_pair}
 use Rattle.ntlm_responses.specs.Verification.{verifies}
-use Rattle.ntlm_responses.proofs.ResponseLaws.{Verifies-challenge_for_of, Verifies-proof_of}
+use Rattle.ntlm_responses.proofs.ResponseLaws.{length-response_v1_of, Verifies-challenge_for_of, Verifies-proof_of}
 use Rattle.sam_logon.specs.Verdict.{judgement_of, table_after}
 use Rattle.account_table.specs.LookUps.{place_in, route_in}
 use Rattle.std.specs.List.{AllByRecursion}
@@ -29,15 +29,15 @@ use Rattle.world_moves.specs.declared.links.Route.TheVariants.{ToMember}
 use Rattle.world_moves.specs.Forms.{HasMoveForm, IsByte}
 use Rattle.world_moves.specs.World.{IsMove}
 use Rattle.domain_world.specs.Accepting.Answered.{IsItsWay, MarksHaveTheirWay, PassesAreUnclashed}
-use Rattle.domain_world.specs.Claims.{IsAccepted, IsClear, IsGrantedBy, IsItsControllersAnswer, passed_on, timestamp_of}
+use Rattle.domain_world.specs.Claims.{IsAccepted, IsClear, IsGrantedBy, IsItsControllersAnswer, IsPlainlyAccepted, passed_on, timestamp_of}
 use Rattle.domain_world.specs.Claims.Counts.{RaisesCount}
 use Rattle.domain_world.specs.Past.{sent_at}
-use Rattle.claim_examples.specs.ClaimExamples.{elsewhere, extended_flags, judged_as, judging, last_timestamp, message, on_channel, one_logon, small_account, small_challenge, small_hash, small_logon, small_member, small_name, small_run}
+use Rattle.claim_examples.specs.ClaimExamples.{elsewhere, extended_flags, judged_as, judging, last_timestamp, message, message_of_link, on_channel, one_logon, small_account, small_challenge, small_hash, small_logon, small_member, small_name, small_run}
 use Rattle.claim_examples.specs.GrantExamples.{wrong_call}
-use Rattle.claim_examples.specs.NearMisses.{NearMissesTellApart, OfAcceptingAll, OfAcceptingOnly, OfAsking, OfClearRuns, OfCounts, OfKeys, OfSchedules, OfUnits, barred_again, bob, each_move, extended_taken, foreign, half_timestamp, judged_two, keeping, long_taken, passed_for, sent_one, taking, untold, wrong_among}
+use Rattle.claim_examples.specs.NearMisses.{NearMissesTellApart, OfAcceptingAll, OfAcceptingOnly, OfAsking, OfClearRuns, OfCounts, OfKeys, OfSchedules, OfShortResponses, OfUnits, at_two_members, barred_again, bob, each_move, extended_taken, foreign, half_timestamp, judged_two, keeping, long_taken, passed_for, sent_one, taking, untold, wrong_among}
 use Rattle.claim_examples.proofs.ClaimLaws.{its_controller, moved_by_one, of_wraps, the_two}
 use Rattle.claim_examples.proofs.CompletenessLaws.{lost_schedule}
-use Rattle.claim_examples.proofs.LogonLaws.{extended_pair, free_small, granted_small, only_draw, stored_small, this_step}
+use Rattle.claim_examples.proofs.LogonLaws.{extended_pair, free_small, granted_small, only_draw, plain_small, stored_small, this_step}
 use Rattle.claim_examples.proofs.SequenceLaws.{one_apart}
 
 -- ---- clear runs
@@ -136,6 +136,41 @@ of_all = record {
   fails_long = λ claim. claim.0 judging (record { taken = refl; controller = refl; once = (λ same. refl, tt) }) granted_long;
   fails_extended = λ claim. claim.0 judging (record { taken = refl; controller = refl; once = (λ same. refl, tt) }) granted_extended;
   twice = (λ j answer granted. absurd (not_twice (subst (λ (one : Judging). IsItsControllersAnswer (small_run (record (untold one_logon) { judged = record judging { at = 7; reply = Some 9 } ∷ judging ∷ [] })) message one) (sym (this_step judging j answer.taken)) answer)), tt);
+}
+
+short_first : IsPlainlyAccepted at_two_members message small_hash
+short_first = record {
+  accepted = record {
+    own = record { route = ToMember 0 0; at = refl; acceptor = refl };
+    judging = judging;
+    answer = record { taken = refl; controller = refl; once = (λ same. refl, tt) };
+    granted = granted_small;
+    unused = inl (record { link = refl; challenge = refl; drawn = refl; only = only_draw small_challenge; first = refl });
+  };
+  told = inl (refl, refl, refl);
+  short = length-response_v1_of small_hash small_challenge;
+  own = plain_small 3;
+  stored = stored_small;
+}
+
+short_second : IsPlainlyAccepted at_two_members (record (message_of_link 4) { member = 1 }) small_hash
+short_second = record {
+  accepted = record {
+    own = record { route = ToMember 0 1; at = refl; acceptor = refl };
+    judging = judging;
+    answer = record { taken = refl; controller = refl; once = (λ same. refl, tt) };
+    granted = record { may = granted_small.may; verifies = granted_small.verifies };
+    unused = inr (inl (record { link = refl; challenge = refl; drawn = refl; only = only_draw small_challenge; first = refl }));
+  };
+  told = inr (inl (refl, refl, refl));
+  short = length-response_v1_of small_hash small_challenge;
+  own = plain_small 4;
+  stored = stored_small;
+}
+
+of_short : OfShortResponses
+of_short = record {
+  fails_members = λ claim. (claim small_hash).0.1.0 (λ same. absurd (let never : 3 ≡ 4 = same in cc)) refl short_first short_second;
 }
 
 -- ---- keys
@@ -287,6 +322,7 @@ near_misses = record {
   only = of_only;
   all = of_all;
   answers = record { none = refl };
+  short = of_short;
   keys = of_keys;
   counts = of_counts;
   units = of_units;

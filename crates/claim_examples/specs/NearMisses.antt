@@ -1,6 +1,6 @@
 -- Near misses beside those of the other files (this project's own choice): runs that differ in one thing more from one
--- that meets a claim, so that a claim which leaves that thing out, or which asks it besides, is told apart. Responses are
--- the values of their functions.
+-- that meets a claim, so that a claim which leaves that thing out, or which asks it besides, is told apart. Responses
+-- are the values of their functions.
 use Rattle.std.specs.Prelude.{ℕ, ◌≡◌, ◌-◌, ◌^◌, Bool, true, false, List, [], ◌∷◌, ◌++◌, replicate, Some, None, codes, slice_get}
 use Rattle.outside.specs.declared.action.Judged.TheVariants as judged
 use Rattle.ntlm_responses.specs.Hashes.{key_v2_of}
@@ -19,15 +19,16 @@ use Rattle.domain_world.specs.Claims.AskedFor.{MembersAskForKept, MembersAskForM
 use Rattle.channel_events.specs.Marks.{Calling, Mark, Opened, Opening, Plain, ReplyTo}
 use Rattle.step_notes.specs.Records.{Book, Judging, MessageMade, MessageTaken, blank}
 use Rattle.world_moves.specs.declared.links.LinkKind.TheVariants as kind
+use Rattle.world_moves.specs.declared.links.Route.TheVariants.{ToController, ToMember}
 use Rattle.world_moves.specs.declared.moves.Move.{Move}
 use Rattle.world_moves.specs.declared.moves.Move.TheVariants as move
 use Rattle.world_moves.specs.Forms.{IsSchedule}
 use Rattle.domain_world.specs.Accepting.Answered.{MarksHaveTheirWay, MessagesAreApart, PassesAreUnclashed}
-use Rattle.domain_world.specs.Claims.{AcceptsAllGranted, AcceptsOnlyGranted, IsClear, KeysAgree, taken_answer_on}
+use Rattle.domain_world.specs.Claims.{AcceptsAllGranted, AcceptsOnlyGranted, IsClear, KeysAgree, ShortResponsesServeOnce, taken_answer_on}
 use Rattle.domain_world.specs.Claims.Counts.{EachCallRaisesOnce, RaisesCount}
 use Rattle.domain_world.specs.Claims.MarkedUnits.{EachUnitIsMarked}
 use Rattle.domain_world.specs.Past.{Past, sent_at}
-use Rattle.claim_examples.specs.ClaimExamples.{client_plan, elsewhere, extended_flags, extended_message, judged_as, judging, last_timestamp, made_as, made_keeping, message, on_channel, one_logon, open_running, small_logon, run_in, small_account, small_challenge, small_hash, small_name, small_run, small_table, small_world, taken_as, told_of_link, two_logons, with_response, world_of}
+use Rattle.claim_examples.specs.ClaimExamples.{client_plan, elsewhere, extended_flags, extended_message, judged_as, judging, last_timestamp, made_as, made_keeping, message, message_of_link, on_channel, one_logon, open_running, small_logon, run_in, small_account, small_challenge, small_hash, small_member, small_name, small_plan, small_run, small_table, small_world, taken_as, told_of_link, two_logons, with_response, world_of}
 use Rattle.claim_examples.specs.CompletenessExamples.{lost_plan}
 use Rattle.claim_examples.specs.GrantExamples.{judged_all, wrong_call}
 
@@ -45,8 +46,8 @@ abbrev pub half_timestamp : ℕ
 half_timestamp = 2 ^ 31 - 1
 
 -- Clear runs are those in which two calls passed and the seed moved by 1 or by 2^31 between, or the first passed on
--- another channel, or the second was barred, whoever sent them. A run in which a seed comes round is none, though it has
--- no clash.
+-- another channel, or the second was barred, whoever sent them. A run in which a seed comes round is none, though it
+-- has no clash.
 pub record OfClearRuns : Type 0 where
   pub two : IsClear (judged_two (on_channel 0) (on_channel 0))
   pub half : IsClear (judged_two (on_channel half_timestamp) (on_channel half_timestamp))
@@ -78,9 +79,9 @@ taking one = record one_logon { messages = one ∷ [] }
 abbrev pub untold : Book → Book
 untold book = record book { told = [] }
 
--- Accepting only what is granted: also by an NTLMv2 response, by one to a hashed challenge, and where the call was barred
--- at another step; not where the message came on another link than the one that is let in, nor where that is so of a
--- second outcome.
+-- Accepting only what is granted: also by an NTLMv2 response, by one to a hashed challenge, and where the call was
+-- barred at another step; not where the message came on another link than the one that is let in, nor where that is so
+-- of a second outcome.
 pub record OfAcceptingOnly : Type 0 where
   pub meets_long : AcceptsOnlyGranted (small_run (taking long_taken))
   pub meets_extended : AcceptsOnlyGranted (small_run (taking extended_taken))
@@ -89,9 +90,9 @@ pub record OfAcceptingOnly : Type 0 where
   pub fails_second : AcceptsOnlyGranted (small_run (record one_logon { told = told_of_link 3 ∷ told_of_link 4 ∷ [] })) → ⊥
 
 -- Accepting all that is granted: not where another member tells it, or it is told of the first of two links alone. The
--- claim asks nothing besides: it isn't met where nothing is told though no CHALLENGE was sent, the link isn't there, the
--- call was barred at another step, or the response is an NTLMv2 one or answers a hashed challenge. It says nothing of a
--- call that passed at two steps.
+-- claim asks nothing besides: it isn't met where nothing is told though no CHALLENGE was sent, the link isn't there,
+-- the call was barred at another step, or the response is an NTLMv2 one or answers a hashed challenge. It says nothing
+-- of a call that passed at two steps.
 pub record OfAcceptingAll : Type 0 where
   pub fails_member : AcceptsAllGranted (small_run (record one_logon { told = record (told_of_link 3) { member = 1 } ∷ [] })) → ⊥
   pub fails_second : AcceptsAllGranted (small_run (record two_logons { told = told_of_link 3 ∷ [] })) → ⊥
@@ -101,6 +102,21 @@ pub record OfAcceptingAll : Type 0 where
   pub fails_long : AcceptsAllGranted (small_run (untold (taking long_taken))) → ⊥
   pub fails_extended : AcceptsAllGranted (small_run (untold (taking extended_taken))) → ⊥
   pub twice : AcceptsAllGranted (small_run (record (untold one_logon) { judged = record judging { at = 7; reply = Some 9 } ∷ judging ∷ [] }))
+
+-- the two links of `two_logons` were accepted by two members
+abbrev pub at_two_members : Past
+at_two_members = record {
+  plan = record small_plan { members = small_member ∷ small_member ∷ [] };
+  world = world_of (ToController 0 0 ∷ ToController 0 0 ∷ ToController 0 0 ∷ ToMember 0 0 ∷ ToMember 0 1 ∷ []) (small_challenge ∷ []);
+  book = record two_logons {
+    messages = message ∷ record (message_of_link 4) { member = 1 } ∷ [];
+    told = told_of_link 3 ∷ record (told_of_link 4) { member = 1 } ∷ [];
+  };
+}
+
+-- Short responses: not where one was accepted on two links, though by two members.
+pub record OfShortResponses : Type 0 where
+  pub fails_members : ShortResponsesServeOnce at_two_members → ⊥
 
 -- no answer was taken for a message whose call didn't go out, though a call from outside passed
 pub record OfTakenAnswers : Type 0 where
@@ -155,9 +171,9 @@ abbrev pub passed_for : Mark → Bool → Past
 passed_for mark clash =
     small_run (record blank { sent = sent_at 0 mark ∷ []; judged = record (on_channel 0) { unit = Some 0 } ∷ []; clash = clash })
 
--- Each unit has its mark: not where there is one less or one more. Requests go on and replies back, and not the other way.
--- Messages come on two links, not on one. A call passes on the channel for which its unit was made, unless there was a
--- clash.
+-- Each unit has its mark: not where there is one less or one more. Requests go on and replies back, and not the other
+-- way. Messages come on two links, not on one. A call passes on the channel for which its unit was made, unless there
+-- was a clash.
 pub record OfUnits : Type 0 where
   pub marked : EachUnitIsMarked (sent_one true Plain)
   pub fails_less : EachUnitIsMarked (run_in (sent_one true Plain).world blank) → ⊥
@@ -190,8 +206,8 @@ keeping asked =
     })
     blank
 
--- What waits at a member is what is asked for what it keeps: so at a member that is begun anew, and not where it keeps a
--- logon for which nothing waits. Where no message was taken no Logon call goes out, by whatever unit it would.
+-- What waits at a member is what is asked for what it keeps: so at a member that is begun anew, and not where it keeps
+-- a logon for which nothing waits. Where no message was taken no Logon call goes out, by whatever unit it would.
 pub record OfAsking : Type 0 where
   pub meets : MembersAskForKept (small_run blank)
   pub fails : MembersAskForKept (keeping ((0, small_logon 3) ∷ [])) → ⊥
@@ -229,6 +245,7 @@ pub record NearMissesTellApart : Type 0 where
   pub only : OfAcceptingOnly
   pub all : OfAcceptingAll
   pub answers : OfTakenAnswers
+  pub short : OfShortResponses
   pub keys : OfKeys
   pub counts : OfCounts
   pub units : OfUnits

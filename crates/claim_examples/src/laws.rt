@@ -45,8 +45,8 @@ pub fn own_challenges_tell_apart()
     ensures { OfOwnChallenges }
 {}
 
-/// Claims on accepting, keys, counts, clear runs, units of the bag and schedules aren't met by runs that differ in one
-/// thing more from those that meet them, and ask nothing besides of those that do.
+/// Claims on accepting, keys, counts, units of the bag and what members ask aren't met by runs that differ in one thing
+/// more from those that meet them. A run with two calls is clear, and moves of each kind are a schedule.
 #[tactic(auto, using(crate::proofs::NearMissLaws::near_misses))]
 pub fn near_misses_tell_apart()
     ensures { NearMissesTellApart }
