@@ -1,4 +1,6 @@
 pub mod ClaimExamples
+pub mod ClearRuns
+pub mod ClearSuccess
 pub mod CompletenessExamples
 pub mod GrantExamples
 pub mod LetInExamples

@@ -1,13 +1,15 @@
 //! No claim is true, or false, of everything that could be written down of a run.
 
 ghost use Rattle.claim_examples.specs.TellApart.{ClaimsTellApart};
+ghost use Rattle.claim_examples.specs.ClearRuns.{FirstLogonsAreClear};
+ghost use Rattle.claim_examples.specs.ClearSuccess.{AnnCanSucceed};
 ghost use Rattle.claim_examples.specs.GrantExamples.{GrantsTellApart};
 ghost use Rattle.claim_examples.specs.LetInExamples.{OfLettingIn};
 ghost use Rattle.claim_examples.specs.NearMisses.{NearMissesTellApart};
 ghost use Rattle.claim_examples.specs.OwnChallengeExamples.{OfOwnChallenges};
 ghost use Rattle.claim_examples.specs.ReplyExamples.{OfReplies};
 
-use domain_world::claims_hold_of_runs;
+use domain_world::{claims_hold_of_runs, members_let_in_who_asked};
 
 /// No claim is true, or false, of everything that could be written down of a run: each is met by some small run and not
 /// by another. So it is of a seed that comes round, of a clash and of the answer that a member took.
@@ -50,4 +52,21 @@ pub fn own_challenges_tell_apart()
 #[tactic(auto, using(crate::proofs::NearMissLaws::near_misses))]
 pub fn near_misses_tell_apart()
     ensures { NearMissesTellApart }
+{}
+
+/// Of runs that a world made itself: the first logon in a world, of whatever plan, where it is granted, is clear, and
+/// its member lets in who asked. So is the example's, whose moves are a schedule in which one client logs on. So the
+/// claims on clear runs speak of runs that there are.
+pub fn a_run_is_clear()
+    ensures { FirstLogonsAreClear }
+{
+    // That who is let in asked is a law of every run.
+    members_let_in_who_asked();
+}
+
+/// The client of that example can succeed, as completeness asks it of a client: her account may log on in each state of
+/// the run.
+#[tactic(auto, using(crate::proofs::ClearSuccessLaws::ann_can_succeed))]
+pub fn ann_can_succeed()
+    ensures { AnnCanSucceed }
 {}

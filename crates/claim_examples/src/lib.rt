@@ -1,10 +1,10 @@
 //! Small runs, written down by hand, that meet the claims on runs, and others that differ from them in one thing and
-//! don't. Nothing stands on it.
+//! don't; and runs that a world made itself, which are clear and in which a logon is accepted. Nothing stands on it.
 #![tactic(auto)]
 
 mod laws;
 
 pub use laws::{
-    claims_tell_apart, grants_tell_apart, letting_in_tells_apart, near_misses_tell_apart,
-    own_challenges_tell_apart, replies_tell_apart,
+    a_run_is_clear, ann_can_succeed, claims_tell_apart, grants_tell_apart, letting_in_tells_apart,
+    near_misses_tell_apart, own_challenges_tell_apart, replies_tell_apart,
 };

@@ -21,7 +21,7 @@ use Rattle.logon_runs.proofs.FirstLogonTraceLaws.{first_logons_are_seen}
 use Rattle.logon_runs.proofs.LinkSceneLaws.{meetings_are_seen}
 use Rattle.logon_runs.proofs.TwoLinkLaws.{got_first}
 
-joined_still : (g : Meeting) (links : List Route) (machine : Account) (client server : List ℕ) (table : AccountTable) (name : List ℕ) (computers : Computers) (moment : ℕ) →
+pub joined_still : (g : Meeting) (links : List Route) (machine : Account) (client server : List ℕ) (table : AccountTable) (name : List ℕ) (computers : Computers) (moment : ℕ) →
     IsJoined (joined g links) → IsJoined (after_first g links machine client server table name computers moment)
 joined_still g links machine client server table name computers moment is =
     let more : List Route = ToController g.at_member g.at_controller ∷ [] in

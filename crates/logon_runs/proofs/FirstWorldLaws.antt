@@ -107,7 +107,7 @@ six_left seed =
 -- ---- the first state
 
 module _ (plan : Plan) (client member controller : ℕ) (can : CanComeIn plan client member controller) where
-  first_shows : Shows (first_world plan).state
+  pub first_shows : Shows (first_world plan).state
       (rest_scene (with_controller (first_meeting plan client member controller can) can.table can.name no_computers) (fresh_client can.task) []
       (draw plan 0 ∷ draw plan 1 ∷ draw plan 2 ∷ draw plan 3 ∷ draw plan 4 ∷ draw plan 5 ∷ left_then plan) plan.now [])
   first_shows = record {
@@ -184,7 +184,7 @@ module _ (plan : Plan) (client member controller : ℕ) (can : CanComeIn plan cl
     }
 
     module _ (number : ℕ) (chosen : chosen_place number (length plan.clients) ≡ Some client) (shown : FirstKeyArrives plan client member controller can) where
-      comes_first : ComesInFirst (first_world plan).state (first_meeting plan client member controller can) number [] (first_asked plan) (draw plan 4) (draw plan 5) can.table can.name
+      pub comes_first : ComesInFirst (first_world plan).state (first_meeting plan client member controller can) number [] (first_asked plan) (draw plan 4) (draw plan 5) can.table can.name
           can.account can.machine plan.now
       comes_first = record {
         chosen = ap (chosen_place number) (length-map plan.clients fresh_client) ∙ chosen;

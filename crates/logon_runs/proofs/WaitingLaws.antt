@@ -26,16 +26,16 @@ use Rattle.logon_runs.specs.Waiting.{Comes, IsOldest, WaitingComes, waiting}
 
 -- ---- the bag
 
-later_place : (unit : BagUnit) (bag : List BagUnit) → is_waiting unit ≡ false → first_waiting (unit ∷ bag) ≡ option_map suc (first_waiting bag)
+pub later_place : (unit : BagUnit) (bag : List BagUnit) → is_waiting unit ≡ false → first_waiting (unit ∷ bag) ≡ option_map suc (first_waiting bag)
 later_place unit bag not_waiting = ap (λ (w : Bool). if w then Some 0 else option_map suc (first_waiting bag)) not_waiting
 
-first_place : (unit : BagUnit) (bag : List BagUnit) → is_waiting unit ≡ true → first_waiting (unit ∷ bag) ≡ Some 0
+pub first_place : (unit : BagUnit) (bag : List BagUnit) → is_waiting unit ≡ true → first_waiting (unit ∷ bag) ≡ Some 0
 first_place unit bag waits = ap (λ (w : Bool). if w then Some 0 else option_map suc (first_waiting bag)) waits
 
-waits_later : (unit : BagUnit) (bag : List BagUnit) → is_waiting unit ≡ false → waiting (unit ∷ bag) ≡ waiting bag
+pub waits_later : (unit : BagUnit) (bag : List BagUnit) → is_waiting unit ≡ false → waiting (unit ∷ bag) ≡ waiting bag
 waits_later unit bag not_waiting = rw not_waiting refl
 
-waits_first : (unit : BagUnit) (bag : List BagUnit) → is_waiting unit ≡ true → waiting (unit ∷ bag) ≡ unit ∷ waiting bag
+pub waits_first : (unit : BagUnit) (bag : List BagUnit) → is_waiting unit ≡ true → waiting (unit ∷ bag) ≡ unit ∷ waiting bag
 waits_first unit bag waits = rw waits refl
 
 none_waits : (bag : List BagUnit) → waiting bag ≡ [] → first_waiting bag ≡ None
@@ -70,10 +70,10 @@ added_waits (first ∷ bag) unit opened =
 
 -- ---- the oldest
 
-settled_by : (bag : List BagUnit) (number : ℕ) (unit : BagUnit) → slice_get bag number ≡ Some unit → settle_at number bag ≡ slice_set bag number (settled unit)
+pub settled_by : (bag : List BagUnit) (number : ℕ) (unit : BagUnit) → slice_get bag number ≡ Some unit → settle_at number bag ≡ slice_set bag number (settled unit)
 settled_by bag number unit there = ap (λ (found : Option BagUnit). settle_by found number bag) there
 
-set_there : (bag : List BagUnit) (number : ℕ) (unit other : BagUnit) → slice_get bag number ≡ Some unit → slice_get (slice_set bag number other) number ≡ Some other
+pub set_there : (bag : List BagUnit) (number : ℕ) (unit other : BagUnit) → slice_get bag number ≡ Some unit → slice_get (slice_set bag number other) number ≡ Some other
 set_there [] number unit other there = absurd cc
 set_there (first ∷ bag) zero unit other there = refl
 set_there (first ∷ bag) (suc number) unit other there = set_there bag number unit other there
@@ -124,7 +124,7 @@ taken_whole bytes most short =
 no_pieces : (most : ℕ) → pieces_in most [] ≡ []
 no_pieces most = refl
 
-one_piece : (bytes : List ℕ) → 0 < length bytes → length bytes ≤ 65536 → pieces_of bytes ≡ bytes ∷ []
+pub one_piece : (bytes : List ℕ) → 0 < length bytes → length bytes ≤ 65536 → pieces_of bytes ≡ bytes ∷ []
 unfolding pieces_of
 one_piece [] some short = absurd (omega (arith, some))
 one_piece (byte ∷ bytes) some short =
@@ -132,7 +132,7 @@ one_piece (byte ∷ bytes) some short =
     ∙ ap (λ (pieces : List (List ℕ)). (byte ∷ bytes) ∷ pieces) (no_pieces (length bytes))
 
 -- what it comes to, once it counts as delivered
-comes_by : (s : State) (unit : BagUnit) (end : EndId) (there : OpenLink) (number : ℕ) → 0 < length unit.bytes → length unit.bytes ≤ 65536 → first_waiting s.bag ≡ Some number →
+pub comes_by : (s : State) (unit : BagUnit) (end : EndId) (there : OpenLink) (number : ℕ) → 0 < length unit.bytes → length unit.bytes ≤ 65536 → first_waiting s.bag ≡ Some number →
     slice_get s.bag number ≡ Some unit → lookup same_number unit.link s.open_links ≡ Some there → hearer_on unit.back there ≡ Some end →
     onward s ≡ then_act (hears end (event.Bytes unit.link unit.bytes) (settle number s)) nothing_done
 comes_by s unit end there number some short first found opened hearer =

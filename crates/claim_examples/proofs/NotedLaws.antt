@@ -1,0 +1,196 @@
+-- What is written down of one move: a unit comes on its own link in one piece, at a client, at a member or at a
+-- controller, and no credential passes in it on another channel.
+-- It serves `a_run_is_clear`.
+use Rattle.std.proofs.Common.{◌≡◌, ℕ, zero, suc, ◌+◌, ◌-◌, ◌≤◌, ◌<◌, Bool, true, false, List, [], ◌∷◌, ◌++◌, length, map, Option, Some, None, refl, ap, ◌∙◌, arith, slice_get}
+use Rattle.std.specs.Prelude.{◌||◌, drop, replicate}
+use Rattle.std.specs.List.{AllByRecursion}
+use Rattle.std.proofs.lemmas.List.{length-append}
+use Rattle.wire_base.specs.Maps.{lookup, same_number}
+use Rattle.outside.specs.declared.event.Event.TheVariants as event
+use Rattle.domain_controller.specs.State.{State as ControllerState}
+use Rattle.logon_client.specs.State.{State as ClientState}
+use Rattle.member_server.specs.State.{State as MemberState}
+use Rattle.member_server.specs.declared.state.AtTurn.{AtTurn}
+use Rattle.member_server.specs.declared.state.TurnTalk.{TurnTalk}
+use Rattle.authenticators.specs.Channels.{Channel}
+use Rattle.channel_events.specs.Marks.{Mark}
+use Rattle.step_notes.specs.Marking.{answered_marks, clashes, mark_channel, turn_marks}
+use Rattle.step_notes.specs.MemberNotes.{turn_note, turn_units}
+use Rattle.step_notes.specs.Records.{Book, Sent}
+use Rattle.step_notes.specs.Served.{ServedUnit}
+use Rattle.world_moves.specs.declared.bag.BagUnit.{BagUnit}
+use Rattle.world_moves.specs.declared.links.EndId.{EndId}
+use Rattle.world_moves.specs.declared.links.OpenLink.{OpenLink}
+use Rattle.world_moves.specs.declared.moves.Move.{Move}
+use Rattle.world_moves.specs.declared.moves.Move.TheVariants as move
+use Rattle.world_moves.specs.declared.state.State.{State}
+use Rattle.world_moves.specs.Acting.{Given, hears, hears_if}
+use Rattle.world_moves.specs.Bag.{first_waiting, settle_at, settled}
+use Rattle.world_moves.specs.Links.{hearer_of, hearer_on}
+use Rattle.world_moves.specs.Moving.{act, onward, settle}
+use Rattle.world_moves.specs.World.{World}
+use Rattle.logon_runs.specs.Scenes.{HasFirst, Scene, Shows}
+use Rattle.logon_runs.specs.Waiting.{IsOldest, waiting}
+use Rattle.logon_runs.proofs.WaitingLaws.{comes_by, one_piece, set_there, settled_by, waiting_comes}
+use Rattle.domain_world.specs.Past.{Coming, answers_of, any_clash, book, controller_of, judged_of, marks_of, note, note_at, note_client, note_controller, note_coming, note_given, note_member, note_messages, note_onward, note_own, note_pieces, note_turn, note_turns, note_unit, numbers_on, onto, sent_at}
+use Rattle.domain_world.proofs.Frames.ComingLaws.{act_still}
+use Rattle.domain_world.proofs.Frames.MarkPlaceLaws.{no_longer}
+
+-- ---- moves one after the other
+
+abbrev pub world_at : ℕ → State → World
+world_at k s = record { state = s; moves = k; stopped = false }
+
+-- from that state on, whatever was written down before
+abbrev pub Trail : State → List Move → (Book → Type 0) → (Book → Type 0) → Type 0
+Trail s moves Before After = (k : ℕ) (b : Book) → Before b → After (book moves (world_at k s) b)
+
+abbrev pub Leads : State → Move → (Book → Type 0) → (Book → Type 0) → Type 0
+Leads s what Before After = (k : ℕ) (b : Book) → Before b → After (note (world_at k s) what b)
+
+pub then_on : (s : State) (what : Move) (moves : List Move) (First Before After : Book → Type 0) → Leads s what First Before → Trail (act s what).state moves Before After →
+    Trail s (what ∷ moves) First After
+then_on s what moves First Before After one more k b before = more (k + 1) (note (world_at k s) what b) (one k b before)
+
+pub no_more_moves : (s : State) (Before : Book → Type 0) → Trail s [] Before Before
+no_more_moves s Before k b before = before
+
+-- ---- what holds of what is written down
+
+-- no clash, at most so many calls were judged, and each unit of the bag is marked
+pub record Fine (s : State) (count : ℕ) (b : Book) : Type 0 where
+  pub apart : b.clash ≡ false
+  pub few : length b.judged ≤ count
+  pub marked : length b.sent ≡ length s.bag
+
+-- the oldest unit that waits was made for that channel, if for one
+pub record Waits (s : State) (channel : Option Channel) (b : Book) : Type 0 where
+  pub number : ℕ
+  pub first : first_waiting s.bag ≡ Some number
+  pub one : Sent
+  pub there : slice_get b.sent number ≡ Some one
+  pub made : mark_channel one.mark ≡ channel
+
+-- ---- the bag grows
+
+pub grows : (s : State) (what : Move) → length s.bag ≤ length (act s what).state.bag
+grows s what = no_longer s.bag (act s what).state.bag (λ number unit there. let still = act_still what s number unit there in (still.now, still.there))
+
+length_replicate : {T : Type 0} (count : ℕ) (item : T) → length (replicate count item) ≡ count
+length_replicate zero item = refl
+length_replicate (suc count) item = ap suc (length_replicate count item)
+
+filled : (count more : ℕ) → count ≤ more → count + (more - count) ≡ more
+filled count more few = omega arith
+
+-- the other things that are written down of a move change nothing of that
+pub given_fine : (k : ℕ) (given : Given) (after : State) (count : ℕ) (b : Book) → b.clash ≡ false → length b.judged ≤ count → length b.sent ≤ length after.bag →
+    Fine after count (note_given k given after b)
+given_fine k given after count b apart few marked = record {
+  apart = apart;
+  few = few;
+  marked = length-append b.sent _
+      ∙ ap (λ (more : ℕ). length b.sent + more) (length_replicate (length after.bag - length b.sent) _)
+      ∙ filled (length b.sent) (length after.bag) marked;
+}
+
+-- ---- a unit comes
+
+abbrev pub coming : ℕ → ℕ → BagUnit → Coming
+coming k number unit = record { at = k; unit = Some number; link = unit.link; back = unit.back }
+
+abbrev pub state_then : EndId → BagUnit → ℕ → State → State
+state_then end unit number s = (hears end (event.Bytes unit.link unit.bytes) (settle number s)).state
+
+-- the oldest unit comes at that end, and this is written down
+pub record Came (s : State) (unit : BagUnit) (later : List BagUnit) (end : EndId) : Type 0 where
+  pub number : ℕ
+  pub first : first_waiting s.bag ≡ Some number
+  pub there : slice_get s.bag number ≡ Some unit
+  pub behind : waiting (settle_at number s.bag) ≡ later
+  pub state : (onward s).state ≡ state_then end unit number s
+  pub noted : (k : ℕ) (b : Book) → note_coming move.Onward k s b ≡ note_at (Some end) (coming k number unit) unit.bytes (settle number s) (state_then end unit number s) b
+
+noted_by : (s : State) (unit : BagUnit) (end : EndId) (there : OpenLink) (number k : ℕ) (b : Book) → 0 < length unit.bytes → length unit.bytes ≤ 65536 → first_waiting s.bag ≡ Some number →
+    slice_get s.bag number ≡ Some unit → lookup same_number unit.link s.open_links ≡ Some there → hearer_on unit.back there ≡ Some end →
+    note_coming move.Onward k s b ≡ note_at (Some end) (coming k number unit) unit.bytes (settle number s) (state_then end unit number s) b
+noted_by s unit end there number k b some short first found opened hearer =
+    let s1 : State = settle number s in
+    let w : Coming = coming k number unit in
+    ap (λ (f : Option ℕ). note_onward f k s b) first
+    ∙ ap (λ (u : Option BagUnit). note_own u number k s b) found
+    ∙ ap (λ (u : Option BagUnit). note_unit u number unit.link k s1 b)
+    (ap (λ (bag : List BagUnit). slice_get bag number) (settled_by s.bag number unit found) ∙ set_there s.bag number unit (settled unit) found)
+    ∙ ap (λ (pieces : List (List ℕ)). note_pieces w pieces s1 b) (one_piece unit.bytes some short)
+    ∙ ap (λ (o : Option OpenLink). note_at (hearer_of unit.back o) w unit.bytes s1 (hears_if (hearer_of unit.back o) (event.Bytes unit.link unit.bytes) s1).state b) opened
+    ∙ ap (λ (h : Option EndId). note_at h w unit.bytes s1 (hears_if h (event.Bytes unit.link unit.bytes) s1).state b) hearer
+
+pub comes_so : (s : State) (v : Scene) (unit : BagUnit) (later : List BagUnit) (end : EndId) → Shows s v → HasFirst v unit later end → Came s unit later end
+comes_so s v unit later end shows first =
+    let oldest : IsOldest s.bag unit later = waiting_comes.oldest s.bag unit later (shows.units ∙ first.units) in
+    let opened : lookup same_number unit.link s.open_links ≡ Some first.there = ap (λ o. lookup same_number unit.link o) shows.opened ∙ first.found in
+    record {
+      number = oldest.number;
+      first = oldest.first;
+      there = oldest.there;
+      behind = oldest.behind;
+      state = ap (λ (a : _). a.state) (comes_by s unit end first.there oldest.number first.some first.short oldest.first oldest.there opened first.hearer);
+      noted = λ k b. noted_by s unit end first.there oldest.number k b first.some first.short oldest.first oldest.there opened first.hearer;
+    }
+
+-- ---- at a client
+
+pub client_fine : (found : Option ClientState) (at : ℕ) (w : Coming) (piece : List ℕ) (s : State) (b : Book) →
+    ((note_client found at w piece s b).clash ≡ b.clash) × ((note_client found at w piece s b).judged ≡ b.judged) × ((note_client found at w piece s b).sent ≡ b.sent)
+client_fine None at w piece s b = (refl, refl, refl)
+client_fine (Some c) at w piece s b = (refl, refl, refl)
+
+-- ---- at a member
+
+or_none : (one other : Bool) → one ≡ false → other ≡ false → (one || other) ≡ false
+or_none false other is none = none
+or_none true other is none = absurd (let x : true ≡ false = is in cc)
+
+-- the units that a turn took, none of which clashes
+abbrev pub AreOwn : ℕ → Option ℕ → List Sent → List (ServedUnit AtTurn TurnTalk) → Type 0
+AreOwn controller unit sent units = AllByRecursion (λ (served : ServedUnit AtTurn TurnTalk). clashes (turn_note controller served).checked unit sent ≡ false) units
+
+turns_fine : (controller : ℕ) (units : List (ServedUnit AtTurn TurnTalk)) (unit : Option ℕ) (numbers : List ℕ) (b : Book) → b.clash ≡ false → AreOwn controller unit b.sent units →
+    ((note_turns controller units unit numbers b).clash ≡ false) × ((note_turns controller units unit numbers b).judged ≡ b.judged) × ((note_turns controller units unit numbers b).sent ≡ b.sent)
+turns_fine controller [] unit numbers b apart own = (apart, refl, refl)
+turns_fine controller (served ∷ units) unit numbers b apart own =
+    turns_fine controller units unit _ (note_turn (turn_note controller served) served unit _ b) (or_none b.clash (clashes (turn_note controller served).checked unit b.sent) apart own.0) own.1
+
+-- what is written down at a member or a controller: no clash, so many calls, and marks of the new units
+pub record Written (k link : ℕ) (back : Bool) (s after : State) (count : ℕ) (marks : List Mark) (b now : Book) : Type 0 where
+  pub apart : now.clash ≡ false
+  pub few : length now.judged ≤ count
+  pub sent : now.sent ≡ b.sent ++ map (sent_at k) (marks_of link back (drop (length s.bag) after.bag) marks)
+
+pub member_fine : (m : MemberState) (at : ℕ) (w : Coming) (piece : List ℕ) (s after : State) (count : ℕ) (b : Book) → b.clash ≡ false → length b.judged ≤ count →
+    AreOwn (controller_of at s) w.unit b.sent (turn_units m w.link piece s.moment s.chances.left) →
+    Written w.at w.link false s after count (turn_marks (map (turn_note (controller_of at s)) (turn_units m w.link piece s.moment s.chances.left))) b (note_member (Some m) at w piece s after b)
+member_fine m at w piece s after count b apart few own =
+    let units : List (ServedUnit AtTurn TurnTalk) = turn_units m w.link piece s.moment s.chances.left in
+    let controller : ℕ = controller_of at s in
+    let fine = turns_fine controller units w.unit (numbers_on w.link false s.bag after.bag) (note_messages at m w piece s b) apart own in
+    record {
+      apart = fine.0;
+      few = omega (arith, few, ap (λ (judged : _). length judged) fine.1);
+      sent = ap (λ (sent : List Sent). sent ++ map (sent_at w.at) (marks_of w.link false (drop (length s.bag) after.bag) (turn_marks (map (turn_note controller) units)))) fine.2;
+    }
+
+-- ---- at a controller
+
+length_onto : {T : Type 0} (items older : List T) → length (onto items older) ≡ length items + length older
+length_onto [] older = omega arith
+length_onto (item ∷ items) older = omega (arith, length_onto items (item ∷ older))
+
+pub controller_fine : (c : ControllerState) (at : ℕ) (w : Coming) (piece : List ℕ) (s after : State) (count total : ℕ) (b : Book) → b.clash ≡ false → length b.judged ≤ count →
+    any_clash (answers_of at c w piece s) w.unit b.sent ≡ false → length (judged_of (answers_of at c w piece s) (numbers_on w.link true s.bag after.bag)) + count ≤ total →
+    Written w.at w.link true s after total (answered_marks (answers_of at c w piece s)) b (note_controller (Some c) at w piece s after b)
+controller_fine c at w piece s after count total b apart few own judged = record {
+  apart = or_none b.clash (any_clash (answers_of at c w piece s) w.unit b.sent) apart own;
+  few = omega (arith, few, judged, length_onto (judged_of (answers_of at c w piece s) (numbers_on w.link true s.bag after.bag)) b.judged);
+  sent = refl;
+}

@@ -1,0 +1,40 @@
+-- Runs that a world made itself, in which a logon is granted: their moves are a schedule, they are clear, and somebody
+-- is let in, so that the claims on such runs speak of them (this project's own choice).
+use Rattle.std.specs.Prelude.{ℕ, ◌≡◌, ◌≢◌, ◌==◌, true, length, Some, AllPairs}
+use Rattle.std.specs.List.{AllByRecursion}
+use Rattle.channel_events.specs.Marks.{OneOf}
+use Rattle.step_notes.specs.Records.{OutcomeTold}
+use Rattle.world_moves.specs.declared.plan.Plan.{Plan}
+use Rattle.world_moves.specs.Choosing.{chosen_place}
+use Rattle.world_moves.specs.Counting.{is_in}
+use Rattle.world_moves.specs.Forms.{HasForms, IsSchedule}
+use Rattle.world_moves.specs.World.{IsPlan, first_world}
+use Rattle.logon_runs.specs.ExampleLogon.{ann_moves, ann_plan}
+use Rattle.logon_runs.specs.FirstWorlds.{CanComeIn, FirstKeyArrives, logon_moves}
+use Rattle.domain_world.specs.Claims.{AcceptsOnlyGranted, IsAccepted, IsClear}
+use Rattle.domain_world.specs.Claims.Completeness.{IsPlainMove, OneAtATime, started_in}
+use Rattle.domain_world.specs.Claims.LetIn.{IsLetInBy}
+use Rattle.domain_world.specs.Past.{Past, past}
+
+-- a member told of a link that somebody is let in, and took his message on that link, and a unit as the answer to it
+pub record IsLetIn (run : Past) (told : OutcomeTold) : Type 0 where
+  pub is : is_in told.outcome ≡ true
+  pub message : OneOf (IsLetInBy told) run.book.messages
+
+-- The run is clear, and somebody is let in. So where that a member accepts only what is granted holds of it, a message
+-- of the run is accepted: of it the claim that a member accepts all that is granted says something too.
+pub record LetsInClearly (run : Past) : Type 0 where
+  pub clear : IsClear run.book
+  pub told : OneOf (IsLetIn run) run.book.told
+  pub accepted : AcceptsOnlyGranted run → OneOf (IsAccepted run) run.book.messages
+
+-- It is so of the first logon in a world, of whatever plan, where it comes in; and of the example, which is a schedule
+-- whose one client is started where nothing is under way, and at whose end nothing is.
+pub record FirstLogonsAreClear : Type 0 where
+  pub first : (plan : Plan) (client member controller number : ℕ) → IsPlan plan → HasForms plan → chosen_place number (length plan.clients) ≡ Some client →
+      (can : CanComeIn plan client member controller) → FirstKeyArrives plan client member controller can → LetsInClearly (past plan (logon_moves number (can.task.echo == 0)))
+  pub schedule : IsSchedule ann_plan ann_moves
+  pub ann : LetsInClearly (past ann_plan ann_moves)
+  pub plain : AllByRecursion IsPlainMove ann_moves
+  pub once : AllPairs (λ (one other : ℕ). one ≢ other) (started_in ann_moves (length ann_plan.clients))
+  pub quiet : OneAtATime ann_moves (first_world ann_plan)
