@@ -66,29 +66,73 @@ may_each plan client member controller can is forms number chosen arrives some i
     let ended = meetings_are_seen.ends_echoed _ end _ _ 4 asks.next _ (left_then plan) plan.now still comes.opened.can again echoed in
     let turns = seen.turns in (
       may_here info _ _ (first_shows plan client member controller can) before,
-      (may_here info _ _ seen.begun before,
-      (may_here info _ _ seen.bind before,
-      (may_here info _ _ seen.ack before,
-      (may_here info _ _ seen.answered before,
-      (may_here info _ _ turns.asked before,
-      (may_here info _ _ turns.held before,
-      (may_here info _ _ turns.challenge.bind before,
-      (may_here info _ _ turns.challenge.ack before,
-      (may_here info _ _ turns.challenge.call before,
-      (may_here info _ _ turns.challenge.reply before,
-      (may_here info _ _ turns.half before,
-      (may_here info _ _ turns.proof.bind before,
-      (may_here info _ _ turns.proof.ack before,
-      (may_here info _ _ turns.proof.call before,
-      (may_here info _ _ turns.proof.reply before,
-      (may_here info _ _ turns.opened before,
-      (may_here info _ _ turns.logon.bind before,
-      (may_here info _ _ turns.logon.ack before,
-      (may_here info _ _ turns.logon.call before,
-      (may_here info _ _ turns.logon.reply behind,
-      (may_here info _ _ seen.granted behind,
-      (may_here info _ _ named behind,
-      (may_here info _ _ echoed behind, may_here info _ _ ended behind))))))))))))))))))))))),
+      (
+        may_here info _ _ seen.begun before,
+        (
+          may_here info _ _ seen.bind before,
+          (
+            may_here info _ _ seen.ack before,
+            (
+              may_here info _ _ seen.answered before,
+              (
+                may_here info _ _ turns.asked before,
+                (
+                  may_here info _ _ turns.held before,
+                  (
+                    may_here info _ _ turns.challenge.bind before,
+                    (
+                      may_here info _ _ turns.challenge.ack before,
+                      (
+                        may_here info _ _ turns.challenge.call before,
+                        (
+                          may_here info _ _ turns.challenge.reply before,
+                          (
+                            may_here info _ _ turns.half before,
+                            (
+                              may_here info _ _ turns.proof.bind before,
+                              (
+                                may_here info _ _ turns.proof.ack before,
+                                (
+                                  may_here info _ _ turns.proof.call before,
+                                  (
+                                    may_here info _ _ turns.proof.reply before,
+                                    (
+                                      may_here info _ _ turns.opened before,
+                                      (
+                                        may_here info _ _ turns.logon.bind before,
+                                        (
+                                          may_here info _ _ turns.logon.ack before,
+                                          (
+                                            may_here info _ _ turns.logon.call before,
+                                            (
+                                              may_here info _ _ turns.logon.reply behind,
+                                              (
+                                                may_here info _ _ seen.granted behind,
+                                                (
+                                                  may_here info _ _ named behind,
+                                                  (may_here info _ _ echoed behind, may_here info _ _ ended behind),
+                                                ),
+                                              ),
+                                            ),
+                                          ),
+                                        ),
+                                      ),
+                                    ),
+                                  ),
+                                ),
+                              ),
+                            ),
+                          ),
+                        ),
+                      ),
+                    ),
+                  ),
+                ),
+              ),
+            ),
+          ),
+        ),
+      ),
     )
 
 -- ---- the example

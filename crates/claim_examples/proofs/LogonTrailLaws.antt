@@ -96,20 +96,20 @@ logon_trail s t accounts next number stamp o state info sam how_judged computers
     turn_trail s t (with_accounts accounts t) next number c r computers kept left left moment 0 (Calling named asks.next_call stamp) (Some t.place) (FineAnd s4 1 (Some named)) (FineSo (turned s) 1 Holds) seen between below names
     (ap (λ (h : Standing). asked_note (Some (step.Reply q)) h t.at_controller asks (wait_for asks t.place (step.Reply q))) how)
     (λ k b f.
-        let j : ℕ → Judging = λ unit. judging_of (where_in_turn s3 t next c computers k unit) (turn_line t.link next) _ d then_so in
-        let one : (unit : ℕ) → answer_in_turn s3 t next c computers k unit left moment ≡ passing (Some named) (j unit) =
-        λ unit. channels_are_named_alike.calls.passes (j unit) named refl refl has passed in
-        let called : Called s3 t next c computers k 1 left moment b =
-        call_comes s3 t (after next) next (step.Reply q) c computers left left moment 0 1 _ _ between below_next is_call steps seen.call k b f.fine
-        (λ unit first. channels_are_named_alike.exchanges.calling (j unit) named b.sent refl refl has passed (waits_marked s3 (Some named) b unit f.waits first))
-        (λ unit numbers. omega (arith, ap (λ (a : Answered). length (judged_of (a ∷ []) numbers)) (one unit))) in
-        reply_waits s3 t next c computers k 0 1 left moment b (reply_bytes next r) (Some named) f.fine called (ReplyTo named next called.came.number)
-        (ap (λ (a : Answered). answered_marks (a ∷ [])) (one called.came.number)) refl
-        (judged_bag s3 t (after next) next (step.Reply q) c computers left left moment how_judged (reply_bytes next r) after_step called.came.number between steps seen.call))
+    let j : ℕ → Judging = λ unit. judging_of (where_in_turn s3 t next c computers k unit) (turn_line t.link next) _ d then_so in
+    let one : (unit : ℕ) → answer_in_turn s3 t next c computers k unit left moment ≡ passing (Some named) (j unit) =
+    λ unit. channels_are_named_alike.calls.passes (j unit) named refl refl has passed in
+    let called : Called s3 t next c computers k 1 left moment b =
+    call_comes s3 t (after next) next (step.Reply q) c computers left left moment 0 1 _ _ between below_next is_call steps seen.call k b f.fine
+    (λ unit first. channels_are_named_alike.exchanges.calling (j unit) named b.sent refl refl has passed (waits_marked s3 (Some named) b unit f.waits first))
+    (λ unit numbers. omega (arith, ap (λ (a : Answered). length (judged_of (a ∷ []) numbers)) (one unit))) in
+    reply_waits s3 t next c computers k 0 1 left moment b (reply_bytes next r) (Some named) f.fine called (ReplyTo named next called.came.number)
+    (ap (λ (a : Answered). answered_marks (a ∷ [])) (one called.came.number)) refl
+    (judged_bag s3 t (after next) next (step.Reply q) c computers left left moment how_judged (reply_bytes next r) after_step called.came.number between steps seen.call))
     (λ k b f. record {
-        fine = reply_leads s4 (with_accounts accounts t) (after next) next q r kept left moment 1 (between_still t accounts between) below_next is_reply
-            (let same_names : Names s4 t = replied_names s t names in record { plan = same_names.plan; reach = same_names.reach }) seen.reply k b f.fine
-            (λ unit first. channels_are_named_alike.exchanges.answered t.at_controller channel _ t.place named (Some unit) b.sent
-            (ap (λ (h : Standing). stands_in t.at_controller t.caller.computer h) how) (ap (λ (taking : Taking). place_answered taking.taken) takes) (waits_marked s4 (Some named) b unit f.waits first));
-        holds = holds k b;
-      })
+      fine = reply_leads s4 (with_accounts accounts t) (after next) next q r kept left moment 1 (between_still t accounts between) below_next is_reply
+          (let same_names : Names s4 t = replied_names s t names in record { plan = same_names.plan; reach = same_names.reach }) seen.reply k b f.fine
+          (λ unit first. channels_are_named_alike.exchanges.answered t.at_controller channel _ t.place named (Some unit) b.sent
+          (ap (λ (h : Standing). stands_in t.at_controller t.caller.computer h) how) (ap (λ (taking : Taking). place_answered taking.taken) takes) (waits_marked s4 (Some named) b unit f.waits first));
+      holds = holds k b;
+    })

@@ -284,7 +284,7 @@ some_message : (member : ℕ) (messages : List MessageTaken) (controller : ℕ) 
     IfCalling (IsForItsMessage member messages controller unit.work (work_after unit.part) (turn_note controller unit).called) mark → ⊥
 some_message member messages controller unit mark channel call timestamp none is asks =
     let here : IsForItsMessage member messages controller unit.work (work_after unit.part) (turn_note controller unit).called channel call timestamp =
-        subst (λ (m : Mark). IfCalling (IsForItsMessage member messages controller unit.work (work_after unit.part) (turn_note controller unit).called) m) is asks in
+    subst (λ (m : Mark). IfCalling (IsForItsMessage member messages controller unit.work (work_after unit.part) (turn_note controller unit).called) m) is asks in
     subst (λ (all : List MessageTaken). OneOf (IsOfMessage member here.carries.asks.place here.carries.asks.logon) all) none here.message
 
 nothing_waits : MembersAskForKept (keeping ((0, small_logon 3) ∷ [])) → ⊥
@@ -297,8 +297,8 @@ of_asking = record {
   fails_messages = λ run member m controller number piece now left unit more channel call timestamp at none goes is claim.
       some_message member run.book.messages controller unit (turn_note controller unit).mark channel call timestamp none is
       (let all : AllByRecursion (AsksForItsMessage member run.book.messages controller) (unit ∷ more) =
-          subst (λ (units : List (ServedUnit AtTurn TurnTalk)). AllByRecursion (AsksForItsMessage member run.book.messages controller) units) goes
-          (claim member m at controller number piece now left) in
+      subst (λ (units : List (ServedUnit AtTurn TurnTalk)). AllByRecursion (AsksForItsMessage member run.book.messages controller) units) goes
+      (claim member m at controller number piece now left) in
       all.0);
 }
 

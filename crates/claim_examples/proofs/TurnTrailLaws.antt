@@ -145,18 +145,18 @@ opening_trail s t next number client server account computers kept left moment s
     turn_trail s t t next number c r computers kept left left moment 0 (Opening named asks.next_call) None (FineAnd s4 0 (Some named)) (Fine (turned s) 0) seen between below names
     (ap (λ (h : Standing). asked_note (Some (step.Reply q)) h t.at_controller asks (wait_for asks t.place (step.Reply q))) how)
     (λ k b f.
-        let d : Desk = desk_in_turn t computers in
-        let then_so : Option Desk = work_after (by_call c (turn_line t.link next) (bound_talk None turn_agreed) t.name moment d left) in
-        let expects : Expects d channel client server = record { account = account; found = found; secret = hash; pair = waits } in
-        let one : (unit : ℕ) → answer_in_turn s3 t next c computers k unit left moment ≡ opening (Some named) (where_in_turn s3 t next c computers k unit) next =
-        λ unit. channels_are_named_alike.openings.opens channel client server (where_in_turn s3 t next c computers k unit) (turn_line t.link next) d then_so expects in
-        let called : Called s3 t next c computers k 0 left moment b =
-        call_comes s3 t (after next) next (step.Reply q) c computers left left moment 0 0 _ _ between below_next is_call steps seen.call k b f.fine
-        (λ unit first. channels_are_named_alike.exchanges.opening channel client server (where_in_turn s3 t next c computers k unit) (turn_line t.link next) d then_so b.sent expects
-        (waits_marked s3 (Some named) b unit f.waits first))
-        (λ unit numbers. omega (arith, ap (λ (a : Answered). length (judged_of (a ∷ []) numbers)) (one unit))) in
-        reply_waits s3 t next c computers k 0 0 left moment b (reply_bytes next r) (Some named) f.fine called (Opened named next called.came.number)
-        (ap (λ (a : Answered). answered_marks (a ∷ [])) (one called.came.number)) refl
-        (replied_bag s3 t (after next) next (step.Reply q) c computers left left moment (reply_bytes next r) _ called.came.number between steps seen.call))
+    let d : Desk = desk_in_turn t computers in
+    let then_so : Option Desk = work_after (by_call c (turn_line t.link next) (bound_talk None turn_agreed) t.name moment d left) in
+    let expects : Expects d channel client server = record { account = account; found = found; secret = hash; pair = waits } in
+    let one : (unit : ℕ) → answer_in_turn s3 t next c computers k unit left moment ≡ opening (Some named) (where_in_turn s3 t next c computers k unit) next =
+    λ unit. channels_are_named_alike.openings.opens channel client server (where_in_turn s3 t next c computers k unit) (turn_line t.link next) d then_so expects in
+    let called : Called s3 t next c computers k 0 left moment b =
+    call_comes s3 t (after next) next (step.Reply q) c computers left left moment 0 0 _ _ between below_next is_call steps seen.call k b f.fine
+    (λ unit first. channels_are_named_alike.exchanges.opening channel client server (where_in_turn s3 t next c computers k unit) (turn_line t.link next) d then_so b.sent expects
+    (waits_marked s3 (Some named) b unit f.waits first))
+    (λ unit numbers. omega (arith, ap (λ (a : Answered). length (judged_of (a ∷ []) numbers)) (one unit))) in
+    reply_waits s3 t next c computers k 0 0 left moment b (reply_bytes next r) (Some named) f.fine called (Opened named next called.came.number)
+    (ap (λ (a : Answered). answered_marks (a ∷ [])) (one called.came.number)) refl
+    (replied_bag s3 t (after next) next (step.Reply q) c computers left left moment (reply_bytes next r) _ called.came.number between steps seen.call))
     (λ k b f. reply_leads s4 t (after next) next q r kept left moment 0 between below_next is_reply (replied_names s t names) seen.reply k b f.fine
     (λ unit first. channels_are_named_alike.exchanges.opened t.at_controller channel _ client server (Some unit) b.sent how (ap (λ (taking : Taking). taking.taken) takes) (waits_marked s4 (Some named) b unit f.waits first)))
