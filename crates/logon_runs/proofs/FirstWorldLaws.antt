@@ -51,25 +51,25 @@ use Rattle.logon_runs.proofs.GrantLaws.{grants_are_told}
 -- ---- lists
 
 -- an item of a list, each of which has something
-item_has : {T : Type 0} (P : T → Type 0) (items : List T) (at : ℕ) (item : T) → All P items → slice_get items at ≡ Some item → P item
+pub item_has : {T : Type 0} (P : T → Type 0) (items : List T) (at : ℕ) (item : T) → All P items → slice_get items at ≡ Some item → P item
 item_has P [] at item all is = absurd cc
 item_has P (first ∷ items) zero item all is = let same : first ≡ item = cc in subst P same (All-head P first items all)
 item_has P (first ∷ items) (suc at) item all is = item_has P items at item (All-tail P first items all) is
 
-each_has : {T : Type 0} (P : T → Type 0) (items : List T) (at : ℕ) (item : T) → AllByRecursion P items → slice_get items at ≡ Some item → P item
+pub each_has : {T : Type 0} (P : T → Type 0) (items : List T) (at : ℕ) (item : T) → AllByRecursion P items → slice_get items at ≡ Some item → P item
 each_has P [] at item all is = absurd cc
 each_has P (first ∷ items) zero item all is = let same : first ≡ item = cc in subst P same all.0
 each_has P (first ∷ items) (suc at) item all is = each_has P items at item all.1 is
 
-at_place : {T : Type 0} (P : T → Type 0) (items : List T) (place : Option ℕ) (item : T) → AllByRecursion P items → option_and_then (slice_get items) place ≡ Some item → P item
+pub at_place : {T : Type 0} (P : T → Type 0) (items : List T) (place : Option ℕ) (item : T) → AllByRecursion P items → option_and_then (slice_get items) place ≡ Some item → P item
 at_place P items None item all is = absurd cc
 at_place P items (Some at) item all is = each_has P items at item all is
 
-got_mapped : {A B : Type 0} (f : A → B) (items : List A) (at : ℕ) (item : A) → slice_get items at ≡ Some item → slice_get (map f items) at ≡ Some (f item)
+pub got_mapped : {A B : Type 0} (f : A → B) (items : List A) (at : ℕ) (item : A) → slice_get items at ≡ Some item → slice_get (map f items) at ≡ Some (f item)
 got_mapped f items at item is = slice_get-map f items at ∙ ap (option_map f) is
 
 -- the controller is made of its table and its name
-got_controller : (tables : List AccountTable) (names : List (List ℕ)) (at : ℕ) (table : AccountTable) (name : List ℕ) → slice_get tables at ≡ Some table → slice_get names at ≡ Some name →
+pub got_controller : (tables : List AccountTable) (names : List (List ℕ)) (at : ℕ) (table : AccountTable) (name : List ℕ) → slice_get tables at ≡ Some table → slice_get names at ≡ Some name →
     slice_get (first_controllers tables names) at ≡ Some (first_state table name)
 got_controller [] names at table name is_table is_name = absurd cc
 got_controller (first ∷ tables) [] at table name is_table is_name = absurd cc
@@ -78,7 +78,7 @@ got_controller (first ∷ tables) (other ∷ names) (suc at) table name is_table
 
 -- ---- forms
 
-are_units : (units : List ℕ) → All (λ (unit : ℕ). unit < 2 ^ 16) units → AreUnits units
+pub are_units : (units : List ℕ) → All (λ (unit : ℕ). unit < 2 ^ 16) units → AreUnits units
 are_units units all place =
     elim (cases_lt place (length units)) [
       | inl within ↦ All-get_or (λ (unit : ℕ). unit < 2 ^ 16) units place 0 within all

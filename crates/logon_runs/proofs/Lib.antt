@@ -15,4 +15,17 @@ pub mod LogonRunLaws
 pub mod FirstLogonTraceLaws
 pub mod FirstLogonRunLaws
 pub mod FirstWorldLaws
+pub mod PhaseStartLaws
+pub mod PhaseTurnLaws
+pub mod PhaseEndLaws
+pub mod PhaseLaws
+pub mod OtherLaws
+pub mod RestLaws
+pub mod ComeInLaws
+pub mod FailingStepLaws
+pub mod FailingLaws
+pub mod TurnedAwayLaws
+pub mod PassingLaws
+pub mod GrantsToldLaws
+pub mod RestStayLaws
 pub mod ExampleLogonLaws

@@ -77,7 +77,7 @@ sent_down g bytes is =
     ap (λ (r : Option Route). sent_if r (Member g.at_member) g.link bytes) is
     ∙ ap (λ (b : Bool). record { bytes = bytes; link = g.link; kind = kind.ToMember; back = b; is_settled = false } ∷ []) (same g.at_member)
 
-closes_own : (g : Meeting) (how : ClientPhase) (talk : Talk) (units : List BagUnit) (left : List (List ℕ)) (moment : ℕ) →
+pub closes_own : (g : Meeting) (how : ClientPhase) (talk : Talk) (units : List BagUnit) (left : List (List ℕ)) (moment : ℕ) →
     ClosesTo (meeting_scene g how talk units left moment) (Client g.at_client) (Member g.at_member) g.link
 closes_own g how talk units left moment = record {
   there = record { route = ToMember g.at_client g.at_member; dialler = true; acceptor = true };

@@ -21,7 +21,7 @@ got_first [] more at item is = absurd cc
 got_first (first ∷ items) more zero item is = is
 got_first (first ∷ items) more (suc at) item is = got_first items more at item is
 
-got_last : {A : Type 0} (items : List A) (item : A) → slice_get (items ++ item ∷ []) (length items) ≡ Some item
+pub got_last : {A : Type 0} (items : List A) (item : A) → slice_get (items ++ item ∷ []) (length items) ≡ Some item
 got_last [] item = refl
 got_last (first ∷ items) item = got_last items item
 

@@ -14,4 +14,12 @@ pub mod LogonRuns
 pub mod FirstLogonRuns
 pub mod FirstTraces
 pub mod FirstWorlds
+pub mod Phases
+pub mod Others
+pub mod Rests
+pub mod FailingSteps
+pub mod Failings
+pub mod TurnedAway
+pub mod Passing
+pub mod GrantsTold
 pub mod ExampleLogon

@@ -3,18 +3,26 @@
 
 ghost use Rattle.logon_runs.specs.AskScenes.{LogonsAreSeen};
 ghost use Rattle.logon_runs.specs.ExampleLogon.{AnnLogsOn};
+ghost use Rattle.logon_runs.specs.FailingSteps.{FailingsStep};
+ghost use Rattle.logon_runs.specs.Failings.{FailingsAreSeen};
 ghost use Rattle.logon_runs.specs.FirstLogonRuns.{FirstLogonsRun};
 ghost use Rattle.logon_runs.specs.FirstRuns.{FirstTurnsRun};
 ghost use Rattle.logon_runs.specs.FirstTraces.{FirstLogonsAreSeen, FirstTurnsAreSeen};
 ghost use Rattle.logon_runs.specs.FirstWorlds.{FirstWorldsRun};
 ghost use Rattle.logon_runs.specs.Grants.{GrantsAreTold};
+ghost use Rattle.logon_runs.specs.GrantsTold.{GrantsTell};
 ghost use Rattle.logon_runs.specs.LinkScenes.{MeetingsAreSeen};
 ghost use Rattle.logon_runs.specs.LogonRuns.{LogonsRun};
+ghost use Rattle.logon_runs.specs.Others.{OthersAreLeft};
+ghost use Rattle.logon_runs.specs.Passing.{LogonsPass};
+ghost use Rattle.logon_runs.specs.Phases.{PhasesGoOn};
+ghost use Rattle.logon_runs.specs.Rests.{LogonsComeIn, LogonsComeToRest, RestsStay};
 ghost use Rattle.logon_runs.specs.Runs.{TurnsRun};
 ghost use Rattle.logon_runs.specs.Scenes.{ScenesGoOn};
 ghost use Rattle.logon_runs.specs.Starts.{StartsAreSeen};
 ghost use Rattle.logon_runs.specs.Staying.{EndsStay};
 ghost use Rattle.logon_runs.specs.TurnScenes.{TurnsAreSeen};
+ghost use Rattle.logon_runs.specs.TurnedAway.{LogonsAreTurnedAway};
 ghost use Rattle.logon_runs.specs.Turnings.{ScenesTurn};
 ghost use Rattle.logon_runs.specs.TwoLinks.{TurnsHaveLinks};
 ghost use Rattle.logon_runs.specs.Waiting.{WaitingComes};
@@ -140,4 +148,74 @@ pub fn first_worlds_run()
 #[tactic(auto, using(crate::proofs::ExampleLogonLaws::an_example_logs_on))]
 pub fn an_example_logs_on()
     ensures { AnnLogsOn }
+{}
+
+/// A logon that is granted goes on at each move, in whichever order the moves come and whenever time
+/// passes: from one phase to another, and from the last one to its end, where the client is in.
+#[tactic(auto, using(crate::proofs::PhaseLaws::phases_go_on))]
+pub fn phases_go_on()
+    ensures { PhasesGoOn }
+{}
+
+/// The moves of one logon change its client, its member and its controller alone: all other ends
+/// are as they were, and no other link opens.
+#[tactic(auto, using(crate::proofs::OtherLaws::others_are_left))]
+pub fn others_are_left()
+    ensures { OthersAreLeft }
+{}
+
+/// The first world rests: no link is open, and nothing waits. A logon that is granted starts at rest
+/// and leads to rest, with the channel of each member that has one in step with its controller's.
+#[tactic(auto, using(crate::proofs::RestLaws::logons_come_to_rest))]
+pub fn logons_come_to_rest()
+    ensures { LogonsComeToRest }
+{}
+
+/// A client whose logon is granted comes in, whichever of its moves come first and whenever time
+/// passes: once nothing waits it is in, the world rests, and all other ends are as they were.
+#[tactic(auto, using(crate::proofs::ComeInLaws::logons_come_in))]
+pub fn logons_come_in()
+    ensures { LogonsComeIn }
+{}
+
+/// The steps of a member and a client where a logon fails: its dial or its turn fails, or the
+/// controller refuses it. WhoAmI is answered with a fault, and the client then has its outcome.
+#[tactic(auto, using(crate::proofs::FailingStepLaws::failings_step))]
+pub fn failings_step()
+    ensures { FailingsStep }
+{}
+
+/// A logon that fails, as it is seen in the world: a dial that reaches nobody, a turn that is
+/// dropped or refused, and the fault upon which the client closes its link.
+#[tactic(auto, using(crate::proofs::FailingLaws::failings_are_seen))]
+pub fn failings_are_seen()
+    ensures { FailingsAreSeen }
+{}
+
+/// A logon that a controller refuses which knows the computer, or whose member reaches no
+/// controller, goes on at each move to its end: the client has its outcome, and no link is open.
+#[tactic(auto, using(crate::proofs::TurnedAwayLaws::logons_are_turned_away))]
+pub fn logons_are_turned_away()
+    ensures { LogonsAreTurnedAway }
+{}
+
+/// A logon at a member that has its own computer leads from rest to rest, in whichever order its
+/// moves come: it is granted by the user's own hash, or refused.
+#[tactic(auto, using(crate::proofs::PassingLaws::logons_pass))]
+pub fn logons_pass()
+    ensures { LogonsPass }
+{}
+
+/// Where a logon is granted, the member tells of the client's own link that he is in, with the
+/// domain, the account's name and the client's own key.
+#[tactic(auto, using(crate::proofs::GrantsToldLaws::grants_tell))]
+pub fn grants_tell()
+    ensures { GrantsTell }
+{}
+
+/// A world that rests does so still after a dial would be answered, a unit would come, or time
+/// passes.
+#[tactic(auto, using(crate::proofs::RestStayLaws::rests_stay))]
+pub fn rests_stay()
+    ensures { RestsStay }
 {}

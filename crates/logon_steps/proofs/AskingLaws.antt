@@ -13,7 +13,7 @@ use Rattle.channel_client.specs.State.{Requester}
 use Rattle.wire_base.specs.declared.authenticator.Authenticator.{Authenticator}
 use Rattle.logon_steps.specs.Asking.{LogonsAreAsked, asking}
 
-same_bytes : (bytes : List ℕ) → bytes_eq bytes bytes ≡ true
+pub same_bytes : (bytes : List ℕ) → bytes_eq bytes bytes ≡ true
 same_bytes bytes = (bytes_eq-Decides bytes bytes).1 refl
 
 pub logons_are_asked : LogonsAreAsked

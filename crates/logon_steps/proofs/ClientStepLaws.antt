@@ -44,11 +44,11 @@ use Rattle.logon_steps.proofs.StreamLaws.{one_read, read_again, same, served_one
 
 -- ---- a unit on its link
 
-abbrev stepped : ClientPlan → ℕ → Phase → List (List ℕ) → ServedPart Work Talk → Stepped State
+abbrev pub stepped : ClientPlan → ℕ → Phase → List (List ℕ) → ServedPart Work Talk → Stepped State
 stepped task link how left part =
     step_by client.actions_after client.state_after (client.halted (client_at task (on_link link how))) left (then_part part (client.after_stream []))
 
-link_hears : (task : ClientPlan) (link now : ℕ) (how : Phase) (bytes : List ℕ) (unit : RpcUnit) (left : List (List ℕ)) (part : ServedPart Work Talk) →
+pub link_hears : (task : ClientPlan) (link now : ℕ) (how : Phase) (bytes : List ℕ) (unit : RpcUnit) (left : List (List ℕ)) (part : ServedPart Work Talk) →
     unit_of bytes ≡ Ok unit → client.serve_unit bytes (client.work_of task now) (client.talk_on link None how) left ≡ part →
     client.step_of (client_at task (on_link link how)) (event.Bytes link bytes) now left ≡ stepped task link how left part
 link_hears task link now how bytes unit left part read served =

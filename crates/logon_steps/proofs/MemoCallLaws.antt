@@ -142,6 +142,7 @@ plain_request most level number opnum stub other below op short plain =
       short = sends.short;
       unit = call;
       read = read_again call sends;
+      call = refl;
       body = refl;
       heard = λ on at level_is session_is.
           ap (λ (p : Bool). unit_in p (written call) on None at) plain
@@ -220,6 +221,7 @@ signed_request most level number opnum stub one other few below op short are =
             short = omega (arith, t.size, room.sends.short);
             unit = unit_with_value (unit_with_stub call t.stub) t.signature;
             read = t.read;
+            call = refl;
             body = refl;
             heard = signed_request_heard level number opnum stub one other short are.0 room goes;
           }

@@ -47,6 +47,7 @@ pub record RequestGoes (most level number opnum : ℕ) (stub : List ℕ) (one ot
   -- the unit is a request, whatever its stub looks like
   pub unit : RpcUnit
   pub read : unit_of sent ≡ Ok unit
+  pub call : unit.call ≡ number
   pub body : Request (length stub) 0 opnum (stub_of unit.body) ≡ unit.body
   pub heard : (on : LoggedOn) (at : AtLink) → on.bound.level ≡ level → on.session ≡ other →
       unit_in (is_plain level) sent on None at ≡ answer_call (request_of number 0 opnum stub).body number (logged_on on next) None at

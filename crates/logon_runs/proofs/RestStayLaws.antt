@@ -1,0 +1,106 @@
+-- That a world which rests does so still after a move between starts.
+-- Of `rests_stay`.
+use Rattle.std.proofs.Common.{◌≡◌, ℕ, refl, sym, ap, subst, ◌∙◌, List, [], drop, Option, slice_get}
+use Rattle.channel_client.specs.declared.state.Standing.{Standing}
+use Rattle.channel_client.specs.declared.state.Standing.TheVariants as standing
+use Rattle.member_server.specs.declared.plan.MemberPlan.{MemberPlan}
+use Rattle.world_moves.specs.declared.moves.Move.{Move}
+use Rattle.world_moves.specs.declared.moves.Move.TheVariants as move
+use Rattle.world_moves.specs.declared.plan.Plan.{Plan}
+use Rattle.world_moves.specs.declared.state.State.{State}
+use Rattle.world_moves.specs.declared.state.Waiting.{Waiting}
+use Rattle.world_moves.specs.Acting.{Acted}
+use Rattle.world_moves.specs.Ends.{EndStates}
+use Rattle.world_moves.specs.Moving.{act, connect_first, tick, without_first}
+use Rattle.logon_runs.specs.Others.{IsStepOn}
+use Rattle.logon_runs.specs.Rests.{AtRest, ClientRests, ControllerRests, IsInStepAt, MemberRests, RestsStay, StandsWell}
+use Rattle.logon_runs.specs.Waiting.{waiting}
+use Rattle.logon_runs.proofs.WaitingLaws.{waiting_comes}
+
+well_still : (plan : Plan) (s after : State) (at : ℕ) (member : MemberPlan) (how : Standing) → after.ends ≡ s.ends → StandsWell plan s at member how → StandsWell plan after at member how
+well_still plan s after at member standing.Nothing same well = tt
+well_still plan s after at member (standing.Half one other) same well = absurd well
+well_still plan s after at member (standing.Open o) same well = λ controller own.
+    let there : IsInStepAt s controller member o = well controller own in
+    record {
+      table = there.table;
+      name = there.name;
+      computers = there.computers;
+      channel = there.channel;
+      rests = ap (λ (e : EndStates). slice_get e.controllers controller) same ∙ there.rests;
+      keeps = there.keeps;
+      in_step = there.in_step;
+    }
+
+-- the ends, the links, what waits and the plans are the same
+rest_still : (plan : Plan) (s after : State) → after.ends ≡ s.ends → after.open_links ≡ s.open_links → after.dials ≡ [] → after.bag ≡ s.bag → after.client_plans ≡ s.client_plans → AtRest plan s →
+    AtRest plan after
+rest_still plan s after same opened dials bag plans rest = record {
+  opened = opened ∙ rest.opened;
+  dials = dials;
+  units = ap (λ b. waiting b) bag ∙ rest.units;
+  plans = plans ∙ rest.plans;
+  controllers = λ at planned is_table.
+      let cr : ControllerRests plan s at planned = rest.controllers at planned is_table in
+      record {
+        name = cr.name;
+        is_name = cr.is_name;
+        table = cr.table;
+        differs = cr.differs;
+        ranged = cr.ranged;
+        computers = cr.computers;
+        rests = ap (λ (e : EndStates). slice_get e.controllers at) same ∙ cr.rests;
+      };
+  members = λ at member is_plan.
+      let mr : MemberRests plan s at member = rest.members at member is_plan in
+      record {
+        how = mr.how;
+        place = mr.place;
+        number = mr.number;
+        rests = ap (λ (e : EndStates). slice_get e.members at) same ∙ mr.rests;
+        place_below = mr.place_below;
+        number_below = mr.number_below;
+        stands = well_still plan s after at member mr.how same mr.stands;
+      };
+  clients = λ at task is_task.
+      let lr : ClientRests s at task = rest.clients at task is_task in
+      record { client = lr.client; rests = ap (λ (e : EndStates). slice_get e.clients at) same ∙ lr.rests; how = lr.how };
+}
+
+-- no dial is answered
+connects_none : (plan : Plan) (s : State) → AtRest plan s → (act s move.Connect).state ≡ without_first s
+connects_none plan s rest = ap (λ (first : Option Waiting). (connect_first first (without_first s)).state) (ap (λ (dials : List Waiting). slice_get dials 0) rest.dials)
+
+-- no unit comes
+onward_none : (plan : Plan) (s : State) → AtRest plan s → (act s move.Onward).state ≡ s
+onward_none plan s rest = ap (λ (a : Acted). a.state) (waiting_comes.idle s rest.units)
+
+stays_so : (plan : Plan) (s : State) (what : Move) → IsStepOn what → AtRest plan s → AtRest plan (act s what).state
+stays_so plan s move.Connect steps rest =
+    subst (AtRest plan) (sym (connects_none plan s rest)) (rest_still plan s (without_first s) refl refl (ap (λ (dials : List Waiting). drop 1 dials) rest.dials) refl refl rest)
+stays_so plan s move.Onward steps rest = subst (AtRest plan) (sym (onward_none plan s rest)) rest
+stays_so plan s (move.Tick more) steps rest = rest_still plan s (tick more s) refl refl rest.dials refl refl rest
+stays_so plan s (move.Start number) steps rest = absurd steps
+stays_so plan s (move.Stranger number) steps rest = absurd steps
+stays_so plan s move.FailDial steps rest = absurd steps
+stays_so plan s move.Lose steps rest = absurd steps
+stays_so plan s (move.Deliver unit link) steps rest = absurd steps
+stays_so plan s (move.Hand link back bytes) steps rest = absurd steps
+stays_so plan s (move.Shut number) steps rest = absurd steps
+stays_so plan s (move.Restart number) steps rest = absurd steps
+
+draws_so : (plan : Plan) (s : State) (what : Move) → IsStepOn what → AtRest plan s → (act s what).state.chances ≡ s.chances
+draws_so plan s move.Connect steps rest = ap State.chances (connects_none plan s rest)
+draws_so plan s move.Onward steps rest = ap State.chances (onward_none plan s rest)
+draws_so plan s (move.Tick more) steps rest = refl
+draws_so plan s (move.Start number) steps rest = absurd steps
+draws_so plan s (move.Stranger number) steps rest = absurd steps
+draws_so plan s move.FailDial steps rest = absurd steps
+draws_so plan s move.Lose steps rest = absurd steps
+draws_so plan s (move.Deliver unit link) steps rest = absurd steps
+draws_so plan s (move.Hand link back bytes) steps rest = absurd steps
+draws_so plan s (move.Shut number) steps rest = absurd steps
+draws_so plan s (move.Restart number) steps rest = absurd steps
+
+pub rests_stay : RestsStay
+rests_stay = record { stays = stays_so; draws = draws_so }

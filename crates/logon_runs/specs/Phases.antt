@@ -1,0 +1,414 @@
+-- The phases of one logon that is granted, as they are seen of a scene: in whichever order the moves come, and whenever
+-- time passes (MS-NLMP 3.1.5.1, 3.2.5.1; MS-NRPC 3.1.4.1 to 3.1.4.5; the memo interface is this project's own).
+use Rattle.std.specs.Prelude.{ℕ, ◌≡◌, ◌≤◌, ◌<◌, ◌^◌, ◌⊎◌, ◌++◌, true, false, IsSomeAnd, List, [], ◌∷◌, length, Option, Some, None, slice_get}
+use Rattle.wire_base.specs.Maps.{lookup}
+use Rattle.wire_base.specs.Names.{IsName, same_name}
+use Rattle.ntlm_seal.specs.Sessions.{SessionState}
+use Rattle.rpc_units.specs.Calls.{bytes_of_call}
+use Rattle.rpc_units.specs.Writing.{written}
+use Rattle.end_links.specs.Binding.{bind_of}
+use Rattle.logon_stubs.specs.Ranges.{IsBlock}
+use Rattle.logon_stubs.specs.declared.calls.Call.{Call}
+use Rattle.logon_stubs.specs.declared.calls.Reply.TheVariants as reply
+use Rattle.memo_stubs.specs.Memo.{written_echo_reply, written_echo_request, written_who_reply}
+use Rattle.account_table.specs.AccountTable.{AccountTable}
+use Rattle.account_table.specs.Changes.{DifferInCounts}
+use Rattle.account_table.specs.LookUps.{account_in, knows_in}
+use Rattle.account_table.specs.Ranges.{InRangeAccount}
+use Rattle.account_table.specs.declared.account.Account.{Account}
+use Rattle.sam_logon.specs.MayLogOn.{MayLogOn}
+use Rattle.channel_client.specs.declared.state.Question.TheVariants as question
+use Rattle.channel_client.specs.declared.state.Standing.{Standing}
+use Rattle.channel_client.specs.declared.state.Standing.TheVariants as standing
+use Rattle.channel_client.specs.declared.state.Step.TheVariants as step
+use Rattle.channel_client.specs.Machine.{after, auth_call, challenge_call, logon_call, netlogon_syntax, offered_flags, question_of, server_credential}
+use Rattle.channel_client.specs.Opened.{OpenState, after_call, first_state}
+use Rattle.domain_controller.specs.Channels.{ChannelState}
+use Rattle.domain_controller.specs.Hearing.{first_talk}
+use Rattle.domain_controller.specs.Machine.{account_for}
+use Rattle.domain_controller.specs.State.{State as ControllerState}
+use Rattle.domain_controller.specs.Whole.{InRangeTable}
+use Rattle.domain_controller.specs.declared.state.Computers.{Computers}
+use Rattle.logon_client.specs.declared.outcome.ClientOutcome.TheVariants.{In}
+use Rattle.logon_client.specs.declared.state.Phase.{Phase as ClientPhase}
+use Rattle.logon_client.specs.declared.state.Phase.TheVariants as client_phase
+use Rattle.logon_client.specs.declared.state.Question.TheVariants as client_question
+use Rattle.logon_client.specs.declared.state.Standing.TheVariants as client_standing
+use Rattle.logon_client.specs.declared.state.Terms.{Terms}
+use Rattle.logon_client.specs.Answering.{bind_for}
+use Rattle.logon_client.specs.Machine as client
+use Rattle.logon_client.specs.Plans.{CanLogOn}
+use Rattle.logon_client.specs.State.{State as ClientState}
+use Rattle.member_server.specs.declared.state.LoggedOn.{LoggedOn}
+use Rattle.member_server.specs.declared.state.Talk.{Talk}
+use Rattle.member_server.specs.Messages.{info_of}
+use Rattle.member_server.specs.Outcomes.{session_in}
+use Rattle.member_server.specs.Requests.{talk_in}
+use Rattle.world_moves.specs.declared.links.EndId.TheVariants.{Client, Controller, Member}
+use Rattle.world_moves.specs.declared.links.Route.{Route}
+use Rattle.world_moves.specs.declared.links.Route.TheVariants.{ToMember}
+use Rattle.world_moves.specs.declared.state.State.{State}
+use Rattle.world_moves.specs.Choosing.{chosen_place}
+use Rattle.world_moves.specs.Moving.{act, end_of_peer, start}
+use Rattle.world_moves.specs.declared.moves.Move.{Move}
+use Rattle.world_moves.specs.declared.moves.Move.TheVariants as move
+use Rattle.logon_steps.specs.Answering.{IsInStep, auth_value, moved, pair_of}
+use Rattle.logon_steps.specs.Answers.{AreDraws, HasUnits, answer_for, auth3_for, drawn_of, logon_for, terms_for}
+use Rattle.logon_steps.specs.Calling.{HasShortCaller, HasShortInfo}
+use Rattle.logon_steps.specs.ClientSteps.{client_at, client_ended}
+use Rattle.logon_steps.specs.ControllerTurns.{one_link, reply_bytes, turn_link}
+use Rattle.logon_steps.specs.Granting.{info_told}
+use Rattle.logon_steps.specs.Meeting.{HasShortNames, ack_for, bound_for, challenged_talk, flags_agreed, fresh_talk}
+use Rattle.logon_steps.specs.MemberAnswers.{granting}
+use Rattle.logon_steps.specs.MemberLinks.{asked_talk}
+use Rattle.logon_steps.specs.MemoCalls.{ReplyGoes, RequestGoes, logged_on, with_session}
+use Rattle.logon_steps.specs.Turning.{turn_ack, turn_request}
+use Rattle.logon_runs.specs.AskScenes.{turn_within, with_controller}
+use Rattle.logon_runs.specs.Grants.{KeyArrives}
+use Rattle.logon_runs.specs.LinkScenes.{Meeting, its_link, joined, meeting_scene, rest_scene, unit_down, unit_up}
+use Rattle.logon_runs.specs.Others.{IsStepOn}
+use Rattle.logon_runs.specs.Runs.{Asked, StandsInStep, hidden, info_asked, message_for, sam_for}
+use Rattle.logon_runs.specs.Scenes.{Scene, Shows}
+use Rattle.logon_runs.specs.Waiting.{waiting}
+use Rattle.logon_runs.specs.TurnScenes.{Turn, dial_scene, next_turn, turn_scene, unit_back, unit_there, with_accounts}
+
+-- ---- what stays
+
+-- a client that starts, its member and that member's controller, with all links of before; the controller's accounts,
+-- name and computers; the user's account and the computer's
+pub record Coming : Type 0 where
+  pub meeting : Meeting
+  pub table : AccountTable
+  pub name : List ℕ
+  pub computers : Computers
+  pub account : Account
+  pub machine : Account
+
+-- on the next link
+abbrev pub own : Coming → Meeting
+own p = joined p.meeting p.meeting.links
+
+abbrev pub with_its_controller : Coming → Meeting → Meeting
+with_its_controller p g = with_controller g p.table p.name p.computers
+
+-- the terms of the client's calls, its key, and WhoAmI
+abbrev pub terms_at : Coming → Asked → Terms
+terms_at p a = terms_for p.meeting.plan p.meeting.task a.challenge a.then_now (drawn_of a.one a.two a.three)
+
+abbrev pub key_at : Coming → Asked → List ℕ
+key_at p a = (answer_for p.meeting.plan p.meeting.task a.challenge a.then_now (drawn_of a.one a.two a.three)).key
+
+abbrev pub WhoAsked : Coming → Asked → Type 0
+WhoAsked p a = RequestGoes 1 p.meeting.task.level 2 0 [] (terms_at p a).session (session_in (key_at p a) (flags_agreed p.meeting.task))
+
+-- the client waits for its answer, with that session
+abbrev pub waits_for : Coming → Asked → Option SessionState → ClientPhase
+waits_for p a later = client_phase.Asked (with_session (terms_at p a) later) client_question.Who
+
+-- the name that it is told: the domain's, a backslash and the account's
+abbrev pub told_of : Coming → List ℕ
+told_of p = p.table.domain ++ 0x5C ∷ p.account.name
+
+-- ---- a turn
+
+-- what the controller keeps of computers, the number of the turn's bind and the next one, and all links before the
+-- turn's own
+pub record TurnAt : Type 0 where
+  pub computers : Computers
+  pub number : ℕ
+  pub next : ℕ
+  pub links : List Route
+
+-- what it is for: the two calls that open the channel, or the logon's own, with the timestamp of its authenticator
+pub data Aim : Type 0 where
+  First : (client : List ℕ) → Aim
+  Second : (client server : List ℕ) → Aim
+  Third : (o : OpenState) (c : ChannelState) (timestamp : ℕ) → Aim
+
+abbrev pub standing_for : Aim → Standing
+standing_for (First client) = standing.Nothing
+standing_for (Second client server) = standing.Half client server
+standing_for (Third o c timestamp) = standing.Open (after_call o timestamp)
+
+abbrev pub call_for : Coming → Asked → Aim → Call
+call_for p a (First client) = challenge_call p.meeting.caller client
+call_for p a (Second client server) = auth_call p.meeting.caller client server
+call_for p a (Third o c timestamp) = logon_call p.meeting.caller o timestamp (info_asked (own p) a)
+
+-- the turn before its link is made, and on it: the client's session, and the requests that the member holds
+abbrev pub turn_before : Coming → Asked → Option SessionState → List (List ℕ) → TurnAt → Turn
+turn_before p a later held v =
+    turn_within (own p) (waits_for p a later) (info_of (message_for (own p) a) (flags_agreed p.meeting.task) a.challenge)
+    (logon_for (own p).link p.meeting.task a.challenge (message_for (own p) a)) (asked_talk (bound_for p.meeting.task) p.meeting.place held) p.table p.name
+    standing.Nothing v.links (its_link (own p)) (own p).link
+
+abbrev pub turn_on : Coming → Asked → Option SessionState → List (List ℕ) → TurnAt → Aim → Turn
+turn_on p a later held v aim = next_turn (turn_before p a later held v) (its_link (own p)) (standing_for aim)
+
+-- ---- what the logon comes to
+
+-- the channel's state at the member, the next number, all links, and what the controller keeps
+pub record Ending : Type 0 where
+  pub member : OpenState
+  pub number : ℕ
+  pub links : List Route
+  pub table : AccountTable
+  pub computers : Computers
+
+abbrev pub meeting_at : Coming → Ending → Meeting
+meeting_at p e = record (with_controller (own p) e.table p.name e.computers) {
+  how = standing.Open e.member;
+  place = after p.meeting.place;
+  number = e.number;
+  links = e.links;
+}
+
+-- ---- the phases
+
+pub data LogonPhase (p : Coming) : Type 0 where
+  -- the client's dial waits, its bind, and the CHALLENGE
+  Dials : LogonPhase p
+  Binds : LogonPhase p
+  Challenged : (challenge : List ℕ) → LogonPhase p
+  -- the AUTHENTICATE waits, and WhoAmI behind it
+  Answers : (a : Asked) (who : WhoAsked p a) → LogonPhase p
+  -- a turn's dial waits, before WhoAmI is held and once it is; then its bind, the answer, and its call
+  DialsBefore : (a : Asked) (who : WhoAsked p a) (v : TurnAt) (aim : Aim) → LogonPhase p
+  DialsHeld : (a : Asked) (who : WhoAsked p a) (v : TurnAt) (aim : Aim) → LogonPhase p
+  BindsBefore : (a : Asked) (who : WhoAsked p a) (v : TurnAt) (aim : Aim) → LogonPhase p
+  BindsHeld : (a : Asked) (who : WhoAsked p a) (v : TurnAt) (aim : Aim) → LogonPhase p
+  Acked : (a : Asked) (who : WhoAsked p a) (v : TurnAt) (aim : Aim) → LogonPhase p
+  Calls : (a : Asked) (who : WhoAsked p a) (v : TurnAt) (aim : Aim) → LogonPhase p
+  -- the reply waits, to each of the three calls: the last was judged at that moment, and left these accounts
+  Halved : (a : Asked) (who : WhoAsked p a) (v : TurnAt) (client server : List ℕ) → LogonPhase p
+  Proved : (a : Asked) (who : WhoAsked p a) (v : TurnAt) (client server : List ℕ) → LogonPhase p
+  Granted : (a : Asked) (who : WhoAsked p a) (v : TurnAt) (o : OpenState) (c : ChannelState) (timestamp judged_at : ℕ) (accounts : AccountTable) → LogonPhase p
+  -- the answer of WhoAmI waits, Echo, and its answer
+  Named : (a : Asked) (e : Ending) (on : LoggedOn) (one other : Option SessionState)
+      (back : ReplyGoes 2 p.meeting.task.level 2 (written_who_reply (told_of p)) other one) → LogonPhase p
+  Echoes : (a : Asked) (e : Ending) (on : LoggedOn) (one : Option SessionState)
+      (asks : RequestGoes 3 p.meeting.task.level 3 1 (written_echo_request (client.echo_bytes p.meeting.task.echo)) one on.session) → LogonPhase p
+  Echoed : (a : Asked) (e : Ending) (talk : Talk) (one other : Option SessionState)
+      (back : ReplyGoes 4 p.meeting.task.level 3 (written_echo_reply (client.echo_bytes p.meeting.task.echo)) other one) → LogonPhase p
+
+-- what is seen in each, with the challenges that are left and the moment
+abbrev pub scene_of : (p : Coming) → LogonPhase p → List (List ℕ) → ℕ → Scene
+scene_of p Dials left moment =
+    rest_scene (with_its_controller p p.meeting) (client_at p.meeting.task client_standing.Dialling) p.meeting.links left moment
+    (record { end = Client p.meeting.at_client; peer = p.meeting.task.server } ∷ [])
+scene_of p Binds left moment =
+    meeting_scene (with_its_controller p (own p)) client_phase.Bound fresh_talk
+    (unit_up (own p) (written (bind_for p.meeting.task.level p.meeting.task.auth)) ∷ []) left moment
+scene_of p (Challenged challenge) left moment =
+    meeting_scene (with_its_controller p (own p)) client_phase.Bound (challenged_talk p.meeting.task challenge)
+    (unit_down (own p) (written (ack_for p.meeting.plan p.meeting.task challenge)) ∷ []) left moment
+scene_of p (Answers a who) left moment =
+    meeting_scene (with_its_controller p (own p)) (waits_for p a who.later) (challenged_talk p.meeting.task a.challenge)
+    (unit_up (own p) (written (auth3_for p.meeting.task (message_for (own p) a))) ∷ unit_up (own p) who.sent ∷ []) left moment
+scene_of p (DialsBefore a who v aim) left moment =
+    dial_scene (turn_before p a who.later [] v) (its_link (own p)) (standing_for aim) v.next v.number (call_for p a aim) v.computers
+    (unit_up (own p) who.sent ∷ []) left moment
+scene_of p (DialsHeld a who v aim) left moment =
+    dial_scene (turn_before p a who.later (who.sent ∷ []) v) (its_link (own p)) (standing_for aim) v.next v.number (call_for p a aim) v.computers [] left moment
+scene_of p (BindsBefore a who v aim) left moment =
+    turn_scene (turn_on p a who.later [] v aim) v.next v.number (step.Bind (call_for p a aim)) v.computers (one_link (length v.links) first_talk)
+    (unit_up (own p) who.sent ∷ unit_there (turn_on p a who.later [] v aim) (written (bind_of netlogon_syntax v.number)) ∷ []) left moment
+scene_of p (BindsHeld a who v aim) left moment =
+    turn_scene (turn_on p a who.later (who.sent ∷ []) v aim) v.next v.number (step.Bind (call_for p a aim)) v.computers (one_link (length v.links) first_talk)
+    (unit_there (turn_on p a who.later (who.sent ∷ []) v aim) (written (bind_of netlogon_syntax v.number)) ∷ []) left moment
+scene_of p (Acked a who v aim) left moment =
+    turn_scene (turn_on p a who.later (who.sent ∷ []) v aim) v.next v.number (step.Bind (call_for p a aim)) v.computers (turn_link (length v.links))
+    (unit_back (turn_on p a who.later (who.sent ∷ []) v aim) (written (turn_ack v.number)) ∷ []) left moment
+scene_of p (Calls a who v aim) left moment =
+    turn_scene (turn_on p a who.later (who.sent ∷ []) v aim) (after v.next) v.next (step.Reply (question_of (call_for p a aim))) v.computers
+    (turn_link (length v.links)) (unit_there (turn_on p a who.later (who.sent ∷ []) v aim) (bytes_of_call (turn_request v.next (call_for p a aim)) 5840) ∷ []) left moment
+scene_of p (Halved a who v client server) left moment =
+    turn_scene (turn_on p a who.later (who.sent ∷ []) v (First client)) (after v.next) v.next (step.Reply (question.Challenge client)) v.computers
+    (turn_link (length v.links))
+    (unit_back (turn_on p a who.later (who.sent ∷ []) v (First client)) (reply_bytes v.next (reply.Challenge (record { challenge = server; status = 0 }))) ∷ []) left moment
+scene_of p (Proved a who v client server) left moment =
+    turn_scene (turn_on p a who.later (who.sent ∷ []) v (Second client server)) (after v.next) v.next (step.Reply question.Authenticate) v.computers
+    (turn_link (length v.links))
+    (unit_back (turn_on p a who.later (who.sent ∷ []) v (Second client server))
+    (reply_bytes v.next (reply.Authenticate (record { credential = server_credential p.meeting.caller.secret client server; flags = offered_flags; status = 0 }))) ∷ []) left moment
+scene_of p (Granted a who v o c timestamp judged_at accounts) left moment =
+    turn_scene (with_accounts accounts (turn_on p a who.later (who.sent ∷ []) v (Third o c timestamp))) (after v.next) v.next (step.Reply question.Logon) v.computers
+    (turn_link (length v.links))
+    (unit_back (with_accounts accounts (turn_on p a who.later (who.sent ∷ []) v (Third o c timestamp)))
+    (reply_bytes v.next (granting o timestamp 0 1 (hidden o (sam_for (own p) a p.table p.name p.account judged_at)))) ∷ []) left moment
+scene_of p (Named a e on one other back) left moment =
+    meeting_scene (meeting_at p e) (client_phase.Asked (with_session (terms_at p a) one) client_question.Who) (talk_in None (logged_on on back.later))
+    (unit_down (own p) back.sent ∷ []) left moment
+scene_of p (Echoes a e on one asks) left moment =
+    meeting_scene (meeting_at p e) (client_phase.Asked (with_session (terms_at p a) asks.later) (client_question.Echo (told_of p))) (talk_in None on)
+    (unit_up (own p) asks.sent ∷ []) left moment
+scene_of p (Echoed a e talk one other back) left moment =
+    meeting_scene (meeting_at p e) (client_phase.Asked (with_session (terms_at p a) one) (client_question.Echo (told_of p))) talk
+    (unit_down (own p) back.sent ∷ []) left moment
+
+-- ---- what holds in each
+
+-- other computers' channels are as they were
+abbrev pub KeepsOthers : Coming → Computers → Type 0
+KeepsOthers p computers =
+    (other : List ℕ) → same_name p.meeting.caller.computer other ≡ false → lookup same_name other computers.channels ≡ lookup same_name other p.computers.channels
+
+-- the client's link is among all
+abbrev pub HasJoined : Coming → List Route → Type 0
+HasJoined p links = slice_get links (own p).link ≡ Some (ToMember p.meeting.at_client p.meeting.at_member)
+
+-- what was drawn for the client's answer, and what is asked of it
+pub record IsAnswering (p : Coming) (a : Asked) : Type 0 where
+  pub draws : AreDraws a.one a.two a.three
+  pub info : HasShortInfo (info_asked (own p) a)
+
+pub record IsTurning (p : Coming) (a : Asked) (v : TurnAt) : Type 0 where
+  pub answering : IsAnswering p a
+  pub joined_so : HasJoined p v.links
+  pub number_below : v.number < 2 ^ 32
+  pub next_below : v.next < 2 ^ 32
+  pub others : KeepsOthers p v.computers
+
+-- the controller keeps what the call needs of it
+abbrev pub IsAimed : Coming → TurnAt → Aim → Type 0
+IsAimed p v (First client) = IsBlock 8 client
+IsAimed p v (Second client server) = lookup same_name p.meeting.caller.computer v.computers.pending ≡ Some (pair_of client server)
+IsAimed p v (Third o c timestamp) = (timestamp < 2 ^ 32) × (lookup same_name p.meeting.caller.computer v.computers.channels ≡ Some c) × IsInStep o c
+
+-- the accounts differ in counts of bad passwords alone, and both ends of the channel are in step
+pub record IsEnding (p : Coming) (e : Ending) : Type 0 where
+  pub joined_so : HasJoined p e.links
+  pub number_below : e.number < 2 ^ 32
+  pub differs : DifferInCounts p.table e.table
+  pub ranged : InRangeTable e.table
+  pub stands : StandsInStep (meeting_at p e) e.computers
+  pub others : KeepsOthers p e.computers
+
+abbrev pub Fits : (p : Coming) → LogonPhase p → Type 0
+Fits p Dials = Unit {0}
+Fits p Binds = Unit {0}
+Fits p (Challenged challenge) = IsBlock 8 challenge
+Fits p (Answers a who) = IsAnswering p a
+Fits p (DialsBefore a who v aim) = IsTurning p a v × IsAimed p v aim
+Fits p (DialsHeld a who v aim) = IsTurning p a v × IsAimed p v aim
+Fits p (BindsBefore a who v aim) = IsTurning p a v × IsAimed p v aim
+Fits p (BindsHeld a who v aim) = IsTurning p a v × IsAimed p v aim
+Fits p (Acked a who v aim) = IsTurning p a v × IsAimed p v aim
+Fits p (Calls a who v aim) = IsTurning p a v × IsAimed p v aim
+Fits p (Halved a who v client server) =
+    IsTurning p a v × IsBlock 8 server × (lookup same_name p.meeting.caller.computer v.computers.pending ≡ Some (pair_of client server))
+Fits p (Proved a who v client server) =
+    IsTurning p a v
+    × ((c : ChannelState) × (lookup same_name p.meeting.caller.computer v.computers.channels ≡ Some c)
+    × IsInStep (first_state p.meeting.caller.secret client server offered_flags) c)
+Fits p (Granted a who v o c timestamp judged_at accounts) =
+    IsTurning p a v × (judged_at < 2 ^ 64) × DifferInCounts p.table accounts × KeyArrives (own p) a o
+    × (lookup same_name p.meeting.caller.computer v.computers.channels ≡ Some (moved c timestamp)) × IsInStep o c × InRangeTable accounts
+Fits p (Named a e on one other back) = IsEnding p e × (on.bound ≡ bound_for p.meeting.task)
+Fits p (Echoes a e on one asks) = IsEnding p e × (on.bound ≡ bound_for p.meeting.task)
+Fits p (Echoed a e talk one other back) = IsEnding p e
+
+-- the state is in a phase of that logon
+pub record IsUnderWay (p : Coming) (s : State) : Type 0 where
+  pub phase : LogonPhase p
+  pub left : List (List ℕ)
+  pub moment : ℕ
+  pub fits : Fits p phase
+  pub shows : Shows s (scene_of p phase left moment)
+
+-- it is over: the client is in, with its key, the name and its whole echo; no link is open, and nothing waits
+pub record IsOver (p : Coming) (s : State) : Type 0 where
+  pub asked : Asked
+  pub ending : Ending
+  pub left : List (List ℕ)
+  pub moment : ℕ
+  pub fits : IsEnding p ending
+  pub shows : Shows s (rest_scene (meeting_at p ending) (client_ended p.meeting.task (In (told_of p) (key_at p asked) p.meeting.task.echo)) ending.links left moment [])
+
+-- ---- of what it is granted
+
+-- the client and its member can go on; the controller knows the computer, has its secret, and keeps the member's
+-- channel in step where there is one
+pub record IsKnown (p : Coming) : Type 0 where
+  pub can : CanLogOn p.meeting.task
+  pub units : HasUnits p.meeting.task
+  pub names : HasShortNames p.meeting.plan
+  pub caller : HasShortCaller p.meeting.caller
+  pub place_below : p.meeting.place < 2 ^ 32
+  pub number_below : p.meeting.number < 2 ^ 32
+  pub stands : (p.meeting.how ≡ standing.Nothing) ⊎ StandsInStep p.meeting p.computers
+  pub knows : knows_in p.table.accounts p.meeting.caller.computer ≡ true
+  pub machine_found : (client server : List ℕ) → account_for p.table (auth_value p.meeting.caller client server) ≡ Some p.machine
+  pub secret : p.machine.hash ≡ p.meeting.caller.secret
+  pub ranged : InRangeTable p.table
+  pub named : IsName p.name
+  pub account_so : InRangeAccount p.account
+
+-- it has the user's hash
+pub record HasUser (p : Coming) : Type 0 where
+  pub found : account_in p.table.accounts p.meeting.task.user ≡ Some p.account
+  pub hash : p.account.hash ≡ p.meeting.task.hash
+
+-- the addresses are those of the member and its controller
+pub record IsReached (p : Coming) (s : State) : Type 0 where
+  pub member : end_of_peer p.meeting.task.server s.ends ≡ Some (Member p.meeting.at_member)
+  pub controller : end_of_peer p.meeting.plan.controller s.ends ≡ Some (Controller p.meeting.at_controller)
+
+-- at least three challenges of 8 bytes are left
+pub record HasThree (left : List (List ℕ)) : Type 0 where
+  pub one : List ℕ
+  pub two : List ℕ
+  pub three : List ℕ
+  pub more : List (List ℕ)
+  pub are : left ≡ one ∷ two ∷ three ∷ more
+  pub first : IsBlock 8 one
+  pub second : IsBlock 8 two
+  pub third : IsBlock 8 three
+
+-- the user may log on by the accounts as they stand, and at that moment
+abbrev pub MayLogOnAt : Coming → State → Type 0
+MayLogOnAt p s = IsSomeAnd (slice_get s.ends.controllers p.meeting.at_controller) (λ (c : ControllerState). MayLogOn c.table (info_told p.meeting.task) s.moment)
+
+-- where the logon is judged at the move, the session base key doesn't travel as zeros, unless units aren't signed
+abbrev pub ArrivesAt : (p : Coming) → LogonPhase p → Move → Type 0
+ArrivesAt p (Calls a who v (Third o c timestamp)) move.Onward = KeyArrives (own p) a o
+ArrivesAt p phase what = Unit {0}
+
+-- it is then that the user's hash is asked for, and that he may log on
+abbrev pub HasUserAt : (p : Coming) → State → LogonPhase p → Move → Type 0
+HasUserAt p s (Calls a who v (Third o c timestamp)) move.Onward = HasUser p × MayLogOnAt p s
+HasUserAt p s phase what = Unit {0}
+
+-- what the moves need of the state
+pub record IsReady (p : Coming) (s : State) : Type 0 where
+  pub reached : IsReached p s
+  pub draws : HasThree s.chances.left
+  pub below : s.moment < 2 ^ 64
+
+-- what a state comes to at a move
+abbrev pub ComesTo : Coming → State → Type 0
+ComesTo p s = IsUnderWay p s ⊎ IsOver p s
+
+-- at most three challenges were drawn, the first ones
+pub record DrawsFew (before after : List (List ℕ)) : Type 0 where
+  pub front : List (List ℕ)
+  pub few : length front ≤ 3
+  pub are : before ≡ front ++ after
+
+pub record PhasesGoOn : Type 0 where
+  -- a client starts where nothing is open and nothing waits
+  pub begins : (p : Coming) (s : State) (number : ℕ) (before : ClientState) (left : List (List ℕ)) (moment : ℕ) →
+      chosen_place number (length s.ends.clients) ≡ Some p.meeting.at_client → slice_get s.client_plans p.meeting.at_client ≡ Some p.meeting.task →
+      Shows s (rest_scene (with_its_controller p p.meeting) before p.meeting.links left moment []) → IsUnderWay p (start number s).state
+  -- each move leads to a phase, or to the end, where the client is in
+  pub goes_on : (p : Coming) (s : State) (what : Move) → IsKnown p → IsReady p s → IsStepOn what → (at : IsUnderWay p s) → HasUserAt p s at.phase what →
+      ArrivesAt p at.phase what → ComesTo p (act s what).state
+  -- and draws few challenges
+  pub draws : (p : Coming) (s : State) (what : Move) → IsKnown p → IsReady p s → IsStepOn what → (at : IsUnderWay p s) → HasUserAt p s at.phase what →
+      ArrivesAt p at.phase what → DrawsFew s.chances.left (act s what).state.chances.left
+  -- so it is where the user's hash is there
+  pub has_user : (p : Coming) (s : State) (phase : LogonPhase p) (what : Move) → HasUser p → MayLogOnAt p s → HasUserAt p s phase what
+  -- something waits in each phase
+  pub waits : (p : Coming) (s : State) → IsUnderWay p s → s.dials ≡ [] → waiting s.bag ≡ [] → ⊥
+  -- once it is over, moves change nothing of it
+  pub rests : (p : Coming) (s : State) (what : Move) → IsStepOn what → IsOver p s → IsOver p (act s what).state

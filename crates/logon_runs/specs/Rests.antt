@@ -1,0 +1,240 @@
+-- A world between two logons that come one at a time, and that a logon which is granted leads from one such state to
+-- another (this project's own choice).
+use Rattle.std.specs.List.{AllByRecursion}
+use Rattle.std.specs.Prelude.{ℕ, ◌≡◌, ◌≢◌, ◌<◌, ◌^◌, ◌⊎◌, ◌++◌, false, List, [], ◌∷◌, length, Some, slice_get}
+use Rattle.wire_base.specs.Maps.{lookup}
+use Rattle.wire_base.specs.Names.{same_name}
+use Rattle.account_table.specs.AccountTable.{AccountTable}
+use Rattle.account_table.specs.Changes.{DifferInCounts}
+use Rattle.account_table.specs.LookUps.{account_in, machine_name}
+use Rattle.account_table.specs.Ranges.{InRangeAccount}
+use Rattle.account_table.specs.declared.account.Account.{Account}
+use Rattle.account_table.specs.declared.account.Kind.TheVariants.{Workstation}
+use Rattle.channel_client.specs.declared.state.Standing.{Standing}
+use Rattle.channel_client.specs.declared.state.Standing.TheVariants as standing
+use Rattle.channel_client.specs.Opened.{OpenState}
+use Rattle.domain_controller.specs.Channels.{ChannelState}
+use Rattle.domain_controller.specs.Whole.{InRangeTable}
+use Rattle.domain_controller.specs.declared.state.Computers.{Computers}
+use Rattle.logon_client.specs.State.{State as ClientState}
+use Rattle.logon_client.specs.Machine.{fresh_client}
+use Rattle.logon_client.specs.declared.outcome.ClientOutcome.{ClientOutcome}
+use Rattle.logon_client.specs.declared.outcome.ClientOutcome.TheVariants.{In}
+use Rattle.logon_client.specs.declared.plan.ClientPlan.{ClientPlan}
+use Rattle.member_server.specs.declared.plan.MemberPlan.{MemberPlan}
+use Rattle.member_server.specs.declared.state.Dialling.TheVariants as dialling
+use Rattle.member_server.specs.Machine.{caller_of}
+use Rattle.world_moves.specs.declared.links.EndId.TheVariants.{Controller, Member}
+use Rattle.world_moves.specs.declared.plan.Plan.{Plan}
+use Rattle.world_moves.specs.declared.state.State.{State}
+use Rattle.world_moves.specs.Choosing.{chosen_place}
+use Rattle.world_moves.specs.Forms.{HasForms}
+use Rattle.world_moves.specs.Moving.{act, end_of_peer, start}
+use Rattle.world_moves.specs.declared.moves.Move.{Move}
+use Rattle.world_moves.specs.World.{IsPlan, first_ends, first_world}
+use Rattle.logon_steps.specs.Answering.{IsInStep}
+use Rattle.logon_steps.specs.ClientSteps.{client_ended}
+use Rattle.logon_steps.specs.ControllerTurns.{controller_at}
+use Rattle.logon_steps.specs.MemberLinks.{logons_at_rest}
+use Rattle.logon_steps.specs.MemberTurns.{member_at}
+use Rattle.logon_runs.specs.Others.{AreAmong, IsDialAmong, IsStepOn, OthersStay, Three}
+use Rattle.logon_runs.specs.Staying.{HasSameEnds}
+use Rattle.logon_runs.specs.Phases.{ArrivesAt, HasThree, IsReached, MayLogOnAt, Coming, HasUser, IsUnderWay, IsKnown}
+use Rattle.logon_runs.specs.TurnedAway.{HasEnded}
+use Rattle.logon_runs.specs.Waiting.{waiting}
+
+-- ---- the plan
+
+-- The member of that number has its own computer at its controller: an enabled workstation's account with its secret,
+-- whose name no other member of the controller has.
+pub record HasOwnComputer (plan : Plan) (at : ℕ) (member : MemberPlan) (controller : ℕ) : Type 0 where
+  pub reaches : end_of_peer member.controller (first_ends plan) ≡ Some (Controller controller)
+  pub table : AccountTable
+  pub is_table : slice_get plan.tables controller ≡ Some table
+  pub machine : Account
+  pub machine_found : account_in table.accounts (machine_name member.computer) ≡ Some machine
+  pub kind : machine.kind ≡ Workstation
+  pub enabled : machine.disabled ≡ false
+  pub secret : machine.hash ≡ member.secret
+  pub apart : (other : ℕ) (peer : MemberPlan) → other ≢ at → slice_get plan.members other ≡ Some peer →
+      end_of_peer peer.controller (first_ends plan) ≡ Some (Controller controller) → same_name peer.computer member.computer ≡ false
+
+-- ---- what rests
+
+-- the controller keeps its accounts, but for counts of bad passwords, and this of computers
+pub record ControllerRests (plan : Plan) (s : State) (at : ℕ) (planned : AccountTable) : Type 0 where
+  pub name : List ℕ
+  pub is_name : slice_get plan.controllers at ≡ Some name
+  pub table : AccountTable
+  pub differs : DifferInCounts planned table
+  pub ranged : InRangeTable table
+  pub computers : Computers
+  pub rests : slice_get s.ends.controllers at ≡ Some (controller_at table name computers [])
+
+-- a channel that a member with its own computer keeps is the one that the controller keeps, step by step; no channel is
+-- half open
+pub record IsInStepAt (s : State) (controller : ℕ) (member : MemberPlan) (o : OpenState) : Type 0 where
+  pub table : AccountTable
+  pub name : List ℕ
+  pub computers : Computers
+  pub channel : ChannelState
+  pub rests : slice_get s.ends.controllers controller ≡ Some (controller_at table name computers [])
+  pub keeps : lookup same_name member.computer computers.channels ≡ Some channel
+  pub in_step : IsInStep o channel
+
+abbrev pub StandsWell : Plan → State → ℕ → MemberPlan → Standing → Type 0
+StandsWell plan s at member standing.Nothing = Unit {0}
+StandsWell plan s at member (standing.Half client server) = ⊥
+StandsWell plan s at member (standing.Open o) = (controller : ℕ) → HasOwnComputer plan at member controller → IsInStepAt s controller member o
+
+pub record MemberRests (plan : Plan) (s : State) (at : ℕ) (member : MemberPlan) : Type 0 where
+  pub how : Standing
+  pub place : ℕ
+  pub number : ℕ
+  pub rests : slice_get s.ends.members at ≡ Some (member_at (logons_at_rest member (caller_of member) how place number) [] dialling.Nothing)
+  pub place_below : place < 2 ^ 32
+  pub number_below : number < 2 ^ 32
+  pub stands : StandsWell plan s at member how
+
+-- it wasn't started, or has its outcome
+pub record ClientRests (s : State) (at : ℕ) (task : ClientPlan) : Type 0 where
+  pub client : ClientState
+  pub rests : slice_get s.ends.clients at ≡ Some client
+  pub how : (client ≡ fresh_client task) ⊎ ((outcome : ClientOutcome) × (client ≡ client_ended task outcome))
+
+-- no link is open, nothing waits, and each end rests
+pub record AtRest (plan : Plan) (s : State) : Type 0 where
+  pub opened : s.open_links ≡ []
+  pub dials : s.dials ≡ []
+  pub units : waiting s.bag ≡ []
+  pub plans : s.client_plans ≡ plan.clients
+  pub controllers : (at : ℕ) (planned : AccountTable) → slice_get plan.tables at ≡ Some planned → ControllerRests plan s at planned
+  pub members : (at : ℕ) (member : MemberPlan) → slice_get plan.members at ≡ Some member → MemberRests plan s at member
+  pub clients : (at : ℕ) (task : ClientPlan) → slice_get plan.clients at ≡ Some task → ClientRests s at task
+
+-- ---- a logon at a member that has its own computer
+
+-- the client, its member and that member's controller, whose computer is its own
+pub record CanCome (plan : Plan) (client member controller : ℕ) : Type 0 where
+  pub task : ClientPlan
+  pub is_task : slice_get plan.clients client ≡ Some task
+  pub is_member : end_of_peer task.server (first_ends plan) ≡ Some (Member member)
+  pub member_plan : MemberPlan
+  pub is_member_plan : slice_get plan.members member ≡ Some member_plan
+  pub computer : HasOwnComputer plan member member_plan controller
+
+-- and the user's account, with his hash
+pub record CanBeGranted (plan : Plan) (client member controller : ℕ) : Type 0 where
+  pub come : CanCome plan client member controller
+  pub account : Account
+  pub found : account_in come.computer.table.accounts come.task.user ≡ Some account
+  pub hash : account.hash ≡ come.task.hash
+
+-- what is there when it starts at rest: the ends as they stand, and the accounts of the user and of the computer as
+-- they are found by then
+abbrev pub coming_at : (plan : Plan) (s : State) → AtRest plan s → (client member controller : ℕ) → CanCome plan client member controller → Account → Account → Coming
+coming_at plan s rest client member controller can account machine =
+    let work : MemberRests plan s member can.member_plan = rest.members member can.member_plan can.is_member_plan in
+    let desk : ControllerRests plan s controller can.computer.table = rest.controllers controller can.computer.table can.computer.is_table in
+    record {
+      meeting = record {
+        at_client = client;
+        at_member = member;
+        at_controller = controller;
+        task = can.task;
+        plan = can.member_plan;
+        caller = caller_of can.member_plan;
+        how = work.how;
+        place = work.place;
+        number = work.number;
+        controller = controller_at desk.table desk.name desk.computers [];
+        links = s.links;
+        link = 0;
+      };
+      table = desk.table;
+      name = desk.name;
+      computers = desk.computers;
+      account = account;
+      machine = machine;
+    }
+
+-- it starts so, whichever of the controller's accounts the user has, if he has one
+pub record HasCome (plan : Plan) (s : State) (rest : AtRest plan s) (client member controller : ℕ) (can : CanCome plan client member controller) (account : Account) (number : ℕ) : Type 0 where
+  pub machine : Account
+  pub known : IsKnown (coming_at plan s rest client member controller can account machine)
+  pub under_way : IsUnderWay (coming_at plan s rest client member controller can account machine) (start number s).state
+
+-- it starts so; the domain's name and the account's are those of the plan
+pub record HasBegun (plan : Plan) (s : State) (rest : AtRest plan s) (client member controller : ℕ) (can : CanBeGranted plan client member controller) (number : ℕ) : Type 0 where
+  pub account : Account
+  pub come : HasCome plan s rest client member controller can.come account number
+  pub domain : (rest.controllers controller can.come.computer.table can.come.computer.is_table).table.domain ≡ can.come.computer.table.domain
+  pub name : account.name ≡ can.account.name
+  pub user : HasUser (coming_at plan s rest client member controller can.come account come.machine)
+
+abbrev pub three_of : ℕ → ℕ → ℕ → Three
+three_of client member controller = record { client = client; member = member; controller = controller }
+
+pub record LogonsComeToRest : Type 0 where
+  -- the first world rests
+  pub first : (plan : Plan) → IsPlan plan → HasForms plan → AtRest plan (first_world plan).state
+  -- a client that starts at rest is under way, by an account that is in its ranges, and by the user's where he has one
+  pub comes : (plan : Plan) (s : State) (rest : AtRest plan s) (client member controller : ℕ) (can : CanCome plan client member controller) (account : Account) (number : ℕ) → IsPlan plan →
+      HasForms plan → InRangeAccount account → chosen_place number (length s.ends.clients) ≡ Some client → HasCome plan s rest client member controller can account number
+  pub begins : (plan : Plan) (s : State) (rest : AtRest plan s) (client member controller : ℕ) (can : CanBeGranted plan client member controller) (number : ℕ) → IsPlan plan → HasForms plan →
+      chosen_place number (length s.ends.clients) ≡ Some client → HasBegun plan s rest client member controller can number
+  -- once it has ended, granted or not, the world rests, where the others are as they were
+  pub ends : (plan : Plan) (s : State) (rest : AtRest plan s) (client member controller : ℕ) (can : CanCome plan client member controller) (account machine : Account) (after : State) →
+      OthersStay (three_of client member controller) s after → after.client_plans ≡ s.client_plans →
+      HasEnded (coming_at plan s rest client member controller can account machine) after → AtRest plan after
+
+-- ---- moves at rest
+
+pub record RestsStay : Type 0 where
+  -- a move between starts changes nothing of a world that rests, and draws no challenge
+  pub stays : (plan : Plan) (s : State) (what : Move) → IsStepOn what → AtRest plan s → AtRest plan (act s what).state
+  pub draws : (plan : Plan) (s : State) (what : Move) → IsStepOn what → AtRest plan s → (act s what).state.chances ≡ s.chances
+
+-- ---- a whole logon, in whichever order its moves come
+
+-- a client, its member and its controller
+abbrev pub three_in : Coming → Three
+three_in p = three_of p.meeting.at_client p.meeting.at_member p.meeting.at_controller
+
+-- challenges are left, the user may log on, and the moment is one of 64 bits
+pub record IsFine (p : Coming) (s : State) : Type 0 where
+  pub draws : HasThree s.chances.left
+  pub may : MayLogOnAt p s
+  pub below : s.moment < 2 ^ 64
+
+-- it is so before each move, and where the logon is judged its key arrives
+abbrev pub AreFine : Coming → List Move → State → Type 0
+AreFine p [] s = Unit {0}
+AreFine p (what ∷ moves) s = IsFine p s × ((at : IsUnderWay p s) → ArrivesAt p at.phase what) × AreFine p moves (act s what).state
+
+abbrev pub moved_by : List Move → State → State
+moved_by [] s = s
+moved_by (what ∷ moves) s = moved_by moves (act s what).state
+
+abbrev pub coming_of : (plan : Plan) (s : State) (rest : AtRest plan s) (client member controller : ℕ) (can : CanBeGranted plan client member controller) (number : ℕ) →
+    HasBegun plan s rest client member controller can number → Coming
+coming_of plan s rest client member controller can number begun = coming_at plan s rest client member controller can.come begun.account begun.come.machine
+
+-- the client is in, with a key, the domain and the account's name, and its whole echo; the others are as they were, and
+-- the world rests
+pub record IsLoggedOnSince (plan : Plan) (s : State) (client member controller : ℕ) (can : CanBeGranted plan client member controller) (after : State) : Type 0 where
+  pub key : List ℕ
+  pub is_in : slice_get after.ends.clients client ≡ Some (client_ended can.come.task (In (can.come.computer.table.domain ++ 0x5C ∷ can.account.name) key can.come.task.echo))
+  pub rest : AtRest plan after
+  pub others : OthersStay (three_of client member controller) s after
+
+pub record LogonsComeIn : Type 0 where
+  -- the links that are open in a phase are between the three, and so is the dial that waits
+  pub alone : (p : Coming) (s : State) → IsReached p s → IsUnderWay p s → AreAmong (three_in p) s.open_links × IsDialAmong (three_in p) s (slice_get s.dials 0)
+  -- from rest, once nothing waits again
+  pub comes_in : (plan : Plan) (s : State) (rest : AtRest plan s) (client member controller : ℕ) (can : CanBeGranted plan client member controller) (number : ℕ) →
+      HasSameEnds (first_world plan).state s → chosen_place number (length s.ends.clients) ≡ Some client →
+      (begun : HasBegun plan s rest client member controller can number) (moves : List Move) → AllByRecursion IsStepOn moves →
+      AreFine (coming_of plan s rest client member controller can number begun) moves (start number s).state →
+      let after : State = moved_by moves (start number s).state in
+      after.dials ≡ [] → waiting after.bag ≡ [] → IsLoggedOnSince plan s client member controller can after
