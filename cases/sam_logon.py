@@ -486,6 +486,23 @@ def of_lockout():
     return out
 
 
+def of_machines_by_count():
+    """The kind of an account is judged before its count: a machine's account is refused for its kind, and its count
+    stays, also where it would lock a user out."""
+    out = []
+    kinds = [(FILE1, "workstation account"), (PDC2, "server account"), (NORTH, "trust account")]
+    for entry, why in kinds:
+        text = document([ANN], [entry], head=HEAD | {"lockout": 2}, trusts=[WEST])
+        names = [utf16("CORP"), utf16(entry["name"]), utf16("WS")]
+        words, answers = [], []
+        for count in (0, 1, 2, 3):
+            words += [f"set_count,1,{count}", ",".join(["judge"] + names + [CHALLENGE, WRONG])]
+            words += [",".join(["interactive"] + names + [entry["hash"]]), "count,1"]
+            answers += [f"Some({count})", f"status {STATUS[why]}", f"status {STATUS[why]}", f"Some({count})"]
+        out.append((line("logon.steps", text, CONTROLLER.encode(), NOW, *words), ";".join(answers)))
+    return out
+
+
 def of_table_of_verdicts():
     """The table of verdicts again, under other numbers of bad passwords; and with responses of 24 bytes refused all but
     the kinds of accounts and what is locked is a wrong password."""
@@ -534,6 +551,7 @@ def cases():
         + of_settings()
         + of_interactive_logons()
         + of_lockout()
+        + of_machines_by_count()
         + of_table_of_verdicts()
         + of_levels()
     )
