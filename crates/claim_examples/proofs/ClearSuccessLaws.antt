@@ -6,7 +6,7 @@ use Rattle.wire_base.specs.Names.{SameName, same_name}
 use Rattle.wire_base.specs.Names as names
 use Rattle.account_table.specs.AccountTable.{AccountTable}
 use Rattle.account_table.specs.Changes.{with_bad_count}
-use Rattle.account_table.specs.LookUps.{account_in, machine_name, place_in}
+use Rattle.account_table.specs.LookUps.{place_in}
 use Rattle.memo_stubs.specs.Memo.{written_echo_reply, written_echo_request}
 use Rattle.memo_stubs.proofs.MemoLaws.{reply_stub, request_stub}
 use Rattle.logon_stubs.specs.declared.info.NetworkInfo.{NetworkInfo}
@@ -20,7 +20,7 @@ use Rattle.world_moves.specs.Choosing.{chosen_place}
 use Rattle.world_moves.specs.Forms.{HasForms}
 use Rattle.world_moves.specs.World.{IsPlan, first_world}
 use Rattle.domain_world.specs.Claims.Completeness.{InEachState, MayLogOnIn, info_planned}
-use Rattle.logon_steps.specs.Granting.{cleared, info_told}
+use Rattle.logon_steps.specs.Granting.{cleared}
 use Rattle.logon_steps.specs.MemoCalls.{ReplyGoes, RequestGoes}
 use Rattle.logon_steps.proofs.ClientStepLaws.{echo_are, echo_length}
 use Rattle.logon_steps.proofs.MemoCallLaws.{memo_calls_go}
@@ -29,7 +29,7 @@ use Rattle.logon_runs.specs.FirstLogonRuns.{ComesInFirst, after_first, first_tur
 use Rattle.logon_runs.specs.FirstWorlds.{CanComeIn, FirstKeyArrives, IsLoggedOn, draw, first_asked, first_meeting, left_then, logon_moves, no_computers}
 use Rattle.logon_runs.specs.LinkScenes.{IsJoined, Meeting}
 use Rattle.logon_runs.specs.Scenes.{Scene, Shows}
-use Rattle.logon_runs.proofs.ExampleLogonLaws.{an_example_logs_on}
+use Rattle.logon_runs.proofs.ExampleLogonLaws.{an_example_logs_on, ann_can, ann_found, file1_found}
 use Rattle.logon_runs.proofs.FirstLogonRunLaws.{joined_still}
 use Rattle.logon_runs.proofs.FirstWorldLaws.{comes_first, first_shows, first_worlds_run}
 use Rattle.logon_runs.proofs.LinkSceneLaws.{meetings_are_seen}
@@ -137,36 +137,9 @@ may_each plan client member controller can is forms number chosen arrives some i
 
 -- ---- the example
 
-ann_found : account_in corp.accounts (codes "ann") ≡ Some ann
-unfolding place_in same_name names.upper_of
-ann_found = refl
-
-file1_found : account_in corp.accounts (machine_name (codes "FILE1")) ≡ Some file1
-unfolding place_in same_name names.upper_of
-file1_found = refl
-
 same_accounts : cleared corp (codes "ann") ≡ corp
 unfolding place_in same_name with_bad_count names.upper_of
 same_accounts = refl
-
-ann_told : MayLogOn corp (info_told ann_task) 0
-unfolding place_in same_name names.upper_of
-ann_told = record {
-  there = record {
-    domain = inr refl;
-    account = record {
-      user = refl;
-      unlocked = refl;
-      below_lockout = inl refl;
-      enabled = refl;
-      not_expired = inl refl;
-      workstation = inl refl;
-      no_change_due = refl;
-      password_not_expired = inl refl;
-    };
-  };
-  taken_response = inl refl;
-}
 
 ann_may : MayLogOn corp (info_planned ann_task) 0
 unfolding place_in same_name names.upper_of
@@ -187,29 +160,6 @@ ann_may = record {
   taken_response = inl refl;
 }
 
-abbrev ann_comes_in : CanComeIn ann_plan 0 0 0
-ann_comes_in = record {
-  task = ann_task;
-  is_task = refl;
-  is_member = refl;
-  member_plan = file1_plan;
-  is_member_plan = refl;
-  is_controller = refl;
-  table = corp;
-  is_table = refl;
-  name = codes "PDC";
-  is_name = refl;
-  machine = file1;
-  machine_found = file1_found;
-  kind = refl;
-  enabled = refl;
-  secret = refl;
-  account = ann;
-  found = ann_found;
-  hash = refl;
-  may = ann_told;
-}
-
 pub ann_can_succeed : AnnCanSucceed
 ann_can_succeed = record {
   can = record {
@@ -228,7 +178,7 @@ ann_can_succeed = record {
     account = ann;
     found = ann_found;
     hash = refl;
-    may = may_each ann_plan 0 0 0 ann_comes_in an_example_logs_on.schedule.start an_example_logs_on.schedule.forms 0 refl (λ signed. absurd cc) refl (info_planned ann_task) ann_may
+    may = may_each ann_plan 0 0 0 ann_can an_example_logs_on.schedule.start an_example_logs_on.schedule.forms 0 refl (λ signed. absurd cc) refl (info_planned ann_task) ann_may
         (subst (λ (table : AccountTable). MayLogOn table (info_planned ann_task) 0) (sym same_accounts) ann_may);
   };
 }

@@ -128,15 +128,15 @@ plan_forms = record {
 
 -- ---- what is asked
 
-ann_found : account_in corp.accounts (codes "ann") ≡ Some ann
+pub ann_found : account_in corp.accounts (codes "ann") ≡ Some ann
 unfolding place_in same_name names.upper_of
 ann_found = refl
 
-file1_found : account_in corp.accounts (machine_name (codes "FILE1")) ≡ Some file1
+pub file1_found : account_in corp.accounts (machine_name (codes "FILE1")) ≡ Some file1
 unfolding place_in same_name names.upper_of
 file1_found = refl
 
-ann_may : MayLogOn corp (info_told ann_task) 0
+pub ann_may : MayLogOn corp (info_told ann_task) 0
 unfolding place_in same_name names.upper_of
 ann_may = record {
   there = record {
@@ -155,7 +155,7 @@ ann_may = record {
   taken_response = inl refl;
 }
 
-abbrev ann_can : CanComeIn ann_plan 0 0 0
+abbrev pub ann_can : CanComeIn ann_plan 0 0 0
 ann_can = record {
   task = ann_task;
   is_task = refl;
