@@ -58,7 +58,7 @@ pub formed-Ok : {T : Type 0} (key : Key) (o : Option T) (x : T) → formed key o
 formed-Ok key None x e = absurd cc
 formed-Ok key (Some y) x e = cc
 
-few_from_only_if : {T : Type 0} (limit : ℕ) (o : Option (List T)) (xs : List T) → only_if (at_most limit) o ≡ Some xs → (length xs ≤ limit) × (o ≡ Some xs)
+pub few_from_only_if : {T : Type 0} (limit : ℕ) (o : Option (List T)) (xs : List T) → only_if (at_most limit) o ≡ Some xs → (length xs ≤ limit) × (o ≡ Some xs)
 few_from_only_if limit None xs e = absurd cc
 few_from_only_if {T = T} limit (Some ys) xs e =
     elim (cases_Bool (leb (length ys) limit)) [

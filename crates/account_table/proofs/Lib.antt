@@ -4,4 +4,5 @@ pub mod IndexLaws
 pub mod KeptLaws
 pub mod ListLaws
 pub mod SecretLaws
+pub mod TableFormLaws
 pub mod TableLaws

@@ -10,6 +10,7 @@ pub mod Listing
 pub mod LookUps
 pub mod Ranges
 pub mod Secrets
+pub mod TableForms
 pub use Rattle.channel_keys.specs.ChannelTypes
 pub use Rattle.wire_base.specs.Memory
 pub use Rattle.wire_base.specs.Names

@@ -54,7 +54,7 @@ pub struct Account {
     pub workstations: Names,
     /// The identifiers that its user has beside the groups of the domain, at most 16.
     pub extra_sids: Sids,
-    /// How many responses in a row didn't verify, since the document was read.
+    /// How many responses didn't verify since the document was read, or since the last grant.
     pub bad_count: u16,
     /// The controllers that open a channel by the account, at most 8; of kind `Trust` alone.
     pub controllers: Names,

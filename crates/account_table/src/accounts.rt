@@ -1,7 +1,7 @@
 //! Accounts in their order, with an index by name.
 
 ghost use Rattle.std.specs.Prelude.{◌≡◌, [], ◌∷◌, ◌++◌, ◌+◌, ◌^◌, ◌<◌, ◌≤◌, None, length, is_some, option_copied, slice_get, All, IfOk, IfSome, IsTrue, OnOk, OnErr};
-ghost use Rattle.std.specs.List.{list_any};
+ghost use Rattle.std.specs.List.{AllByRecursion, list_any};
 ghost use Rattle.wire_base.specs.Names.{upper_case};
 ghost use Rattle.account_table.specs.AccountTable.{has_distinct_names};
 ghost use Rattle.account_table.specs.Changes.{at_place, with_count, is_user, with_new_hash};
@@ -10,8 +10,10 @@ ghost use Rattle.account_table.specs.Limits.{account_limit, group_limit, name_li
 ghost use Rattle.account_table.specs.LookUps.{is_trust_for, lists_controller, machine_name, place_in};
 ghost use Rattle.account_table.specs.Ranges.{AreLongs, InRangeAccount};
 ghost use Rattle.account_table.specs.Secrets.{computer_in, secret_line, secrets_of, with_settings};
+ghost use Rattle.account_table.specs.TableForms.{HasAccountForm, HasFewNames};
 
 use crate::account::{Account, Kind};
+use crate::having::account_has_form;
 use arrayvec::ArrayVec;
 use indexmap::IndexMap;
 use std::alloc::Global;
@@ -70,6 +72,34 @@ impl Accounts {
             }
             None => None,
         }
+    }
+
+    /// Each account has the form that its type gives it, which callers learn so.
+    pub(crate) fn have_forms(&self)
+        requires { AllByRecursion HasFewNames self.now }
+        ensures { All HasAccountForm self.now }
+    {
+        for place in 0..self.len() {
+            self.has_form_at(place);
+        }
+    }
+
+    /// The account at a place has that form.
+    fn has_form_at(&self, place: usize)
+        requires { AllByRecursion HasFewNames self.now }
+        ensures { IfSome (slice_get self.now place) HasAccountForm }
+    {
+        match self.get(place) {
+            Some(account) => account_has_form(account),
+            None => {}
+        }
+    }
+
+    /// No two accounts have the same name, which callers learn so.
+    pub(crate) fn names_differ(&self)
+        ensures { IsTrue (has_distinct_names self.now) }
+    {
+        let _index = &self.index;
     }
 
     /// The place of the account of that name. It takes no memory.

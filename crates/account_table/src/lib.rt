@@ -6,6 +6,7 @@ mod account;
 mod accounts;
 mod changes;
 mod forms;
+mod having;
 mod key;
 mod laws;
 mod lists;

@@ -15,11 +15,13 @@ ghost use Rattle.account_table.specs.Index.{machine_found, computer_found};
 ghost use Rattle.account_table.specs.IsTable.{IsTableText};
 ghost use Rattle.account_table.specs.LookUps.{place_in, machine_in, knows_in, route_in, is_domain, is_machine, lists_controller, opens, is_machine_for, machine_name};
 ghost use Rattle.account_table.specs.Ranges.{InRangeAccount, InRangeSid};
+ghost use Rattle.account_table.specs.TableForms.{HasTableForm, table_by};
 
 use crate::account::{Account, Kind, Policy, Trust, Trusts};
 use crate::accounts::{ACCOUNT_LIMIT, Accounts, are_longs, lists_controller, machine_name};
 use crate::changes::{Change, TableChange, TableChanges, count_by};
 use crate::forms::{needed_name, needed_sid, tables_or_none};
+use crate::having::trusts_have_forms;
 use crate::key::{Word, top_key};
 use crate::reading::{read_document, read_machines, read_policy, read_trusts, read_users};
 use crate::refused::{ApplyRefused, TableRefused};
@@ -55,12 +57,14 @@ impl Model for Table {
     ghost use Rattle.std.specs.Prelude.{IsTrue, length, nat_le};
     ghost use Rattle.account_table.specs.AccountTable.{AccountTable};
     ghost use Rattle.account_table.specs.Limits.{account_limit};
+    ghost use Rattle.account_table.specs.TableForms.{IsKept};
 
     ghost Value = { AccountTable };
 
     ghost view = { λ t. record { domain = t.domain; sid = t.sid; policy = t.policy; accounts = t.listed; trusts = t.trusts } };
 
-    ghost invariant = { λ t. IsTrue (nat_le (length t.trusts) account_limit) };
+    ghost invariant = { λ t.
+        IsTrue (nat_le (length t.trusts) account_limit) × IsKept t.policy t.listed t.trusts };
 }
 
 impl Table {
@@ -83,6 +87,18 @@ impl Table {
         ensures different { IfOk result (λ table. IsTrue (has_distinct_names table.accounts)) }
     {
         read_text(alloc, text)
+    }
+
+    /// The table has the form that its type gives it, which callers learn so. It takes no memory, and walks the
+    /// accounts and the trusted domains.
+    pub fn has_form(&self)
+        ensures { HasTableForm self.now }
+    {
+        let _domain = self.domain();
+        let _sid = self.sid();
+        self.listed.have_forms();
+        self.listed.names_differ();
+        trusts_have_forms(self.trusts.items());
     }
 
     /// The domain's name. It takes no memory.
@@ -119,8 +135,8 @@ impl Table {
         self.listed.get(at as usize)
     }
 
-    /// How many responses in a row didn't verify for the account at a place. None exactly past the end. It takes no
-    /// memory.
+    /// The count of bad passwords of the account at a place: how many responses didn't verify since its last grant.
+    /// None exactly past the end. It takes no memory.
     pub fn bad_count(&self, at: u32) -> Option<u16>
         ensures { result ≡ option_map (λ account. account.bad_count)
             (slice_get self.now.accounts at) }
@@ -396,11 +412,27 @@ fn read_table(alloc: Global, document: &toml::Table) -> Result<Table, TableRefus
     let policy = read_policy(document)?;
     let listed = read_machines(alloc, read_users(alloc, users)?, machines)?;
     let trusts = read_trusts(alloc, &domain, trusted)?;
-    Ok(Table {
+    Ok(whole_table(document, domain, sid, policy, listed, trusts))
+}
+
+/// The table of these parts, which the document has: so it keeps what a table keeps. The document isn't read here.
+fn whole_table(
+    _document: &toml::Table,
+    domain: Name,
+    sid: Sid,
+    policy: Policy,
+    listed: Accounts,
+    trusts: Trusts,
+) -> Table
+    requires { table_in (table_view _document.now)
+        ≡ Ok (table_by domain sid policy listed trusts) }
+    ensures { result ≡ table_by domain sid policy listed trusts }
+{
+    Table {
         domain,
         sid,
         policy,
         listed,
         trusts,
-    })
+    }
 }

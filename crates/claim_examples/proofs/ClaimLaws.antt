@@ -37,7 +37,7 @@ use Rattle.claim_examples.specs.TellApart.{ClaimsTellApart}
 use Rattle.step_notes.proofs.Controllers.JudgedStepLaws.{next_unbarred, right_passed}
 use Rattle.claim_examples.proofs.CompletenessLaws.{of_completeness, of_success}
 use Rattle.claim_examples.proofs.LogonLaws.{granted_small, of_accepting_all, of_accepting_only, of_challenges, of_keys, of_short_responses, only_draw}
-use Rattle.claim_examples.proofs.SequenceLaws.{fresh_shares, kept_small, of_in_step, of_sequences, of_soundness, one_apart, one_stamp, shares_by}
+use Rattle.claim_examples.proofs.SequenceLaws.{kept_small, of_in_step, of_sequences, of_soundness, one_apart, one_stamp, shares_by}
 
 none_short : (plan : Plan) → AreShortUnits (first_world plan).state.bag
 none_short plan = All-nil (λ (unit : BagUnit). length unit.bytes ≤ send_limit)
@@ -360,10 +360,7 @@ Holds =
 at_first : Holds → (plan : Plan) → IsClaimed plan []
 at_first holds plan schedule = record {
   proved = holds plan [] (none_short plan) (no_bytes plan);
-  stated = record {
-    sequences = λ clear. fresh_shares (past plan []) plan.members refl;
-    complete = λ come. tt;
-  };
+  stated = record { complete = λ come. tt };
 }
 
 pub claims_tell_apart : Holds → ClaimsTellApart

@@ -1,6 +1,6 @@
 -- Runs that were written down by hand, of the two ends of a channel, that meet a claim, and some that don't.
 -- It serves `claims_tell_apart`, `grants_tell_apart`, `own_challenges_tell_apart`, `replies_tell_apart`.
-use Rattle.std.proofs.Common.{◌≡◌, ◌≢◌, ℕ, zero, suc, true, false, List, [], ◌∷◌, ◌++◌, length, inl, inr, Option, Some, None, refl, sym, ap, ◌∙◌, subst, arith, map, slice_get}
+use Rattle.std.proofs.Common.{◌≡◌, ◌≢◌, ℕ, zero, suc, true, false, List, [], ◌∷◌, ◌++◌, length, inl, inr, Option, Some, None, refl, sym, ap, ◌∙◌, subst, arith, slice_get}
 use Rattle.std.specs.Prelude.{◌%◌, ◌^◌, AllPairs, codes, ◌⊎◌}
 use Rattle.wire_base.specs.Maps.{lookup}
 use Rattle.wire_base.specs.Names.{same_name}
@@ -14,9 +14,7 @@ use Rattle.channel_client.specs.Opened.{OpenState}
 use Rattle.channel_client.specs.declared.state.Standing.{Standing}
 use Rattle.channel_client.specs.declared.state.Standing.TheVariants as standing
 use Rattle.channel_client.specs.declared.state.Pending.{Pending}
-use Rattle.member_server.specs.Machine.{fresh_member}
 use Rattle.member_server.specs.State.{State as MemberState}
-use Rattle.member_server.specs.declared.plan.MemberPlan.{MemberPlan}
 use Rattle.member_server.specs.declared.state.Running.{Running as MemberRunning}
 use Rattle.domain_controller.specs.Channels.{ChannelState}
 use Rattle.domain_controller.specs.State.{State as ControllerState}
@@ -25,7 +23,7 @@ use Rattle.channel_events.specs.Marks.{Calling, Mark, Opened, Opening, ReplyTo}
 use Rattle.channel_events.specs.Sound.{Accepted, Holds, Sound, passed_units}
 use Rattle.step_notes.specs.Records.{Book, blank}
 use Rattle.domain_world.specs.Claims.SharedSequences.{IsBeforeTurn, Keeps, SequencesAreShared, Stands, any_foreign, channel_seed, timestamps_on}
-use Rattle.domain_world.specs.Past.{Past, controller_of}
+use Rattle.domain_world.specs.Past.{controller_of}
 use Rattle.claim_examples.specs.ClaimExamples.{OfInStep, OfSequences, OfSoundness, keeping_controller, keeping_running, one_call, one_turn, open_channel, open_member, open_running, passed_from, run_open, seed_after_one, seed_after_two, small_channel, small_computers, small_name, small_seed, small_turn, small_view, small_views, turn_out, two_turns, whole_history, whole_view, world_open}
 use Rattle.channel_events.proofs.ListLaws.{got_nothing, moved_none}
 
@@ -41,32 +39,6 @@ kept_small seed = refl
 abbrev pub standing_in : Option MemberRunning → Standing
 standing_in None = standing.Nothing
 standing_in (Some running) = running.logons.channel.standing
-
--- a member that is made anew has no channel
-some_standing : (plan : MemberPlan) (running : MemberRunning) (o : OpenState) → (fresh_member plan).running ≡ Some running → running.logons.channel.standing ≡ standing.Open o → ⊥
-some_standing plan running o is open_so =
-    let none : standing.Nothing ≡ standing.Open o = ap standing_in is ∙ open_so in
-    absurd cc
-
-fresh_has_none : (plans : List MemberPlan) (member : ℕ) (state : MemberState) (running : MemberRunning) (o : OpenState) → slice_get (map fresh_member plans) member ≡ Some state →
-    state.running ≡ Some running → running.logons.channel.standing ≡ standing.Open o → ⊥
-fresh_has_none [] zero state running o at runs open_so = absurd cc
-fresh_has_none [] (suc member) state running o at runs open_so = absurd cc
-fresh_has_none (plan ∷ plans) zero state running o at runs open_so =
-    let same : fresh_member plan ≡ state = cc in
-    let both : (fresh_member plan).running ≡ Some running = ap MemberState.running same ∙ runs in
-    some_standing plan running o both open_so
-fresh_has_none (plan ∷ plans) (suc member) state running o at runs open_so = fresh_has_none plans member state running o at runs open_so
-
-pub fresh_shares : (run : Past) (plans : List MemberPlan) → run.world.state.ends.members ≡ map fresh_member plans → SequencesAreShared run
-fresh_shares run plans are member =
-    let none : (channel : Channel) (o : OpenState) → Stands run.world.state member channel o → ⊥ =
-    λ channel o stands.
-    fresh_has_none plans member stands.state stands.running o (sym (ap (λ (members : List MemberState). slice_get members member) are) ∙ stands.at) stands.runs stands.open_so in
-    record {
-      own = λ channel o stands. absurd (none channel o stands);
-      other = λ channel o c stands. absurd (none channel o stands);
-    }
 
 one_member : (turn : Option Pending) (seed other : List ℕ) (member : ℕ) (state : MemberState) → slice_get (world_open turn seed other).state.ends.members member ≡ Some state → (member ≡ 0) × (open_member turn seed ≡ state)
 one_member turn seed other zero state at = (refl, cc)

@@ -4,3 +4,4 @@ pub mod Frames
 mod HeadlineLaws
 pub mod Judgements
 mod Requests
+mod Sequences

@@ -4,4 +4,5 @@ pub mod Carried
 pub mod KeysMade
 pub mod ReadBack
 pub mod Runs
+pub mod Sequences
 pub mod Units

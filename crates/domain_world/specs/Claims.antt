@@ -1,5 +1,6 @@
--- What is claimed of every run of a world: of a logon through a member server and its domain controller (MS-NLMP
--- 3.2.5.1.2, MS-NRPC 3.1.4.5, 3.5.4.5.3). What a claim says is this project's own choice, in the standards' terms.
+-- What is claimed of the runs of a world: of a logon through a member server and its domain controller (MS-NLMP
+-- 3.2.5.1.2, MS-NRPC 3.1.4.5, 3.5.4.5.3). What a claim says is this project's own choice, in the standards' terms. Of
+-- which runs each is claimed, `Headline` says.
 --
 -- A member server accepts an AUTHENTICATE exactly where it took its controller's answer, the account may log on, and
 -- the response is the written function of the account's stored hash and of that link's unused challenge; client and

@@ -19,8 +19,9 @@ use Rattle.domain_world.specs.Claims.SharedSequences.{SequencesAreShared}
 use Rattle.domain_world.specs.Past.{past}
 
 -- What holds of the run of every list of moves from any plan: `claims_hold_of_runs`, and the clause of `drive`. What
--- members accept is of schedules that are clear, in which no credential passed on a unit made for another channel and
--- no seed came round; whether the run is clear doesn't matter else.
+-- members accept, how often a count is raised, and what the ends of a channel share, is of schedules that are clear: in
+-- them no credential passed on a unit made for another channel or for none, and no seed came round. Of the others
+-- `unclashed` alone asks that, of its own passes.
 pub record Proved (plan : Plan) (moves : List Move) : Type 0 where
   -- challenges, and the messages that are made for them
   pub challenges : ChallengesServeOnce (past plan moves)
@@ -44,14 +45,14 @@ pub record Proved (plan : Plan) (moves : List Move) : Type 0 where
   pub all : IsSchedule plan moves → IsClear (past plan moves).book → AcceptsAllGranted (past plan moves)
   pub keys : IsSchedule plan moves → IsClear (past plan moves).book → KeysAgree (past plan moves)
   pub counts : IsSchedule plan moves → IsClear (past plan moves).book → EachCallRaisesOnce (past plan moves)
+  -- the ends of a channel share its sequence
+  pub sequences : IsSchedule plan moves → IsClear (past plan moves).book → SequencesAreShared (past plan moves)
   -- the units of the bag, and which way they go
   pub marked : EachUnitIsMarked (past plan moves)
   pub ways : MarksHaveTheirWay (past plan moves)
 
--- What is stated of a run and not proved yet: no call rests on it. Of a run that is clear: the ends of a channel share
--- its sequence. Of any run: logons that come one at a time succeed.
+-- What is stated of a run and not proved yet, and no call rests on it: logons that come one at a time succeed.
 pub record Stated (plan : Plan) (moves : List Move) : Type 0 where
-  pub sequences : IsClear (past plan moves).book → SequencesAreShared (past plan moves)
   pub complete : EachSucceeds (past plan moves) moves
 
 -- all that is claimed of a run

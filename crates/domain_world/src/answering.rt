@@ -11,12 +11,16 @@ ghost use Rattle.domain_world.specs.Accepting.Carried.{CarriedCallsAreHeard, Jud
 ghost use Rattle.domain_world.specs.Accepting.KeysMade.{KeysAreFoundAsMade, MessagesAreMade, MessagesAreTakenAsSent};
 ghost use Rattle.domain_world.specs.Accepting.ReadBack.{OutcomesAreReadBack, RepliesAreReadBack, TurnsAreHeard};
 ghost use Rattle.domain_world.specs.Accepting.Runs.{IsQuiet, RunsBegin, RunsStandSo};
+ghost use Rattle.domain_world.specs.Accepting.Sequences.{CallsAreStamped, SequencesFollow, TakenCallsPass};
 ghost use Rattle.domain_world.specs.Accepting.Units.{RunsAreHeard, UnitsAreHeard};
 ghost use Rattle.domain_world.specs.Claims.{AcceptsAllGranted, AcceptsOnlyGranted, IsClear, KeysAgree, ShortResponsesServeOnce};
+ghost use Rattle.domain_world.specs.Claims.SharedSequences.{SequencesAreOwn, SequencesAreShared};
 ghost use Rattle.domain_world.specs.Past.{Past, past};
 
 use channel_events::{calls_stay_apart, requesters_keep_calls_apart};
-use member_server::{channel_steps_are_known, in_is_told_of_a_granted_logon};
+use member_server::{
+    channel_steps_are_known, in_is_told_of_a_granted_logon, turns_are_dialled, what_is_kept_waits,
+};
 
 /// Where the challenges that were drawn are blocks of 8 bytes of which no two are alike, a response of 24 bytes is
 /// accepted on one link alone.
@@ -210,4 +214,59 @@ pub fn schedules_are_heard()
     runs_stand_so();
     answers_are_taken_in_turn();
     marked_units_are_whole();
+}
+
+/// After every run the seed of a member's open channel is the client's credential moved by the timestamps of its Logon
+/// turns on that channel (MS-NRPC 3.1.4.5), clear or not.
+pub fn sequences_are_own()
+    ensures { (plan : Plan) (moves : List Move) → SequencesAreOwn (past plan moves) }
+{
+    // How a member's turns start, and that what it keeps is what waits, are laws of its own.
+    what_is_kept_waits();
+    turns_are_dialled();
+}
+
+/// After every run that is clear the controller's seed of a member's open channel is the member's, or with a turn out
+/// the one before that turn (MS-NRPC 3.1.4.5), where each unit is heard whole, each call that was made carries the
+/// timestamp of its turn, and the calls on the channel are those of the member's turns, each passed but for one that is
+/// out.
+pub fn sequences_follow()
+    ensures { SequencesFollow }
+{
+    // How a member's turns start, and that what it keeps is what waits, are laws of its own.
+    what_is_kept_waits();
+    turns_are_dialled();
+}
+
+/// In every schedule a unit that was made as a call on a secure channel carries a Logon call that has the timestamp
+/// which is written down.
+#[tactic(auto, using(crate::proofs::Sequences::StampLaws::calls_stamped))]
+pub fn calls_are_stamped()
+    ensures { (plan : Plan) (moves : List Move) → IsSchedule plan moves →
+        AreShortUnits (past plan moves).world.state.bag →
+        HaveBytes (past plan moves).world.state.bag → CallsAreStamped (past plan moves) }
+{}
+
+/// In a run without a clash a call whose answer a member took passed at its controller, where each unit is heard whole.
+#[tactic(auto, using(crate::proofs::Sequences::SharedLaws::taken_pass))]
+pub fn taken_calls_pass()
+    ensures { TakenCallsPass }
+{}
+
+/// In every schedule that is clear the controller's seed of a member's open channel is the member's, or with a turn out
+/// the one before that turn (MS-NRPC 3.1.4.5).
+pub fn sequences_are_shared()
+    ensures { (plan : Plan) (moves : List Move) → IsSchedule plan moves →
+        AreShortUnits (past plan moves).world.state.bag →
+        HaveBytes (past plan moves).world.state.bag → IsClear (past plan moves).book →
+        SequencesAreShared (past plan moves) }
+{
+    // As of `answers_are_taken_in_turn` and `sequences_follow`.
+    in_is_told_of_a_granted_logon();
+    requesters_keep_calls_apart();
+    calls_stay_apart();
+    channel_steps_are_known();
+    what_is_kept_waits();
+    turns_are_dialled();
+    schedules_are_heard();
 }

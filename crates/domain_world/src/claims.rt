@@ -16,7 +16,7 @@ ghost use Rattle.domain_world.specs.Claims.NamedLinks.{LinksReachTheNamed};
 ghost use Rattle.domain_world.specs.Headline.{Proved};
 ghost use Rattle.domain_world.specs.Past.{past};
 
-use crate::answering::schedules_are_heard;
+use crate::answering::{schedules_are_heard, sequences_are_shared};
 use member_server::in_is_told_of_a_granted_logon;
 
 /// In every run, over all moves from a plan on, whatever a controller tells of a Logon call is told of one that it
@@ -138,4 +138,5 @@ pub fn claims_hold_of_runs()
     members_ask_for_messages();
     sends_ask_for_messages();
     schedules_are_heard();
+    sequences_are_shared();
 }

@@ -1,15 +1,46 @@
 //! A world that is driven by a list of moves.
 
-ghost use Rattle.std.specs.Prelude.{◌≡◌, ◌+◌, ◌++◌, ◌≤◌, ◌↔◌, [], true, false, List, Err, length, All, IfOk, OnOk, OnErr, IsTrue};
+ghost use Rattle.std.specs.Prelude.{◌≡◌, ◌≢◌, ◌+◌, ◌++◌, ◌≤◌, ◌↔◌, [], true, false, List, Err, length, All, IfOk, OnOk, OnErr, IsTrue};
 ghost use Rattle.world_moves.specs.declared.moves.Move.{Move};
 ghost use Rattle.world_moves.specs.declared.plan.Plan.{Plan};
 ghost use Rattle.world_moves.specs.Counting.{AreCounted};
-ghost use Rattle.world_moves.specs.World.{IsMove, actions_of_run, first_world, move_limit, report_of, report_of_run, run, run_of};
+ghost use Rattle.world_moves.specs.Forms.{IsSchedule};
+ghost use Rattle.world_moves.specs.World.{IsMove, IsPlan, actions_of_run, first_world, move_limit, report_of, report_of_run, run, run_of};
 ghost use Rattle.domain_world.specs.Headline.{OfItsRun, Proved};
 
 use crate::claims::claims_hold_of_runs;
 use std::alloc::Global;
-use world_moves::{Moves, Report, World, WorldRefused};
+use wire_base::NoMemory;
+use world_moves::{Moves, Plan, Report, World, WorldRefused, moves_have_forms};
+
+/// Makes a world of a plan and the moves in it, in their order, and gives it. It fails only for want of memory.
+pub fn drive_from(alloc: Global, plan: Plan, moves: &Moves) -> Result<World, NoMemory>
+    requires plan { IsPlan plan }
+    requires few { length moves.now ≤ move_limit }
+    requires given { All IsMove moves.now }
+    ensures world { IfOk result (λ world. world ≡ run moves.now (first_world plan)) }
+    // A plan and moves of these types are a schedule, so that all that is proved of schedules holds of this run.
+    ensures schedule { IsSchedule plan moves.now }
+    ensures proved { OnOk result (Proved plan moves.now) }
+{
+    plan.has_forms();
+    moves_have_forms(moves);
+    let mut world = World::new(alloc, plan)?;
+    match drive(alloc, &mut world, moves) {
+        Ok(_) => Ok(world),
+        Err(why) => Err(no_memory_for_run(why)),
+    }
+}
+
+/// A run of a world that hadn't stopped fails for want of memory alone.
+fn no_memory_for_run(why: WorldRefused) -> NoMemory
+    requires { why ≢ WorldRefused.Stopped }
+{
+    match why {
+        WorldRefused::Memory => NoMemory,
+        WorldRefused::Stopped => unreachable!(),
+    }
+}
 
 /// Makes the moves in their order, and gives what was counted since the plan.
 ///

@@ -198,6 +198,7 @@ order_step = record {
   starts = λ dialled l a timestamp challenge order.
       started (can_start l.channel.turn l.channel.waiting) (start_of l.channel timestamp challenge).answer dialled l a timestamp challenge refl
       (one_turn.start l.channel timestamp challenge) order;
+  dials = λ l a peer order. order;
 }
 
 -- ---- a step

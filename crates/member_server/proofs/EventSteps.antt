@@ -396,7 +396,7 @@ module _ (P : Type 0) (T : List RpcUnit → Holds) (G : Bool → Holds) (rules :
       DeskFine P G (dial_for start w how)
   dial_fine None w how good all = record { good = good; holds = all }
   dial_fine (Some start) w how good all =
-      record { good = (rules.link true).tells w.logons w.actions (action.Dial w.logons.plan.controller) tt good; holds = all }
+      record { good = rules.dials w.logons w.actions w.logons.plan.controller good; holds = all }
 
   start_fine : (timestamp : ℕ) (challenge : List ℕ) (w : Work) (how : Dialling) → G (is_dialled how) w.logons w.actions → (P → HoldRequests w.links) →
       DeskFine P G (dial_by (start_of w.logons.channel timestamp challenge) w how)

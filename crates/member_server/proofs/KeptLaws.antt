@@ -26,7 +26,7 @@ use Rattle.member_server.specs.Machine.{actions_in, event_part, halted_state, st
 use Rattle.member_server.specs.Messages.{with_channel}
 use Rattle.member_server.specs.Outcomes.{outcome_of}
 use Rattle.member_server.specs.Turns.{Desk, ending_of}
-use Rattle.member_server.proofs.StepRules.{AfterStart, AfterTaken, Ends, Holds, LetsNobodyIn, LinkRules, StepRules, TurnRules}
+use Rattle.member_server.proofs.StepRules.{AfterStart, AfterTaken, Ends, Holds, IsPlainAction, LinkRules, StepRules, TurnRules}
 use Rattle.member_server.proofs.EventSteps.{DeskPart, step_fine}
 
 -- ---- what is done to the channel, one after the other
@@ -92,6 +92,7 @@ module _ (old : Requester) where
         let starting = start_of l.channel timestamp challenge in
         started_since starting.answer dialled (with_channel l starting.state) a
         (comes_then old l.channel starting.state since (record { doings = Starts timestamp challenge ∷ []; is = refl }));
+    dials = λ l a peer since. since;
   }
 
 -- ---- a step
@@ -155,12 +156,12 @@ one_told running what [] more all is = (is, tt)
 one_told running what (first ∷ a) more all is = (all.0, one_told running what a more all.1 is)
 
 module _ (running : Running) (what : Event) where
-  outcome_told : (link : ℕ) (o : Outcome) → LetsNobodyIn (action.Told link o) → IsTold running what (action.Told link o)
+  outcome_told : (link : ℕ) (o : Outcome) → IsPlainAction (action.Told link o) → IsTold running what (action.Told link o)
   outcome_told link (outcome.In domain user key) nobody = absurd nobody
   outcome_told link (outcome.Out status) nobody = tt
   outcome_told link (outcome.NoController cause) nobody = tt
 
-  action_told : (more : Action) → LetsNobodyIn more → IsTold running what more
+  action_told : (more : Action) → IsPlainAction more → IsTold running what more
   action_told (action.Keep bytes) nobody = tt
   action_told (action.Send link bytes) nobody = tt
   action_told (action.Dial peer) nobody = tt
@@ -246,6 +247,7 @@ module _ (running : Running) (what : Event) where
     starts = λ dialled l a timestamp challenge told.
         let starting = start_of l.channel timestamp challenge in
         started_told starting.answer dialled (with_channel l starting.state) a told;
+    dials = λ l a peer told. one_told running what a (action.Dial peer) told tt;
   }
 
 step_told : (P : Type 0) (running : Running) (what : Event) (part : Result (Part Desk) StepRefused) (left : List (List ℕ)) → DeskPart P (λ b. AreTold running what) part →

@@ -1,6 +1,7 @@
 mod AskedLaws
 mod BindLaws
 mod ChannelStepLaws
+mod DialLaws
 mod EventSteps
 mod KeptLaws
 mod LinkLaws

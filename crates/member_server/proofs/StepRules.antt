@@ -24,15 +24,16 @@ use Rattle.member_server.specs.Turns.{ending_of}
 abbrev pub Holds : Type 1
 Holds = Logons → List Action → Type 0
 
--- the action lets nobody in
-abbrev pub LetsNobodyIn : Action → Type 0
-LetsNobodyIn (action.Told link (outcome.In domain user key)) = ⊥
-LetsNobodyIn _ = Unit {0}
+-- the action lets nobody in, and dials nobody
+abbrev pub IsPlainAction : Action → Type 0
+IsPlainAction (action.Told link (outcome.In domain user key)) = ⊥
+IsPlainAction (action.Dial peer) = ⊥
+IsPlainAction _ = Unit {0}
 
 -- ---- an accepted link
 
 pub record LinkRules (K : Holds) : Type 0 where
-  pub tells : (l : Logons) (a : List Action) (what : Action) → LetsNobodyIn what → K l a → K l (a ++ what ∷ [])
+  pub tells : (l : Logons) (a : List Action) (what : Action) → IsPlainAction what → K l a → K l (a ++ what ∷ [])
   pub waits : (l : Logons) (a : List Action) (info : NetworkInfo) (place : ℕ) (logon : Logon) → (ask_of l.channel info).answer ≡ Ok place → K l a →
       K (with_logon (with_channel l (ask_of l.channel info).state) place logon) a
   pub full : (l : Logons) (a : List Action) (info : NetworkInfo) → (ask_of l.channel info).answer ≡ Err ask_refused.QueueFull → K l a →
@@ -60,7 +61,7 @@ AfterTaken T K (taken.Dropped place cause) l a = Ends K place (ending.NoControll
 
 -- the argument of T: the whole units that are still to come on the link of the turn
 pub record TurnRules (T : List RpcUnit → Holds) (K : Holds) : Type 0 where
-  pub tells : (units : List RpcUnit) (l : Logons) (a : List Action) (what : Action) → LetsNobodyIn what → T units l a → T units l (a ++ what ∷ [])
+  pub tells : (units : List RpcUnit) (l : Logons) (a : List Action) (what : Action) → IsPlainAction what → T units l a → T units l (a ++ what ∷ [])
   pub takes : (unit : RpcUnit) (units : List RpcUnit) (l : Logons) (a : List Action) → T (unit ∷ units) l a →
       AfterTaken (T units) K (take_of l.channel unit).taken (with_channel l (take_of l.channel unit).state) a
   pub loses : (units : List RpcUnit) (l : Logons) (a : List Action) (cause : DropCause) → T units l a →
@@ -84,6 +85,7 @@ pub record StepRules (T : List RpcUnit → Holds) (G : Bool → Holds) : Type 0 
   pub returns : (units : List RpcUnit) (l : Logons) (a : List Action) → T units l a → G true l a
   pub starts : (dialled : Bool) (l : Logons) (a : List Action) (timestamp : ℕ) (challenge : List ℕ) → G dialled l a →
       AfterStart G dialled (start_of l.channel timestamp challenge).answer (with_channel l (start_of l.channel timestamp challenge).state) a
+  pub dials : (l : Logons) (a : List Action) (peer : List ℕ) → G true l a → G true l (a ++ action.Dial peer ∷ [])
 
 pub events_of : (T : List RpcUnit → Holds) (G : Bool → Holds) → StepRules T G → EventRules T G
 events_of T G rules = record { link = rules.link; turn = rules.turn; returns = rules.returns }

@@ -1,5 +1,6 @@
 pub mod Binds
 pub mod ChannelSteps
+pub mod Dials
 pub mod Held
 pub mod Holding
 pub mod Laws

@@ -3,6 +3,7 @@
 ghost use Rattle.member_server.specs.Laws.{AsksWhatWaits, ClosesNothing, KeepsRequests, LeavesOtherLinks, LetsInTheGranted, ReachesItsLink, ServesOneMessage, StepsTheChannel};
 ghost use Rattle.member_server.specs.Pending.{Settles};
 ghost use Rattle.member_server.specs.ChannelSteps.{ChannelStepsKnown};
+ghost use Rattle.member_server.specs.Dials.{TurnsAreDialled};
 ghost use Rattle.member_server.specs.Whole.{MembersSendWhole};
 
 /// The events that the step for a closed or dialled link makes, with those that may come of it, are no more than
@@ -80,4 +81,11 @@ pub fn channel_steps_are_known()
 #[tactic(auto, using(crate::proofs::WholeLaws::members_send_whole))]
 pub fn what_turns_send_is_whole()
     ensures { MembersSendWhole }
+{}
+
+/// A turn that starts is dialled once in that step, in which it is the last thing, and nothing else is dialled; its
+/// dial waits then, and until the answer to it comes nothing becomes of the turn or of the channel.
+#[tactic(auto, using(crate::proofs::DialLaws::turns_dialled))]
+pub fn turns_are_dialled()
+    ensures { TurnsAreDialled }
 {}

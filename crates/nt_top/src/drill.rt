@@ -1,6 +1,6 @@
 //! The command `drill`.
 
-ghost use Rattle.std.specs.Prelude.{◌≡◌, ◌≢◌, ◌≤◌, ◌++◌, true, IfOk, OnOk};
+ghost use Rattle.std.specs.Prelude.{◌≡◌, ◌≤◌, ◌++◌, true, IfOk, OnOk};
 ghost use Rattle.wire_base.specs.Memory.{UpToMemory};
 ghost use Rattle.wire_base.specs.Names.{is_name};
 ghost use Rattle.domain_world.specs.World.{move_limit};
@@ -9,9 +9,7 @@ ghost use Rattle.nt_top.specs.Drill.{count_line, drill_answer, drill_client, dri
 use crate::answer::Answer;
 use crate::exit::Exit;
 use account_table::{Table, TableRefused};
-use domain_world::{
-    ClientPlans, MemberPlans, Plan, Report, Tables, World, WorldRefused, drive, moves_from,
-};
+use domain_world::{ClientPlans, MemberPlans, Plan, Report, Tables, drive_from, moves_from};
 use logon_client::{AuthKind, ClientPlan};
 use member_server::MemberPlan;
 use std::alloc::{AllocError, Global};
@@ -62,21 +60,8 @@ pub fn drill_lines(alloc: Global, number: u32, moves: u32) -> Result<Blob, NoMem
     ensures { IfOk result (λ lines. lines ≡ drill_text number moves) }
 {
     let moves = moves_from(alloc, u64::from(number), moves)?;
-    let mut world = World::new(alloc, drill_plan(alloc)?)?;
-    match drive(alloc, &mut world, &moves) {
-        Ok(report) => report_lines(alloc, &report),
-        Err(why) => Err(no_memory_for_run(why)),
-    }
-}
-
-/// A run of a world that hadn't stopped fails for want of memory alone.
-fn no_memory_for_run(why: WorldRefused) -> NoMemory
-    requires { why ≢ WorldRefused.Stopped }
-{
-    match why {
-        WorldRefused::Memory => NoMemory,
-        WorldRefused::Stopped => unreachable!(),
-    }
+    let world = drive_from(alloc, drill_plan(alloc)?, &moves)?;
+    report_lines(alloc, &world.report())
 }
 
 /// Six lines, each with a count.

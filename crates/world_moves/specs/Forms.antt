@@ -1,11 +1,12 @@
 -- The forms that the types of a plan give its parts: what a plan of the program has of itself, and a list of numbers
 -- may lack (this project's own choice).
-use Rattle.std.specs.Prelude.{ℕ, ◌+◌, ◌≡◌, ◌<◌, ◌≤◌, ◌^◌, true, List, length, All}
+use Rattle.std.specs.Prelude.{ℕ, ◌<◌, ◌≤◌, ◌^◌, List, length, All}
 use Rattle.wire_base.specs.Names.{IsName}
-use Rattle.wire_base.specs.Sid.{IsSid, SidParts}
-use Rattle.account_table.specs.AccountTable.{AccountTable, has_distinct_domains, has_distinct_names}
+use Rattle.wire_base.specs.Sid.{SidParts}
+use Rattle.account_table.specs.AccountTable.{AccountTable}
 use Rattle.account_table.specs.declared.account.Account.{Account}
 use Rattle.account_table.specs.declared.account.Trust.{Trust}
+use Rattle.account_table.specs.TableForms as forms
 use Rattle.logon_client.specs.declared.plan.ClientPlan.{ClientPlan}
 use Rattle.member_server.specs.declared.plan.MemberPlan.{MemberPlan}
 use Rattle.world_moves.specs.declared.moves.Move.{Move}
@@ -13,59 +14,29 @@ use Rattle.world_moves.specs.declared.moves.Move.TheVariants as move
 use Rattle.world_moves.specs.declared.plan.Plan.{Plan}
 use Rattle.world_moves.specs.World.{IsMove, IsPlan, move_limit}
 
+-- what account_table says of the parts of a table: a byte, so many bytes, and an identifier whose numbers have 32 bits
 abbrev pub IsByte : ℕ → Type 0
-IsByte byte = byte < 2 ^ 8
+IsByte byte = forms.IsByte byte
 
--- so many bytes
 abbrev pub IsBlock : ℕ → List ℕ → Type 0
-IsBlock count bytes = (length bytes ≡ count) × All IsByte bytes
+IsBlock count bytes = forms.IsBlock count bytes
+
+abbrev pub IsIdentifier : SidParts → Type 0
+IsIdentifier sid = forms.IsIdentifier sid
+
+-- the form of an account, of a trusted domain, and of a table
+abbrev pub IsAccount : Account → Type 0
+IsAccount account = forms.HasAccountForm account
+
+abbrev pub IsTrust : Trust → Type 0
+IsTrust trust = forms.HasTrustForm trust
+
+abbrev pub IsTable : AccountTable → Type 0
+IsTable table = forms.HasTableForm table
 
 -- units of UTF-16
 abbrev pub AreUnits : List ℕ → Type 0
 AreUnits units = All (λ (unit : ℕ). unit < 2 ^ 16) units
-
--- a security identifier whose numbers have 32 bits
-abbrev pub IsIdentifier : SidParts → Type 0
-IsIdentifier sid = IsSid sid × All (λ (number : ℕ). number < 2 ^ 32) sid.numbers
-
--- the names have at most 64 printable bytes, the NT hash has 16, at most 256 groups and 16 identifiers beside them are
--- listed, and at most 8 computers and 8 controllers
-pub record IsAccount (account : Account) : Type 0 where
-  pub name : IsName account.name
-  pub rid : account.rid < 2 ^ 32
-  pub hash : IsBlock 16 account.hash
-  pub full_name : IsName account.full_name
-  pub group : account.group < 2 ^ 32
-  pub few_groups : length account.groups ≤ 256
-  pub groups : All (λ (group : ℕ). group < 2 ^ 32) account.groups
-  pub expires : account.expires < 2 ^ 64
-  pub password_set : account.password_set < 2 ^ 64
-  pub password_expires : account.password_expires < 2 ^ 64
-  pub few_workstations : length account.workstations ≤ 8
-  pub workstations : All IsName account.workstations
-  pub few_extra_sids : length account.extra_sids ≤ 16
-  pub extra_sids : All IsIdentifier account.extra_sids
-  pub bad_count : account.bad_count < 2 ^ 16
-  pub few_controllers : length account.controllers ≤ 8
-  pub controllers : All IsName account.controllers
-
--- the domain's name has at most 64 printable bytes, the secret is an NT hash, and the address has bytes
-pub record IsTrust (trust : Trust) : Type 0 where
-  pub domain : IsName trust.domain
-  pub hash : IsBlock 16 trust.hash
-  pub address : All IsByte trust.address
-
--- at most 10,000 accounts and trusted domains are listed, and no two of either have the same name
-pub record IsTable (table : AccountTable) : Type 0 where
-  pub domain : IsName table.domain
-  pub sid : IsSid table.sid
-  pub numbers : All (λ (number : ℕ). number < 2 ^ 32) table.sid.numbers
-  pub lockout : table.policy.lockout ≤ 1000
-  pub few : length table.accounts + length table.trusts ≤ 10000
-  pub accounts : All IsAccount table.accounts
-  pub distinct : has_distinct_names table.accounts ≡ true
-  pub trusts : All IsTrust table.trusts
-  pub distinct_domains : has_distinct_domains table.trusts ≡ true
 
 -- the secret is an NT hash, and the controller's address has bytes
 pub record IsMemberPlan (plan : MemberPlan) : Type 0 where

@@ -8,6 +8,7 @@ mod bag;
 mod choosing;
 mod counting;
 mod ends;
+mod forms;
 mod laws;
 mod links;
 mod maker;
@@ -20,6 +21,6 @@ mod world;
 
 pub use counting::Report;
 pub use laws::a_run_ends_in_its_last_state;
-pub use moves::{Move, Moves, moves_from};
+pub use moves::{Move, Moves, moves_from, moves_have_forms};
 pub use plan::{ClientPlans, MemberPlans, Plan, Tables};
 pub use world::{World, WorldRefused};

@@ -1,8 +1,10 @@
 //! The moves of a world.
 
-ghost use Rattle.std.specs.Prelude.{◌≡◌, ◌^◌, ◌<◌, IfOk};
+ghost use Rattle.std.specs.Prelude.{◌≡◌, ◌^◌, ◌<◌, All, IfOk};
+ghost use Rattle.world_moves.specs.Forms.{HasMoveForm};
 ghost use Rattle.world_moves.specs.Generator.{next_seed, value_of, rare_by, made, moves_of};
 
+use crate::forms::{are_bytes, is_hyper, is_long};
 use std::alloc::Global;
 use wire_base::{Blob, List, NoMemory};
 
@@ -108,5 +110,36 @@ fn rare_move(kind: u32, seed: u64) -> (Move, u64)
         1..=5 => (Move::Shut(value_of(drawn)), drawn),
         6..=10 => (Move::FailDial, seed),
         _ => (Move::Lose, seed),
+    }
+}
+
+/// Each move has the form that its type gives it, which callers learn so. It takes no memory, and walks the moves.
+pub fn moves_have_forms(moves: &Moves)
+    ensures { All HasMoveForm moves.now }
+{
+    for what in moves.items() {
+        has_form(what);
+    }
+}
+
+/// A move has the form that its type gives it, which callers learn so.
+fn has_form(what: &Move)
+    ensures { HasMoveForm what.now }
+{
+    match what {
+        Move::Start(number) | Move::Stranger(number) | Move::Shut(number) | Move::Restart(number) =>
+            {
+                is_long(*number);
+            }
+        Move::Connect | Move::FailDial | Move::Onward | Move::Lose => {}
+        Move::Deliver { unit, link } => {
+            is_long(*unit);
+            is_long(*link);
+        }
+        Move::Hand { link, bytes, .. } => {
+            is_long(*link);
+            are_bytes(bytes.bytes());
+        }
+        Move::Tick(more) => is_hyper(*more),
     }
 }

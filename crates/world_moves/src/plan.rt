@@ -3,7 +3,11 @@
 ghost use Rattle.std.specs.Prelude.{◌≡◌, IfOk};
 ghost use Rattle.logon_client.specs.Machine.{fresh_client};
 ghost use Rattle.logon_client.specs.Plans.{CanLogOn};
+ghost use Rattle.world_moves.specs.Forms.{HasForms};
 
+use crate::forms::{
+    clients_have_forms, is_hyper, is_seed, members_have_forms, names_have_forms, tables_have_forms,
+};
 use account_table::Table;
 use logon_client::{Client, ClientPlan};
 use member_server::MemberPlan;
@@ -31,6 +35,21 @@ pub struct Plan {
     pub clients: ClientPlans,
     pub now: u64,
     pub seed: [u8; 32],
+}
+
+impl Plan {
+    /// The plan has the forms that its types give it (a part of `IsSchedule`), which callers learn so. It takes no
+    /// memory, and walks the accounts of all tables and the other plans.
+    pub fn has_forms(&self)
+        ensures { HasForms self.entry.now }
+    {
+        tables_have_forms(self.tables.items());
+        names_have_forms(self.controllers.items());
+        members_have_forms(self.members.items());
+        clients_have_forms(self.clients.items());
+        is_hyper(self.now);
+        is_seed(self.seed);
+    }
 }
 
 /// A plan that a client can follow, seen as the plan.

@@ -54,7 +54,7 @@ use Rattle.domain_world.proofs.Judgements.MovedLaws.{IsFound, itself, one_channe
 
 -- ---- tests
 
-both_true : (one other : Bool) → (one && other) ≡ true → (one ≡ true) × (other ≡ true)
+pub both_true : (one other : Bool) → (one && other) ≡ true → (one ≡ true) × (other ≡ true)
 both_true true true is = (refl, refl)
 both_true true false is = absurd (let x = is in cc)
 both_true false other is = absurd (let x = is in cc)
@@ -69,12 +69,12 @@ pub record AreInUnit (one other : Option ℕ) : Type 0 where
   pub first : one ≡ Some unit
   pub second : other ≡ Some unit
 
-in_unit : (one other : Option ℕ) → same_unit one other ≡ true → AreInUnit one other
+pub in_unit : (one other : Option ℕ) → same_unit one other ≡ true → AreInUnit one other
 in_unit None other is = absurd (let x = is in cc)
 in_unit (Some one) None is = absurd (let x = is in cc)
 in_unit (Some one) (Some other) is = record { unit = one; first = refl; second = ap Some (sym ((Decides-eqb one other).0 is)) }
 
-unit_same : (unit : ℕ) → same_unit (Some unit) (Some unit) ≡ true
+pub unit_same : (unit : ℕ) → same_unit (Some unit) (Some unit) ≡ true
 unit_same unit = (Decides-eqb unit unit).1 refl
 
 -- ---- the judging that answers a message
@@ -101,12 +101,12 @@ are_answers message j request unit passed call came reply sent =
 
 -- ---- channels
 
-record StandsFor (j : Judging) : Type 0 where
-  channel : Channel
-  found : channel_in j.controller j.logon.computer j.computers ≡ Some channel
-  passed : passed_channel j ≡ Some channel
+pub record StandsFor (j : Judging) : Type 0 where
+  pub channel : Channel
+  pub found : channel_in j.controller j.logon.computer j.computers ≡ Some channel
+  pub passed : passed_channel j ≡ Some channel
 
-channel_there : (j : Judging) → IsJudgedRight j → has_passed j.how ≡ true → StandsFor j
+pub channel_there : (j : Judging) → IsJudgedRight j → has_passed j.how ≡ true → StandsFor j
 channel_there j right passed =
     let next : IsNext j.computers j.logon = right.passed.0 passed in
     let found : channel_in j.controller j.logon.computer j.computers ≡ Some (channel_with j.controller next.computer next.channel) =
@@ -114,10 +114,10 @@ channel_there j right passed =
     record { channel = channel_with j.controller next.computer next.channel; found = found; passed = ap (λ (p : Bool). channel_if p j) passed ∙ found }
 
 -- the channel that a unit was made for is the one on which a credential passed in it
-record IsMade (made : Option Channel) (channel : Channel) : Type 0 where
-  named : Channel
-  is : made ≡ Some named
-  same : SameChannel named channel
+pub record IsMade (made : Option Channel) (channel : Channel) : Type 0 where
+  pub named : Channel
+  pub is : made ≡ Some named
+  pub same : SameChannel named channel
 
 on_made : (made : Option Channel) (channel : Channel) → not (is_channel made channel) ≡ false → IsMade made channel
 on_made None channel is = absurd (let x = is in cc)
@@ -153,7 +153,7 @@ let_in_by : (key : List ℕ) (verdict : Verdict) (logon : Logon) (info : _) → 
 let_in_by key (Granted granted) logon info is = refl
 let_in_by key (Status status) logon info is = absurd (let x = is in cc)
 
-passed_of : (passed : Bool) (j : Judging) (channel : Channel) → has_passed j.how ≡ passed → channel_if passed j ≡ Some channel → has_passed j.how ≡ true
+pub passed_of : (passed : Bool) (j : Judging) (channel : Channel) → has_passed j.how ≡ passed → channel_if passed j ≡ Some channel → has_passed j.how ≡ true
 passed_of true j channel is on = is
 passed_of false j channel is on = absurd (let x = on in cc)
 
@@ -203,17 +203,17 @@ module _ (past : Past) (known : IsProved past) (heard : AnswersAreHeard past) (c
   abbrev all_judged : List Judging
   all_judged = past.book.judged
 
-  right_at : (k : ℕ) (j : Judging) → slice_get all_judged k ≡ Some j → IsJudgedRight j
+  pub right_at : (k : ℕ) (j : Judging) → slice_get all_judged k ≡ Some j → IsJudgedRight j
   right_at k j there = all_at IsJudgedRight all_judged k j (right_judged past.book.judgements all_judged known.credentials) there
 
-  made_at : (k : ℕ) (j : Judging) (channel : Channel) (unit : ℕ) → slice_get all_judged k ≡ Some j → passed_channel j ≡ Some channel → j.unit ≡ Some unit →
+  pub made_at : (k : ℕ) (j : Judging) (channel : Channel) (unit : ℕ) → slice_get all_judged k ≡ Some j → passed_channel j ≡ Some channel → j.unit ≡ Some unit →
       IsMade (sent_channel (slice_get past.book.sent unit)) channel
   made_at k j channel unit there passed came =
       made_for j channel unit past.book.sent passed came
       (all_at (λ (one : Judging). clashes (passed_channel one) one.unit past.book.sent ≡ false) all_judged k j (heard.passes clear.apart) there)
 
   -- no call passes twice
-  no_twice : (k l : ℕ) (second first : Judging) (unit : ℕ) → k < l → slice_get all_judged k ≡ Some second → slice_get all_judged l ≡ Some first → has_passed second.how ≡ true →
+  pub no_twice : (k l : ℕ) (second first : Judging) (unit : ℕ) → k < l → slice_get all_judged k ≡ Some second → slice_get all_judged l ≡ Some first → has_passed second.how ≡ true →
       has_passed first.how ≡ true → second.unit ≡ Some unit → first.unit ≡ Some unit → ⊥
   no_twice k l second first unit before at_second at_first passed_second passed_first came_second came_first =
       let cut : Cut all_judged second first = cut_twice all_judged k l second first before at_second at_first in
@@ -276,7 +276,7 @@ module _ (past : Past) (known : IsProved past) (heard : AnswersAreHeard past) (c
       ap (λ (one : Judging). one.at) (one_pass l k other j in_one.unit here there is.0 passed in_one.first in_one.second))
 
   -- the answer that was taken for a message
-  judged_as : (place : ℕ) (message : MessageTaken) (unit : ℕ) → slice_get past.book.messages place ≡ Some message → message.reply ≡ Some unit → IsJudgedAs past message unit
+  pub judged_as : (place : ℕ) (message : MessageTaken) (unit : ℕ) → slice_get past.book.messages place ≡ Some message → message.reply ≡ Some unit → IsJudgedAs past message unit
   judged_as place message unit there reply =
       let is : IsAnsweredIn past message unit =
       all_at (λ (m : MessageTaken). (u : ℕ) → m.reply ≡ Some u → IsAnsweredIn past m u) past.book.messages place message (heard.answers clear.apart) there unit reply in

@@ -63,14 +63,14 @@ pub one_whole : (bytes : List ℕ) (frames others : List RpcUnit) (one other : R
 one_whole bytes frames others one other heard also =
     adds_one None others one other (subst (λ (us : List RpcUnit). AddsTo None us one) (units_are bytes frames others one other heard also) heard.joined) also.joined
 
-one_unit : (bytes : List ℕ) (one other : IsWholeUnit bytes) → one.unit ≡ other.unit
+pub one_unit : (bytes : List ℕ) (one other : IsWholeUnit bytes) → one.unit ≡ other.unit
 one_unit bytes one other = one_whole bytes one.frames other.frames one.unit other.unit one.heard other.heard
 
 -- of one carrier
 one_carrier : (past : Past) (n : ℕ) (one other : BagUnit) → slice_get past.world.state.bag n ≡ Some one → slice_get past.world.state.bag n ≡ Some other → one ≡ other
 one_carrier past n one other there also = some_is one other (sym there ∙ also)
 
-logon_is : (one other : LogonCall) → Some (call.Logon one) ≡ Some (call.Logon other) → one ≡ other
+pub logon_is : (one other : LogonCall) → Some (call.Logon one) ≡ Some (call.Logon other) → one ≡ other
 logon_is one other is = cc
 
 -- ---- units are heard alike
@@ -202,7 +202,7 @@ module _ (past : Past) where
               (sym (ap (λ (d : Channel). d.controller) named ∙ is.same.controller)) is.controller;
         }
 
-    answered : (message : MessageTaken) (u : ℕ) → IsTakenInTurn past message u → IsAnsweredIn past message u
+    pub answered : (message : MessageTaken) (u : ℕ) → IsTakenInTurn past message u → IsAnsweredIn past message u
     answered message u is =
         answered_by is.sent.mark message u is refl is.made (way u is.carrier is.sent is.there is.noted) (λ isn't. whole u is.carrier is.sent is.there is.noted isn't)
         (replies u is.carrier is.sent is.there is.noted)

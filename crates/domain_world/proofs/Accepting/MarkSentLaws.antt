@@ -1,22 +1,28 @@
 -- What a unit is that an end sends for a mark: at a controller the reply that opens a channel, and at a member, where a
 -- whole unit comes on the link of its turn, the one request that it then sends. It serves `marked_units_are_whole`.
-use Rattle.std.proofs.Common.{◌≡◌, ◌⊎◌, ℕ, zero, suc, ◌<◌, ◌^◌, ◌==◌, Bool, true, false, List, [], ◌∷◌, ◌++◌, map, inl, inr, Option, Some, None, Result, Ok, Err, slice_get, refl, sym, ap, subst, ◌∙◌, arith}
+use Rattle.std.proofs.Common.{◌≡◌, ◌⊎◌, ℕ, zero, suc, ◌<◌, ◌^◌, ◌==◌, Bool, true, false, List, [], ◌∷◌, ◌++◌, map, inl, inr, Option, Some, None, Result, Ok, Err, slice_get, refl, sym, ap, subst, ◌∙◌, arith, ◌≤◌}
 use Rattle.std.specs.List.{AllByRecursion}
 use Rattle.std.proofs.lemmas.Bool.{eqb-true}
 use Rattle.outside.specs.declared.action.Action.{Action}
 use Rattle.outside.specs.declared.action.Action.TheVariants as action
 use Rattle.outside.specs.declared.action.StepRefused.{StepRefused}
 use Rattle.outside.specs.declared.event.Event.TheVariants as event
+use Rattle.rpc_units.specs.Calls.{IsHeard}
+use Rattle.rpc_units.specs.Joining.{cut_of}
 use Rattle.rpc_units.specs.declared.unit.Unit.{Unit as RpcUnit}
 use Rattle.rpc_units.specs.Stream.{cut_stream}
-use Rattle.logon_stubs.specs.Calls.{opnum_of_call}
+use Rattle.logon_stubs.specs.Calls.{call_of, opnum_of_call}
 use Rattle.logon_stubs.specs.Writing.{written_call}
+use Rattle.logon_stubs.proofs.WrittenLaws.{call_of-written_call, written_call-content}
 use Rattle.logon_stubs.specs.declared.calls.Call.{Call}
 use Rattle.logon_stubs.specs.declared.calls.Call.TheVariants as call
 use Rattle.end_links.specs.Links.{LinkState}
 use Rattle.end_links.specs.Sending.{frames_of, joined_frames, request_of}
 use Rattle.channel_client.specs.Machine.{Taking, act, hear, judge, question_of, settle, take_of}
+use Rattle.channel_client.specs.Effects.{step_in}
 use Rattle.channel_client.specs.State.{Requester}
+use Rattle.channel_client.specs.Whole.{HasRoom, InRangeRequester, InRangeTurn}
+use Rattle.channel_client.specs.declared.state.Pending.{Pending}
 use Rattle.channel_client.specs.declared.answers.Taken.{Taken}
 use Rattle.channel_client.specs.declared.answers.Taken.TheVariants as taken
 use Rattle.channel_client.specs.declared.hearing.Hearing.{Hearing}
@@ -43,10 +49,12 @@ use Rattle.step_notes.specs.CallLogons.{AreFirst, IsFirstBy}
 use Rattle.step_notes.specs.ChannelNames.{sends_in}
 use Rattle.step_notes.specs.ControllerNotes.{Answered}
 use Rattle.step_notes.specs.Marking.{answered_marks, mark_if, turn_marks}
-use Rattle.step_notes.specs.MemberNotes.{TurnNote, asked_note, no_note, taking_at, taking_note, turn_note, turn_units, turn_units_by, turn_units_in, turn_units_on}
+use Rattle.step_notes.specs.MemberNotes.{TurnNote, asked_note, no_note, taking_at, taking_note, timestamp_bound, turn_note, turn_units, turn_units_by, turn_units_in, turn_units_on}
+use Rattle.step_notes.specs.Records.{timestamp_in}
 use Rattle.step_notes.specs.ReplySends.{AreSentFor, CarriesReply, IsOpeningReply, IsSentIf}
 use Rattle.step_notes.specs.Served.{ServedUnit, served_units, units_if_taken, work_after}
 use Rattle.step_notes.specs.TakenWhole.{TakesWhole}
+use Rattle.step_notes.proofs.Channels.ChannelNameLaws.{bound_at}
 use Rattle.step_notes.proofs.Controllers.ReplyStepLaws.{replies_sent}
 use Rattle.step_notes.proofs.Members.RequestOrderLaws.{requests_first}
 use Rattle.step_notes.proofs.Members.TurnHeardLaws.{members_take}
@@ -58,7 +66,7 @@ use Rattle.domain_world.proofs.Accepting.QuietTurnLaws.{IfOn, IsOneUnit, IsReste
 use Rattle.domain_world.proofs.Frames.BagFrameLaws.{controller_marks}
 use Rattle.domain_world.proofs.Frames.NewUnitLaws.{IsFront}
 use Rattle.domain_world.proofs.Requests.CallMessageLaws.{bytes_are, last_is}
-use Rattle.domain_world.proofs.Requests.CallWholeLaws.{IsOfTurn, of_turn}
+use Rattle.domain_world.proofs.Requests.CallWholeLaws.{IsOfTurn, of_turn, request_heard}
 
 -- ---- what is sent for a mark
 
@@ -70,12 +78,25 @@ pub record IsRequestSent (number opnum : ℕ) (bytes : List ℕ) : Type 0 where
   pub limit : ℕ
   pub is : bytes ≡ joined_frames (frames_of (request_of number 0 opnum stub) limit)
 
+-- the call of a turn on a channel: a Logon call that has the timestamp, and is read as it was written
+abbrev pub IsStampedCall : Call → ℕ → Type 0
+IsStampedCall (call.Logon c) timestamp = (timestamp_in c.authenticator ≡ timestamp) × (call_of 2 (written_call (call.Logon c)) ≡ Ok (call.Logon c))
+IsStampedCall (call.Logoff c) timestamp = Unit {0}
+IsStampedCall (call.Challenge c) timestamp = ⊥
+IsStampedCall (call.Authenticate c) timestamp = ⊥
+
+pub record IsCallSent (number timestamp : ℕ) (bytes : List ℕ) : Type 0 where
+  pub what : Call
+  pub stamped : IsStampedCall what timestamp
+  pub frames : List RpcUnit
+  pub heard : IsHeard bytes frames (request_of number 0 (opnum_of_call what) (written_call what))
+
 -- a reply to a Logon call is said elsewhere (`RepliesCarryTheirJudgement`)
 abbrev pub CarriesMark : Mark → List ℕ → Type 0
 CarriesMark Plain bytes = Unit {0}
 CarriesMark (Opening channel number) bytes = IsRequestSent number 15 bytes
 CarriesMark (Opened channel number request) bytes = IsOpeningReply bytes
-CarriesMark (Calling channel number timestamp) bytes = (opnum : ℕ) × IsRequestSent number opnum bytes
+CarriesMark (Calling channel number timestamp) bytes = IsCallSent number timestamp bytes
 CarriesMark (ReplyTo channel number request) bytes = Unit {0}
 
 -- at one place stand the mark and what is sent for it
@@ -142,30 +163,44 @@ IsOut taken.Opened bytes = Unit {0}
 IsOut (taken.Answer place verdict) bytes = Unit {0}
 IsOut (taken.Dropped place cause) bytes = Unit {0}
 
-module _ (controller : ℕ) (s : Requester) (small : s.next_call < 2 ^ 32) (bytes : List ℕ) where
+stamped_call : (turn : Option Pending) (number place : ℕ) (c : Call) → turn ≡ bound_at number place c → question.Logon ≡ question_of c → HasRoom c → IsStampedCall c (timestamp_bound (step_in turn))
+stamped_call turn number place (call.Logon c) is asks room =
+    (sym (ap (λ (t : Option Pending). timestamp_bound (step_in t)) is), call_of-written_call (call.Logon c) room.writes room.range)
+stamped_call turn number place (call.Logoff c) is asks room = tt
+stamped_call turn number place (call.Challenge c) is asks room = absurd (let never = asks in cc)
+stamped_call turn number place (call.Authenticate c) is asks room = absurd (let never = asks in cc)
+
+module _ (controller : ℕ) (s : Requester) (range : InRangeRequester s) (bytes : List ℕ) where
   settled_out : (j : Judgement) → CarriesMark (taking_note (Some (settle j s)) controller s).mark bytes
   settled_out (judgement.Half client server) = tt
   settled_out (judgement.Opened o) = tt
   settled_out (judgement.Answer o v) = tt
   settled_out (judgement.Drop cause) = tt
 
-  asked_out : (q : Question) (how : Standing) (after : Requester) (c : Call) (limit : ℕ) → q ≡ question_of c →
+  asked_out : (q : Question) (how : Standing) (after : Requester) (number place : ℕ) (c : Call) (limit : ℕ) → s.turn ≡ bound_at number place c → 1432 ≤ limit → limit ≤ 5840 → q ≡ question_of c →
       bytes ≡ joined_frames (frames_of (request_of s.next_call 0 (opnum_of_call c) (written_call c)) limit) →
       CarriesMark (asked_note (Some (step.Reply q)) how controller s after).mark bytes
-  asked_out (question.Challenge client) how after c limit asks is = tt
-  asked_out question.Authenticate standing.Nothing after c limit asks is = tt
-  asked_out question.Authenticate (standing.Half client server) after c limit asks is =
-      subst (λ (n : ℕ). IsRequestSent s.next_call n bytes) (opening_opnum c asks) (record { small = small; known = known_opnum c; stub = written_call c; limit = limit; is = is })
-  asked_out question.Authenticate (standing.Open o) after c limit asks is = tt
-  asked_out question.Logon standing.Nothing after c limit asks is = tt
-  asked_out question.Logon (standing.Half client server) after c limit asks is = tt
-  asked_out question.Logon (standing.Open o) after c limit asks is =
-      (opnum_of_call c, record { small = small; known = known_opnum c; stub = written_call c; limit = limit; is = is })
+  asked_out (question.Challenge client) how after number place c limit turn least most asks is = tt
+  asked_out question.Authenticate standing.Nothing after number place c limit turn least most asks is = tt
+  asked_out question.Authenticate (standing.Half client server) after number place c limit turn least most asks is =
+      subst (λ (n : ℕ). IsRequestSent s.next_call n bytes) (opening_opnum c asks) (record { small = range.next_call; known = known_opnum c; stub = written_call c; limit = limit; is = is })
+  asked_out question.Authenticate (standing.Open o) after number place c limit turn least most asks is = tt
+  asked_out question.Logon standing.Nothing after number place c limit turn least most asks is = tt
+  asked_out question.Logon (standing.Half client server) after number place c limit turn least most asks is = tt
+  asked_out question.Logon (standing.Open o) after number place c limit turn least most asks is =
+      let room : HasRoom c = subst InRangeTurn turn range.turn in
+      record {
+        what = c;
+        stamped = stamped_call s.turn number place c turn asks room;
+        frames = cut_of (request_of s.next_call 0 (opnum_of_call c) (written_call c)) limit;
+        heard = subst (λ (b : List ℕ). IsHeard b (cut_of (request_of s.next_call 0 (opnum_of_call c) (written_call c)) limit) (request_of s.next_call 0 (opnum_of_call c) (written_call c))) (sym is)
+            (request_heard s.next_call (opnum_of_call c) limit (written_call c) range.next_call (known_opnum c) least most (omega (arith, written_call-content c room.writes room.range, room.few)));
+      }
 
   acted_out : (h : Hearing) → IsOfTurn s.turn s.next_call h → IsOut (act h s).taken bytes → CarriesMark (taking_note (Some (act h s)) controller s).mark bytes
   acted_out hearing.Skip of out = tt
   acted_out (hearing.Next q frames) of out =
-      asked_out q s.standing (act (hearing.Next q frames) s).state of.2 of.5 of.4 (out ∙ ap (λ (f : List (List ℕ)). joined_frames f) of.8)
+      asked_out q s.standing (act (hearing.Next q frames) s).state of.0 of.1 of.2 of.5 of.3 of.6 of.7 of.4 (out ∙ ap (λ (f : List (List ℕ)). joined_frames f) of.8)
   acted_out (hearing.Reply q r) of out = settled_out (judge q r s.standing s.caller.secret)
   acted_out (hearing.Drop cause) of out = settled_out (judgement.Drop cause)
 
@@ -223,7 +258,7 @@ last_marks controller at (one ∷ before) last none =
 
 -- the last of them takes the whole unit
 last_carries : (controller : ℕ) (at : AtTurn) (unit : RpcUnit) (left : List (List ℕ)) (units : List (ServedUnit AtTurn TurnTalk)) (takes : TakesWhole at unit left units) →
-    at.work.logons.channel.next_call < 2 ^ 32 → (bytes : List ℕ) (done : AtTurn) → work_after takes.last.part ≡ Some done →
+    InRangeRequester at.work.logons.channel → (bytes : List ℕ) (done : AtTurn) → work_after takes.last.part ≡ Some done →
     done.work.actions ≡ takes.last.work.work.actions ++ action.Send takes.last.work.link bytes ∷ [] → CarriesMark (turn_note controller takes.last).mark bytes
 last_carries controller at unit left units takes small bytes done comes is =
     let s : Requester = at.work.logons.channel in
@@ -236,7 +271,7 @@ last_carries controller at unit left units takes small bytes done comes is =
     (subst (λ (one : AtTurn). CarriesMark (taking_note (Some taking) controller one.work.logons.channel).mark bytes) (sym takes.work) (taken_out controller s small bytes unit out))
 
 takes_sends : (controller : ℕ) (at : AtTurn) (unit : RpcUnit) (left : List (List ℕ)) (units : List (ServedUnit AtTurn TurnTalk)) (actions : List Action) → TakesWhole at unit left units →
-    at.work.logons.channel.next_call < 2 ^ 32 → AreFirst controller units actions → SendsFirst at.link (turn_marks (map (turn_note controller) units)) actions
+    InRangeRequester at.work.logons.channel → AreFirst controller units actions → SendsFirst at.link (turn_marks (map (turn_note controller) units)) actions
 takes_sends controller at unit left units actions takes small first =
     let all : AreFirst controller (takes.before ++ takes.last ∷ []) actions = subst (λ (us : List (ServedUnit AtTurn TurnTalk)). AreFirst controller us actions) takes.all first in
     subst (λ (us : List (ServedUnit AtTurn TurnTalk)). SendsFirst at.link (turn_marks (map (turn_note controller) us)) actions) (sym takes.all)
@@ -251,7 +286,7 @@ abbrev pub SendsIf : Type 0 → ℕ → List Mark → List Action → Type 0
 SendsIf Own link marks actions = (marks ≡ []) ⊎ (Own × SendsFirst link marks actions)
 
 module _ (Own : ℕ → Type 0) (controller number : ℕ) (piece : List ℕ) (left : List (List ℕ)) (one : Own number → IsOneUnit piece) where
-  by_sends : (hit : Bool) (other : ℕ) (said : LinkState TurnTalk) (running : Running) (actions : List Action) → (other == number) ≡ hit → running.logons.channel.next_call < 2 ^ 32 →
+  by_sends : (hit : Bool) (other : ℕ) (said : LinkState TurnTalk) (running : Running) (actions : List Action) → (other == number) ≡ hit → InRangeRequester running.logons.channel →
       IsRested Own other said → AreFirst controller (turn_units_by hit said number piece running left) actions →
       SendsIf (Own number) number (turn_marks (map (turn_note controller) (turn_units_by hit said number piece running left))) actions
   by_sends false other said running actions is small rested first = inl refl
@@ -265,20 +300,20 @@ module _ (Own : ℕ → Type 0) (controller number : ℕ) (piece : List ℕ) (le
       (members_take.units piece unit.frames unit.unit at said.talk left unit.heard rested.joiner) in
       inr (own, takes_sends controller at unit.unit left (served_units turn_server (cut_stream (said.rest ++ piece)).units at said.talk left) actions takes small first)
 
-  on_sends : (how : Dialling) (running : Running) (actions : List Action) → running.logons.channel.next_call < 2 ^ 32 → IfOn Own how →
+  on_sends : (how : Dialling) (running : Running) (actions : List Action) → InRangeRequester running.logons.channel → IfOn Own how →
       AreFirst controller (turn_units_on how number piece running left) actions →
       SendsIf (Own number) number (turn_marks (map (turn_note controller) (turn_units_on how number piece running left))) actions
   on_sends dialling.Nothing running actions small on first = inl refl
   on_sends (dialling.Waits turn frames) running actions small on first = inl refl
   on_sends (dialling.On other said) running actions small on first = by_sends (other == number) other said running actions refl small on first
 
-  in_sends : (r : Option Running) (actions : List Action) → ((running : Running) → r ≡ Some running → (running.logons.channel.next_call < 2 ^ 32) × IfOn Own running.dialling) →
+  in_sends : (r : Option Running) (actions : List Action) → ((running : Running) → r ≡ Some running → InRangeRequester running.logons.channel × IfOn Own running.dialling) →
       AreFirst controller (turn_units_in r number piece left) actions → SendsIf (Own number) number (turn_marks (map (turn_note controller) (turn_units_in r number piece left))) actions
   in_sends None actions known first = inl refl
   in_sends (Some running) actions known first = let is = known running refl in on_sends running.dialling running actions is.0 is.1 first
 
   by_step : (answer : Result (List Action) StepRefused) (m : MemberState) (now : ℕ) → (step_of m (event.Bytes number piece) now left).answer ≡ answer →
-      ((running : Running) → m.running ≡ Some running → (running.logons.channel.next_call < 2 ^ 32) × IfOn Own running.dialling) →
+      ((running : Running) → m.running ≡ Some running → InRangeRequester running.logons.channel × IfOn Own running.dialling) →
       SendsIf (Own number) number (turn_marks (map (turn_note controller) (units_if_taken answer (turn_units_in m.running number piece left)))) (actions_by answer)
   by_step (Err why) m now is known = inl refl
   by_step (Ok actions) m now is known =
@@ -287,6 +322,6 @@ module _ (Own : ℕ → Type 0) (controller number : ℕ) (piece : List ℕ) (le
       (requests_first.first controller m number piece now left actions is))
 
   pub member_sends : (m : MemberState) (now : ℕ) →
-      ((running : Running) → m.running ≡ Some running → (running.logons.channel.next_call < 2 ^ 32) × IfOn Own running.dialling) →
+      ((running : Running) → m.running ≡ Some running → InRangeRequester running.logons.channel × IfOn Own running.dialling) →
       SendsIf (Own number) number (turn_marks (map (turn_note controller) (turn_units m number piece now left))) (actions_by (step_of m (event.Bytes number piece) now left).answer)
   member_sends m now known = by_step (step_of m (event.Bytes number piece) now left).answer m now refl known

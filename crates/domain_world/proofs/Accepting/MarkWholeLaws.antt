@@ -27,6 +27,11 @@ use Rattle.member_server.specs.State.{State as MemberState}
 use Rattle.member_server.specs.declared.state.AtTurn.{AtTurn}
 use Rattle.member_server.specs.declared.state.Running.{Running}
 use Rattle.member_server.specs.declared.state.TurnTalk.{TurnTalk}
+use Rattle.end_links.specs.Sending.{request_of}
+use Rattle.logon_stubs.specs.Calls.{opnum_of_call}
+use Rattle.logon_stubs.specs.Writing.{written_call}
+use Rattle.channel_client.specs.Whole.{InRangeRequester}
+use Rattle.domain_world.proofs.Accepting.CarriedLaws.{one_whole}
 use Rattle.channel_events.specs.Marks.{Mark, Plain, Opening, Opened, Calling, ReplyTo}
 use Rattle.step_notes.specs.JudgedInRange.{IsReadAsMade}
 use Rattle.step_notes.specs.MemberNotes.{turn_note, turn_units}
@@ -170,10 +175,10 @@ turns_sent controller (served ∷ units) unit numbers b =
     turns_sent controller units unit (later_of (turn_note controller served).sends numbers) (note_turn (turn_note controller served) served unit (first_of numbers) b)
 
 known_running : (links : List Route) (k : ℕ) (r : Option Running) (running : Running) → r ≡ Some running → MemberIsQuiet links k r →
-    (running.logons.channel.next_call < 2 ^ 32) × IfOn (IsDialledBy links k) running.dialling
+    InRangeRequester running.logons.channel × IfOn (IsDialledBy links k) running.dialling
 known_running links k None running is quiet = absurd (let never = is in cc)
 known_running links k (Some one) running is quiet =
-    subst (λ (x : Running). (x.logons.channel.next_call < 2 ^ 32) × IfOn (IsDialledBy links k) x.dialling) (some_is one running is) (quiet.range.channel.next_call, quiet.turn)
+    subst (λ (x : Running). InRangeRequester x.logons.channel × IfOn (IsDialledBy links k) x.dialling) (some_is one running is) (quiet.range.channel, quiet.turn)
 
 member_fits : (found : Option MemberState) (at : ℕ) (w : Coming) (piece : List ℕ) (s : State) (b : Book) → slice_get s.ends.members at ≡ found → QuietState s → CameFrom w.unit s w piece →
     length b.sent ≡ length s.bag → MarksFit s.bag b →
@@ -281,7 +286,7 @@ module _ (bag : List BagUnit) (js : List Judging) (stand : JudgedStand bag js) (
     opened_no_answer bytes frames unit sent heard,
   )
   as_marked (Calling channel number timestamp) sent replied =
-      (of_request number sent.0 sent.1.limit sent.1.stub bytes frames unit sent.1.small sent.1.known are sent.1.is heard).number_is
+      ap (λ (u : RpcUnit). u.call) (one_whole bytes frames sent.frames unit (request_of number 0 (opnum_of_call sent.what) (written_call sent.what)) heard sent.heard)
   as_marked (ReplyTo channel number request) sent replied = reply_marked channel number request replied
 
 -- ---- a run
@@ -290,7 +295,7 @@ module _ (plan : Plan) (moves : List Move) (is : IsSchedule plan moves) (short :
   has : HasBytes plan moves
   has = has_bytes plan moves is short bytes
 
-  marks_fit : MarksFit (past plan moves).world.state.bag (past plan moves).book
+  pub marks_fit : MarksFit (past plan moves).world.state.bag (past plan moves).book
   marks_fit =
       run_fits QuietFact QuietAction quiet_keeps no_part no_side nothing_written MarksFit marks_keep plan moves has (quiet_first plan is.forms) tt
       (λ number one there. absurd (got_nothing number one there))

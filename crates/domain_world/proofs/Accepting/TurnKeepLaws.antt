@@ -78,7 +78,7 @@ sent_plans : (route : Option Route) (end : EndId) (link : ℕ) (bytes : List ℕ
 sent_plans None end link bytes s = refl
 sent_plans (Some route) end link bytes s = bag_plans (kind_of route) (is_accepted_by end route) link bytes s
 
-action_plans : (end : EndId) (what : Action) (s : State) → (perform_quietly end what s).member_plans ≡ s.member_plans
+pub action_plans : (end : EndId) (what : Action) (s : State) → (perform_quietly end what s).member_plans ≡ s.member_plans
 action_plans end (action.Keep bytes) s = refl
 action_plans end (action.Send link bytes) s = sent_plans (slice_get s.links link) end link bytes s
 action_plans end (action.Dial peer) s = refl

@@ -42,7 +42,6 @@ use Rattle.domain_world.proofs.Accepting.QuietRunLaws.{has_bytes, is_quiet, quie
 use Rattle.domain_world.proofs.Accepting.QuietStepLaws.{QuietAction, QuietFact}
 use Rattle.domain_world.proofs.Accepting.TurnFactLaws.{Any, past_at}
 use Rattle.domain_world.proofs.Accepting.TurnKeepLaws.{TurnsHold, TurnsRestOn, turns_begin, turns_keep, turns_of}
-use Rattle.domain_world.proofs.Accepting.TurnSideLaws.{TurnSide}
 use Rattle.domain_world.proofs.Frames.DrawnRunLaws.{all_of, end_all, given_all}
 use Rattle.domain_world.proofs.Frames.StepFrameLaws.{ActionFact, AnyAction, BothFacts, BothFine, HasHeard, HoldsAfterRun, Keeps, NoFact, RunFact, WhileFew, all_any, join, run_keeps, while_few, with_side}
 use Rattle.domain_world.proofs.Requests.CallFrameLaws.{CallsKept, QuietSide, calls_keep, first_calls, out_of}
@@ -65,7 +64,7 @@ send_chances : (route : Option Route) (end : EndId) (link : ℕ) (bytes : List �
 send_chances None end link bytes s = refl
 send_chances (Some route) end link bytes s = bag_chances (kind_of route) (is_accepted_by end route) link bytes s
 
-action_chances : (end : EndId) (what : Action) (s : State) → (perform_quietly end what s).chances ≡ s.chances
+pub action_chances : (end : EndId) (what : Action) (s : State) → (perform_quietly end what s).chances ≡ s.chances
 action_chances end (Keep bytes) s = refl
 action_chances end (Send link bytes) s = send_chances (slice_get s.links link) end link bytes s
 action_chances end (Dial peer) s = refl
@@ -92,20 +91,23 @@ drawn_keep plan = record {
   over = λ n at s given b none is. is;
 }
 
-drawn_differ : (plan : Plan) (s : State) → all_of s.chances ≡ given_all plan → Differ s.chances.drawn
+pub drawn_differ : (plan : Plan) (s : State) → all_of s.chances ≡ given_all plan → Differ s.chances.drawn
 drawn_differ plan s is =
     differ_front s.chances.drawn s.chances.left
     (subst (λ (all : List (List ℕ)). Differ all) (sym is) (challenges_from-distinct plan.seed 0 (most_draws - 0) (omega arith) (omega arith)))
 
 -- ---- what answers rest on, at each state
 
-abbrev Known : Plan → RunFact
+-- what is under way is whole, what is known of calls, and what was drawn and is left
+abbrev pub Known : Plan → RunFact
 Known plan = BothFacts (BothFacts QuietFact CallsKept) (DrawnOf plan)
 
-abbrev KnownAction : ActionFact
+-- what that asks of actions
+abbrev pub KnownAction : ActionFact
 KnownAction = BothFine (BothFine QuietAction AnyAction) AnyAction
 
-known_keep : CallLaws → (plan : Plan) → Keeps NoFact (Known plan) KnownAction
+-- it is kept
+pub known_keep : CallLaws → (plan : Plan) → Keeps NoFact (Known plan) KnownAction
 known_keep laws plan =
     join (BothFacts QuietFact CallsKept) (DrawnOf plan) (BothFine QuietAction AnyAction) AnyAction
     (join QuietFact CallsKept QuietAction AnyAction quiet_keeps (with_side QuietSide QuietFact CallsKept AnyAction (λ n s given b quiet. is_quiet s quiet) (calls_keep laws)))
@@ -120,7 +122,8 @@ out_at plan n s b holds k m running pending logon there runs turn reply kept =
     (IsOut (past_at plan s b) k pending logon (standing_channel (controller_of k s) running.logons.channel)) b.messages
     (λ message is. out_of (past_at plan s b) k pending logon (standing_channel (controller_of k s) running.logons.channel) message is) (out pending logon turn reply kept)
 
-rests_on : (plan : Plan) (n : ℕ) (s : State) (given : Given) (b : Book) → Known plan n s given b → WhileFew most_steps (TurnsRestOn plan) n s given b
+-- so much holds where that is known
+pub rests_on : (plan : Plan) (n : ℕ) (s : State) (given : Given) (b : Book) → Known plan n s given b → WhileFew most_steps (TurnsRestOn plan) n s given b
 rests_on plan n s given b known few =
     let holds : CallsHold n s.member_plans s.ends s.chances.drawn s.links b.sent b.messages = known.0.1 few (drawn_differ plan s known.1) in
     record {
@@ -135,17 +138,31 @@ rests_on plan n s given b known few =
 
 -- ---- a run
 
+-- what answers rest on, with what holds of them while few steps were taken
+abbrev pub TurnSide : Plan → RunFact
+TurnSide plan = BothFacts (Known plan) (WhileFew most_steps (TurnsHold plan))
+
+-- nothing is asked of actions for the latter
+abbrev pub TurnAction : ActionFact
+TurnAction = BothFine KnownAction AnyAction
+
+pub side_keeps : LetsInTheGranted → CallLaws → (plan : Plan) → Keeps NoFact (TurnSide plan) TurnAction
+side_keeps law laws plan =
+    join (Known plan) (WhileFew most_steps (TurnsHold plan)) KnownAction AnyAction (known_keep laws plan)
+    (with_side (WhileFew most_steps (TurnsRestOn plan)) (Known plan) (WhileFew most_steps (TurnsHold plan)) AnyAction (rests_on plan)
+    (while_few most_steps (TurnsRestOn plan) (TurnsHold plan) (turns_keep law plan)))
+
+-- at first
+pub side_first : (plan : Plan) (moves : List Move) → IsSchedule plan moves → TurnSide plan 0 (first_world plan).state [] blank
+side_first plan moves schedule = (
+  ((quiet_first plan schedule.forms, first_calls plan), ap (λ (drawn : List (List ℕ)). drawn ++ given_all plan) (challenges_from-none plan.seed 0 0)),
+  λ few. turns_begin plan,
+)
+
 pub turns_run : LetsInTheGranted → RequestersKeepCallsApart → CallsStayApart ℕ → ChannelStepsKnown → (plan : Plan) (moves : List Move) → IsSchedule plan moves →
     AreShortUnits (past plan moves).world.state.bag → HaveBytes (past plan moves).world.state.bag → TurnsAreHeard (past plan moves)
 turns_run law requesters events steps plan moves schedule short bytes =
     let laws : CallLaws = record { keep = requesters; events = events; steps = steps } in
-    let Turns : RunFact = WhileFew most_steps (TurnsHold plan) in
-    let both : Keeps NoFact (BothFacts (Known plan) Turns) (BothFine KnownAction AnyAction) =
-    join (Known plan) Turns KnownAction AnyAction (known_keep laws plan)
-    (with_side (WhileFew most_steps (TurnsRestOn plan)) (Known plan) Turns AnyAction (rests_on plan) (while_few most_steps (TurnsRestOn plan) (TurnsHold plan) (turns_keep law plan))) in
-    let after : HoldsAfterRun (BothFacts (Known plan) Turns) plan moves =
-    run_keeps (BothFacts (Known plan) Turns) (BothFine KnownAction AnyAction) both plan moves (has_bytes plan moves schedule short bytes) (
-      ((quiet_first plan schedule.forms, first_calls plan), ap (λ (drawn : List (List ℕ)). drawn ++ given_all plan) (challenges_from-none plan.seed 0 0)),
-      λ few. turns_begin plan,
-    ) in
+    let after : HoldsAfterRun (TurnSide plan) plan moves =
+    run_keeps (TurnSide plan) TurnAction (side_keeps law laws plan) plan moves (has_bytes plan moves schedule short bytes) (side_first plan moves schedule) in
     turns_of after.steps plan moves (after.holds.1 (omega (arith, after.few, schedule.few)))

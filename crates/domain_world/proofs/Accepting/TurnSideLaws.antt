@@ -126,7 +126,7 @@ none_if_taken (Err why) = refl
 
 -- ---- what the notes of a turn leave
 
-turns_links : (controller : ℕ) (units : List (ServedUnit AtTurn TurnTalk)) (carried : Option ℕ) (numbers : List ℕ) (b : Book) →
+pub turns_links : (controller : ℕ) (units : List (ServedUnit AtTurn TurnTalk)) (carried : Option ℕ) (numbers : List ℕ) (b : Book) →
     links_in (note_turns controller units carried numbers b).messages ≡ links_in b.messages
 turns_links controller [] carried numbers b = refl
 turns_links controller (served ∷ units) carried numbers b =
@@ -136,7 +136,7 @@ turns_links controller (served ∷ units) carried numbers b =
     ∙ change_same (link_of_place note.answered served.work.work.logons) (with_answer carried) (λ one. refl) first
     ∙ change_same (link_of_place note.called served.work.work.logons) (with_call (first_of numbers)) (λ one. refl) b.messages
 
-turns_clash : (controller : ℕ) (units : List (ServedUnit AtTurn TurnTalk)) (carried : Option ℕ) (numbers : List ℕ) (b : Book) → (note_turns controller units carried numbers b).clash ≡ false → b.clash ≡ false
+pub turns_clash : (controller : ℕ) (units : List (ServedUnit AtTurn TurnTalk)) (carried : Option ℕ) (numbers : List ℕ) (b : Book) → (note_turns controller units carried numbers b).clash ≡ false → b.clash ≡ false
 turns_clash controller [] carried numbers b none = none
 turns_clash controller (served ∷ units) carried numbers b none =
     let note = turn_note controller served in
@@ -149,53 +149,53 @@ part_cases (Err why) = inr (why, refl)
 -- ---- bytes come at a member
 
 module _ (law : LetsInTheGranted) (plan : Plan) (k : ℕ) (w : Coming) (piece : List ℕ) (s after : State) (given : Given) (b : Book) where
-  abbrev what : Event
+  abbrev pub what : Event
   what = event.Bytes w.link piece
 
-  abbrev member : Option Running → MemberState
+  abbrev pub member : Option Running → MemberState
   member r = record { running = r }
 
-  abbrev stepped : Option Running → Stepped MemberState
+  abbrev pub stepped : Option Running → Stepped MemberState
   stepped r = step_of (member r) what s.moment s.chances.left
 
-  abbrev heard : Option Running → Heard
+  abbrev pub heard : Option Running → Heard
   heard r = heard_by (member_step (Some (member r)) k what s.moment s.ends s.chances) s
 
-  abbrev new_in : Option Running → List MessageTaken
+  abbrev pub new_in : Option Running → List MessageTaken
   new_in r = flat_map (message_note (at_member k w s)) (link_units (member r) w.link piece s.moment s.chances.left)
 
-  abbrev messages_in : Option Running → List MessageTaken
+  abbrev pub messages_in : Option Running → List MessageTaken
   messages_in r = b.messages ++ new_in r
 
-  abbrev first_book : Option Running → Book
+  abbrev pub first_book : Option Running → Book
   first_book r = note_messages k (member r) w piece s b
 
-  abbrev units_of : Option Running → List (ServedUnit AtTurn TurnTalk)
+  abbrev pub units_of : Option Running → List (ServedUnit AtTurn TurnTalk)
   units_of r = turn_units (member r) w.link piece s.moment s.chances.left
 
-  abbrev numbers : List ℕ
+  abbrev pub numbers : List ℕ
   numbers = numbers_on w.link false s.bag after.bag
 
-  abbrev turn_book : Option Running → Book
+  abbrev pub turn_book : Option Running → Book
   turn_book r = note_turns (controller_of k s) (units_of r) w.unit numbers (first_book r)
 
-  abbrev book_after : Option Running → Book
+  abbrev pub book_after : Option Running → Book
   book_after r = note_member (Some (member r)) k w piece s after b
 
-  abbrev more_told : Option Running → List OutcomeTold
+  abbrev pub more_told : Option Running → List OutcomeTold
   more_told r = told_in (given_by (Member k) (actions_by (stepped r).answer)) 0
 
   -- what is written down stays
-  sent_stays : (r : Option Running) (n : ℕ) (one : Sent) → slice_get b.sent n ≡ Some one → slice_get (book_after r).sent n ≡ Some one
+  pub sent_stays : (r : Option Running) (n : ℕ) (one : Sent) → slice_get b.sent n ≡ Some one → slice_get (book_after r).sent n ≡ Some one
   sent_stays r n one there =
       got_append (turn_book r).sent _ n one
       (subst (λ (units : List Sent). slice_get units n ≡ Some one) (sym (turns_sent (controller_of k s) (units_of r) w.unit numbers (first_book r))) there)
 
-  ends_same : (r : Option Running) → SameEnds s.ends (heard r).state.ends
+  pub ends_same : (r : Option Running) → SameEnds s.ends (heard r).state.ends
   ends_same r = members_same (Some (member r)) k what s.moment s.ends s.chances
 
   -- with the messages that are taken then
-  first_facts : (r : Option Running) (told : List OutcomeTold) → slice_get s.ends.members k ≡ Some (member r) → LinksIn (λ (number : ℕ) (p : Phase). IsAcceptedBy s.links k number) r →
+  pub first_facts : (r : Option Running) (told : List OutcomeTold) → slice_get s.ends.members k ≡ Some (member r) → LinksIn (λ (number : ℕ) (p : Phase). IsAcceptedBy s.links k number) r →
       TurnFacts plan s b b.messages told → TurnFacts plan (heard r).state (book_after r) (messages_in r) told
   first_facts r told there accepts facts =
       let t : State = (heard r).state in
@@ -256,10 +256,11 @@ module _ (law : LetsInTheGranted) (plan : Plan) (k : ℕ) (w : Coming) (piece : 
   -- ---- the link of the turn
 
   module _ (side : TurnSide plan s b) (running : Running) (said : LinkState TurnTalk) (there : slice_get s.ends.members k ≡ Some (member (Some running))) (on : running.dialling ≡ dialling.On w.link said) where
-    abbrev run : Option Running
+    abbrev pub run : Option Running
     run = Some running
 
-    dialled_on : IsDialledBy s.links k w.link
+    -- the member dialled it
+    pub dialled_on : IsDialledBy s.links k w.link
     dialled_on = subst (λ (how : Dialling). IfDialled (λ (number : ℕ). IsDialledBy s.links k number) how) on (side.dialled k (member run) there).1
 
     quiet_on : IsQuietTurn (dialling.On w.link said)
@@ -271,12 +272,14 @@ module _ (law : LetsInTheGranted) (plan : Plan) (k : ℕ) (w : Coming) (piece : 
         let both : Some (Controller dialled_on.controller) ≡ Some (Member k) = sym (ap (λ (r : Route). side_of false r) is) ∙ at in
         absurd (let x = both in cc)
 
-    is_back : IsAtSide s.links w.link w.back (Member k) → w.back ≡ true
+    -- it comes back
+    pub is_back : IsAtSide s.links w.link w.back (Member k) → w.back ≡ true
     is_back at = back_by w.back at.route (some_is at.route (ToController k dialled_on.controller) (sym at.made ∙ dialled_on.at)) at.side
 
     module _ (u : ℕ) (piece_of : IsPieceOf s u w piece) (back : w.back ≡ true) (facts : TurnFacts plan s b b.messages (told_yet given b)) (carried : w.unit ≡ Some u)
         (unclashed : (book_after run).clash ≡ false) (apart : AreApart (links_in (messages_in run))) (plans : s.member_plans ≡ plan.members) (marks : MarksAreKnown (heard run).state (book_after run)) where
-      whole : IsWholeUnit piece_of.unit.bytes × (length piece_of.unit.bytes ≤ 65536)
+      -- the unit
+      pub whole : IsWholeUnit piece_of.unit.bytes × (length piece_of.unit.bytes ≤ 65536)
       whole =
           side.quiet.bag u piece_of.unit piece_of.there
           (sym piece_of.same_kind ∙ ap kind_of (some_is piece_of.route (ToController k dialled_on.controller) (sym piece_of.made ∙ dialled_on.at)))
@@ -284,7 +287,8 @@ module _ (law : LetsInTheGranted) (plan : Plan) (k : ℕ) (w : Coming) (piece : 
       same_bytes : piece_of.unit.bytes ≡ piece
       same_bytes = one_piece piece_of.unit.bytes piece whole.1 piece_of.part
 
-      hears : HearsWhole running w.link piece whole.0.unit
+      -- so it is heard
+      pub hears : HearsWhole running w.link piece whole.0.unit
       hears = record {
         said = said;
         frames = whole.0.frames;
@@ -294,10 +298,10 @@ module _ (law : LetsInTheGranted) (plan : Plan) (k : ℕ) (w : Coming) (piece : 
         heard = subst (λ (bytes : List ℕ). IsHeard bytes whole.0.frames whole.0.unit) same_bytes whole.0.heard;
       }
 
-      before : TurnFacts plan (heard run).state (book_after run) (messages_in run) (told_yet given b)
+      pub before : TurnFacts plan (heard run).state (book_after run) (messages_in run) (told_yet given b)
       before = first_facts run (told_yet given b) there (side.accepts k (member run) there) facts
 
-      abbrev part_of : Result (Part Desk) StepRefused
+      abbrev pub part_of : Result (Part Desk) StepRefused
       part_of = event_part running what s.moment s.chances.left
 
       abbrev answer_to : Result (Part Desk) StepRefused → Result (List Action) StepRefused
@@ -317,7 +321,8 @@ module _ (law : LetsInTheGranted) (plan : Plan) (k : ℕ) (w : Coming) (piece : 
           (sym (ap (λ (part : Result (Part Desk) StepRefused). units_if_taken (answer_to part) (turn_units_in run w.link piece s.chances.left)) is))
           (turn_noted (controller_of k s) running w.link piece whole.0.unit s.chances.left w.unit numbers (first_book run) hears)
 
-      comes : (part : Part Desk) → part_of ≡ Ok part →
+      -- all that is known as a whole unit comes
+      pub comes : (part : Part Desk) → part_of ≡ Ok part →
           ComesWhole plan k w.link u s (heard run).state b (book_after run) (messages_in run) running piece whole.0.unit (controller_of k s) s.moment s.chances.left part
       comes part is = record {
         hears = hears;

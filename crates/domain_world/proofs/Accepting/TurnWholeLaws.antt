@@ -185,7 +185,7 @@ module _ (plan : Plan) (k number u : ℕ) (s t : State) (b d : Book) (messages :
   note = taking_note (Some (take_of c unit)) controller c
 
   -- the messages on the link of a logon that is kept are free
-  own_all : (place : ℕ) (logon : Logon) → lookup same_number place running.logons.asked ≡ Some logon →
+  pub own_all : (place : ℕ) (logon : Logon) → lookup same_number place running.logons.asked ≡ Some logon →
       AllByRecursion (λ (message : MessageTaken). message.link ≡ logon.link → IsFree k place logon message) messages
   own_all place logon kept =
       one_is_all logon.link (IsFree k place logon) (λ message is. is.link) messages comes.apart (each_found (HasFree k messages) place running.logons.asked logon kept comes.free)
@@ -225,7 +225,7 @@ module _ (plan : Plan) (k number u : ℕ) (s t : State) (b d : Book) (messages :
 
   module _ (place : ℕ) (v : Verdict) (answers : (take_of c unit).taken ≡ taken.Answer place v) (channel : Channel) (stands : standing_channel controller c ≡ Some channel)
       (is_note : note ≡ passed_note channel (Some place)) where
-    abbrev its : IsAnswerOf c unit place v
+    abbrev pub its : IsAnswerOf c unit place v
     its = answer_is c unit place v answers
 
     named : channel_of controller c.caller.computer its.stood ≡ channel
@@ -246,7 +246,7 @@ module _ (plan : Plan) (k number u : ℕ) (s t : State) (b d : Book) (messages :
         ((let x = both in cc), (let x = both in cc))
 
     module _ (logon : Logon) (kept : lookup same_number place running.logons.asked ≡ Some logon) where
-      abbrev IsOutThere : MessageTaken → Type 0
+      abbrev pub IsOutThere : MessageTaken → Type 0
       IsOutThere message = IsOut (past_at plan s b) k its.pending logon (standing_channel controller c) message
 
       out_all : AllByRecursion (λ (message : MessageTaken). message.link ≡ logon.link → IsOutThere message) messages
@@ -254,7 +254,8 @@ module _ (plan : Plan) (k number u : ℕ) (s t : State) (b d : Book) (messages :
           one_is_all logon.link IsOutThere (λ message is. is.link) messages comes.apart
           (comes.out its.pending logon its.turn its.asked (subst (λ (n : ℕ). lookup same_number n running.logons.asked ≡ Some logon) its.same_place kept))
 
-      taken_there : (message : MessageTaken) → IsFree k place logon message → IsOutThere message → IsTakenInTurn (past_at plan t d) (with_answer (Some u) message) u
+      -- the answer of the message is taken in its turn
+      pub taken_there : (message : MessageTaken) → IsFree k place logon message → IsOutThere message → IsTakenInTurn (past_at plan t d) (with_answer (Some u) message) u
       taken_there message mine out =
           let one : out.channel ≡ channel = some_is out.channel channel (sym out.stands ∙ stands) in
           record {

@@ -34,7 +34,7 @@ calls_numbered past r marks apart n m number timestamp later c d one other there
     (ap (λ (all : List Mark). slice_get all m) marks ∙ got_mapped (λ (s : Sent). s.mark) past.book.sent m other also ∙ ap Some mark_too)
     same
 
-heard_in : (plan : Plan) (moves : List Move) → UnitsAreHeard (past plan moves) → DrawsDiffer (past plan moves).world → AnswersAreHeard (past plan moves)
+pub heard_in : (plan : Plan) (moves : List Move) → UnitsAreHeard (past plan moves) → DrawsDiffer (past plan moves).world → AnswersAreHeard (past plan moves)
 heard_in plan moves heard differ =
     let its : Past = past plan moves in
     record {

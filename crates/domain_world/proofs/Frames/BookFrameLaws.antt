@@ -18,8 +18,7 @@ use Rattle.world_moves.specs.World.{World, given_at, happens}
 use Rattle.domain_world.specs.Past.{Coming, book, note, note_at, note_chosen, note_coming, note_deliver, note_given, note_hand, note_on, note_onward, note_own, note_pieces, note_unit}
 
 module _ (Holds : Book → Type 0)
-    (bytes : (end : EndId) (w : Coming) (piece : List ℕ) (s after : State) (b : Book) → Holds b → Holds (note_at (Some end) w piece s after b))
-    (gives : (at : ℕ) (given : Given) (after : State) (b : Book) → Holds b → Holds (note_given at given after b)) where
+    (bytes : (end : EndId) (w : Coming) (piece : List ℕ) (s after : State) (b : Book) → Holds b → Holds (note_at (Some end) w piece s after b)) where
   end_holds : (end : Option EndId) (w : Coming) (piece : List ℕ) (s after : State) (b : Book) → Holds b → Holds (note_at end w piece s after b)
   end_holds None w piece s after b holds = holds
   end_holds (Some end) w piece s after b holds = bytes end w piece s after b holds
@@ -60,7 +59,7 @@ module _ (Holds : Book → Type 0)
   hand_holds None back piece at s b holds = holds
   hand_holds (Some link) back piece at s b holds = pieces_hold (record { at = at; unit = None; link = link; back = back }) (piece ∷ []) s b holds
 
-  coming_holds : (what : Move) (at : ℕ) (s : State) (b : Book) → Holds b → Holds (note_coming what at s b)
+  pub coming_holds : (what : Move) (at : ℕ) (s : State) (b : Book) → Holds b → Holds (note_coming what at s b)
   coming_holds move.Onward at s b holds = onward_holds (first_waiting s.bag) at s b holds
   coming_holds (move.Deliver unit link) at s b holds = deliver_holds (chosen_place unit (length s.bag)) link at s b holds
   coming_holds (move.Hand link back piece) at s b holds = hand_holds (chosen_in link (handed_links s.links)) back piece at s b holds
@@ -73,8 +72,11 @@ module _ (Holds : Book → Type 0)
   coming_holds (move.Restart number) at s b holds = holds
   coming_holds (move.Tick more) at s b holds = holds
 
+module _ (Holds : Book → Type 0)
+    (bytes : (end : EndId) (w : Coming) (piece : List ℕ) (s after : State) (b : Book) → Holds b → Holds (note_at (Some end) w piece s after b))
+    (gives : (at : ℕ) (given : Given) (after : State) (b : Book) → Holds b → Holds (note_given at given after b)) where
   pub book_holds : (moves : List Move) (w : World) (b : Book) → Holds b → Holds (book moves w b)
   book_holds [] w b holds = holds
   book_holds (what ∷ moves) w b holds =
       book_holds moves (happens w what) (note w what b)
-      (gives w.moves (given_at w what) (happens w what).state (note_coming what w.moves w.state b) (coming_holds what w.moves w.state b holds))
+      (gives w.moves (given_at w what) (happens w what).state (note_coming what w.moves w.state b) (coming_holds Holds bytes what w.moves w.state b holds))

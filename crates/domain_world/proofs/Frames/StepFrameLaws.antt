@@ -74,8 +74,9 @@ pub record HasHeard (Holds : RunFact) (Fine : ActionFact) (n : ℕ) (end : EndId
   pub fine : AllByRecursion (Fine end heard.state.links) heard.actions
 
 -- It holds on where an end takes a step, where an action is done, and where one thing changes beside that. It may rest
--- on a side fact, of which the same is shown apart (`join` puts the two together).
-pub record Keeps (Side Holds : RunFact) (Fine : ActionFact) : Type 0 where
+-- on a side fact, of which the same is shown apart (`join` puts the two together). The argument Over: what is known of
+-- the end of a move.
+pub record KeepsWith (Over : Type 0) (Side Holds : RunFact) (Fine : ActionFact) : Type 0 where
   -- an end takes a step
   pub calm : (n : ℕ) (end : EndId) (what : Event) (s : State) (given : Given) (b : Book) → IsCalm what → Side n s given b → Holds n s given b →
       HasHeard Holds Fine (n + 1) end (hear end what s) given b
@@ -101,8 +102,16 @@ pub record Keeps (Side Holds : RunFact) (Fine : ActionFact) : Type 0 where
   pub dials : (n : ℕ) (s : State) (given : Given) (b : Book) → Side n s given b → Holds n s given b → Holds n (without_first s) given b
   pub renews : (n : ℕ) (end : EndId) (s : State) (given : Given) (b : Book) → Side n s given b → Holds n s given b → Holds n (renewed end s) given b
   pub ticks : (n more : ℕ) (s : State) (given : Given) (b : Book) → Side n s given b → Holds n s given b → Holds n (tick more s) given b
-  -- the move is over: what ends gave is written down
-  pub over : (n at : ℕ) (s : State) (given : Given) (b : Book) → Side n s given b → Holds n s given b → Holds n s [] (note_given at given s b)
+  -- the move is over
+  pub over : Over
+
+-- what ends gave is written down
+abbrev pub KeepsOver : RunFact → RunFact → Type 0
+KeepsOver Side Holds = (n at : ℕ) (s : State) (given : Given) (b : Book) → Side n s given b → Holds n s given b → Holds n s [] (note_given at given s b)
+
+-- and it holds on where a move is over
+abbrev pub Keeps : RunFact → RunFact → ActionFact → Type 0
+Keeps Side Holds Fine = KeepsWith (KeepsOver Side Holds) Side Holds Fine
 
 -- ---- two facts together
 
@@ -127,8 +136,9 @@ module _ (A B : RunFact) (F G : ActionFact) where
     fine = all_both (F end heard.state.links) (G end heard.state.links) heard.actions one.fine other.fine;
   }
 
-  pub join : Keeps NoFact A F → Keeps A B G → Keeps NoFact (BothFacts A B) (BothFine F G)
-  join one other = record {
+  -- whatever is known of the end of a move
+  pub join_with : {One Other Over : Type 0} → KeepsWith One NoFact A F → KeepsWith Other A B G → Over → KeepsWith Over NoFact (BothFacts A B) (BothFine F G)
+  join_with one other ends = record {
     calm = λ n end what s given b quiet none holds.
         both_heard (n + 1) end (hear end what s) given b (one.calm n end what s given b quiet tt holds.0) (other.calm n end what s given b quiet holds.0 holds.1);
     dialled = λ n end link s given b side none holds.
@@ -149,8 +159,12 @@ module _ (A B : RunFact) (F G : ActionFact) where
     dials = λ n s given b none holds. (one.dials n s given b tt holds.0, other.dials n s given b holds.0 holds.1);
     renews = λ n end s given b none holds. (one.renews n end s given b tt holds.0, other.renews n end s given b holds.0 holds.1);
     ticks = λ n more s given b none holds. (one.ticks n more s given b tt holds.0, other.ticks n more s given b holds.0 holds.1);
-    over = λ n at s given b none holds. (one.over n at s given b tt holds.0, other.over n at s given b holds.0 holds.1);
+    over = ends;
   }
+
+  pub join : Keeps NoFact A F → Keeps A B G → Keeps NoFact (BothFacts A B) (BothFine F G)
+  join one other =
+      join_with one other (λ n at s given b none holds. (one.over n at s given b tt holds.0, other.over n at s given b holds.0 holds.1))
 
 -- A fact that rests on a side fact rests on whatever gives it.
 pub with_side : (Side More Holds : RunFact) (Fine : ActionFact) → ((n : ℕ) (s : State) (given : Given) (b : Book) → More n s given b → Side n s given b) → Keeps Side Holds Fine →
@@ -289,7 +303,7 @@ Plainly w s b = Goes no_part no_side no_more_of w s b
 abbrev pub PlainlyBegins : State → Book → Type 0
 PlainlyBegins s b = Begins no_part no_side no_more_of s b
 
-module _ (Holds : RunFact) (Fine : ActionFact) (keeps : Keeps NoFact Holds Fine) where
+module _ {Over : Type 0} (Holds : RunFact) (Fine : ActionFact) (keeps : KeepsWith Over NoFact Holds Fine) where
   -- it holds after a part of a move, at which no more steps were taken than are allowed; a link that is open allows two
   pub record After (most : ℕ) (acted : Acted) (given : Given) (b : Book) : Type 0 where
     pub steps : ℕ
@@ -665,20 +679,24 @@ module _ (Holds : RunFact) (Fine : ActionFact) (keeps : Keeps NoFact Holds Fine)
     holds : Holds steps (run moves w).state [] (book moves w b)
     few : ShortBag (run moves w).state.bag → steps + 2 * length (run moves w).state.open_links ≤ n + 2 * length w.state.open_links + 10 * length moves
 
-  run_part : (moves : List Move) (n : ℕ) (w : World) (b : Book) → AllByRecursion HandsBytes moves → BytesIn (run moves w).state.bag → HaveKinds w.state.links [] w.state.bag →
-      PlainlyBegins w.state b → Holds n w.state [] b → Ran n moves w b
-  run_part [] n w b forms bytes kinds plainly holds = record { steps = n; holds = holds; few = λ short. omega arith }
-  run_part (what ∷ moves) n w b forms bytes kinds plainly holds =
-      let moved : Moved n w.state (act w.state what) (note_coming what w.moves w.state b) =
-      act_part what w.moves n w.state b kinds (bytes_before w.state.bag (run (what ∷ moves) w).state.bag (run_still (what ∷ moves) w) bytes) forms.0 plainly holds in
-      let later : Ran moved.steps moves (happens w what) (note w what b) =
-      run_part moves moved.steps (happens w what) (note w what b) forms.1 bytes moved.kinds (note_begins no_part no_side no_more_of nothing_written nothing_marked w what b plainly)
-      (keeps.over moved.steps w.moves (act w.state what).state (act w.state what).given (note_coming what w.moves w.state b) tt moved.holds) in
-      record {
-        steps = later.steps;
-        holds = later.holds;
-        few = λ short. omega (arith, later.few short, moved.few (short_before (act w.state what).state.bag (run moves (happens w what)).state.bag (run_still moves (happens w what)) short));
-      }
+  -- something else is known after each move, with which it holds on where a move is over
+  module _ (Also : State → Book → Type 0) (also : (w : World) (what : Move) (b : Book) → Also w.state b → Also (happens w what).state (note w what b))
+      (over : (n : ℕ) (w : World) (what : Move) (b : Book) → Also w.state b → Holds n (act w.state what).state (act w.state what).given (note_coming what w.moves w.state b) →
+      Holds n (act w.state what).state [] (note w what b)) where
+    run_part : (moves : List Move) (n : ℕ) (w : World) (b : Book) → AllByRecursion HandsBytes moves → BytesIn (run moves w).state.bag → HaveKinds w.state.links [] w.state.bag →
+        PlainlyBegins w.state b → Also w.state b → Holds n w.state [] b → Ran n moves w b
+    run_part [] n w b forms bytes kinds plainly more holds = record { steps = n; holds = holds; few = λ short. omega arith }
+    run_part (what ∷ moves) n w b forms bytes kinds plainly more holds =
+        let moved : Moved n w.state (act w.state what) (note_coming what w.moves w.state b) =
+        act_part what w.moves n w.state b kinds (bytes_before w.state.bag (run (what ∷ moves) w).state.bag (run_still (what ∷ moves) w) bytes) forms.0 plainly holds in
+        let later : Ran moved.steps moves (happens w what) (note w what b) =
+        run_part moves moved.steps (happens w what) (note w what b) forms.1 bytes moved.kinds (note_begins no_part no_side no_more_of nothing_written nothing_marked w what b plainly)
+        (also w what b more) (over moved.steps w what b more moved.holds) in
+        record {
+          steps = later.steps;
+          holds = later.holds;
+          few = λ short. omega (arith, later.few short, moved.few (short_before (act w.state what).state.bag (run moves (happens w what)).state.bag (run_still moves (happens w what)) short));
+        }
 
 -- It holds after a run from a plan, at which ten steps of ends a move were taken at most.
 pub record HoldsAfterRun (Holds : RunFact) (plan : Plan) (moves : List Move) : Type 0 where
@@ -698,17 +716,28 @@ bytes_in (first ∷ bag) have zero unit there =
     let here : first ≡ unit = cc in subst (λ (u : BagUnit). AreBytes u.bytes) here (All-head (λ (u : BagUnit). AreBytes u.bytes) first bag have)
 bytes_in (first ∷ bag) have (suc number) unit there = bytes_in bag (All-tail (λ (u : BagUnit). AreBytes u.bytes) first bag have) number unit there
 
-pub run_keeps : (Holds : RunFact) (Fine : ActionFact) → Keeps NoFact Holds Fine → (plan : Plan) (moves : List Move) → HasBytes plan moves →
-    Holds 0 (first_world plan).state [] blank → HoldsAfterRun Holds plan moves
-run_keeps Holds Fine keeps plan moves has holds =
+-- where something else is known after each move, with which it holds on where a move is over
+pub run_beside : {Over : Type 0} → (Holds : RunFact) (Fine : ActionFact) → KeepsWith Over NoFact Holds Fine → (Also : State → Book → Type 0) →
+    ((w : World) (what : Move) (b : Book) → Also w.state b → Also (happens w what).state (note w what b)) →
+    ((n : ℕ) (w : World) (what : Move) (b : Book) → Also w.state b → Holds n (act w.state what).state (act w.state what).given (note_coming what w.moves w.state b) →
+    Holds n (act w.state what).state [] (note w what b)) →
+    (plan : Plan) (moves : List Move) → HasBytes plan moves → Also (first_world plan).state blank → Holds 0 (first_world plan).state [] blank → HoldsAfterRun Holds plan moves
+run_beside Holds Fine keeps Also also over plan moves has more holds =
     let ran : Ran Holds Fine keeps 0 moves (first_world plan) blank =
-    run_part Holds Fine keeps moves 0 (first_world plan) blank has.handed (bytes_in (past plan moves).world.state.bag has.bytes) (λ k unit there. absurd (got_nothing k unit there)) (record {
+    run_part Holds Fine keeps Also also over moves 0 (first_world plan) blank has.handed (bytes_in (past plan moves).world.state.bag has.bytes)
+    (λ k unit there. absurd (got_nothing k unit there)) (record {
       side = tt;
       made = tt;
       marked = record { each = λ number one there. absurd (got_nothing number one there); all = refl };
-    }) holds in
+    }) more holds in
     record {
       steps = ran.steps;
       holds = ran.holds;
       few = omega (arith, ran.few (λ k unit there. unit_short (past plan moves).world.state.bag k unit has.short there));
     }
+
+pub run_keeps : (Holds : RunFact) (Fine : ActionFact) → Keeps NoFact Holds Fine → (plan : Plan) (moves : List Move) → HasBytes plan moves →
+    Holds 0 (first_world plan).state [] blank → HoldsAfterRun Holds plan moves
+run_keeps Holds Fine keeps plan moves has holds =
+    run_beside Holds Fine keeps (λ s b. Unit {0}) (λ w what b more. tt)
+    (λ n w what b more before. keeps.over n w.moves (act w.state what).state (act w.state what).given (note_coming what w.moves w.state b) tt before) plan moves has tt holds

@@ -163,9 +163,13 @@ first_follows plan =
       each = λ at c there. fresh_controllers plan.tables plan.controllers [] left at at c there;
     }
 
+-- after every run what each controller keeps of computers follows what was judged
+pub seeds_kept : (plan : Plan) (moves : List Move) → HoldsIn (Follows (past plan moves).book.judged) (past plan moves).world.state
+seeds_kept plan moves = run_stays (λ (b : Book). b.judged) Follows follows_written moves (first_world plan) blank (first_follows plan)
+
 -- in every run each call that was judged met its channel's seed moved so
 seeds_follow : (plan : Plan) (moves : List Move) → AreMoved (past plan moves).book.judged
-seeds_follow plan moves = (run_stays (λ (b : Book). b.judged) Follows follows_written moves (first_world plan) blank (first_follows plan)).order.moved
+seeds_follow plan moves = (seeds_kept plan moves).order.moved
 
 -- ---- the claim
 
@@ -197,7 +201,7 @@ on_by (Some other) j channel is same =
       same = subst (λ (c : Channel). SameChannel c channel) (sym found.is) (one_channel other channel same);
     }
 
-on_if : (passed : Bool) (j : Judging) (channel : Channel) → is_channel (channel_if passed j) channel ≡ true → (passed ≡ true) × IsOn j channel
+pub on_if : (passed : Bool) (j : Judging) (channel : Channel) → is_channel (channel_if passed j) channel ≡ true → (passed ≡ true) × IsOn j channel
 on_if false j channel same = absurd cc
 on_if true j channel same = (refl, on_by (channel_in j.controller j.logon.computer j.computers) j channel refl same)
 

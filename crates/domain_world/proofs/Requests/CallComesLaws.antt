@@ -46,12 +46,12 @@ use Rattle.domain_world.proofs.Accepting.LetInStepLaws.{IsAcceptedBy, IsDialledB
 use Rattle.domain_world.proofs.Frames.MarkPlaceLaws.{unit_on}
 use Rattle.domain_world.proofs.Requests.CallHoldsLaws.{CallsHold, differ_front, marks_append, marks_in, marks_sent, member_changed, sent_more, views_at}
 use Rattle.domain_world.proofs.Requests.CallStepLaws.{CallLaws, KeptSo, client_hears, coherent_if, controller_hears}
-use Rattle.domain_world.proofs.Requests.LooserLaws.{NoCalls}
+use Rattle.domain_world.proofs.Requests.LooserLaws.{IsPlaced, NoCalls}
 use Rattle.domain_world.proofs.Requests.MarkWayLaws.{answers_way}
 use Rattle.domain_world.proofs.Requests.NewMessageLaws.{all_join, new_accepted}
 use Rattle.domain_world.proofs.Requests.OutStepLaws.{IsOf, IsOther, IsOutIn, MemberHolds, StaysKnown, heard_not, other_holds}
 use Rattle.domain_world.proofs.Requests.StepApartLaws.{HearsNone, other_apart, requests_after, whole_apart}
-use Rattle.domain_world.proofs.Requests.WholeNotedLaws.{IsFirstNew, SendsFirst, no_calls_marked, none_marked, note_for, placed_part, sent_as, sent_first, sent_marks, turns_sent, whole_first, whole_messages, whole_units}
+use Rattle.domain_world.proofs.Requests.WholeNotedLaws.{IsFirstNew, SendsFirst, no_calls_marked, none_marked, note_for, placed_first, placed_part, sent_as, sent_first, sent_marks, turns_sent, whole_first, whole_messages, whole_units}
 use Rattle.domain_world.proofs.Requests.WholeOutLaws.{AreAccepted, IsSentAs, noted, noted_accepted, others_known, out_more, whole_holds}
 
 -- what is kept, of a state and the book
@@ -64,14 +64,14 @@ KeptAfter n s step b = KeptSo n s.member_plans step.ends step.chances.drawn s.li
 
 -- ---- at a controller
 
-reply_no_call : (mark : Mark) → IsItsWay true mark → IsNoCall mark
+pub reply_no_call : (mark : Mark) → IsItsWay true mark → IsNoCall mark
 reply_no_call Plain way = tt
 reply_no_call (Opening c number) way = tt
 reply_no_call (Opened c number request) way = tt
 reply_no_call (ReplyTo c number request) way = tt
 reply_no_call (Calling c number timestamp) way = let x = way in cc
 
-no_calls_sent : (at : ℕ) (marks : List Mark) → NoCalls marks → NoCalls (marks_in (map (sent_at at) marks))
+pub no_calls_sent : (at : ℕ) (marks : List Mark) → NoCalls marks → NoCalls (marks_in (map (sent_at at) marks))
 no_calls_sent at marks none = subst (λ (all : List Mark). NoCalls all) (sym (marks_sent at marks)) none
 
 -- none of what a controller sends is a call
@@ -109,15 +109,18 @@ units_on_none dialling.Nothing number piece running left is = refl
 units_on_none (dialling.Waits turn frames) number piece running left is = refl
 units_on_none (dialling.On other said) number piece running left is = units_by_none (other == number) said number piece running left is
 
-units_in_none : (r : Option Running) (number : ℕ) (piece : List ℕ) (left : List (List ℕ)) → IsOther r number → turn_units_in r number piece left ≡ []
+-- no unit of the turn
+pub units_in_none : (r : Option Running) (number : ℕ) (piece : List ℕ) (left : List (List ℕ)) → IsOther r number → turn_units_in r number piece left ≡ []
 units_in_none None number piece left other = refl
 units_in_none (Some running) number piece left other = units_on_none running.dialling number piece running left other
 
-if_none : (answer : Result (List Action) StepRefused) → units_if_taken {U = ServedUnit AtTurn TurnTalk} answer [] ≡ []
+-- nor where the step is taken
+pub if_none : (answer : Result (List Action) StepRefused) → units_if_taken {U = ServedUnit AtTurn TurnTalk} answer [] ≡ []
 if_none (Ok actions) = refl
 if_none (Err why) = refl
 
-other_none : (r : Option Running) (number : ℕ) (piece : List ℕ) → IsOther r number → HearsNone r (event.Bytes number piece)
+-- none is heard
+pub other_none : (r : Option Running) (number : ℕ) (piece : List ℕ) → IsOther r number → HearsNone r (event.Bytes number piece)
 other_none None number piece other = tt
 other_none (Some running) number piece other = heard_not running.dialling number piece other
 
@@ -247,7 +250,8 @@ module _ (laws : CallLaws) (n at : ℕ) (w : Coming) (piece : List ℕ) (s after
     noted_by (Err why) = all_messages
     noted_by (Ok part) = noted note running.logons w.unit (first_of numbers) all_messages
 
-    units_whole : TakesWhole turn whole.unit left served
+    -- the last of them is taken whole
+    pub units_whole : TakesWhole turn whole.unit left served
     units_whole = whole_units running w.link whole.said piece whole.frames whole.unit left whole.on whole.rest whole.none whole.heard
 
     messages_are : (part : Result (Part Desk) StepRefused) → (note_turns its (taken part) w.unit numbers (note_messages at m w piece s b)).messages ≡ noted_by part
@@ -286,7 +290,27 @@ module _ (laws : CallLaws) (n at : ℕ) (w : Coming) (piece : List ℕ) (s after
           (sent_as note w.link w.at own s.bag after.bag b.sent (ap (λ (hit : Bool). hit && true) ((Decides-eqb w.link w.link).1 refl)) even
           (new_as own s.bag after.bag (perform_all (Member at) actions t).state.bag same new))
 
-      grown : (k : ℕ) (one : Sent) → slice_get b.sent k ≡ Some one → slice_get sent k ≡ Some one
+      -- its mark stands in one place
+      pub request_placed : (part : Part Desk) → stepped ≡ Ok part → note.sends ≡ true → IsPlaced marks note.mark
+      request_placed part is sends =
+          let actions : List Action = actions_in part.value in
+          let t : State = (heard_by (member_step (Some m) at (event.Bytes w.link piece) s.moment s.ends s.chances) s).state in
+          let answers : (step_of m (event.Bytes w.link piece) s.moment left).answer ≡ Ok actions =
+          ap (λ (p : Result (Part Desk) StepRefused). (step_by actions_in state_in halted_state left p).answer) is in
+          let units : taken stepped ≡ served = ap taken is in
+          let first : SendsFirst w.link actions =
+          whole_first its turn whole.unit left served actions units_whole sends
+          (subst (λ (all : List (ServedUnit AtTurn TurnTalk)). AreFirst its all actions) units (requests_first.first its m w.link piece s.moment left actions answers)) in
+          let own : BagUnit = unit_on route (Member at) w.link first.bytes in
+          let new : IsFirstNew own s.bag (perform_all (Member at) actions t).state.bag =
+          sent_first route (Member at) w.link first.bytes first.more actions t dialled.at refl first.is in
+          let same : after.bag ≡ (perform_all (Member at) actions t).state.bag =
+          bag ∙ ap (λ (answer : Result (List Action) StepRefused). (perform_all (Member at) (actions_by answer) t).state.bag) answers in
+          subst (λ (all : List Mark). IsPlaced (marks_of w.link false (drop (length s.bag) after.bag) all) note.mark) (sym (one_mark part is sends))
+          (placed_first note.mark w.link own s.bag after.bag (ap (λ (hit : Bool). hit && true) ((Decides-eqb w.link w.link).1 refl))
+          (new_as own s.bag after.bag (perform_all (Member at) actions t).state.bag same new))
+
+      pub grown : (k : ℕ) (one : Sent) → slice_get b.sent k ≡ Some one → slice_get sent k ≡ Some one
       grown k one there = got_append b.sent (map (sent_at w.at) marks) k one there
 
       own_after : (part : Result (Part Desk) StepRefused) → stepped ≡ part → MemberHolds s.links b.sent b.messages its at (Some running) →

@@ -71,7 +71,7 @@ use Rattle.domain_world.proofs.Requests.OutStepLaws.{IsOther, IsOutIn, MemberHol
 
 -- ---- a unit that comes on the link of a turn is whole, and comes in one piece
 
-came_whole : (unit : Option ℕ) (s : State) (w : Coming) (piece : List ℕ) (at : ℕ) → CameFrom unit s w piece → IsDialledBy s.links at w.link → BagIsWhole s → IsWholeUnit piece
+pub came_whole : (unit : Option ℕ) (s : State) (w : Coming) (piece : List ℕ) (at : ℕ) → CameFrom unit s w piece → IsDialledBy s.links at w.link → BagIsWhole s → IsWholeUnit piece
 came_whole None s w piece at came dialled whole = absurd (came at dialled.controller dialled.at)
 came_whole (Some number) s w piece at came dialled whole =
     let both : Some came.route ≡ Some (ToController at dialled.controller) = sym came.made ∙ dialled.at in
@@ -81,11 +81,12 @@ came_whole (Some number) s w piece at came dialled whole =
 
 -- ---- whether bytes come on the link of a turn
 
-record TurnOn (r : Option Running) (link : ℕ) : Type 0 where
-  running : Running
-  runs : r ≡ Some running
-  said : LinkState TurnTalk
-  on : running.dialling ≡ dialling.On link said
+-- the member runs, and the link is that of its turn
+pub record TurnOn (r : Option Running) (link : ℕ) : Type 0 where
+  pub running : Running
+  pub runs : r ≡ Some running
+  pub said : LinkState TurnTalk
+  pub on : running.dialling ≡ dialling.On link said
 
 hit_case : (hit : Bool) (running : Running) (link other : ℕ) (said : LinkState TurnTalk) → (other == link) ≡ hit → running.dialling ≡ dialling.On other said → IsOther (Some running) link ⊎ TurnOn (Some running) link
 hit_case false running link other said is on = inl (ap (λ (how : Dialling). is_turn_link how link) on ∙ is)
@@ -97,11 +98,13 @@ how_case dialling.Nothing running link on = inl (ap (λ (how : Dialling). is_tur
 how_case (dialling.Waits turn frames) running link on = inl (ap (λ (how : Dialling). is_turn_link how link) on)
 how_case (dialling.On other said) running link on = hit_case (other == link) running link other said refl on
 
-turn_case : (r : Option Running) (link : ℕ) → IsOther r link ⊎ TurnOn r link
+-- the link is another, or that of the turn
+pub turn_case : (r : Option Running) (link : ℕ) → IsOther r link ⊎ TurnOn r link
 turn_case None link = inl tt
 turn_case (Some running) link = how_case running.dialling running link refl
 
-dialled_on : (Fits : ℕ → Logon → Type 0) (Own : ℕ → Type 0) (r : Option Running) (link : ℕ) (on : TurnOn r link) → LogonsKept Fits Own r → Own link
+-- what holds of the link of a turn
+pub dialled_on : (Fits : ℕ → Logon → Type 0) (Own : ℕ → Type 0) (r : Option Running) (link : ℕ) (on : TurnOn r link) → LogonsKept Fits Own r → Own link
 dialled_on Fits Own r link on kept =
     let own : LogonsKept Fits Own (Some on.running) = subst (λ (x : Option Running). LogonsKept Fits Own x) on.runs kept in
     subst (λ (how : Dialling). IfDialled Own how) on.on own.1
@@ -144,7 +147,8 @@ side_meets (Controller at) links link side = tt
 side_meets (Client at) links link side = tt
 side_meets (Member at) links link side = (dialled_by links link at side.route side.made side.side, tt)
 
-plain_calls : (at count : ℕ) → NoCalls (marks_in (replicate count (sent_at at Plain)))
+-- units that were made for nothing are no calls
+pub plain_calls : (at count : ℕ) → NoCalls (marks_in (replicate count (sent_at at Plain)))
 plain_calls at zero zero number timestamp c there = let x = there in cc
 plain_calls at zero (suc k) number timestamp c there = let x = there in cc
 plain_calls at (suc count) zero number timestamp c there = let x = there in cc

@@ -43,7 +43,7 @@ peer_same (number ∷ []) ends later same =
     ∙ ap (λ (n : ℕ). end_in number (length ends.controllers) (length ends.members) n) same.clients
 peer_same (number ∷ other ∷ more) ends later same = refl
 
-controller_same : (plan : Option MemberPlan) (ends later : EndStates) → SameNumbers ends later → controller_of_plan plan later ≡ controller_of_plan plan ends
+pub controller_same : (plan : Option MemberPlan) (ends later : EndStates) → SameNumbers ends later → controller_of_plan plan later ≡ controller_of_plan plan ends
 controller_same None ends later same = same.controllers
 controller_same (Some plan) ends later same =
     ap (λ (n : ℕ). controller_number (end_of_peer plan.controller later) n) same.controllers

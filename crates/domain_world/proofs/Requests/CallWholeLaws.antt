@@ -150,7 +150,8 @@ of_turn (Some p) unit next = numbered_of_turn p next (unit.call == p.number) uni
 
 -- ---- the first logon that is kept
 
-found_if : (hit : Bool) (logon : Logon) (found : Option Logon) → hit ≡ true → (if hit then Some logon else found) ≡ Some logon
+-- by whether it is the first
+pub found_if : (hit : Bool) (logon : Logon) (found : Option Logon) → hit ≡ true → (if hit then Some logon else found) ≡ Some logon
 found_if true logon found is = refl
 found_if false logon found is = absurd (let x = is in cc)
 
@@ -168,7 +169,7 @@ first_logon (entry ∷ asked) number place c first = (
 
 -- ---- a request that goes out is whole
 
-request_heard : (number opnum limit : ℕ) (stub : List ℕ) → number < 2 ^ 32 → opnum < 2 ^ 16 → 1432 ≤ limit → limit ≤ 5840 → length stub ≤ 58209 →
+pub request_heard : (number opnum limit : ℕ) (stub : List ℕ) → number < 2 ^ 32 → opnum < 2 ^ 16 → 1432 ≤ limit → limit ≤ 5840 → length stub ≤ 58209 →
     IsHeard (joined_frames (frames_of (request_of number 0 opnum stub) limit)) (cut_of (request_of number 0 opnum stub) limit) (request_of number 0 opnum stub)
 request_heard number opnum limit stub small known least most few =
     subst (λ (bytes : List ℕ). IsHeard bytes (cut_of (request_of number 0 opnum stub) limit) (request_of number 0 opnum stub)) (sym (frames_joined (request_of number 0 opnum stub) limit))

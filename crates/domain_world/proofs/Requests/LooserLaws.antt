@@ -101,7 +101,7 @@ fewer_marks r mark more none a =
       uses = omega arith;
     }) a
 
-placed_as : (marks more : List Mark) (mark : Mark) (is : IsPlaced more mark) → ((marks ++ is.front) ++ mark ∷ []) ++ is.rest ≡ marks ++ more
+pub placed_as : (marks more : List Mark) (mark : Mark) (is : IsPlaced more mark) → ((marks ++ is.front) ++ mark ∷ []) ++ is.rest ≡ marks ++ more
 placed_as marks more mark is =
     append_assoc (marks ++ is.front) (mark ∷ []) is.rest ∙ append_assoc marks is.front (mark ∷ is.rest) ∙ ap (λ (all : List Mark). marks ++ all) (sym is.is)
 

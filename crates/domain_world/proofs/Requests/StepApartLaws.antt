@@ -59,7 +59,7 @@ differ_first first (next ∷ draws) challenge differ =
     skip (suc i) (suc j) d before within = differ (suc (suc i)) (suc (suc j)) d (omega (arith, before)) (omega (arith, within))
 
 -- one that is drawn last wasn't drawn before
-fresh_last : (draws : List (List ℕ)) (challenge : List ℕ) → Differ (draws ++ challenge ∷ []) → IsDrawn challenge draws → ⊥
+pub fresh_last : (draws : List (List ℕ)) (challenge : List ℕ) → Differ (draws ++ challenge ∷ []) → IsDrawn challenge draws → ⊥
 fresh_last [] challenge differ is = absurd is
 fresh_last (first ∷ draws) challenge differ is = elim is [
   | inl here ↦ differ_first first draws challenge differ here

@@ -265,3 +265,18 @@ sent_as note link at own before after units on even new =
           ∙ got_behind units (sent_at at note.mark) (map (sent_at at) (marks_of link false new.later []));
       mark = refl;
     }
+
+-- and its mark stands in one place
+pub placed_first : (mark : Mark) (link : ℕ) (own : BagUnit) (before after : List BagUnit) → is_sent_on link false own ≡ true → IsFirstNew own before after →
+    IsPlaced (marks_of link false (drop (length before) after) (mark ∷ [])) mark
+placed_first mark link own before after on new =
+    let dropped : drop (length before) after ≡ own ∷ new.later =
+    ap (λ (bag : List BagUnit). drop (length before) bag) new.is ∙ drop_at before (own ∷ new.later) (length before) refl in
+    record {
+      front = [];
+      rest = marks_of link false new.later [];
+      is = ap (λ (bag : List BagUnit). marks_of link false bag (mark ∷ [])) dropped
+          ∙ ap (λ (b : Bool). marks_by b (mark ∷ []) (λ rest. marks_of link false new.later rest)) on;
+      before = nothing_called;
+      behind = none_marked link false new.later;
+    }

@@ -78,6 +78,13 @@ any_foreign channel judgings = list_any (λ (j : Judging). is_foreign channel j.
 -- ---- the claim
 
 -- The seed of a member's open channel is the client's credential moved by the timestamps of its Logon turns on that
+-- channel, each plus one: the first part of the claim, which speaks of the member alone.
+abbrev pub SequencesAreOwn : Past → Type 0
+SequencesAreOwn past =
+    (member : ℕ) (channel : Channel) (o : OpenState) → Stands past.world.state member channel o →
+    o.seed ≡ channel_seed channel (timestamps_on member channel past.book.turns)
+
+-- The seed of a member's open channel is the client's credential moved by the timestamps of its Logon turns on that
 -- channel, each plus one. Where the controller of its plan has the same channel, and no authenticator from outside
 -- passed on it, the controller's seed is the member's, or with a turn out the one before that turn.
 pub record SequenceIsShared (past : Past) (member : ℕ) : Type 0 where

@@ -1,0 +1,27 @@
+-- The sequences of both ends of a secure channel.
+pub mod CallStepLaws
+pub mod CallTakenLaws
+pub mod CallTurnLaws
+pub mod CalledLaws
+pub mod DialCountLaws
+pub mod DialWalkLaws
+pub mod OwnCarryLaws
+pub mod OwnEndLaws
+pub mod OwnFrameLaws
+pub mod OwnKeepLaws
+pub mod OwnOtherLaws
+pub mod OwnOverLaws
+pub mod OwnRunLaws
+pub mod OwnStayLaws
+pub mod OwnStepLaws
+pub mod OwnTakenLaws
+pub mod OwnTurnLaws
+pub mod OwnWalkLaws
+pub mod OwnWholeLaws
+pub mod SeedTurnLaws
+pub mod SharedLaws
+pub mod SharedRunLaws
+pub mod StampLaws
+pub mod SumLaws
+pub mod TurnBookLaws
+pub mod WaitStepLaws

@@ -1,0 +1,91 @@
+-- What is known of the calls of a member's turns says which calls were made on its open channel.
+-- It serves `sequences_are_shared`.
+use Rattle.std.proofs.Common.{◌≡◌, ◌⊎◌, ℕ, zero, suc, List, [], ◌∷◌, inl, inr, Option, Some, None, slice_get, refl, sym, ap, subst, ◌∙◌}
+use Rattle.std.specs.List.{AllByRecursion}
+use Rattle.authenticators.specs.Channels.{Channel}
+use Rattle.channel_client.specs.Effects.{stands_in, step_in}
+use Rattle.channel_client.specs.Opened.{OpenState}
+use Rattle.channel_client.specs.declared.state.Pending.{Pending}
+use Rattle.channel_client.specs.declared.state.Standing.{Standing}
+use Rattle.channel_client.specs.declared.state.Step.{Step}
+use Rattle.channel_client.specs.declared.state.Step.TheVariants as step
+use Rattle.channel_events.specs.Marks.{Mark, Calling}
+use Rattle.channel_events.proofs.ListLaws.{got_nothing, some_is}
+use Rattle.member_server.specs.State.{State as MemberState}
+use Rattle.member_server.specs.declared.state.Running.{Running}
+use Rattle.step_notes.specs.MemberNotes.{timestamp_bound}
+use Rattle.step_notes.specs.Records.{Book, LogonTurn, Sent}
+use Rattle.world_moves.specs.declared.state.State.{State}
+use Rattle.domain_world.specs.Accepting.Sequences.{AreSoFar, CallsOfTurns, HasPassed, HavePassed, IsMadeOn, TurnsAreCalled}
+use Rattle.domain_world.specs.Claims.SharedSequences.{Stands, timestamps_on}
+use Rattle.domain_world.specs.Past.{Past, controller_of}
+use Rattle.domain_world.proofs.Frames.MarkPlaceLaws.{got_map}
+use Rattle.domain_world.proofs.Requests.CallHoldsLaws.{marks_in}
+use Rattle.domain_world.proofs.Sequences.CallTurnLaws.{AllDone, AreFar, AreFarBy, CallsMade, IsCalled, KnowsCalls}
+use Rattle.domain_world.proofs.Sequences.OwnRunLaws.{own_stamps}
+use Rattle.domain_world.proofs.Sequences.OwnTurnLaws.{mine}
+use Rattle.domain_world.proofs.Sequences.SeedTurnLaws.{stamps_on}
+
+-- what is known of a member, if it runs
+abbrev pub KnowsIf : (ℕ → Type 0) → List Mark → List LogonTurn → ℕ → Option Running → Type 0
+KnowsIf Done marks own controller None = Unit {0}
+KnowsIf Done marks own controller (Some running) = KnowsCalls Done marks own controller running.logons.channel
+
+-- of each member, after a move: its turns are those that are written down
+abbrev pub AllKnow : (ℕ → Type 0) → State → Book → Type 0
+AllKnow Done s b = (k : ℕ) (m : MemberState) → slice_get s.ends.members k ≡ Some m → KnowsIf Done (marks_in b.sent) (mine k b.turns) (controller_of k s) m.running
+
+-- what a unit was made for, by what is written down of it
+pub mark_there : (sent : List Sent) (n : ℕ) (one : Sent) → slice_get sent n ≡ Some one → slice_get (marks_in sent) n ≡ Some one.mark
+mark_there [] n one there = absurd (got_nothing n one there)
+mark_there (first ∷ sent) zero one there = ap (λ (s : Sent). Some s.mark) (some_is first one there)
+mark_there (first ∷ sent) (suc n) one there = mark_there sent n one there
+
+module _ (p : Past) (Done : ℕ → Type 0) (passed : (n : ℕ) → Done n → HasPassed p n) where
+  abbrev marks : List Mark
+  marks = marks_in p.book.sent
+
+  have_passed : (made : List (ℕ × ℕ)) → AllDone Done made → HavePassed p made
+  have_passed [] all = tt
+  have_passed (one ∷ made) all = (passed one.0 all.0, have_passed made all.1)
+
+  made_one : (c : Channel) (one : ℕ × ℕ) → IsCalled marks c one → IsMadeOn p c one.0 one.1
+  made_one c one is =
+      let found = got_map (λ (sent : Sent). sent.mark) p.book.sent one.0 (Calling c is.number one.1) is.there in
+      record { sent = found.0; there = found.1; number = is.number; mark = found.2 }
+
+  made_each : (c : Channel) (made : List (ℕ × ℕ)) → AllByRecursion (IsCalled marks c) made → AllByRecursion (λ (one : ℕ × ℕ). IsMadeOn p c one.0 one.1) made
+  made_each c [] each = tt
+  made_each c (one ∷ made) each = (made_one c one each.0, made_each c made each.1)
+
+  far_step : (c : Channel) (turn : Option Pending) (pending : Pending) (number : ℕ) (st : Step) (bound : ℕ) (made : List (ℕ × ℕ)) (stamps : List ℕ) → turn ≡ Some pending →
+      AreFarBy Done marks c number st bound made stamps → AreSoFar p turn made stamps
+  far_step c turn pending number (step.Bind what) bound made stamps is far =
+      inr (inl (record { pending = pending; is_out = is; last = bound; all = far.0; passed = have_passed made far.1 }))
+  far_step c turn pending number (step.Reply q) bound made stamps is far =
+      inr (inr (record { pending = pending; is_out = is; earlier = far.earlier; last = far.last; split = far.split; all = far.all; passed = have_passed far.earlier far.answered }))
+
+  so_far : (c : Channel) (turn : Option Pending) (bound : ℕ) (made : List (ℕ × ℕ)) (stamps : List ℕ) → AreFar Done marks c turn bound made stamps → AreSoFar p turn made stamps
+  so_far c None bound made stamps far = inl (far.0, have_passed made far.1)
+  so_far c (Some pending) bound made stamps far = far_step c (Some pending) pending pending.number pending.step bound made stamps refl far
+
+  of_turns : (c : Channel) (turn : Option Pending) (own : List LogonTurn) (timestamps : List ℕ) → stamps_on c own ≡ timestamps → CallsMade Done marks own c turn → CallsOfTurns p c turn timestamps
+  of_turns c turn own timestamps same calls = record {
+    made = calls.made;
+    each = made_each c calls.made calls.each;
+    apart = calls.apart;
+    every = λ n number timestamp sent other there mark client. calls.every n number timestamp other (mark_there p.book.sent n sent there ∙ ap Some mark) client;
+    far = subst (λ (stamps : List ℕ). AreSoFar p turn calls.made stamps) same (so_far c turn (timestamp_bound (step_in turn)) calls.made (stamps_on c own) calls.far);
+  }
+
+  pub turns_called : AllKnow Done p.world.state p.book → TurnsAreCalled p
+  turns_called all member channel o stands =
+      let running : Running = stands.running in
+      let c : ℕ = controller_of member p.world.state in
+      let own : List LogonTurn = mine member p.book.turns in
+      let known : KnowsCalls Done marks own c running.logons.channel =
+      subst (λ (r : Option Running). KnowsIf Done marks own c r) stands.runs (all member stands.state stands.at) in
+      let open_channel : stands_in c running.logons.channel.caller.computer running.logons.channel.standing ≡ Some channel =
+      ap (λ (how : Standing). stands_in c running.logons.channel.caller.computer how) stands.open_so ∙ ap Some (sym stands.is) in
+      of_turns channel stands.turn own (timestamps_on member channel p.book.turns) (own_stamps member channel p.book.turns)
+      (subst (λ (turn : Option Pending). CallsMade Done marks own channel turn) stands.is_turn (known channel open_channel))

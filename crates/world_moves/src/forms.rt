@@ -1,0 +1,101 @@
+//! What the types of a plan's parts give of themselves, which callers learn by calls that do nothing.
+
+ghost use Rattle.std.specs.Prelude.{◌<◌, ◌^◌, All};
+ghost use Rattle.wire_base.specs.Names.{IsName};
+ghost use Rattle.world_moves.specs.Forms.{AreUnits, IsBlock, IsByte, IsClientPlan, IsMemberPlan, IsTable};
+
+use account_table::Table;
+use logon_client::ClientPlan;
+use member_server::MemberPlan;
+use wire_base::Name;
+
+/// Each table has the form that its type gives it.
+pub(crate) fn tables_have_forms(tables: &[Table])
+    ensures { All IsTable tables.now }
+{
+    for table in tables {
+        table.has_form();
+    }
+}
+
+/// Each is a name.
+pub(crate) fn names_have_forms(names: &[Name])
+    ensures { All IsName names.now }
+{
+    for name in names {
+        let _bytes = name.bytes();
+    }
+}
+
+/// Each plan of a member has the form that its type gives it.
+pub(crate) fn members_have_forms(plans: &[MemberPlan])
+    ensures { All IsMemberPlan plans.now }
+{
+    for plan in plans {
+        member_has_form(plan);
+    }
+}
+
+/// The plan has that form.
+fn member_has_form(plan: &MemberPlan)
+    ensures { IsMemberPlan plan.now }
+{
+    let _computer = plan.computer.bytes();
+    let _domain = plan.domain.bytes();
+    is_hash(plan.secret);
+    are_bytes(plan.controller.bytes());
+}
+
+/// Each plan of a client has the form that its type gives it.
+pub(crate) fn clients_have_forms(plans: &[ClientPlan])
+    ensures { All IsClientPlan plans.now }
+{
+    for plan in plans {
+        client_has_form(plan);
+    }
+}
+
+/// The plan has that form.
+fn client_has_form(plan: &ClientPlan)
+    ensures { IsClientPlan plan.now }
+{
+    are_bytes(plan.server.bytes());
+    are_units(plan.domain.units());
+    are_units(plan.user.units());
+    are_units(plan.workstation.units());
+    is_hash(plan.hash);
+}
+
+/// A hash has 16 bytes.
+fn is_hash(hash: [u8; 16])
+    ensures { IsBlock 16 hash }
+{
+    are_bytes(hash.as_slice());
+}
+
+/// A seed has 32 bytes.
+pub(crate) fn is_seed(seed: [u8; 32])
+    ensures { IsBlock 32 seed }
+{
+    are_bytes(seed.as_slice());
+}
+
+/// A number of 32 bits is below 2^32.
+pub(crate) fn is_long(number: u32)
+    ensures { number < 2 ^ 32 }
+{}
+
+/// A number of 64 bits is below 2^64.
+pub(crate) fn is_hyper(number: u64)
+    ensures { number < 2 ^ 64 }
+{}
+
+/// Bytes are bytes.
+pub(crate) fn are_bytes(bytes: &[u8])
+    ensures { All IsByte bytes.now }
+{}
+
+/// Units of 16 bits are units.
+fn are_units(units: &[u16])
+    ensures { AreUnits units.now }
+{}
