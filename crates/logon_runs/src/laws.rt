@@ -1,6 +1,7 @@
 //! Laws of the moves of a world, where little waits in it. Each function does nothing, and its
 //! clause is the law.
 
+ghost use Rattle.logon_runs.specs.Any.ControllerAnswers.{ControllersAnswer};
 ghost use Rattle.logon_runs.specs.AskScenes.{LogonsAreSeen};
 ghost use Rattle.logon_runs.specs.ExampleLogon.{AnnLogsOn};
 ghost use Rattle.logon_runs.specs.FailingSteps.{FailingsStep};
@@ -218,4 +219,11 @@ pub fn grants_tell()
 #[tactic(auto, using(crate::proofs::RestStayLaws::rests_stay))]
 pub fn rests_stay()
     ensures { RestsStay }
+{}
+
+/// A controller answers each call of a member's turn by one reply, whatever it keeps of that
+/// computer, and keeps the channels of the others.
+#[tactic(auto, using(crate::proofs::Any::ControllerAnswerLaws::controllers_answer))]
+pub fn controllers_answer()
+    ensures { ControllersAnswer }
 {}
