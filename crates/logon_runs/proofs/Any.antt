@@ -1,3 +1,5 @@
 -- Of logons at any member.
+pub mod AnyPhaseLaws
 pub mod AnyStartLaws
+pub mod AnyTurnLaws
 pub mod ControllerAnswerLaws

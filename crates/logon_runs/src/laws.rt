@@ -1,6 +1,7 @@
 //! Laws of the moves of a world, where little waits in it. Each function does nothing, and its
 //! clause is the law.
 
+ghost use Rattle.logon_runs.specs.Any.AnyPhases.{AnyPhasesGoOn};
 ghost use Rattle.logon_runs.specs.Any.ControllerAnswers.{ControllersAnswer};
 ghost use Rattle.logon_runs.specs.AskScenes.{LogonsAreSeen};
 ghost use Rattle.logon_runs.specs.ExampleLogon.{AnnLogsOn};
@@ -226,4 +227,11 @@ pub fn rests_stay()
 #[tactic(auto, using(crate::proofs::Any::ControllerAnswerLaws::controllers_answer))]
 pub fn controllers_answer()
     ensures { ControllersAnswer }
+{}
+
+/// A logon at any member goes on at each move, whatever its controller answers, to its end or to
+/// where the member lets the client in. The client then has its outcome, and no link is open.
+#[tactic(auto, using(crate::proofs::Any::AnyPhaseLaws::any_phases_go_on))]
+pub fn any_phases_go_on()
+    ensures { AnyPhasesGoOn }
 {}
