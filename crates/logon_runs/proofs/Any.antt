@@ -3,3 +3,4 @@ pub mod AnyPhaseLaws
 pub mod AnyStartLaws
 pub mod AnyTurnLaws
 pub mod ControllerAnswerLaws
+pub mod RestAgainLaws
