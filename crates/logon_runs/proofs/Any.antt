@@ -1,4 +1,5 @@
 -- Of logons at any member.
+pub mod AnyBeginLaws
 pub mod AnyPhaseLaws
 pub mod AnyStartLaws
 pub mod AnyTurnLaws

@@ -2,6 +2,7 @@
 //! clause is the law.
 
 ghost use Rattle.logon_runs.specs.Any.AnyPhases.{AnyPhasesGoOn};
+ghost use Rattle.logon_runs.specs.Any.AnyStarts.{AnyLogonsStart};
 ghost use Rattle.logon_runs.specs.Any.ControllerAnswers.{ControllersAnswer};
 ghost use Rattle.logon_runs.specs.AskScenes.{LogonsAreSeen};
 ghost use Rattle.logon_runs.specs.ExampleLogon.{AnnLogsOn};
@@ -234,4 +235,11 @@ pub fn controllers_answer()
 #[tactic(auto, using(crate::proofs::Any::AnyPhaseLaws::any_phases_go_on))]
 pub fn any_phases_go_on()
     ensures { AnyPhasesGoOn }
+{}
+
+/// A client that starts at rest is in a phase of its logon, at any member. Once the logon is over
+/// the world rests again.
+#[tactic(auto, using(crate::proofs::Any::AnyBeginLaws::any_logons_start))]
+pub fn any_logons_start()
+    ensures { AnyLogonsStart }
 {}
