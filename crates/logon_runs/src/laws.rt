@@ -4,6 +4,8 @@
 ghost use Rattle.logon_runs.specs.Any.AnyPhases.{AnyPhasesGoOn};
 ghost use Rattle.logon_runs.specs.Any.AnyStarts.{AnyLogonsStart};
 ghost use Rattle.logon_runs.specs.Any.ControllerAnswers.{ControllersAnswer};
+ghost use Rattle.logon_runs.specs.Any.GrantRests.{GrantsRest};
+ghost use Rattle.logon_runs.specs.AnyLogons.{LogonsRest};
 ghost use Rattle.logon_runs.specs.AskScenes.{LogonsAreSeen};
 ghost use Rattle.logon_runs.specs.ExampleLogon.{AnnLogsOn};
 ghost use Rattle.logon_runs.specs.FailingSteps.{FailingsStep};
@@ -242,4 +244,11 @@ pub fn any_phases_go_on()
 #[tactic(auto, using(crate::proofs::Any::AnyBeginLaws::any_logons_start))]
 pub fn any_logons_start()
     ensures { AnyLogonsStart }
+{}
+
+/// Whichever client starts at rest, and whatever its member and its controller make of it: once
+/// nothing waits the world rests, and the client has an outcome.
+#[tactic(auto, using(crate::proofs::Any::AnyLogonLaws::logons_rest))]
+pub fn logons_rest()
+    ensures { GrantsRest → LogonsRest }
 {}

@@ -301,7 +301,7 @@ module _ (plan : Plan) (p : Coming) (s : State) where
 
   module _ (a : Asked) (who : WhoAsked p a) (v : TurnAt) (aim : Aim) (left : List (List ℕ)) (moment : ℕ) (accounts : AccountTable) (turning : IsTurningBy plan p a v)
       (differs : DifferInCounts p.table accounts) (ranged : InRangeTable accounts) where
-    left_so_far : (how : Standing) → MayStand plan p v.computers how → IsLeft plan p (left_after a who v aim how accounts)
+    pub left_so_far : (how : Standing) → MayStand plan p v.computers how → IsLeft plan p (left_after a who v aim how accounts)
     left_so_far how stands = record {
       joined_so = turns_have_links.met (own p) (turn_before p a who.later (who.sent ∷ []) v) (standing_for aim) turning.joined_so;
       number_below = after_below v.next;
