@@ -1,6 +1,6 @@
 -- A world between two logons, and that a granted one leads from one to another.
 -- Of `logons_come_to_rest`.
-use Rattle.std.proofs.Common.{◌≡◌, ◌≢◌, ℕ, zero, suc, false, refl, sym, ap, subst, ◌∙◌, List, [], ◌∷◌, length, Option, Some, None, arith, inl, inr, slice_get}
+use Rattle.std.proofs.Common.{◌≡◌, ℕ, zero, suc, refl, sym, ap, subst, ◌∙◌, List, [], ◌∷◌, length, Some, arith, inl, inr, slice_get}
 use Rattle.std.specs.Prelude.{◌⊎◌}
 use Rattle.wire_base.specs.Maps.{lookup}
 use Rattle.wire_base.specs.Names.{IsName, same_name}
@@ -9,30 +9,22 @@ use Rattle.account_table.specs.Changes.{with_count}
 use Rattle.account_table.specs.LookUps.{machine_name, place_in}
 use Rattle.account_table.specs.Ranges.{InRangeAccount}
 use Rattle.account_table.specs.declared.account.Account.{Account}
-use Rattle.account_table.proofs.ChangeLaws.{differs-again, differs-none}
+use Rattle.account_table.proofs.ChangeLaws.{differs-none}
 use Rattle.channel_client.specs.declared.state.Standing.{Standing}
 use Rattle.channel_client.specs.declared.state.Standing.TheVariants as standing
-use Rattle.channel_client.specs.Machine.{after as next_place}
 use Rattle.channel_client.specs.Opened.{OpenState}
 use Rattle.logon_steps.specs.Answering.{IsInStep}
-use Rattle.logon_steps.specs.ClientSteps.{client_ended}
-use Rattle.logon_runs.proofs.FirstTraceLaws.{after_below}
-use Rattle.domain_controller.specs.State.{State as ControllerState}
-use Rattle.domain_controller.specs.declared.state.Running.{Running}
 use Rattle.channel_client.specs.declared.caller.Caller.{Caller}
 use Rattle.domain_controller.specs.declared.state.Computers.{Computers}
 use Rattle.logon_client.specs.Machine.{fresh_client}
 use Rattle.logon_client.specs.Plans.{CanLogOn}
 use Rattle.logon_client.specs.declared.plan.ClientPlan.{ClientPlan}
 use Rattle.member_server.specs.Machine.{caller_of, fresh_member}
-use Rattle.member_server.specs.declared.plan.MemberPlan.{MemberPlan}
-use Rattle.world_moves.specs.declared.links.EndId.TheVariants.{Controller}
 use Rattle.world_moves.specs.declared.plan.Plan.{Plan}
 use Rattle.world_moves.specs.declared.state.State.{State}
 use Rattle.world_moves.specs.Choosing.{chosen_place}
 use Rattle.world_moves.specs.Forms.{HasForms, IsClientPlan, IsMemberPlan, IsTable}
-use Rattle.world_moves.specs.Moving.{end_of_peer}
-use Rattle.world_moves.specs.World.{IsPlan, first_ends, first_world}
+use Rattle.world_moves.specs.World.{IsPlan, first_world}
 use Rattle.world_moves.proofs.RangeLaws.{table_in_range}
 use Rattle.logon_steps.specs.ControllerTurns.{controller_at}
 use Rattle.logon_steps.specs.Knowing.{StandsLater}

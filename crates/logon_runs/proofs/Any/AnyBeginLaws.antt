@@ -1,6 +1,6 @@
 -- A logon of any client at any member, from its start at rest.
 -- Of `any_logons_start`.
-use Rattle.std.proofs.Common.{◌≡◌, ℕ, refl, sym, ap, subst, ◌∙◌, List, [], length, Some, inl, slice_get}
+use Rattle.std.proofs.Common.{◌≡◌, ℕ, refl, sym, ap, subst, ◌∙◌, List, length, Some, slice_get}
 use Rattle.wire_base.specs.Maps.{lookup}
 use Rattle.wire_base.specs.Names.{IsName, same_name}
 use Rattle.account_table.specs.AccountTable.{AccountTable}
@@ -24,7 +24,7 @@ use Rattle.logon_steps.proofs.CallingLaws.{calls_can_go}
 use Rattle.logon_steps.proofs.KnowingLaws.{computers_are_known}
 use Rattle.logon_runs.specs.Phases.{Coming, Dials, with_its_controller}
 use Rattle.logon_runs.specs.Rests.{AtRest, ClientRests, ControllerRests, HasOwnComputer, IsInStepAt, MemberRests, StandsWell}
-use Rattle.logon_runs.specs.Any.AnyPhases.{HasSecret, IsAble, IsAnywhere, KeepsInStep, MayStand, On}
+use Rattle.logon_runs.specs.Any.AnyPhases.{HasSecret, IsAble, MayStand, On}
 use Rattle.logon_runs.specs.Any.AnyStarts.{AnyLogonsStart, AreThree, HasStarted, coming_from}
 use Rattle.logon_runs.proofs.FirstWorldLaws.{are_units, item_has}
 use Rattle.logon_runs.proofs.StartLaws.{starts_are_seen}

@@ -1,6 +1,6 @@
 -- A logon of any client that reaches a member, from rest to rest.
 -- Of `logons_rest`.
-use Rattle.std.proofs.Common.{◌≡◌, ℕ, true, suc, ◌+◌, ◌*◌, ◌≤◌, ◌<◌, ◌^◌, refl, sym, ap, subst, ◌∙◌, List, [], ◌∷◌, ◌++◌, length, length-append, Option, None, Some, arith, inl, inr, slice_get}
+use Rattle.std.proofs.Common.{◌≡◌, ℕ, true, suc, ◌*◌, ◌<◌, ◌^◌, refl, sym, ap, subst, ◌∙◌, List, [], ◌∷◌, ◌++◌, length, length-append, Option, Some, arith, inl, inr, slice_get}
 use Rattle.std.specs.List.{AllByRecursion}
 use Rattle.std.specs.Prelude.{◌⊎◌}
 use Rattle.account_table.specs.declared.account.Account.{Account}
@@ -25,7 +25,7 @@ use Rattle.logon_runs.specs.Phases.{Acked, Answers, Binds, BindsBefore, BindsHel
 use Rattle.logon_runs.specs.Rests.{AtRest, moved_by, three_in}
 use Rattle.logon_runs.specs.Staying.{HasSameEnds}
 use Rattle.logon_runs.specs.Waiting.{waiting}
-use Rattle.logon_runs.specs.Any.AnyPhases.{AnyPhase, Away, IsAble, IsAnywhere, IsDone, IsHeard, IsLetIn, IsOnward, IsThere, Judged, On, Told, any_scene}
+use Rattle.logon_runs.specs.Any.AnyPhases.{AnyPhase, Away, IsAble, IsAnywhere, IsDone, IsHeard, IsLetIn, IsOnward, Judged, On, Told, any_scene}
 use Rattle.logon_runs.specs.Any.AnyStarts.{AreThree, HasStarted, IsReachedOrNot, coming_from}
 use Rattle.logon_runs.specs.Any.GrantRests.{GrantsRest, HasSettled, judged_rest}
 use Rattle.logon_runs.proofs.ComeInLaws.{links_among, turn_among}

@@ -1,7 +1,7 @@
 -- A logon at any member: dials that are answered or reach nobody, and the client and its member up to the logon that is
 -- asked.
 -- Of `any_phases_go_on`.
-use Rattle.std.proofs.Common.{◌≡◌, ℕ, ◌≤◌, refl, sym, ap, ◌∙◌, List, [], ◌∷◌, ◌++◌, length, None, Some, arith, inl, inr}
+use Rattle.std.proofs.Common.{◌≡◌, ℕ, ◌≤◌, refl, sym, ap, ◌∙◌, List, [], ◌∷◌, ◌++◌, length, arith, inl, inr}
 use Rattle.rpc_units.specs.Numbers.{rpc_s_server_unavailable}
 use Rattle.logon_stubs.specs.Ranges.{IsBlock}
 use Rattle.account_table.proofs.ChangeLaws.{differs-none}
@@ -10,11 +10,10 @@ use Rattle.channel_client.specs.declared.state.Standing.TheVariants as standing
 use Rattle.domain_controller.specs.Channels.{ChannelState}
 use Rattle.member_server.specs.Outcomes.{session_in}
 use Rattle.member_server.specs.Turns.{timestamp_of}
-use Rattle.world_moves.specs.declared.links.EndId.TheVariants.{Controller, Member}
 use Rattle.world_moves.specs.declared.links.Route.TheVariants.{ToMember}
 use Rattle.world_moves.specs.declared.plan.Plan.{Plan}
 use Rattle.world_moves.specs.declared.state.State.{State}
-use Rattle.world_moves.specs.Moving.{connect, end_of_peer, onward, route_to}
+use Rattle.world_moves.specs.Moving.{connect, onward}
 use Rattle.logon_steps.specs.Answers.{AreDraws}
 use Rattle.logon_steps.specs.Meeting.{flags_agreed}
 use Rattle.logon_steps.proofs.GrantingLaws.{logons_are_granted}

@@ -1,11 +1,11 @@
 -- A logon at any member: its turns with the controller, whatever the controller answers.
 -- Of `any_phases_go_on`.
-use Rattle.std.proofs.Common.{◌≡◌, ℕ, ◌<◌, ◌^◌, Bool, true, false, refl, sym, ap, ap₂, subst, ◌∙◌, List, [], ◌∷◌, ◌++◌, length, Option, None, Some, arith, inl, inr}
+use Rattle.std.proofs.Common.{◌≡◌, ℕ, ◌<◌, ◌^◌, Bool, true, false, refl, sym, ap, subst, ◌∙◌, List, [], ◌∷◌, length, Option, None, Some, arith, inl, inr}
 use Rattle.std.specs.Prelude.{◌==◌, ◌⊎◌, bytes_eq}
 use Rattle.std.proofs.lemmas.Bool.{cases_Bool}
 use Rattle.std.proofs.lemmas.Bool.Decides.{Decides-eqb}
 use Rattle.std.proofs.lemmas.Slice.Eq.{bytes_eq-Decides}
-use Rattle.wire_base.specs.Maps.{lookup, put, take_out}
+use Rattle.wire_base.specs.Maps.{lookup, take_out}
 use Rattle.wire_base.specs.Names.{same_name}
 use Rattle.wire_base.specs.declared.authenticator.Authenticator.{Authenticator}
 use Rattle.wire_base.proofs.MapLaws.{lookup-put_same}
@@ -40,13 +40,12 @@ use Rattle.domain_controller.specs.declared.state.Computers.{Computers}
 use Rattle.domain_controller.specs.declared.state.Running.{Running}
 use Rattle.logon_client.specs.Machine.{fault_outcome}
 use Rattle.member_server.specs.Turns.{timestamp_of}
-use Rattle.world_moves.specs.declared.links.Route.TheVariants.{ToController}
 use Rattle.world_moves.specs.declared.plan.Plan.{Plan}
 use Rattle.world_moves.specs.declared.state.State.{State}
 use Rattle.world_moves.specs.Links.{OpenMap}
 use Rattle.world_moves.specs.Moving.{onward}
 use Rattle.logon_steps.specs.Answering.{auth_value, moved, pair_of}
-use Rattle.logon_steps.specs.ControllerTurns.{controller_at, reply_bytes, turn_link}
+use Rattle.logon_steps.specs.ControllerTurns.{reply_bytes, turn_link}
 use Rattle.logon_steps.specs.MemoCalls.{with_session}
 use Rattle.logon_steps.specs.Turning.{IsTurnCall, IsTurnReply}
 use Rattle.logon_steps.proofs.AnsweringLaws.{calls_are_answered}
@@ -55,11 +54,11 @@ use Rattle.logon_steps.proofs.ControllerTurnLaws.{controllers_step}
 use Rattle.logon_runs.specs.FailingSteps.{out_talk}
 use Rattle.logon_runs.specs.LinkScenes.{its_link}
 use Rattle.logon_runs.specs.Phases.{Acked, Aim, BindsBefore, BindsHeld, Calls, Coming, DialsBefore, DialsHeld, First, Halved, HasThree, Second, Third, TurnAt, WhoAsked, call_for, own, scene_of, standing_for, terms_at, turn_before, turn_on, waits_for}
-use Rattle.logon_runs.specs.Runs.{Asked, info_asked, message_for, with_moved}
+use Rattle.logon_runs.specs.Runs.{Asked, info_asked, message_for}
 use Rattle.logon_runs.specs.Scenes.{Shows}
 use Rattle.logon_runs.specs.TurnedAway.{AwayPhase, Faulted, Refused, Settled, Unheard, away_scene, settled_in}
 use Rattle.logon_runs.specs.TurnScenes.{IsBetween, Turn, dial_scene, turn_scene, unit_back, with_accounts}
-use Rattle.logon_runs.specs.Any.AnyPhases.{AnyPhase, Away, HasSecret, IsAble, IsAnywhere, IsDone, IsJudgedBy, IsLeft, IsLetIn, IsOnward, IsOwn, IsReadyBy, IsThere, IsTurningBy, Judged, KeepsInStep, MayAim, MayFitAway, MayStand, On, Told, any_scene, proof_reply}
+use Rattle.logon_runs.specs.Any.AnyPhases.{Away, HasSecret, IsAble, IsJudgedBy, IsLeft, IsLetIn, IsOnward, IsOwn, IsReadyBy, IsThere, IsTurningBy, Judged, KeepsInStep, MayAim, MayFitAway, MayStand, On, Told, any_scene, proof_reply}
 use Rattle.logon_runs.specs.Any.ControllerAnswers.{ToldChallenge, ToldLogon, ToldProof}
 use Rattle.logon_runs.specs.Any.GrantRests.{judged_scene}
 use Rattle.logon_runs.proofs.AskSceneLaws.{logons_are_seen}
@@ -71,7 +70,7 @@ use Rattle.logon_runs.proofs.PhaseTurnLaws.{turn_after}
 use Rattle.logon_runs.proofs.RunLaws.{between_still, same_computer, timestamp_below}
 use Rattle.logon_runs.proofs.TurnSceneLaws.{turns_are_seen}
 use Rattle.logon_runs.proofs.TwoLinkLaws.{turns_have_links}
-use Rattle.logon_runs.proofs.Any.AnyStartLaws.{any_seen, leads, leads_less, no_channel}
+use Rattle.logon_runs.proofs.Any.AnyStartLaws.{leads, leads_less, no_channel}
 use Rattle.logon_runs.proofs.Any.ControllerAnswerLaws.{controllers_answer}
 
 -- ---- what a controller keeps after a step

@@ -1,8 +1,8 @@
 -- What a controller answers to the calls of a member's turn, whatever it keeps.
 -- Of `controllers_answer`.
-use Rattle.std.proofs.Common.{◌≡◌, ℕ, zero, suc, ◌<◌, ◌^◌, Bool, true, false, List, [], ◌∷◌, ◌++◌, length, length-append, Option, Some, None, Ok, refl, sym, ap, ap₂, subst, ◌∙◌, arith, inr, if◌then◌else◌}
+use Rattle.std.proofs.Common.{◌≡◌, ℕ, zero, suc, ◌<◌, ◌^◌, Bool, true, false, List, [], ◌∷◌, ◌++◌, length-append, Option, Some, None, refl, ap, ap₂, subst, ◌∙◌, arith, inr, if◌then◌else◌}
 use Rattle.std.specs.Prelude.{◌==◌, bytes_eq, replicate}
-use Rattle.wire_base.specs.Maps.{lookup, put, take_out}
+use Rattle.wire_base.specs.Maps.{lookup, put}
 use Rattle.wire_base.specs.Names.{IsName, same_name}
 use Rattle.wire_base.specs.Numbers.{AreBytes}
 use Rattle.wire_base.specs.Units.{AreUnits}
@@ -11,17 +11,15 @@ use Rattle.wire_base.proofs.MapLaws.{put_others, taken_others}
 use Rattle.wire_base.proofs.NameLaws.{IsSameness-same_name}
 use Rattle.channel_keys.specs.Credentials.{cred_of}
 use Rattle.authenticators.specs.Sequences.{authenticator_of, return_of}
-use Rattle.outside.specs.declared.action.Action.TheVariants as action
 use Rattle.outside.specs.declared.action.Judged.TheVariants as judged
 use Rattle.outside.specs.declared.event.Event.TheVariants as event
-use Rattle.outside.specs.Machine.{Stepped, step_by, then_part, whole_step}
+use Rattle.outside.specs.Machine.{Stepped, step_by, then_part}
 use Rattle.rpc_units.specs.Calls.{bytes_of_call}
 use Rattle.rpc_units.specs.Stream.{Cut, cut_stream}
 use Rattle.rpc_units.proofs.CuttingLaws.{call_heard}
 use Rattle.logon_stubs.specs.Ranges.{InRangeReply, InRangeSamInfo, HasShortTexts, IsBlock}
 use Rattle.logon_stubs.specs.Status.{access_denied}
 use Rattle.logon_stubs.specs.Writing.{CanWriteReply}
-use Rattle.logon_stubs.specs.declared.calls.AuthCall.{AuthCall}
 use Rattle.logon_stubs.specs.declared.calls.Call.{Call}
 use Rattle.logon_stubs.specs.declared.calls.Reply.{Reply}
 use Rattle.logon_stubs.specs.declared.calls.Reply.TheVariants as reply
@@ -35,7 +33,7 @@ use Rattle.account_table.specs.Changes.{DifferInCounts}
 use Rattle.account_table.specs.LookUps.{knows_in}
 use Rattle.account_table.specs.declared.account.Account.{Account}
 use Rattle.account_table.proofs.ChangeLaws.{differs-none}
-use Rattle.sam_logon.specs.Verdict.{IfGranted, Judgement, judgement_of, table_after, verdict_of}
+use Rattle.sam_logon.specs.Verdict.{IfGranted, judgement_of}
 use Rattle.sam_logon.proofs.GrantedLaws.{granting-CanWrite, granting-InRange}
 use Rattle.end_links.specs.Links.{LinkState}
 use Rattle.end_links.specs.Serving.{ServedPart, served_cut}
@@ -46,32 +44,30 @@ use Rattle.channel_client.specs.declared.judging.Judgement.TheVariants as judgem
 use Rattle.channel_client.specs.declared.state.Question.TheVariants as question
 use Rattle.channel_client.specs.declared.state.Standing.{Standing}
 use Rattle.channel_client.specs.declared.state.Standing.TheVariants as standing
-use Rattle.channel_client.specs.Machine.{auth_call, challenge_call, judge, judge_awaited, judge_level, judge_logon, judge_return, judge_status, level_asked, logon_call, offered_flags}
+use Rattle.channel_client.specs.Machine.{auth_call, challenge_call, judge_awaited, judge_level, judge_logon, judge_return, judge_status, level_asked, logon_call, offered_flags}
 use Rattle.channel_client.specs.Opened.{OpenState, after_return, is_awaited, open_key}
 use Rattle.channel_client.proofs.WholeLaws.{cred_block}
 use Rattle.domain_controller.specs.Channels.{ChannelState, channel_by, key_of_channel, passes_on, return_by}
 use Rattle.domain_controller.specs.Hearing.{bound_talk}
-use Rattle.domain_controller.specs.Machine.{Desk, account_for, by_call, channel_for, controller_server, desk, goes_on, judge_account, judge_channel, judge_info, judge_pair, judge_return as return_judged, open_channel, pass_logon, put_channel, put_pair_if, reply_info, send_reply, status_of, take_channel, take_pair}
+use Rattle.domain_controller.specs.Machine.{Desk, account_for, by_call, channel_for, controller_server, desk, goes_on, judge_account, judge_channel, judge_info, judge_pair, judge_return as return_judged, open_channel, put_channel, put_pair_if, reply_info, send_reply, status_of, take_channel, take_pair}
 use Rattle.domain_controller.specs.State.{State}
 use Rattle.domain_controller.specs.Step.{LinkMap, StepPart, after_units, first_desk, halted, serve_on, start_turn, state_after, step_of}
 use Rattle.domain_controller.specs.Whole.{InRangeTable}
 use Rattle.domain_controller.specs.declared.line.Line.{Line}
 use Rattle.domain_controller.specs.declared.state.Computers.{Computers}
 use Rattle.domain_controller.specs.declared.state.Pending.{Pending}
-use Rattle.domain_controller.specs.declared.state.Running.{Running}
 use Rattle.domain_controller.specs.declared.state.Talk.{Talk}
 use Rattle.domain_controller.specs.declared.state.Work.{Work}
 use Rattle.domain_controller.proofs.LevelLaws.{short_at}
 use Rattle.domain_controller.proofs.WholeParts.{Fits, crypt_block, judged_fits, judged_table}
 use Rattle.logon_steps.specs.Answering.{auth_value, pair_of}
-use Rattle.logon_steps.specs.ControllerTurns.{controller_at, one_link, passed_reply, reply_bytes, turn_link}
+use Rattle.logon_steps.specs.ControllerTurns.{controller_at, passed_reply, turn_link}
 use Rattle.logon_steps.specs.Turning.{IsTurnCall, IsTurnReply, turn_agreed, turn_request}
 use Rattle.logon_steps.proofs.KnowingLaws.{computers_are_known}
 use Rattle.logon_steps.proofs.StreamLaws.{same}
 use Rattle.logon_steps.proofs.TurningLaws.{request_joins, request_sends, turns_go_through}
 use Rattle.logon_runs.specs.Any.ControllerAnswers.{ControllersAnswer, KeepsBut, TellsShort, ToldChallenge, ToldLogon, ToldProof}
 use Rattle.logon_runs.specs.Any.GrantRests.{HasShortName}
-use Rattle.logon_runs.specs.TurnedAway.{IsRefusal}
 use Rattle.logon_runs.proofs.TurnedAwayLaws.{IsRefusalOf, verdict_refuses}
 
 -- ---- a call comes on the one link

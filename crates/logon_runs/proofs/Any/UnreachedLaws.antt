@@ -1,6 +1,6 @@
 -- A client whose dial reaches no member, from rest to rest.
 -- Of `logons_rest`.
-use Rattle.std.proofs.Common.{◌≡◌, ◌≢◌, ℕ, refl, sym, ap, subst, ◌∙◌, List, [], ◌∷◌, length, Option, None, Some, inl, inr, slice_get}
+use Rattle.std.proofs.Common.{◌≡◌, ℕ, refl, sym, ap, subst, ◌∙◌, List, [], ◌∷◌, length, Option, None, Some, inl, inr, slice_get}
 use Rattle.std.specs.List.{AllByRecursion}
 use Rattle.std.specs.Prelude.{◌⊎◌}
 use Rattle.account_table.specs.declared.account.Account.{Account}
@@ -25,7 +25,6 @@ use Rattle.logon_runs.specs.Phases.{Coming, Dials, scene_of, with_its_controller
 use Rattle.logon_runs.specs.Rests.{AtRest, ClientRests, moved_by, three_in}
 use Rattle.logon_runs.specs.Scenes.{Scene, Shows}
 use Rattle.logon_runs.specs.Staying.{HasSameEnds}
-use Rattle.logon_runs.specs.Waiting.{waiting}
 use Rattle.logon_runs.specs.Any.AnyStarts.{AreThree, coming_from}
 use Rattle.logon_runs.proofs.FailingLaws.{failings_are_seen}
 use Rattle.logon_runs.proofs.OtherLaws.{others_are_left}
@@ -34,7 +33,7 @@ use Rattle.logon_runs.proofs.RestStayLaws.{rest_with}
 use Rattle.logon_runs.proofs.StartLaws.{starts_are_seen}
 use Rattle.logon_runs.proofs.StayingLaws.{both_same, ends_stay, starts_same}
 use Rattle.logon_runs.proofs.TurningSceneLaws.{scenes_turn}
-use Rattle.logon_runs.proofs.Any.AnyRunLaws.{moved_same, none_up_to, route_still}
+use Rattle.logon_runs.proofs.Any.AnyRunLaws.{none_up_to, route_still}
 use Rattle.logon_runs.proofs.Any.RestAgainLaws.{same_or_not, some_same}
 
 -- the client has its outcome, and all else is as at rest

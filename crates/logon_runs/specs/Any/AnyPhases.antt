@@ -1,6 +1,6 @@
 -- The phases of a logon at any member, whatever its controller answers: each move leads from one to another, to the end,
 -- or to the member that lets the client in (MS-NLMP 3.2.5.1.2; MS-NRPC 3.1.4.1 to 3.1.4.5; the order of moves is any).
-use Rattle.std.specs.Prelude.{ℕ, ◌≡◌, ◌<◌, ◌^◌, ◌⊎◌, true, false, List, [], ◌∷◌, length, None, Some, slice_get}
+use Rattle.std.specs.Prelude.{ℕ, ◌≡◌, ◌<◌, ◌^◌, ◌⊎◌, true, false, List, [], ◌∷◌, length, None, Some}
 use Rattle.wire_base.specs.Maps.{lookup}
 use Rattle.wire_base.specs.Names.{IsName, same_name}
 use Rattle.logon_stubs.specs.Ranges.{IsBlock}
@@ -41,15 +41,15 @@ use Rattle.logon_steps.specs.Meeting.{HasShortNames}
 use Rattle.logon_steps.specs.Turning.{IsTurnReply}
 use Rattle.logon_runs.specs.LinkScenes.{rest_scene}
 use Rattle.logon_runs.specs.Others.{IsStepOn}
-use Rattle.logon_runs.specs.Phases.{Acked, Aim, Answers, Binds, BindsBefore, BindsHeld, Calls, Challenged, Coming, Dials, DialsBefore, DialsHeld, DrawsFew, Echoed, Echoes, First, Granted, Halved, HasJoined, HasThree, IsAnswering, LogonPhase, Named, Proved, Second, Third, TurnAt, WhoAsked, own, scene_of, turn_on}
+use Rattle.logon_runs.specs.Phases.{Acked, Aim, Answers, Binds, BindsBefore, BindsHeld, Calls, Challenged, Coming, Dials, DialsBefore, DialsHeld, DrawsFew, Echoed, Echoes, First, Granted, Halved, HasJoined, HasThree, IsAnswering, LogonPhase, Named, Proved, Second, Third, TurnAt, WhoAsked, scene_of, turn_on}
 use Rattle.logon_runs.specs.Rests.{HasOwnComputer}
 use Rattle.logon_runs.specs.Runs.{Asked}
 use Rattle.logon_runs.specs.Scenes.{Scene, Shows}
 use Rattle.logon_runs.specs.TurnedAway.{AwayPhase, Faulted, Refused, Settled, Unheard, away_scene, settled_in}
-use Rattle.logon_runs.specs.TurnScenes.{Turn, turn_scene, unit_back}
+use Rattle.logon_runs.specs.TurnScenes.{turn_scene, unit_back}
 use Rattle.logon_runs.specs.Waiting.{waiting}
 use Rattle.logon_runs.specs.Any.ControllerAnswers.{TellsShort}
-use Rattle.logon_runs.specs.Any.GrantRests.{CanGoOn, judged_scene}
+use Rattle.logon_runs.specs.Any.GrantRests.{judged_scene}
 
 -- ---- what is known of the member
 
