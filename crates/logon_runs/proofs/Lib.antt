@@ -29,3 +29,4 @@ pub mod PassingLaws
 pub mod GrantsToldLaws
 pub mod RestStayLaws
 pub mod ExampleLogonLaws
+pub mod Keys

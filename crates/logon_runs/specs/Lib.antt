@@ -23,3 +23,4 @@ pub mod TurnedAway
 pub mod Passing
 pub mod GrantsTold
 pub mod ExampleLogon
+pub mod Keys

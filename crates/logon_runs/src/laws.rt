@@ -11,6 +11,7 @@ ghost use Rattle.logon_runs.specs.FirstTraces.{FirstLogonsAreSeen, FirstTurnsAre
 ghost use Rattle.logon_runs.specs.FirstWorlds.{FirstWorldsRun};
 ghost use Rattle.logon_runs.specs.Grants.{GrantsAreTold};
 ghost use Rattle.logon_runs.specs.GrantsTold.{GrantsTell};
+ghost use Rattle.logon_runs.specs.Keys.Differing.{KeysMayDiffer};
 ghost use Rattle.logon_runs.specs.LinkScenes.{MeetingsAreSeen};
 ghost use Rattle.logon_runs.specs.LogonRuns.{LogonsRun};
 ghost use Rattle.logon_runs.specs.Others.{OthersAreLeft};
@@ -218,4 +219,11 @@ pub fn grants_tell()
 #[tactic(auto, using(crate::proofs::RestStayLaws::rests_stay))]
 pub fn rests_stay()
     ensures { RestsStay }
+{}
+
+/// A request at a member and a reply at its client, whatever sessions both have: the member answers or closes the
+/// link, and the client has an outcome or asks for its echo.
+#[tactic(auto, using(crate::proofs::Keys::DifferingLaws::keys_may_differ))]
+pub fn keys_may_differ()
+    ensures { KeysMayDiffer }
 {}

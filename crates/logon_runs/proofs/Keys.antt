@@ -1,0 +1,3 @@
+pub mod EchoSizeLaws
+pub mod OpeningLaws
+pub mod DifferingLaws
