@@ -1,3 +1,6 @@
 pub mod EchoSizeLaws
 pub mod OpeningLaws
 pub mod DifferingLaws
+pub mod ClosingLaws
+pub mod LetInStepLaws
+pub mod LetInLaws

@@ -12,6 +12,7 @@ ghost use Rattle.logon_runs.specs.FirstWorlds.{FirstWorldsRun};
 ghost use Rattle.logon_runs.specs.Grants.{GrantsAreTold};
 ghost use Rattle.logon_runs.specs.GrantsTold.{GrantsTell};
 ghost use Rattle.logon_runs.specs.Keys.Differing.{KeysMayDiffer};
+ghost use Rattle.logon_runs.specs.Keys.LetIn.{GrantsGoOn};
 ghost use Rattle.logon_runs.specs.LinkScenes.{MeetingsAreSeen};
 ghost use Rattle.logon_runs.specs.LogonRuns.{LogonsRun};
 ghost use Rattle.logon_runs.specs.Others.{OthersAreLeft};
@@ -226,4 +227,11 @@ pub fn rests_stay()
 #[tactic(auto, using(crate::proofs::Keys::DifferingLaws::keys_may_differ))]
 pub fn keys_may_differ()
     ensures { KeysMayDiffer }
+{}
+
+/// A logon that a member takes as granted, with whatever key, goes on at each move to its end: the client has its
+/// outcome, and no link is open. No challenge is drawn.
+#[tactic(auto, using(crate::proofs::Keys::LetInLaws::grants_go_on))]
+pub fn grants_go_on()
+    ensures { GrantsGoOn }
 {}

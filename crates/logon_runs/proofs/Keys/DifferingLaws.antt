@@ -315,10 +315,10 @@ answered task sent on bytes (inr is) = inr (record { reply = is.bytes; later = i
 -- ---- a request that a client sends
 
 pub record Asks (level call opnum : ℕ) (stub : List ℕ) (session : Option SessionState) (sent : ℕ) : Type 0 where
-  sending : Sending
-  goes : send_call session level (request_of call 0 opnum stub) 5840 ≡ Some sending
-  request : IsRequest call opnum sending.bytes
-  has : HasSent (suc sent) sending.session
+  pub sending : Sending
+  pub goes : send_call session level (request_of call 0 opnum stub) 5840 ≡ Some sending
+  pub request : IsRequest call opnum sending.bytes
+  pub has : HasSent (suc sent) sending.session
 
 signed_asks : (level call opnum : ℕ) (stub : List ℕ) (s : SessionState) (sent : ℕ) → call < 2 ^ 32 → opnum < 2 ^ 16 → length stub ≤ 5792 → HasSent sent (Some s) →
     TravelsToMember (is_sealed level) (signed_request_at level call opnum stub) s (mirror s) → Asks level call opnum stub (Some s) sent
