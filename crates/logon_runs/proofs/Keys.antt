@@ -4,3 +4,4 @@ pub mod DifferingLaws
 pub mod ClosingLaws
 pub mod LetInStepLaws
 pub mod LetInLaws
+pub mod GrantRestLaws

@@ -1,6 +1,8 @@
 //! Laws of the moves of a world, where little waits in it. Each function does nothing, and its
 //! clause is the law.
 
+ghost use Rattle.logon_runs.specs.Any.ControllerAnswers.{ControllersAnswer};
+ghost use Rattle.logon_runs.specs.Any.GrantRests.{GrantsRest};
 ghost use Rattle.logon_runs.specs.AskScenes.{LogonsAreSeen};
 ghost use Rattle.logon_runs.specs.ExampleLogon.{AnnLogsOn};
 ghost use Rattle.logon_runs.specs.FailingSteps.{FailingsStep};
@@ -234,4 +236,18 @@ pub fn keys_may_differ()
 #[tactic(auto, using(crate::proofs::Keys::LetInLaws::grants_go_on))]
 pub fn grants_go_on()
     ensures { GrantsGoOn }
+{}
+
+/// A controller answers each call of a member's turn by one reply, whatever it keeps of that
+/// computer, and keeps the channels of the others.
+#[tactic(auto, using(crate::proofs::Any::ControllerAnswerLaws::controllers_answer))]
+pub fn controllers_answer()
+    ensures { ControllersAnswer }
+{}
+
+/// A logon that a member takes as granted, with whatever key, comes to rest: once nothing waits its client has an
+/// outcome, all other ends are as they were, and no challenge was drawn.
+#[tactic(auto, using(crate::proofs::Keys::GrantRestLaws::grants_rest))]
+pub fn grants_rest()
+    ensures { GrantsRest }
 {}

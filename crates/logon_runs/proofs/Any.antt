@@ -1,0 +1,3 @@
+-- Of logons at any member.
+pub mod AnyStartLaws
+pub mod ControllerAnswerLaws

@@ -1,0 +1,4 @@
+-- Logons at any member, whatever its controller answers: what controllers answer, the phases, and where they lead.
+pub mod AnyPhases
+pub mod ControllerAnswers
+pub mod GrantRests
