@@ -1,7 +1,7 @@
 -- A request that comes to a member, and a reply that comes to its client, whatever session each of both has.
 -- Of `keys_may_differ`.
-use Rattle.std.proofs.Common.{◌≡◌, ℕ, ◌≤◌, ◌<◌, ◌+◌, ◌-◌, ◌^◌, ◌==◌, suc, Bool, true, false, List, [], ◌∷◌, ◌++◌, length, Option, Some, None, Result, Ok, Err, refl, sym, ap, subst, ◌∙◌, arith, inl, inr}
-use Rattle.std.specs.Prelude.{◌⊎◌, ◌&&◌, nat_le, bytes_eq}
+use Rattle.std.proofs.Common.{◌≡◌, ℕ, ◌≤◌, ◌<◌, ◌-◌, ◌^◌, ◌==◌, suc, Bool, true, false, List, length, Option, Some, None, Result, Ok, Err, refl, ap, subst, ◌∙◌, arith, inl, inr}
+use Rattle.std.specs.Prelude.{◌⊎◌, nat_le, bytes_eq}
 use Rattle.std.proofs.lemmas.Bool.{and_parts, eqb-true}
 use Rattle.ntlm_seal.specs.Sessions.{SessionState}
 use Rattle.outside.specs.declared.action.CloseCause.{CloseCause}
@@ -13,7 +13,6 @@ use Rattle.rpc_units.specs.declared.unit.Trailer.{Trailer}
 use Rattle.rpc_units.specs.declared.unit.Unit.{Unit as RpcUnit}
 use Rattle.rpc_units.specs.Calls.{CanBeSent, bytes_of_call}
 use Rattle.rpc_units.specs.Joining.{answer_by, joined_by, joined_of}
-use Rattle.rpc_units.specs.Numbers.{nca_op_rng_error, nca_proto_error, rpc_x_bad_stub_data}
 use Rattle.rpc_units.specs.Reading.{unit_of}
 use Rattle.rpc_units.specs.Writing.{IsSendable, written}
 use Rattle.rpc_units.proofs.ShortLaws.{written_short}
@@ -22,7 +21,7 @@ use Rattle.end_links.specs.Agreed.{accepts}
 use Rattle.end_links.specs.Binding.{limit_of as unit_limit}
 use Rattle.end_links.specs.Sending.{fault_of, request_of}
 use Rattle.memo_stubs.specs.declared.refused.MemoRefused.{MemoRefused}
-use Rattle.memo_stubs.specs.Memo.{echo_reply_of, echo_request_of, who_of, written_echo_reply, written_echo_request, written_who_reply}
+use Rattle.memo_stubs.specs.Memo.{echo_reply_of, echo_request_of, who_of, written_echo_request}
 use Rattle.memo_stubs.proofs.MemoLaws.{request_stub, who_stub}
 use Rattle.wire_base.specs.Units.{AreUnits}
 use Rattle.logon_client.specs.declared.hearing.Heard.{Heard}
@@ -48,8 +47,6 @@ use Rattle.member_server.specs.Memo.{call_answer, echo_answer, memo_answer, who_
 use Rattle.member_server.specs.Requests.{after_opening, cause_by, join_by, join_if, join_unit, open_unit, reply, seal_reply, send_reply, signed_cause, signed_unit, talk_in, unit_in, with_session}
 use Rattle.member_server.specs.Sealing.{Opening, is_due, opening_by}
 use Rattle.member_server.specs.Work.{Served, send, shut, stay}
-use Rattle.logon_steps.specs.ClientSteps.{client_at, on_link}
-use Rattle.logon_steps.specs.Meeting.{bound_for}
 use Rattle.logon_steps.specs.MemoCalls.{logged_on}
 use Rattle.logon_steps.specs.Securing.{HasRoom, Travels, TravelsToClient, TravelsToMember}
 use Rattle.logon_steps.proofs.ClientStepLaws.{echo_length, echo_are, link_hears, stepped}

@@ -1,12 +1,11 @@
 -- What is echoed has at most 4,096 bytes, whatever stub it was read from, and its reply has a few more.
 -- Of `keys_may_differ`.
-use Rattle.std.proofs.Common.{◌≡◌, ℕ, ◌≤◌, ◌+◌, ◌-◌, Bool, true, false, List, ◌++◌, take, drop, length, Option, Some, None, Result, Ok, Err, refl, sym, ap, arith, if◌then◌else◌}
+use Rattle.std.proofs.Common.{◌≡◌, ℕ, ◌≤◌, ◌+◌, Bool, true, false, List, ◌++◌, take, drop, length, Some, None, Result, Ok, Err, refl, ap, arith, if◌then◌else◌}
 use Rattle.std.specs.Int.{to_le_bytes, w32}
 use Rattle.std.specs.Prelude.{nat_le, replicate}
 use Rattle.std.proofs.lemmas.Bool.{leb-true}
 use Rattle.std.proofs.lemmas.List.{length-append, length-replicate, length-take}
 use Rattle.wire_base.proofs.NumberLaws.{length-to_le_bytes}
-use Rattle.ndr_codec.specs.declared.refused.NdrRefused.{NdrRefused}
 use Rattle.ndr_codec.specs.Cursor.{Cursor}
 use Rattle.ndr_codec.specs.Layout.{long, padding, raw, start_of}
 use Rattle.ndr_codec.specs.Reading.{guarded, item_by, lifted, read, read_on, read_raw, refused_as}

@@ -1,15 +1,13 @@
 -- A logon that its member was answered as granted, with whatever key, move by move.
 -- Of `grants_go_on`.
-use Rattle.std.proofs.Common.{◌≡◌, ℕ, ◌≤◌, ◌<◌, ◌-◌, ◌^◌, ◌==◌, suc, Bool, true, false, List, [], ◌∷◌, ◌++◌, length, Option, Some, None, refl, sym, ap, subst, ◌∙◌, arith, inl, inr, slice_get}
+use Rattle.std.proofs.Common.{◌≡◌, ℕ, ◌≤◌, ◌<◌, ◌^◌, ◌==◌, suc, Bool, true, false, List, [], ◌∷◌, ◌++◌, length, Some, None, refl, sym, ap, subst, ◌∙◌, arith, inl, inr, slice_get}
 use Rattle.std.specs.Prelude.{◌⊎◌, ◌&&◌}
 use Rattle.wire_base.specs.Maps.{lookup, same_number, take_out}
 use Rattle.wire_base.specs.Units.{AreUnits}
 use Rattle.ntlm_flags.specs.Flags.{has_flag, negotiate_extended_sessionsecurity}
 use Rattle.ntlm_messages.specs.declared.messages.Authenticate.{Authenticate}
-use Rattle.ntlm_seal.specs.Sessions.{SessionState}
 use Rattle.outside.specs.declared.action.Action.TheVariants as action
 use Rattle.outside.specs.declared.action.CloseCause.TheVariants as close
-use Rattle.end_links.specs.Sending.{request_of}
 use Rattle.logon_stubs.specs.declared.calls.Reply.{Reply}
 use Rattle.logon_stubs.specs.declared.info.NetworkInfo.{NetworkInfo}
 use Rattle.logon_stubs.specs.declared.info.SamInfo.{SamInfo}
@@ -33,7 +31,7 @@ use Rattle.logon_client.specs.declared.state.Question.TheVariants as client_ques
 use Rattle.logon_client.specs.declared.state.Terms.{Terms}
 use Rattle.logon_client.specs.Machine as client
 use Rattle.logon_client.specs.Plans.{CanLogOn, is_signed}
-use Rattle.logon_client.specs.Securing.{send_call, session_if}
+use Rattle.logon_client.specs.Securing.{session_if}
 use Rattle.member_server.specs.declared.outcomes.Ending.TheVariants as ending
 use Rattle.member_server.specs.declared.state.LoggedOn.{LoggedOn}
 use Rattle.member_server.specs.declared.state.Logon.{Logon}
@@ -42,7 +40,6 @@ use Rattle.member_server.specs.Outcomes.{key_in, name_in, outcome_of, session_by
 use Rattle.member_server.specs.Requests.{talk_in}
 use Rattle.world_moves.specs.declared.bag.BagUnit.{BagUnit}
 use Rattle.world_moves.specs.declared.links.EndId.TheVariants.{Client, Member}
-use Rattle.world_moves.specs.declared.links.OpenLink.{OpenLink}
 use Rattle.world_moves.specs.declared.links.Route.{Route}
 use Rattle.world_moves.specs.declared.links.Route.TheVariants.{ToMember}
 use Rattle.world_moves.specs.declared.moves.Move.{Move}
@@ -60,10 +57,10 @@ use Rattle.logon_steps.proofs.ClientStepLaws.{clients_step}
 use Rattle.logon_steps.proofs.ControllerTurnLaws.{controllers_step}
 use Rattle.logon_steps.proofs.MemberLinkLaws.{links_step}
 use Rattle.logon_steps.proofs.StreamLaws.{same}
-use Rattle.logon_steps.proofs.TurningLaws.{ComesAtOnce, response_comes}
+use Rattle.logon_steps.proofs.TurningLaws.{response_comes}
 use Rattle.logon_runs.specs.Failings.{failing_turn, settled_at}
 use Rattle.logon_runs.specs.Keys.Differing.{AreTerms, AsksEcho, HasItsOutcome, HasSent, IsLetIn, IsReplied, IsRequest, IsShut, IsSingle}
-use Rattle.logon_runs.specs.Keys.LetIn.{Asks, FitsLetIn, GoesOn, GrantsGoOn, HasEndedAt, Hears, IsOnLink, LetInPhase, answered_by, asked_by, let_in_scene, opnum_of}
+use Rattle.logon_runs.specs.Keys.LetIn.{Asks, FitsLetIn, GoesOn, GrantsGoOn, HasEndedAt, Hears, IsOnLink, LetInPhase, answered_by, asked_by, let_in_scene}
 use Rattle.logon_runs.specs.LinkScenes.{IsJoined, Meeting, its_link, meeting_scene, rest_scene, unit_down, unit_up}
 use Rattle.logon_runs.specs.Others.{AreAmong, IsStepOn}
 use Rattle.logon_runs.specs.Phases.{Coming, WhoAsked, key_at, terms_at}

@@ -1,15 +1,12 @@
 -- The steps of a member that lets a client in, with whatever key, and of one on whose link somebody is let in.
 -- Of `grants_go_on`.
-use Rattle.std.proofs.Common.{◌≡◌, ℕ, ◌<◌, ◌^◌, List, [], ◌∷◌, ◌++◌, Bool, None, Ok, refl, ap, ◌∙◌, arith}
+use Rattle.std.proofs.Common.{◌≡◌, ℕ, ◌<◌, ◌^◌, List, [], ◌∷◌, None, refl, ap, ◌∙◌}
 use Rattle.outside.specs.declared.action.Action.{Action}
 use Rattle.outside.specs.declared.action.Action.TheVariants as action
 use Rattle.outside.specs.declared.action.CloseCause.TheVariants as close
 use Rattle.outside.specs.declared.event.Event.TheVariants as event
-use Rattle.outside.specs.declared.action.Outcome.{Outcome}
 use Rattle.outside.specs.Machine.{step_by, whole_step}
 use Rattle.rpc_units.specs.Calls.{bytes_of_call}
-use Rattle.rpc_units.specs.declared.unit.Unit.{Unit as RpcUnit}
-use Rattle.rpc_units.specs.Reading.{unit_of}
 use Rattle.end_links.specs.Links.{LinkState}
 use Rattle.logon_stubs.specs.declared.calls.Reply.{Reply}
 use Rattle.logon_stubs.specs.declared.info.NetworkInfo.{NetworkInfo}

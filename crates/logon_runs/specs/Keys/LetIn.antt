@@ -41,7 +41,7 @@ use Rattle.logon_runs.specs.Failings.{failing_turn, settled_at}
 use Rattle.logon_runs.specs.Keys.Differing.{AreTerms, IsLetIn, IsSingle, IsRequest}
 use Rattle.logon_runs.specs.LinkScenes.{IsJoined, Meeting, its_link, meeting_scene, rest_scene, unit_down, unit_up}
 use Rattle.logon_runs.specs.Others.{AreAmong, IsStepOn}
-use Rattle.logon_runs.specs.Phases.{Coming, WhoAsked, own, terms_at}
+use Rattle.logon_runs.specs.Phases.{Coming, WhoAsked, terms_at}
 use Rattle.logon_runs.specs.Rests.{three_of}
 use Rattle.logon_runs.specs.Runs.{Asked}
 use Rattle.logon_runs.specs.Scenes.{Scene, Shows}
