@@ -127,7 +127,7 @@ rests_so p s (move.Restart number) goes at = absurd goes
 
 -- ---- something waits
 
-one_waits : {T : Type 0} (items : List T) (one : T) (more : List T) → items ≡ one ∷ more → items ≡ [] → ⊥
+pub one_waits : {T : Type 0} (items : List T) (one : T) (more : List T) → items ≡ one ∷ more → items ≡ [] → ⊥
 one_waits items one more are none = absurd cc
 
 pub waits_so : (p : Coming) (s : State) (phase : LogonPhase p) (left : List (List ℕ)) (moment : ℕ) → Shows s (scene_of p phase left moment) → s.dials ≡ [] → waiting s.bag ≡ [] → ⊥

@@ -1,6 +1,8 @@
 //! Laws of the moves of a world, where little waits in it. Each function does nothing, and its
 //! clause is the law.
 
+ghost use Rattle.logon_runs.specs.Any.AnyPhases.{AnyPhasesGoOn};
+ghost use Rattle.logon_runs.specs.Any.AnyStarts.{AnyLogonsStart};
 ghost use Rattle.logon_runs.specs.Any.ControllerAnswers.{ControllersAnswer};
 ghost use Rattle.logon_runs.specs.Any.GrantRests.{GrantsRest};
 ghost use Rattle.logon_runs.specs.AskScenes.{LogonsAreSeen};
@@ -250,4 +252,18 @@ pub fn controllers_answer()
 #[tactic(auto, using(crate::proofs::Keys::GrantRestLaws::grants_rest))]
 pub fn grants_rest()
     ensures { GrantsRest }
+{}
+
+/// A logon at any member goes on at each move, whatever its controller answers, to its end or to
+/// where the member lets the client in. The client then has its outcome, and no link is open.
+#[tactic(auto, using(crate::proofs::Any::AnyPhaseLaws::any_phases_go_on))]
+pub fn any_phases_go_on()
+    ensures { AnyPhasesGoOn }
+{}
+
+/// A client that starts at rest is in a phase of its logon, at any member. Once the logon is over
+/// the world rests again.
+#[tactic(auto, using(crate::proofs::Any::AnyBeginLaws::any_logons_start))]
+pub fn any_logons_start()
+    ensures { AnyLogonsStart }
 {}

@@ -39,6 +39,10 @@ use Rattle.logon_runs.proofs.TurnedAwayLaws.{lost_at}
 use Rattle.logon_runs.proofs.TurnSceneLaws.{turns_are_seen}
 use Rattle.logon_runs.proofs.TwoLinkLaws.{got_last, turns_have_links}
 
+-- no channel is known at the controller
+abbrev pub no_channel : ChannelState
+no_channel = record { secret = []; client = []; server = []; flags = 0; seed = [] }
+
 -- ---- the phase that follows
 
 away_seen : (p : Coming) (s : State) (phase : AwayPhase p) (left : List (List ℕ)) (moment : ℕ) → Shows s (away_scene p phase left moment) → s.chances.left ≡ left
@@ -188,19 +192,19 @@ module _ (plan : Plan) (p : Coming) (s : State) where
     others = λ other apart. refl;
   }
 
-  -- by how the member's channel stands; what its controller keeps of it isn't known
+  -- by how the member's channel stands
   answers_by : (how : Standing) → p.meeting.how ≡ how → MayStand plan p p.computers how → (a : Asked) (who : WhoAsked p a) (left : List (List ℕ)) (moment : ℕ) → IsAble plan p → IsReadyBy plan p s →
-      IsAnswering p a → ChannelState → Shows s (scene_of p (Answers a who) left moment) → IsOnward plan p s (onward s).state
-  answers_by standing.Nothing so stands a who left moment able ready is c shows =
+      IsAnswering p a → Shows s (scene_of p (Answers a who) left moment) → IsOnward plan p s (onward s).state
+  answers_by standing.Nothing so stands a who left moment able ready is shows =
       let three : HasThree s.chances.left = ready.draws in
       leads_less _ (On (DialsBefore a who (turn_first_of p) (First three.one))) (three.one ∷ []) (three.two ∷ three.three ∷ three.more) moment (omega arith) three.are
       (turns_first a able is, three.first)
       (logons_are_seen.asks_first s (own p) (waits_for p a who.later) a.challenge a.one a.two a.three three.one who.sent a.then_now p.table p.name p.computers
       (three.two ∷ three.three ∷ three.more) moment so able.can able.names is.draws
       (left_so s (λ (l : List (List ℕ)). scene_of p (Answers a who) l moment) left _ shows.left three.are shows))
-  answers_by (standing.Half client server) so stands a who left moment able ready is c shows = absurd stands
-  answers_by (standing.Open o) so stands a who left moment able ready is c shows =
-      leads _ (On (DialsBefore a who (turn_first_of p) (Third o c (timestamp_of moment)))) left moment shows.left
+  answers_by (standing.Half client server) so stands a who left moment able ready is shows = absurd stands
+  answers_by (standing.Open o) so stands a who left moment able ready is shows =
+      leads _ (On (DialsBefore a who (turn_first_of p) (Third o no_channel (timestamp_of moment)))) left moment shows.left
       (turns_first a able is, (timestamp_below moment, stands))
       (logons_are_seen.asks_again s (own p) o (waits_for p a who.later) a.challenge a.one a.two a.three who.sent a.then_now p.table p.name p.computers left moment
       so able.can able.names is.draws shows)
@@ -208,4 +212,4 @@ module _ (plan : Plan) (p : Coming) (s : State) where
   pub any_answers : (a : Asked) (who : WhoAsked p a) (left : List (List ℕ)) (moment : ℕ) → IsAble plan p → IsReadyBy plan p s → IsAnswering p a →
       Shows s (scene_of p (Answers a who) left moment) → IsOnward plan p s (onward s).state
   any_answers a who left moment able ready is shows =
-      answers_by p.meeting.how refl able.stands a who left moment able ready is (record { secret = []; client = []; server = []; flags = 0; seed = [] }) shows
+      answers_by p.meeting.how refl able.stands a who left moment able ready is shows
