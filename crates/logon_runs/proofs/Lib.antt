@@ -30,3 +30,4 @@ pub mod Any
 pub mod GrantsToldLaws
 pub mod RestStayLaws
 pub mod ExampleLogonLaws
+pub mod Keys

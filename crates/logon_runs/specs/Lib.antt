@@ -25,3 +25,4 @@ pub mod Any
 pub mod AnyLogons
 pub mod GrantsTold
 pub mod ExampleLogon
+pub mod Keys

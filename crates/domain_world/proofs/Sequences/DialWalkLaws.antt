@@ -1,6 +1,6 @@
 -- What holds through the moves of a world of its ends, its dials, the draws, and the turns that are written down:
--- whatever holds through each step of an end. It knows of each action that it is done once, and of each answer to a dial
--- that the dial waited.
+-- whatever holds through each step of an end. It knows of each action that it is done once, and of each answer to a
+-- dial that the dial waited.
 -- It serves `sequences_are_own`.
 use Rattle.std.proofs.Common.{◌≡◌, ℕ, Bool, true, false, List, [], ◌∷◌, ◌++◌, drop, length, Option, Some, None, slice_get, refl, sym, subst, ◌∙◌}
 use Rattle.std.proofs.lemmas.List.{append_assoc, append-nil}
@@ -32,8 +32,8 @@ use Rattle.world_moves.specs.World.{World, happens, run}
 use Rattle.domain_world.specs.Past.{book, note, note_coming, turns_in}
 use Rattle.domain_world.proofs.Sequences.TurnBookLaws.{coming_turns}
 
--- What is to hold: of whose dial is answered, and of what was given and isn't done yet; of the members' plans, the ends,
--- the dials and the draws; and of what was given in this move, and the turns that are written down.
+-- What is to hold: of whose dial is answered, and of what was given and isn't done yet; of the members' plans, the
+-- ends, the dials and the draws; and of what was given in this move, and the turns that are written down.
 abbrev pub DialFact : Type 1
 DialFact = Option EndId → Given → List MemberPlan → EndStates → List Waiting → Drawing → Given → List LogonTurn → Type 0
 

@@ -1,5 +1,5 @@
--- What is known of the calls of members' turns is kept through all that happens in a run, where it is kept as bytes come
--- at a member. It serves `sequences_are_shared`.
+-- What is known of the calls of members' turns is kept through all that happens in a run, where it is kept as bytes
+-- come at a member. It serves `sequences_are_shared`.
 use Rattle.std.proofs.Common.{◌≡◌, ℕ, ◌+◌, ◌-◌, ◌≤◌, false, List, [], ◌∷◌, ◌++◌, length, replicate, inl, inr, Option, Some, None, slice_get, slice_set, refl, sym, ap, subst, ◌∙◌, arith}
 use Rattle.std.proofs.lemmas.List.{append-nil}
 use Rattle.outside.specs.Drawing.{Drawing}

@@ -43,8 +43,8 @@ on_channel channel turn = same_channel turn.channel channel
 abbrev pub stamps_on : Channel → List LogonTurn → List ℕ
 stamps_on channel turns = map (λ (turn : LogonTurn). turn.timestamp) (filter (on_channel channel) turns)
 
--- What is known of a requester and of the turns of its member: the challenges that it holds were drawn, no turn was on a
--- channel that is only being opened, and the seed is that of the turns on the channel that stands.
+-- What is known of a requester and of the turns of its member: the challenges that it holds were drawn, no turn was on
+-- a channel that is only being opened, and the seed is that of the turns on the channel that stands.
 pub record Turned (v : View) (own : List LogonTurn) (drawn : List (List ℕ)) : Type 0 where
   pub held : (challenge : List ℕ) → Holds v challenge → IsDrawn challenge drawn
   pub fresh : (challenge : List ℕ) → v.opening ≡ Some challenge → AllByRecursion (λ (turn : LogonTurn). turn.channel.client ≡ challenge → ⊥) own

@@ -26,7 +26,6 @@ use Rattle.logon_runs.specs.Rests.{AtRest, moved_by}
 use Rattle.logon_runs.specs.Staying.{HasSameEnds}
 use Rattle.logon_runs.specs.Waiting.{waiting}
 use Rattle.logon_runs.specs.Any.AnyStarts.{AreThree, IsReachedOrNot}
-use Rattle.logon_runs.specs.Any.GrantRests.{GrantsRest}
 use Rattle.logon_runs.proofs.Any.AnyRunLaws.{reached_rests}
 use Rattle.logon_runs.proofs.Any.UnreachedLaws.{unreached_rests}
 
@@ -88,7 +87,7 @@ many_members (member ∷ members) = ap suc (many_members members)
 
 -- ---- whom the client's dial reaches, and whom its member's
 
-module _ (grants : GrantsRest) (plan : Plan) (s : State) (rest : AtRest plan s) (client : ℕ) (task : ClientPlan) (number : ℕ) (is : IsPlan plan) (forms : HasForms plan) (servers : HasServers plan)
+module _ (plan : Plan) (s : State) (rest : AtRest plan s) (client : ℕ) (task : ClientPlan) (number : ℕ) (is : IsPlan plan) (forms : HasForms plan) (servers : HasServers plan)
     (is_task : slice_get plan.clients client ≡ Some task) (same : HasSameEnds (first_world plan).state s) (chosen : chosen_place number (length s.ends.clients) ≡ Some client)
     (moves : List Move) (steps : AllByRecursion IsStepOn moves) (below : AreBelow moves (start number s).state) (enough : HasEnough (length moves) (start number s).state.chances.left)
     (dials : (moved_by moves (start number s).state).dials ≡ []) (units : waiting (moved_by moves (start number s).state).bag ≡ []) where
@@ -101,7 +100,7 @@ module _ (grants : GrantsRest) (plan : Plan) (s : State) (rest : AtRest plan s) 
   by_three member controller work table is_work is_table to_member reaches =
       let three : AreThree plan client member controller =
       record { task = task; is_task = is_task; member_plan = work; is_member_plan = is_work; table = table; is_table = is_table } in
-      reached_rests grants plan s rest client member controller three ann number is forms same chosen to_member reaches moves steps below enough dials units
+      reached_rests plan s rest client member controller three ann number is forms same chosen to_member reaches moves steps below enough dials units
 
   -- nobody is reached by the member's dial
   by_any : (member : ℕ) (work : MemberPlan) → slice_get plan.members member ≡ Some work → end_of_peer task.server (first_ends plan) ≡ Some (Member member) →
@@ -132,8 +131,8 @@ module _ (grants : GrantsRest) (plan : Plan) (s : State) (rest : AtRest plan s) 
   by_member (Some (Client at)) is_end = by_nobody (ap (λ (end : Option EndId). route_to (Client client) end) is_end)
   by_member None is_end = by_nobody (ap (λ (end : Option EndId). route_to (Client client) end) is_end)
 
-pub logons_rest : GrantsRest → LogonsRest
-logons_rest grants = record {
+pub logons_rest : LogonsRest
+logons_rest = record {
   rests = λ plan s rest client task number is forms servers is_task same chosen moves steps below enough dials units.
-      by_member grants plan s rest client task number is forms servers is_task same chosen moves steps below enough dials units (end_of_peer task.server (first_ends plan)) refl;
+      by_member plan s rest client task number is forms servers is_task same chosen moves steps below enough dials units (end_of_peer task.server (first_ends plan)) refl;
 }

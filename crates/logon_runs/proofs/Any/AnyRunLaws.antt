@@ -27,7 +27,7 @@ use Rattle.logon_runs.specs.Staying.{HasSameEnds}
 use Rattle.logon_runs.specs.Waiting.{waiting}
 use Rattle.logon_runs.specs.Any.AnyPhases.{AnyPhase, Away, IsAble, IsAnywhere, IsDone, IsHeard, IsLetIn, IsOnward, Judged, On, Told, any_scene}
 use Rattle.logon_runs.specs.Any.AnyStarts.{AreThree, HasStarted, IsReachedOrNot, coming_from}
-use Rattle.logon_runs.specs.Any.GrantRests.{GrantsRest, HasSettled, judged_rest}
+use Rattle.logon_runs.specs.Any.GrantRests.{HasSettled, judged_rest}
 use Rattle.logon_runs.proofs.ComeInLaws.{links_among, turn_among}
 use Rattle.logon_runs.proofs.OtherLaws.{others_are_left}
 use Rattle.logon_runs.proofs.PassingLaws.{away_among, away_dials, enough_after, no_dial_among, none_drawn, three_from}
@@ -35,6 +35,7 @@ use Rattle.logon_runs.proofs.StayingLaws.{both_same, ends_stay, reach_still, sta
 use Rattle.logon_runs.proofs.Any.AnyBeginLaws.{any_logons_start}
 use Rattle.logon_runs.proofs.Any.AnyPhaseLaws.{any_phases_go_on}
 use Rattle.logon_runs.proofs.Any.AnyTurnLaws.{left_so_far}
+use Rattle.logon_runs.proofs.Keys.GrantRestLaws.{grants_rest}
 
 -- ---- an address is the same end's in each state
 
@@ -141,15 +142,15 @@ more_drawn moves before between after few more = record {
 pub none_up_to : (moves : ℕ) (before after : List (List ℕ)) → after ≡ before → DrawsUpTo (3 * moves) before after
 none_up_to moves before after same = record { front = []; few = omega arith; are = sym same }
 
-module _ (grants : GrantsRest) (plan : Plan) (p : Coming) (s : State) (able : IsAble plan p) (heard : IsHeard plan p s) where
-  -- the member lets the client in, and what follows is the premise's
+module _ (plan : Plan) (p : Coming) (s : State) (able : IsAble plan p) (heard : IsHeard plan p s) where
+  -- the member lets the client in
   let_in_ends : (now : State) (moves : List Move) → IsLetIn plan p now → OthersStay (three_in p) s now → AllByRecursion IsStepOn moves →
       (moved_by moves (onward now).state).dials ≡ [] → waiting (moved_by moves (onward now).state).bag ≡ [] →
       HasFinished plan p s (suc (length moves)) now (moved_by moves (onward now).state)
   let_in_ends now moves let_in others steps dials units =
       let settled : HasSettled p now (judged_rest p let_in.a let_in.who let_in.v let_in.o let_in.c let_in.timestamp let_in.accounts (after_return true (after_call let_in.o let_in.timestamp)))
       (moved_by moves (onward now).state) =
-      grants.rests p now let_in.a let_in.who let_in.v let_in.o let_in.c let_in.timestamp let_in.accounts let_in.answer (after_return true (after_call let_in.o let_in.timestamp)) let_in.sam
+      grants_rest.rests p now let_in.a let_in.who let_in.v let_in.o let_in.c let_in.timestamp let_in.accounts let_in.answer (after_return true (after_call let_in.o let_in.timestamp)) let_in.sam
       let_in.left let_in.moment
       (record {
         can = able.can;
@@ -216,13 +217,13 @@ module _ (grants : GrantsRest) (plan : Plan) (p : Coming) (s : State) (able : Is
 
 -- ---- from rest to rest
 
-pub reached_rests : GrantsRest → (plan : Plan) (s : State) (rest : AtRest plan s) (client member controller : ℕ) (three : AreThree plan client member controller) (account : Account) (number : ℕ) →
+pub reached_rests : (plan : Plan) (s : State) (rest : AtRest plan s) (client member controller : ℕ) (three : AreThree plan client member controller) (account : Account) (number : ℕ) →
     IsPlan plan → HasForms plan → HasSameEnds (first_world plan).state s → chosen_place number (length s.ends.clients) ≡ Some client →
     end_of_peer three.task.server (first_ends plan) ≡ Some (Member member) → IsReachedOrNot plan member three.member_plan controller →
     (moves : List Move) → AllByRecursion IsStepOn moves → AreBelow moves (start number s).state → HasEnough (length moves) (start number s).state.chances.left →
     (moved_by moves (start number s).state).dials ≡ [] → waiting (moved_by moves (start number s).state).bag ≡ [] →
     LogonRests plan s client three.task (length moves) (start number s).state (moved_by moves (start number s).state)
-reached_rests grants plan s rest client member controller three account number is forms same chosen to_member reaches moves steps below enough dials units =
+reached_rests plan s rest client member controller three account number is forms same chosen to_member reaches moves steps below enough dials units =
     let p : Coming = coming_from plan s rest client member controller three account account in
     let first : State = (start number s).state in
     let after : State = moved_by moves first in
@@ -235,7 +236,7 @@ reached_rests grants plan s rest client member controller three account number i
       ];
     } in
     let finished : HasFinished plan p s (length moves) first after =
-    runs_on grants plan p s started.able heard moves first steps below enough
+    runs_on plan p s started.able heard moves first steps below enough
     (record { others = others_are_left.starts (three_in p) s number chosen rest.opened; same = starts_same number s; at = inl started.at }) dials units in
     record {
       outcome = finished.done.outcome;
