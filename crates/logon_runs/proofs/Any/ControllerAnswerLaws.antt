@@ -1,7 +1,7 @@
 -- What a controller answers to the calls of a member's turn, whatever it keeps.
 -- Of `controllers_answer`.
-use Rattle.std.proofs.Common.{◌≡◌, ℕ, zero, suc, ◌<◌, ◌^◌, Bool, true, false, List, [], ◌∷◌, ◌++◌, length-append, Option, Some, None, refl, ap, ap₂, subst, ◌∙◌, arith, inr, if◌then◌else◌}
-use Rattle.std.specs.Prelude.{◌==◌, bytes_eq, replicate}
+use Rattle.std.proofs.Common.{◌≡◌, ℕ, zero, suc, ◌<◌, ◌≤◌, ◌^◌, Bool, true, false, List, [], ◌∷◌, ◌++◌, length-append, Option, Some, None, refl, ap, ap₂, subst, ◌∙◌, arith, inr, if◌then◌else◌, length, sym}
+use Rattle.std.specs.Prelude.{bytes_eq, replicate}
 use Rattle.wire_base.specs.Maps.{lookup, put}
 use Rattle.wire_base.specs.Names.{IsName, same_name}
 use Rattle.wire_base.specs.Numbers.{AreBytes}
@@ -39,13 +39,9 @@ use Rattle.end_links.specs.Links.{LinkState}
 use Rattle.end_links.specs.Serving.{ServedPart, served_cut}
 use Rattle.channel_client.specs.Hidden.{crypt_key, is_zero}
 use Rattle.channel_client.specs.declared.caller.Caller.{Caller}
-use Rattle.channel_client.specs.declared.judging.Judgement.{Judgement as ChannelJudgement}
-use Rattle.channel_client.specs.declared.judging.Judgement.TheVariants as judgement
 use Rattle.channel_client.specs.declared.state.Question.TheVariants as question
-use Rattle.channel_client.specs.declared.state.Standing.{Standing}
-use Rattle.channel_client.specs.declared.state.Standing.TheVariants as standing
-use Rattle.channel_client.specs.Machine.{auth_call, challenge_call, judge_awaited, judge_level, judge_logon, judge_return, judge_status, level_asked, logon_call, offered_flags}
-use Rattle.channel_client.specs.Opened.{OpenState, after_return, is_awaited, open_key}
+use Rattle.channel_client.specs.Machine.{auth_call, challenge_call, level_asked, logon_call, offered_flags}
+use Rattle.channel_client.specs.Opened.{OpenState, open_key}
 use Rattle.channel_client.proofs.WholeLaws.{cred_block}
 use Rattle.domain_controller.specs.Channels.{ChannelState, channel_by, key_of_channel, passes_on, return_by}
 use Rattle.domain_controller.specs.Hearing.{bound_talk}
@@ -68,6 +64,7 @@ use Rattle.logon_steps.proofs.StreamLaws.{same}
 use Rattle.logon_steps.proofs.TurningLaws.{request_joins, request_sends, turns_go_through}
 use Rattle.logon_runs.specs.Any.ControllerAnswers.{ControllersAnswer, KeepsBut, TellsShort, ToldChallenge, ToldLogon, ToldProof}
 use Rattle.logon_runs.specs.Any.GrantRests.{HasShortName}
+use Rattle.logon_runs.proofs.Any.JudgingLaws.{IsLogonJudged, IsNamedIn, info_in, logon_judged}
 use Rattle.logon_runs.proofs.TurnedAwayLaws.{IsRefusalOf, verdict_refuses}
 
 -- ---- a call comes on the one link
@@ -215,51 +212,16 @@ abbrev IsShortIfThere : Option SamInfo → Type 0
 IsShortIfThere None = Unit {0}
 IsShortIfThere (Some info) = HasShortName info
 
--- what is granted by a judgement, if something is
-IsShortGrant : ChannelJudgement → Type 0
-IsShortGrant (judgement.Answer o (verdict.Granted sam)) = HasShortName sam
-IsShortGrant (judgement.Answer o (verdict.Status status)) = Unit {0}
-IsShortGrant (judgement.Half client server) = Unit {0}
-IsShortGrant (judgement.Opened o) = Unit {0}
-IsShortGrant (judgement.Drop cause) = Unit {0}
+short_from : (info : Option SamInfo) (sam : SamInfo) → IsShortIfThere info → IsNamedIn info sam → HasShortName sam
+short_from info sam is named =
+    let told : HasShortName named.told = subst IsShortIfThere named.is is in
+    record {
+      short = subst (λ (name : List ℕ). length name ≤ 129) (sym named.name) told.short;
+      units = subst AreUnits (sym named.name) told.units;
+    }
 
-grant_from : (found : ChannelJudgement) (o : OpenState) (sam : SamInfo) → IsShortGrant found → found ≡ judgement.Answer o (verdict.Granted sam) → HasShortName sam
-unfolding IsShortGrant
-grant_from found o sam is same = subst IsShortGrant same is
-
-level_short : (same : Bool) (info : Option SamInfo) (o : OpenState) → IsShortIfThere info → IsShortGrant (judge_level same info o)
-unfolding IsShortGrant
-level_short false info o is = tt
-level_short true None o is = tt
-level_short true (Some info) o is = record { short = is.short; units = is.units }
-
-status_short : (zeroed : Bool) (status level : ℕ) (info : Option SamInfo) (o : OpenState) → IsShortIfThere info → IsShortGrant (judge_status zeroed status level info o)
-unfolding IsShortGrant
-status_short false status level info o is = tt
-status_short true status level info o is = level_short (level == level_asked) info o is
-
-awaited_short : (awaited : Bool) (status level : ℕ) (info : Option SamInfo) (o : OpenState) → IsShortIfThere info → IsShortGrant (judge_awaited awaited status level info o)
-unfolding IsShortGrant
-awaited_short false status level info o is = tt
-awaited_short true status level info o is = status_short (status == 0) status level info (after_return true o) is
-
-return_short : (returned : Option Authenticator) (status level : ℕ) (info : Option SamInfo) (o : OpenState) → IsShortIfThere info → IsShortGrant (judge_return returned status level info o)
-unfolding IsShortGrant
-return_short None status level info o is = tt
-return_short (Some returned) status level info o is = awaited_short (is_awaited o.awaited returned.credential) status level info o is
-
-logon_short : (denied : Bool) (how : Standing) (returned : Option Authenticator) (status level : ℕ) (info : Option SamInfo) → IsShortIfThere info →
-    IsShortGrant (judge_logon denied how returned status level info)
-unfolding IsShortGrant
-logon_short true how returned status level info is = tt
-logon_short false standing.Nothing returned status level info is = tt
-logon_short false (standing.Half client server) returned status level info is = tt
-logon_short false (standing.Open o) returned status level info is = return_short returned status level info o is
-
-tells_short : (returned : Option Authenticator) (level authoritative status : ℕ) (info : Option SamInfo) → IsShortIfThere info →
-    TellsShort (reply.Logon (record { returned = returned; level = level; info = info; authoritative = authoritative; status = status }))
-tells_short returned level authoritative status info is = λ how secret o sam same.
-    grant_from (judge_logon (status == access_denied) how returned status level info) o sam (logon_short (status == access_denied) how returned status level info is) same
+tells_short : (answer : Reply) → IsShortIfThere (info_in answer) → TellsShort answer
+tells_short answer is = λ o state secret sam same. short_from (info_in answer) sam is (subst (IsLogonJudged (info_in answer) o) same (logon_judged answer o secret)).1
 
 -- the replies
 
@@ -279,7 +241,7 @@ passed_goes key credential (verdict.Status status) block fits refuses =
     let range : InRangeReply r = record { returned = record { credential = block; timestamp = omega arith }; level = omega arith; info = tt; authoritative = omega arith; status = refuses.small } in
     record {
       is = record { opnum = refl; writes = tt; range = range; short = omega (arith, written_reply-few r tt range tt) };
-      names = tells_short (Some (record { credential = credential; timestamp = 0 })) level_asked 1 status None tt;
+      names = tells_short r tt;
     }
 passed_goes key credential (verdict.Granted info) block fits refuses =
     let r : Reply = passed_reply key credential (verdict.Granted info) in
@@ -291,7 +253,7 @@ passed_goes key credential (verdict.Granted info) block fits refuses =
     let short : HasShortTexts (reply_info level_asked key info) = short_at level_asked key info (inr refl) fits.short in
     record {
       is = record { opnum = refl; writes = writes; range = range; short = omega (arith, written_reply-few r writes range short) };
-      names = tells_short returned level_asked 1 0 (Some (reply_info level_asked key info)) (name_so (reply_info level_asked key info) short range.info);
+      names = tells_short r (name_so (reply_info level_asked key info) short range.info);
     }
 
 module _ (table : AccountTable) (name : List ℕ) (computers : Computers) (link now number timestamp : ℕ) (caller : Caller) (o : OpenState) (info : NetworkInfo) (left : List (List ℕ))
@@ -336,7 +298,7 @@ module _ (table : AccountTable) (name : List ℕ) (computers : Computers) (link 
     how = judged.Barred;
     answer = refusal_reply;
     is = refusal_goes;
-    names = tells_short None level_asked 1 access_denied None tt;
+    names = tells_short refusal_reply tt;
     steps = is;
   }
   return_told true channel is =
@@ -368,7 +330,7 @@ module _ (table : AccountTable) (name : List ℕ) (computers : Computers) (link 
     how = judged.NoChannel;
     answer = refusal_reply;
     is = refusal_goes;
-    names = tells_short None level_asked 1 access_denied None tt;
+    names = tells_short refusal_reply tt;
     steps = is;
   }
   channel_told (Some channel) is = return_told (passes_on channel given) channel is
