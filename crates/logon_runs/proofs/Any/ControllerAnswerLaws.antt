@@ -1,6 +1,6 @@
 -- What a controller answers to the calls of a member's turn, whatever it keeps.
 -- Of `controllers_answer`.
-use Rattle.std.proofs.Common.{◌≡◌, ℕ, zero, suc, ◌<◌, ◌≤◌, ◌^◌, Bool, true, false, List, [], ◌∷◌, ◌++◌, length-append, Option, Some, None, refl, ap, ap₂, subst, ◌∙◌, arith, inr, if◌then◌else◌, length, sym}
+use Rattle.std.proofs.Common.{◌≡◌, ℕ, zero, suc, ◌<◌, ◌≤◌, ◌^◌, Bool, true, false, List, [], ◌∷◌, ◌++◌, length-append, Option, Some, None, refl, subst, ◌∙◌, arith, inr, length, sym}
 use Rattle.std.specs.Prelude.{bytes_eq, replicate}
 use Rattle.wire_base.specs.Maps.{lookup, put}
 use Rattle.wire_base.specs.Names.{IsName, same_name}
@@ -13,14 +13,11 @@ use Rattle.channel_keys.specs.Credentials.{cred_of}
 use Rattle.authenticators.specs.Sequences.{authenticator_of, return_of}
 use Rattle.outside.specs.declared.action.Judged.TheVariants as judged
 use Rattle.outside.specs.declared.event.Event.TheVariants as event
-use Rattle.outside.specs.Machine.{Stepped, step_by, then_part}
+use Rattle.outside.specs.Machine.{Stepped}
 use Rattle.rpc_units.specs.Calls.{bytes_of_call}
-use Rattle.rpc_units.specs.Stream.{Cut, cut_stream}
-use Rattle.rpc_units.proofs.CuttingLaws.{call_heard}
 use Rattle.logon_stubs.specs.Ranges.{InRangeReply, InRangeSamInfo, HasShortTexts, IsBlock}
 use Rattle.logon_stubs.specs.Status.{access_denied}
 use Rattle.logon_stubs.specs.Writing.{CanWriteReply}
-use Rattle.logon_stubs.specs.declared.calls.Call.{Call}
 use Rattle.logon_stubs.specs.declared.calls.Reply.{Reply}
 use Rattle.logon_stubs.specs.declared.calls.Reply.TheVariants as reply
 use Rattle.logon_stubs.specs.declared.info.NetworkInfo.{NetworkInfo}
@@ -35,8 +32,7 @@ use Rattle.account_table.specs.declared.account.Account.{Account}
 use Rattle.account_table.proofs.ChangeLaws.{differs-none}
 use Rattle.sam_logon.specs.Verdict.{IfGranted, judgement_of}
 use Rattle.sam_logon.proofs.GrantedLaws.{granting-CanWrite, granting-InRange}
-use Rattle.end_links.specs.Links.{LinkState}
-use Rattle.end_links.specs.Serving.{ServedPart, served_cut}
+use Rattle.end_links.specs.Serving.{ServedPart}
 use Rattle.channel_client.specs.Hidden.{crypt_key, is_zero}
 use Rattle.channel_client.specs.declared.caller.Caller.{Caller}
 use Rattle.channel_client.specs.declared.state.Question.TheVariants as question
@@ -45,9 +41,9 @@ use Rattle.channel_client.specs.Opened.{OpenState, open_key}
 use Rattle.channel_client.proofs.WholeLaws.{cred_block}
 use Rattle.domain_controller.specs.Channels.{ChannelState, channel_by, key_of_channel, passes_on, return_by}
 use Rattle.domain_controller.specs.Hearing.{bound_talk}
-use Rattle.domain_controller.specs.Machine.{Desk, account_for, by_call, channel_for, controller_server, desk, goes_on, judge_account, judge_channel, judge_info, judge_pair, judge_return as return_judged, open_channel, put_channel, put_pair_if, reply_info, send_reply, status_of, take_channel, take_pair}
+use Rattle.domain_controller.specs.Machine.{Desk, account_for, channel_for, desk, goes_on, judge_account, judge_channel, judge_info, judge_pair, judge_return as return_judged, open_channel, put_channel, put_pair_if, reply_info, send_reply, status_of, take_channel, take_pair}
 use Rattle.domain_controller.specs.State.{State}
-use Rattle.domain_controller.specs.Step.{LinkMap, StepPart, after_units, first_desk, halted, serve_on, start_turn, state_after, step_of}
+use Rattle.domain_controller.specs.Step.{after_units, first_desk, step_of}
 use Rattle.domain_controller.specs.Whole.{InRangeTable}
 use Rattle.domain_controller.specs.declared.line.Line.{Line}
 use Rattle.domain_controller.specs.declared.state.Computers.{Computers}
@@ -58,10 +54,9 @@ use Rattle.domain_controller.proofs.LevelLaws.{short_at}
 use Rattle.domain_controller.proofs.WholeParts.{Fits, crypt_block, judged_fits, judged_table}
 use Rattle.logon_steps.specs.Answering.{auth_value, pair_of}
 use Rattle.logon_steps.specs.ControllerTurns.{controller_at, passed_reply, turn_link}
-use Rattle.logon_steps.specs.Turning.{IsTurnCall, IsTurnReply, turn_agreed, turn_request}
+use Rattle.logon_steps.specs.Turning.{IsTurnReply, turn_agreed, turn_request}
+use Rattle.logon_steps.proofs.ControllerTurnLaws.{asked_steps, running, stepped}
 use Rattle.logon_steps.proofs.KnowingLaws.{computers_are_known}
-use Rattle.logon_steps.proofs.StreamLaws.{same}
-use Rattle.logon_steps.proofs.TurningLaws.{request_joins, request_sends, turns_go_through}
 use Rattle.logon_runs.specs.Any.ControllerAnswers.{ControllersAnswer, KeepsBut, TellsShort, ToldChallenge, ToldLogon, ToldProof}
 use Rattle.logon_runs.specs.Any.GrantRests.{HasShortName}
 use Rattle.logon_runs.proofs.Any.JudgingLaws.{IsLogonJudged, IsNamedIn, info_in, logon_judged}
@@ -78,33 +73,11 @@ talk_at = bound_talk None turn_agreed
 
 -- the desk before it
 abbrev desk_at : AccountTable → Computers → ℕ → Desk
-desk_at table computers link = first_desk table (record { computers = computers; links = turn_link link })
+desk_at table computers link = first_desk table (running computers (turn_link link))
 
 -- what an answer makes of the controller
 abbrev answered : AccountTable → List ℕ → Computers → ℕ → List (List ℕ) → ServedPart Desk Talk → Stepped State
-answered table name computers link left part =
-    step_by (λ (after : Desk × LinkMap). after.0.work.actions) (λ (after : Desk × LinkMap). state_after (controller_at table name computers (turn_link link)) after)
-    (halted (controller_at table name computers (turn_link link))) left
-    (then_part (after_units part [] link []) (λ after rest. start_turn after rest))
-
-on_link : (table : AccountTable) (name : List ℕ) (computers : Computers) (link now : ℕ) (piece : List ℕ) (left : List (List ℕ)) (part : ServedPart Desk Talk) →
-    served_cut (controller_server name now link) (cut_stream piece) (desk_at table computers link) talk_at left ≡ part → (cut_stream piece).rest ≡ [] →
-    step_of (controller_at table name computers (turn_link link)) (event.Bytes link piece) now left ≡ answered table name computers link left part
-on_link table name computers link now piece left part served rest =
-    let here : LinkState Talk = record { rest = []; talk = talk_at } in
-    let stepped = λ (found : StepPart).
-    step_by (λ (after : Desk × LinkMap). after.0.work.actions) (λ (after : Desk × LinkMap). state_after (controller_at table name computers (turn_link link)) after)
-    (halted (controller_at table name computers (turn_link link))) left (then_part found (λ after rest. start_turn after rest)) in
-    ap (λ (found : Bool). stepped (serve_on (if found then Some here else None) link piece name now (desk_at table computers link) (if found then [] else turn_link link) left)) (same link)
-    ∙ ap₂ (λ (p : ServedPart Desk Talk) (r : List ℕ). stepped (after_units p r link [])) served rest
-
-call_comes : (table : AccountTable) (name : List ℕ) (computers : Computers) (link now number : ℕ) (c : Call) (left : List (List ℕ)) → number < 2 ^ 32 → IsTurnCall c →
-    step_of (controller_at table name computers (turn_link link)) (event.Bytes link (bytes_of_call (turn_request number c) 5840)) now left
-    ≡ answered table name computers link left (by_call c (line_at link number) talk_at name now (desk_at table computers link) left)
-call_comes table name computers link now number c left below is =
-    on_link table name computers link now (bytes_of_call (turn_request number c) 5840) left _
-    (turns_go_through.hears.call name now link number c (desk_at table computers link) left below is)
-    (ap Cut.rest (call_heard (turn_request number c) 5840 (request_sends number c below is) (request_joins number c is)).stream)
+answered table name computers link left part = stepped table name computers (turn_link link) left (after_units part [] link [])
 
 -- ---- NetrServerReqChallenge
 
@@ -339,11 +312,11 @@ pub controllers_answer : ControllersAnswer
 controllers_answer = record {
   challenge = λ table name computers link now number caller client server left below is.
       challenge_told (knows_in table.accounts caller.computer) table name computers link now number caller client server left
-      (call_comes table name computers link now number (challenge_call caller client) (server ∷ left) below is);
+      (asked_steps table name computers link now number (challenge_call caller client) (server ∷ left) below is);
   proof = λ table name computers link now number caller client server left below is.
       account_told table name computers link now number caller client server left (account_for table (auth_value caller client server)) (lookup same_name caller.computer computers.pending)
-      (call_comes table name computers link now number (auth_call caller client server) left below is);
+      (asked_steps table name computers link now number (auth_call caller client server) left below is);
   logon = λ table name computers link now number timestamp caller o info left below is ranged is_name moment.
       channel_told table name computers link now number timestamp caller o info left ranged is_name moment (lookup same_name caller.computer computers.channels)
-      (call_comes table name computers link now number (logon_call caller o timestamp info) left below is);
+      (asked_steps table name computers link now number (logon_call caller o timestamp info) left below is);
 }
