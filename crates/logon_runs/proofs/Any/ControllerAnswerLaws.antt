@@ -4,7 +4,6 @@ use Rattle.std.proofs.Common.{◌≡◌, ℕ, zero, suc, ◌<◌, ◌≤◌, ◌
 use Rattle.std.specs.Prelude.{bytes_eq, replicate}
 use Rattle.wire_base.specs.Maps.{lookup, put}
 use Rattle.wire_base.specs.Names.{IsName, same_name}
-use Rattle.wire_base.specs.Numbers.{AreBytes}
 use Rattle.wire_base.specs.Units.{AreUnits}
 use Rattle.wire_base.specs.declared.authenticator.Authenticator.{Authenticator}
 use Rattle.wire_base.proofs.MapLaws.{put_others, taken_others}
@@ -55,6 +54,7 @@ use Rattle.domain_controller.proofs.WholeParts.{Fits, crypt_block, judged_fits, 
 use Rattle.logon_steps.specs.Answering.{auth_value, pair_of}
 use Rattle.logon_steps.specs.ControllerTurns.{controller_at, passed_reply, turn_link}
 use Rattle.logon_steps.specs.Turning.{IsTurnReply, turn_agreed, turn_request}
+use Rattle.logon_steps.proofs.CallingLaws.{zeros_block}
 use Rattle.logon_steps.proofs.ControllerTurnLaws.{asked_steps, running, stepped}
 use Rattle.logon_steps.proofs.KnowingLaws.{computers_are_known}
 use Rattle.logon_runs.specs.Any.ControllerAnswers.{ControllersAnswer, KeepsBut, TellsShort, ToldChallenge, ToldLogon, ToldProof}
@@ -102,14 +102,6 @@ proof_goes credential status block small =
     let r : Reply = reply.Authenticate (record { credential = credential; flags = offered_flags; status = status }) in
     let range : InRangeReply r = record { credential = block; flags = omega arith; status = small } in
     record { opnum = refl; writes = tt; range = range; short = omega (arith, written_reply-few r tt range tt) }
-
-zeros_below : (count : ℕ) → AreBytes (replicate count 0)
-zeros_below zero place = omega arith
-zeros_below (suc count) zero = omega arith
-zeros_below (suc count) (suc place) = zeros_below count place
-
-zeros_block : IsBlock 8 (replicate 8 0)
-zeros_block = (refl, zeros_below 8)
 
 module _ (table : AccountTable) (name : List ℕ) (computers : Computers) (link now number : ℕ) (caller : Caller) (client server : List ℕ) (left : List (List ℕ)) where
   -- the computer's challenges are taken out
