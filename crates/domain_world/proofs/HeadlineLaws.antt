@@ -10,6 +10,7 @@ use Rattle.domain_world.specs.Claims.{IsClear}
 use Rattle.domain_world.specs.Claims.AskedFor.{MembersAskForMessages, SendsAskForMessages}
 use Rattle.domain_world.specs.Claims.LetIn.{LetsInWhoAsked}
 use Rattle.domain_world.specs.Claims.SharedSequences.{SequencesAreShared}
+use Rattle.domain_world.specs.Claims.WrittenDown.{MembersAreWrittenDown}
 use Rattle.domain_world.specs.Headline.{Proved}
 use Rattle.domain_world.specs.Past.{Past, past}
 use Rattle.domain_world.proofs.Accepting.AnsweredRunLaws.{short_responses}
@@ -40,9 +41,9 @@ OfSchedules Holds =
 abbrev pub SharesIfClear : Past → Type 0
 SharesIfClear past = IsClear past.book → SequencesAreShared past
 
-pub all_proved : OfRuns LetsInWhoAsked → OfRuns MembersAskForMessages → OfRuns SendsAskForMessages → OfSchedules UnitsAreHeard → OfSchedules SharesIfClear → (plan : Plan) (moves : List Move) →
+pub all_proved : OfRuns LetsInWhoAsked → OfRuns MembersAreWrittenDown → OfRuns MembersAskForMessages → OfRuns SendsAskForMessages → OfSchedules UnitsAreHeard → OfSchedules SharesIfClear → (plan : Plan) (moves : List Move) →
     AreShortUnits (past plan moves).world.state.bag → HaveBytes (past plan moves).world.state.bag → Proved plan moves
-all_proved let_in asked sends heard shared plan moves short bytes = record {
+all_proved let_in written asked sends heard shared plan moves short bytes = record {
   challenges = record { draws = draws_differ plan moves; messages = messages_once plan moves };
   messages = messages_own plan moves (draws_differ plan moves);
   responses = short_responses plan moves (draws_differ plan moves) (draws_are_blocks plan moves);
@@ -56,6 +57,7 @@ all_proved let_in asked sends heard shared plan moves short bytes = record {
   asked = asked plan moves;
   sends = sends plan moves;
   let_in = let_in plan moves;
+  written = written plan moves;
   only = λ schedule clear. runs_heard.only plan moves (heard plan moves schedule short bytes) (draws_differ plan moves) clear;
   all = λ schedule clear. runs_heard.all plan moves (heard plan moves schedule short bytes) (draws_differ plan moves) clear;
   keys = λ schedule clear. runs_heard.keys plan moves (heard plan moves schedule short bytes) (draws_differ plan moves) clear;

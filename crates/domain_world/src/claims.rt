@@ -13,6 +13,7 @@ ghost use Rattle.domain_world.specs.Claims.MarkedUnits.{EachUnitIsMarked};
 ghost use Rattle.domain_world.specs.Claims.OwnChallenges.{MessagesHaveOwnChallenges};
 ghost use Rattle.domain_world.specs.Claims.Replies.{RepliesCarryTheirJudgement};
 ghost use Rattle.domain_world.specs.Claims.NamedLinks.{LinksReachTheNamed};
+ghost use Rattle.domain_world.specs.Claims.WrittenDown.{MembersAreWrittenDown};
 ghost use Rattle.domain_world.specs.Headline.{Proved};
 ghost use Rattle.domain_world.specs.Past.{past};
 
@@ -60,6 +61,16 @@ pub fn members_let_in_who_asked()
     ensures { (plan : Plan) (moves : List Move) → LetsInWhoAsked (past plan moves) }
 {
     // What a member tells at a step is a law of its own; the proof carries it through all moves.
+    in_is_told_of_a_granted_logon();
+}
+
+/// After every run, over all moves from a plan on, each logon that a member keeps is that of an AUTHENTICATE which is
+/// written down as taken (MS-NLMP 3.2.5.1.2). Each link on which a member waits for one has its CHALLENGE written down as
+/// sent (MS-NLMP 3.2.5.1.1).
+pub fn members_are_written_down()
+    ensures { (plan : Plan) (moves : List Move) → MembersAreWrittenDown (past plan moves) }
+{
+    // As of `members_let_in_who_asked`.
     in_is_told_of_a_granted_logon();
 }
 
@@ -135,6 +146,7 @@ pub fn claims_hold_of_runs()
 {
     // These have what a member tells at a step, which is a law of its own.
     members_let_in_who_asked();
+    members_are_written_down();
     members_ask_for_messages();
     sends_ask_for_messages();
     schedules_are_heard();
