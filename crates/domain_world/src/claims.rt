@@ -65,8 +65,8 @@ pub fn members_let_in_who_asked()
 }
 
 /// After every run, over all moves from a plan on, each logon that a member keeps is that of an AUTHENTICATE which is
-/// written down as taken (MS-NLMP 3.2.5.1.2). Each link on which a member waits for one has its CHALLENGE written down as
-/// sent (MS-NLMP 3.2.5.1.1).
+/// written down as taken (MS-NLMP 3.2.5.1.2). Each link on which a member waits for one has its CHALLENGE written down
+/// as sent (MS-NLMP 3.2.5.1.1).
 pub fn members_are_written_down()
     ensures { (plan : Plan) (moves : List Move) → MembersAreWrittenDown (past plan moves) }
 {
