@@ -23,7 +23,7 @@ use Rattle.domain_world.proofs.Frames.DrawnRunLaws.{draws_are_blocks, draws_diff
 use Rattle.domain_world.proofs.Judgements.GrantLaws.{grants_who_may}
 use Rattle.domain_world.proofs.Judgements.ReplayLaws.{replays_by_sum}
 use Rattle.domain_world.proofs.Judgements.ReplyLaws.{replies_carry}
-use Rattle.domain_world.proofs.Judgements.ToldLaws.{passes_the_next}
+use Rattle.domain_world.proofs.Judgements.ToldLaws.{passes_the_next, tells_of_calls}
 use Rattle.domain_world.proofs.Judgements.UnclashedLaws.{passes_unclashed}
 use Rattle.domain_world.proofs.Requests.KeptAskLaws.{members_ask}
 use Rattle.domain_world.proofs.Requests.MarkWayLaws.{marks_have_their_way}
@@ -49,6 +49,7 @@ all_proved let_in written asked sends heard shared plan moves short bytes = reco
   responses = short_responses plan moves (draws_differ plan moves) (draws_are_blocks plan moves);
   apart = messages_apart plan moves;
   credentials = passes_the_next plan moves;
+  alone = tells_of_calls plan moves;
   replays = replays_by_sum plan moves;
   unclashed = passes_unclashed plan moves;
   grants = grants_who_may plan moves;

@@ -76,7 +76,7 @@ pub record Wraps (judgings : List Judging) : Type 0 where
   pub around : moved_on channel (between ++ first ∷ []) % 2 ^ 32 ≡ 0
 
 -- the run is one of which the claims on answers speak: no credential passed on a unit that was made for another
--- channel, and no seed came round
+-- channel or for none, and no seed came round
 pub record IsClear (book : Book) : Type 0 where
   pub apart : book.clash ≡ false
   pub onward : Wraps book.judged → ⊥
@@ -242,6 +242,11 @@ AreRightlyTold told judgings = AreTheirJudgements (judgements_of_calls told) jud
 -- each such call has one, in their order, and it is right.
 abbrev pub PassesTheNextCredential : Past → Type 0
 PassesTheNextCredential past = AreRightlyTold past.book.judgements past.book.judged
+
+-- And it told of nothing else: what it told judges a call. No controller asks another one yet, which could then tell of
+-- what came of a call that was judged before.
+abbrev pub TellsOfCallsAlone : Past → Type 0
+TellsOfCallsAlone past = AllByRecursion (λ (one : JudgementTold). judges_call one.how ≡ true) past.book.judgements
 
 -- ---- further claims
 

@@ -5,7 +5,7 @@ ghost use Rattle.world_moves.specs.declared.moves.Move.{Move};
 ghost use Rattle.world_moves.specs.declared.plan.Plan.{Plan};
 ghost use Rattle.world_moves.specs.Bag.{AreShortUnits, HaveBytes};
 ghost use Rattle.world_moves.specs.Draws.{DrawsDiffer};
-ghost use Rattle.domain_world.specs.Claims.{PassesTheNextCredential, ReplaysBySum};
+ghost use Rattle.domain_world.specs.Claims.{PassesTheNextCredential, ReplaysBySum, TellsOfCallsAlone};
 ghost use Rattle.domain_world.specs.Claims.AskedFor.{MembersAskForKept, MembersAskForMessages, SendsAskForMessages};
 ghost use Rattle.domain_world.specs.Claims.Grants.{GrantsWhoMayLogOn};
 ghost use Rattle.domain_world.specs.Claims.LetIn.{LetsInWhoAsked};
@@ -26,6 +26,12 @@ use member_server::in_is_told_of_a_granted_logon;
 #[tactic(auto, using(crate::proofs::Judgements::ToldLaws::passes_the_next))]
 pub fn controllers_pass_the_next()
     ensures { (plan : Plan) (moves : List Move) → PassesTheNextCredential (past plan moves) }
+{}
+
+/// In every run, over all moves from a plan on, a controller tells of nothing but the calls that it heard.
+#[tactic(auto, using(crate::proofs::Judgements::ToldLaws::tells_of_calls))]
+pub fn controllers_tell_of_calls_alone()
+    ensures { (plan : Plan) (moves : List Move) → TellsOfCallsAlone (past plan moves) }
 {}
 
 /// In every run, over all moves from a plan on, a controller tells of a Logon call that it passed with status 0, which
