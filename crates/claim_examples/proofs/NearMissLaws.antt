@@ -1,11 +1,15 @@
 -- Near misses that were written down by hand.
 -- It serves `near_misses_tell_apart`.
-use Rattle.std.proofs.Common.{◌≡◌, ◌≢◌, ◌+◌, ℕ, zero, suc, Bool, true, false, List, [], ◌∷◌, length, inl, inr, Some, None, refl, sym, ap, ◌∙◌, subst, arith, slice_get, replicate, ◌<◌, Option, if◌then◌else◌}
+use Rattle.std.proofs.Common.{◌≡◌, ◌≢◌, ◌+◌, ℕ, zero, suc, Bool, true, false, List, [], ◌∷◌, length, inl, inr, Some, None, refl, sym, ap, ◌∙◌, subst, arith, slice_get, replicate, ◌<◌, Option, if◌then◌else◌, codes}
 use Rattle.std.specs.Prelude.{◌%◌, ◌^◌}
 use Rattle.std.proofs.lemmas.Bool.{eqb-true}
 use Rattle.wire_base.specs.Maps.{lookup, same_number}
 use Rattle.end_links.specs.Links.{LinkState}
+use Rattle.account_table.specs.AccountTable.{AccountTable}
+use Rattle.account_table.specs.declared.account.Account.{Account}
 use Rattle.channel_client.specs.Machine.{fresh_requester}
+use Rattle.domain_controller.specs.State.{State as ControllerState}
+use Rattle.domain_controller.specs.Step.{first_state}
 use Rattle.member_server.specs.Machine.{caller_of}
 use Rattle.member_server.specs.State.{State as MemberState}
 use Rattle.member_server.specs.declared.state.Dialling.TheVariants as dialling
@@ -14,6 +18,7 @@ use Rattle.member_server.specs.declared.state.Logon.{Logon}
 use Rattle.member_server.specs.declared.state.Phase.TheVariants as phase
 use Rattle.member_server.specs.declared.state.Running.{Running as MemberRunning}
 use Rattle.member_server.specs.declared.state.Talk.{Talk}
+use Rattle.domain_world.specs.Claims.Tables.{accounts_after}
 use Rattle.domain_world.specs.Claims.WrittenDown.{IsChallengeOf, IsMessageOf, MembersAreWrittenDown}
 use Rattle.std.proofs.lemmas.List.Elements.{All-from_recursion}
 use Rattle.wire_base.specs.Names.{same_name}
@@ -45,9 +50,9 @@ use Rattle.domain_world.specs.Accepting.Answered.{IsItsWay, MarksHaveTheirWay, P
 use Rattle.domain_world.specs.Claims.{IsAccepted, IsClear, IsGrantedBy, IsItsControllersAnswer, IsPlainlyAccepted, passed_on, timestamp_of}
 use Rattle.domain_world.specs.Claims.Counts.{RaisesCount}
 use Rattle.domain_world.specs.Past.{Past, sent_at}
-use Rattle.claim_examples.specs.ClaimExamples.{challenge_on, elsewhere, extended_flags, judged_as, judging, last_timestamp, message, message_of_link, on_channel, one_logon, open_running, small_account, small_challenge, small_hash, small_logon, small_member, small_name, small_run}
+use Rattle.claim_examples.specs.ClaimExamples.{challenge_on, elsewhere, extended_flags, judged_as, judging, last_timestamp, message, message_of_link, on_channel, one_logon, open_running, small_account, small_challenge, small_hash, small_logon, small_member, small_name, small_plan, small_run, small_table, small_world}
 use Rattle.claim_examples.specs.GrantExamples.{wrong_call}
-use Rattle.claim_examples.specs.NearMisses.{NearMissesTellApart, OfAcceptingAll, OfAcceptingOnly, OfAsking, OfClearRuns, OfCounts, OfKeys, OfSchedules, OfShortResponses, OfTelling, OfUnits, OfWritingDown, at_two_members, barred_again, bob, each_move, extended_taken, foreign, half_timestamp, judged_two, keeping, long_taken, noting, passed_for, sent_one, small_bound, taking, ten_keeping, untold, waiting_on, wrong_among}
+use Rattle.claim_examples.specs.NearMisses.{NearMissesTellApart, OfAcceptingAll, OfAcceptingOnly, OfAsking, OfClearRuns, OfCounts, OfKeys, OfSchedules, OfShortResponses, OfTables, OfTelling, OfUnits, OfWritingDown, at_two_members, barred_again, bob, each_move, extended_taken, foreign, half_timestamp, judged_by, judged_two, keeping, locking_table, long_taken, noting, passed_for, sent_one, small_bound, taking, ten_keeping, untold, waiting_on, wrong_among}
 use Rattle.claim_examples.proofs.ClaimLaws.{its_controller, moved_by_one, of_wraps, the_two}
 use Rattle.claim_examples.proofs.CompletenessLaws.{lost_schedule}
 use Rattle.claim_examples.proofs.LogonLaws.{extended_pair, free_small, granted_small, only_draw, plain_small, stored_small, this_step}
@@ -419,6 +424,39 @@ of_written = record {
 of_telling : OfTelling
 of_telling = record { meets = (refl, tt); fails = λ claim. absurd (let never : false ≡ true = claim.0 in cc) }
 
+-- ---- the accounts of controllers
+
+-- the plan has one table
+one_planned : (controller : ℕ) (planned : AccountTable) → slice_get small_plan.tables controller ≡ Some planned → planned ≡ small_table
+one_planned zero planned is = cc
+one_planned (suc k) planned is = absurd (let never : ◌≡◌ {A = Option AccountTable} None (Some planned) = is in cc)
+
+first_controller : (controller : ℕ) (c : ControllerState) → slice_get small_world.state.ends.controllers controller ≡ Some c → (controller ≡ 0) × (c.table ≡ small_table)
+first_controller zero c is =
+    let same : first_state small_table (codes "PDC") ≡ c = cc in (refl, sym (ap (λ (x : ControllerState). x.table) same))
+first_controller (suc k) c is = absurd (let never : ◌≡◌ {A = Option ControllerState} None (Some c) = is in cc)
+
+abbrev first_count : List Account → ℕ
+first_count [] = 0
+first_count (account ∷ accounts) = account.bad_count
+
+-- those accounts are others
+others_differ : locking_table ≡ small_table → ⊥
+others_differ is = absurd (let never : 5 ≡ 0 = ap (λ (t : AccountTable). first_count t.accounts) is in omega (arith, never))
+
+of_tables : OfTables
+of_tables = record {
+  meets = record {
+    judged = (λ planned is. refl, (λ planned is. sym (one_planned 0 planned is), tt));
+    stands = λ controller c at planned is.
+        let first = first_controller controller c at in
+        first.1 ∙ subst (λ (k : ℕ). small_table ≡ accounts_after planned k (judged_by small_table ∷ judged_by small_table ∷ [])) (sym first.0) refl;
+  };
+  fails = λ claim. others_differ (claim.judged.0 small_table refl);
+  fails_second = λ claim. others_differ (claim.judged.0 small_table refl);
+  fails_standing = λ claim. others_differ (claim.stands 0 (first_state locking_table (codes "PDC")) refl small_table refl);
+}
+
 -- ---- schedules
 
 of_schedules : OfSchedules
@@ -446,5 +484,6 @@ near_misses = record {
   asking = of_asking;
   written = of_written;
   telling = of_telling;
+  tables = of_tables;
   schedules = of_schedules;
 }

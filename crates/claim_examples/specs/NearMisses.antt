@@ -6,7 +6,9 @@ use Rattle.outside.specs.declared.action.Judged.{Judged}
 use Rattle.outside.specs.declared.action.Judged.TheVariants as judged
 use Rattle.ntlm_responses.specs.Hashes.{key_v2_of}
 use Rattle.ntlm_responses.specs.Responses.{proof_of}
+use Rattle.account_table.specs.AccountTable.{AccountTable}
 use Rattle.account_table.specs.declared.account.Account.{Account}
+use Rattle.domain_controller.specs.Step.{first_state}
 use Rattle.logon_client.specs.declared.plan.AuthKind.TheVariants as auth
 use Rattle.authenticators.specs.Channels.{Channel}
 use Rattle.end_links.specs.Binding.{binding_of}
@@ -32,6 +34,7 @@ use Rattle.domain_world.specs.Accepting.Answered.{MarksHaveTheirWay, MessagesAre
 use Rattle.domain_world.specs.Claims.{AcceptsAllGranted, AcceptsOnlyGranted, IsClear, KeysAgree, ShortResponsesServeOnce, TellsOfCallsAlone, taken_answer_on}
 use Rattle.domain_world.specs.Claims.Counts.{EachCallRaisesOnce, RaisesCount}
 use Rattle.domain_world.specs.Claims.MarkedUnits.{EachUnitIsMarked}
+use Rattle.domain_world.specs.Claims.Tables.{TablesFollowVerdicts}
 use Rattle.domain_world.specs.Claims.WrittenDown.{MembersAreWrittenDown}
 use Rattle.domain_world.specs.Past.{Past, sent_at}
 use Rattle.claim_examples.specs.ClaimExamples.{challenge_on, client_plan, elsewhere, extended_flags, extended_message, judged_as, judging, last_timestamp, made_as, made_keeping, message, message_of_link, on_channel, one_logon, open_running, run_in, small_account, small_challenge, small_hash, small_logon, small_member, small_name, small_plan, small_run, small_table, small_world, taken_as, told_of_link, two_logons, with_response, world_of}
@@ -278,6 +281,35 @@ pub record OfTelling : Type 0 where
   pub meets : TellsOfCallsAlone (telling judged.Barred)
   pub fails : TellsOfCallsAlone (telling (judged.Answered 0)) → ⊥
 
+-- ---- the accounts of controllers
+
+-- a call that found no channel, and so leaves the accounts by which it was judged
+abbrev pub judged_by : AccountTable → Judging
+judged_by table = record judging { table = table; how = Some judged.NoChannel }
+
+-- another count of bad passwords
+abbrev pub locking_table : AccountTable
+locking_table = record small_table { accounts = record small_account { bad_count = 5 } ∷ [] }
+
+-- the controller has these accounts
+abbrev pub standing_with : AccountTable → Past
+standing_with table =
+    run_in
+    (record small_world {
+      state = record small_world.state {
+        ends = record small_world.state.ends { controllers = first_state table (codes "PDC") ∷ [] };
+      };
+    })
+    blank
+
+-- A call is judged by the accounts of the plan, or as the call before it left them, and the controller has what the
+-- last one left: not where a call was judged by others, or the controller has others.
+pub record OfTables : Type 0 where
+  pub meets : TablesFollowVerdicts (small_run (record blank { judged = judged_by small_table ∷ judged_by small_table ∷ [] }))
+  pub fails : TablesFollowVerdicts (small_run (record blank { judged = judged_by locking_table ∷ [] })) → ⊥
+  pub fails_second : TablesFollowVerdicts (small_run (record blank { judged = judged_by locking_table ∷ judged_by small_table ∷ [] })) → ⊥
+  pub fails_standing : TablesFollowVerdicts (standing_with locking_table) → ⊥
+
 -- ---- schedules
 
 -- one of each kind
@@ -314,4 +346,5 @@ pub record NearMissesTellApart : Type 0 where
   pub asking : OfAsking
   pub written : OfWritingDown
   pub telling : OfTelling
+  pub tables : OfTables
   pub schedules : OfSchedules

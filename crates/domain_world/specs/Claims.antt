@@ -16,6 +16,7 @@ pub mod NamedLinks
 pub mod OwnChallenges
 pub mod Replies
 pub mod SharedSequences
+pub mod Tables
 pub mod WrittenDown
 use Rattle.std.specs.Prelude.{ℕ, ◌≡◌, ◌≢◌, ◌+◌, ◌%◌, ◌^◌, ◌==◌, ◌&&◌, ◌↔◌, Bool, true, false, List, [], ◌∷◌, ◌++◌, length, replicate, count_by, filter, find, Option, Some, None, slice_get, AllPairs}
 use Rattle.std.specs.List.{AllByRecursion}

@@ -16,6 +16,7 @@ use Rattle.domain_world.specs.Claims.MarkedUnits.{EachUnitIsMarked}
 use Rattle.domain_world.specs.Claims.OwnChallenges.{MessagesHaveOwnChallenges}
 use Rattle.domain_world.specs.Claims.Replies.{RepliesCarryTheirJudgement}
 use Rattle.domain_world.specs.Claims.SharedSequences.{SequencesAreShared}
+use Rattle.domain_world.specs.Claims.Tables.{TablesFollowVerdicts}
 use Rattle.domain_world.specs.Claims.WrittenDown.{MembersAreWrittenDown}
 use Rattle.domain_world.specs.Past.{past}
 
@@ -35,6 +36,7 @@ pub record Proved (plan : Plan) (moves : List Move) : Type 0 where
   pub replays : ReplaysBySum (past plan moves)
   pub unclashed : PassesAreUnclashed (past plan moves)
   pub grants : GrantsWhoMayLogOn (past plan moves)
+  pub tables : TablesFollowVerdicts (past plan moves)
   pub replies : RepliesCarryTheirJudgement (past plan moves)
   -- what members ask, and whom they let in
   pub kept : MembersAskForKept (past plan moves)

@@ -13,6 +13,7 @@ ghost use Rattle.domain_world.specs.Claims.MarkedUnits.{EachUnitIsMarked};
 ghost use Rattle.domain_world.specs.Claims.OwnChallenges.{MessagesHaveOwnChallenges};
 ghost use Rattle.domain_world.specs.Claims.Replies.{RepliesCarryTheirJudgement};
 ghost use Rattle.domain_world.specs.Claims.NamedLinks.{LinksReachTheNamed};
+ghost use Rattle.domain_world.specs.Claims.Tables.{TablesFollowVerdicts};
 ghost use Rattle.domain_world.specs.Claims.WrittenDown.{MembersAreWrittenDown};
 ghost use Rattle.domain_world.specs.Headline.{Proved};
 ghost use Rattle.domain_world.specs.Past.{past};
@@ -42,6 +43,14 @@ pub fn controllers_tell_of_calls_alone()
 #[tactic(auto, using(crate::proofs::Judgements::GrantLaws::grants_who_may))]
 pub fn controllers_grant_who_may_log_on()
     ensures { (plan : Plan) (moves : List Move) → GrantsWhoMayLogOn (past plan moves) }
+{}
+
+/// In every run, over all moves from a plan on, a controller's accounts change by the verdicts on the Logon calls that
+/// passed there, one after another (MS-NRPC 3.5.4.5.3), and by nothing else: each call is judged by the accounts as the
+/// earlier ones left them, from those of the plan on, and the controller has what the last one left.
+#[tactic(auto, using(crate::proofs::Judgements::TableLaws::tables_follow))]
+pub fn tables_follow_verdicts()
+    ensures { (plan : Plan) (moves : List Move) → TablesFollowVerdicts (past plan moves) }
 {}
 
 /// In every run, over all moves from a plan on, each unit of the bag that is marked as a reply carries what its

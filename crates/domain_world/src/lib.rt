@@ -21,6 +21,7 @@ pub use claims::{
     links_take_one_message, members_are_written_down, members_ask_for_messages,
     members_ask_for_what_they_keep, members_let_in_who_asked, messages_have_own_challenges,
     replays_pass_by_sum, replies_carry_their_judgement, sends_ask_for_messages,
+    tables_follow_verdicts,
 };
 pub use driving::{drive, drive_from};
 pub use world_moves::{
