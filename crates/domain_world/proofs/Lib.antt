@@ -1,5 +1,6 @@
 mod Accepting
 mod Challenges
+mod DrivingLaws
 pub mod Frames
 mod HeadlineLaws
 pub mod Judgements
