@@ -45,8 +45,8 @@ fn no_memory_for_run(why: WorldRefused) -> NoMemory
 
 /// Makes the moves in their order, and gives what was counted since the plan.
 ///
-/// `Memory` where a move found no memory, and `Stopped` exactly where the world had stopped before. The world then reports
-/// the moves that were made.
+/// `Memory` where a move found no memory, and `Stopped` exactly where the world had stopped before. The world then
+/// reports the moves that were made.
 #[tactic(auto, using(crate::proofs::DrivingLaws::cut_short, crate::proofs::DrivingLaws::not_begun))]
 pub fn drive(alloc: Global, world: &mut World, moves: &Moves) -> Result<Report, WorldRefused>
     requires few { world.old.moves + length moves.now ≤ move_limit }
