@@ -152,17 +152,17 @@ refused_by p s (Echoed a e talk one other back) what left moment fits shows know
 
 -- ---- challenges that are left
 
-three_from : (left : List (List ℕ)) → AllByRecursion (λ (challenge : List ℕ). IsBlock 8 challenge) left → 3 ≤ length left → HasThree left
+pub three_from : (left : List (List ℕ)) → AllByRecursion (λ (challenge : List ℕ). IsBlock 8 challenge) left → 3 ≤ length left → HasThree left
 three_from [] are many = absurd (omega (arith, many))
 three_from (one ∷ []) are many = absurd (omega (arith, many))
 three_from (one ∷ two ∷ []) are many = absurd (omega (arith, many))
 three_from (one ∷ two ∷ three ∷ more) are many = record { one = one; two = two; three = three; more = more; are = refl; first = are.0; second = are.1.0; third = are.1.1.0 }
 
-rest_of : (front after : List (List ℕ)) → AllByRecursion (λ (challenge : List ℕ). IsBlock 8 challenge) (front ++ after) → AllByRecursion (λ (challenge : List ℕ). IsBlock 8 challenge) after
+pub rest_of : (front after : List (List ℕ)) → AllByRecursion (λ (challenge : List ℕ). IsBlock 8 challenge) (front ++ after) → AllByRecursion (λ (challenge : List ℕ). IsBlock 8 challenge) after
 rest_of [] after are = are
 rest_of (first ∷ front) after are = rest_of front after are.1
 
-enough_after : (moves : ℕ) (before after : List (List ℕ)) → HasEnough (suc moves) before → DrawsFew before after → HasEnough moves after
+pub enough_after : (moves : ℕ) (before after : List (List ℕ)) → HasEnough (suc moves) before → DrawsFew before after → HasEnough moves after
 enough_after moves before after enough few = record {
   many = omega (arith, enough.many, few.few, ap length few.are, length-append few.front after);
   blocks = rest_of few.front after (subst (AllByRecursion (λ (challenge : List ℕ). IsBlock 8 challenge)) few.are enough.blocks);

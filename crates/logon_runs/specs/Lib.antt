@@ -21,5 +21,6 @@ pub mod FailingSteps
 pub mod Failings
 pub mod TurnedAway
 pub mod Passing
+pub mod AnyLogons
 pub mod GrantsTold
 pub mod ExampleLogon
