@@ -47,10 +47,10 @@ comes_on p s (Echoed a e talk one other back) left moment known ready fits user 
 -- ---- time passes
 
 -- the scene at another moment
-abbrev at_moment : ℕ → Scene → Scene
+abbrev pub at_moment : ℕ → Scene → Scene
 at_moment moment v = record v { moment = moment }
 
-same_scene : (p : Coming) (phase : LogonPhase p) (left : List (List ℕ)) (moment later : ℕ) → at_moment later (scene_of p phase left moment) ≡ scene_of p phase left later
+pub same_scene : (p : Coming) (phase : LogonPhase p) (left : List (List ℕ)) (moment later : ℕ) → at_moment later (scene_of p phase left moment) ≡ scene_of p phase left later
 same_scene p Dials left moment later = refl
 same_scene p Binds left moment later = refl
 same_scene p (Challenged challenge) left moment later = refl
@@ -142,10 +142,10 @@ comes_of p far s (inr over) = inr over.0
 
 -- ---- something waits
 
-one_waits : {T : Type 0} (items : List T) (one : T) (more : List T) → items ≡ one ∷ more → items ≡ [] → ⊥
+pub one_waits : {T : Type 0} (items : List T) (one : T) (more : List T) → items ≡ one ∷ more → items ≡ [] → ⊥
 one_waits items one more are none = absurd cc
 
-waits_so : (p : Coming) (s : State) (phase : LogonPhase p) (left : List (List ℕ)) (moment : ℕ) → Shows s (scene_of p phase left moment) → s.dials ≡ [] → waiting s.bag ≡ [] → ⊥
+pub waits_so : (p : Coming) (s : State) (phase : LogonPhase p) (left : List (List ℕ)) (moment : ℕ) → Shows s (scene_of p phase left moment) → s.dials ≡ [] → waiting s.bag ≡ [] → ⊥
 waits_so p s Dials left moment shows dials units = one_waits s.dials _ [] shows.dials dials
 waits_so p s Binds left moment shows dials units = one_waits (waiting s.bag) _ [] shows.units units
 waits_so p s (Challenged challenge) left moment shows dials units = one_waits (waiting s.bag) _ [] shows.units units

@@ -156,7 +156,7 @@ challenged_on p s challenge left moment known ready block shows =
     (left_so s (λ (l : List (List ℕ)). scene_of p (Challenged challenge) l moment) left _ shows.left three.are shows))
 
 -- the first turn of the logon
-abbrev turn_first_of : Coming → TurnAt
+abbrev pub turn_first_of : Coming → TurnAt
 turn_first_of p = record { computers = p.computers; number = p.meeting.number; next = after p.meeting.number; links = (own p).links }
 
 turns_first : (p : Coming) (a : Asked) → IsKnown p → IsAnswering p a → IsTurning p a (turn_first_of p)

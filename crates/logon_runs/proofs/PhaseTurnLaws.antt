@@ -231,7 +231,7 @@ calls_on p s a who v (Third o c timestamp) left moment known ready fits user arr
 -- ---- the member takes the replies that open the channel
 
 -- the turn that follows
-abbrev turn_after : Coming → TurnAt → TurnAt
+abbrev pub turn_after : Coming → TurnAt → TurnAt
 turn_after p v = record {
   computers = v.computers;
   number = after v.next;
