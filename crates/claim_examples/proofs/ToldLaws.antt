@@ -31,7 +31,7 @@ use Rattle.logon_runs.specs.Waiting.{Comes}
 use Rattle.logon_runs.proofs.SceneLaws.{first_comes}
 use Rattle.logon_runs.proofs.WaitingLaws.{waiting_comes}
 use Rattle.claim_examples.proofs.NotedLaws.{world_at}
-use Rattle.logons_succeed.proofs.UnitNotedLaws.{Came, coming, state_then}
+use Rattle.domain_world.proofs.Completeness.UnitNotedLaws.{Came, coming, state_then}
 
 -- somebody was let in
 abbrev pub IsTold : List OutcomeTold → Type 0

@@ -1,5 +1,6 @@
 mod Accepting
 mod Challenges
+pub mod Completeness
 pub mod Frames
 mod HeadlineLaws
 pub mod Judgements

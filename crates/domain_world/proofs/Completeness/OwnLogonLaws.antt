@@ -1,6 +1,6 @@
 -- The logon of a client that can succeed, move by move: where it is judged and told, that is written down; at its end
 -- the client is in, with the key that was told.
--- Of `logons_succeed`.
+-- It serves `logons_succeed`.
 use Rattle.std.proofs.Common.{◌≡◌, ℕ, refl, sym, subst, List, [], ◌∷◌, length, Some, inl}
 use Rattle.std.specs.List.{AllByRecursion}
 use Rattle.outside.specs.declared.action.Action.TheVariants as action
@@ -29,8 +29,9 @@ use Rattle.logon_runs.specs.Scenes.{Shows}
 use Rattle.logon_runs.proofs.GrantsToldLaws.{grants_tell}
 use Rattle.domain_world.specs.Claims.{TravelsAsZeros}
 use Rattle.domain_world.specs.Past.{book, note, told_in}
-use Rattle.logons_succeed.proofs.BookStayLaws.{judged_stays, one_behind, told_stays}
-use Rattle.logons_succeed.proofs.JudgedNoteLaws.{IsGrant, grant_noted}
+use Rattle.domain_world.proofs.Accepting.TurnChangedLaws.{one_after}
+use Rattle.domain_world.proofs.Completeness.BookStayLaws.{judged_stays, told_stays}
+use Rattle.domain_world.proofs.Completeness.JudgedNoteLaws.{IsGrant, grant_noted}
 
 -- ---- what is written down
 
@@ -72,7 +73,7 @@ told_so : (p : Coming) (a : Asked) (w : World) (b : Book) (turn : ℕ) (answer :
     ∷ (Member p.meeting.at_member, action.Send (own p).link answer)
     ∷ rest → OneOf (IsTold p a) (note w move.Onward b).told
 told_so p a w b turn answer rest is =
-    one_behind (IsTold p a) _ (told_in (onward w.state).given w.moves)
+    one_after (IsTold p a) _ (told_in (onward w.state).given w.moves)
     (subst (λ (given : Given). OneOf (IsTold p a) (told_in given w.moves)) (sym is) (inl (refl, refl, refl)))
 
 -- ---- a unit comes

@@ -1,6 +1,6 @@
 -- What is written down where the controller grants a logon: a call that passed with status 0, by the user's hash and on
 -- the member's channel.
--- Of `logons_succeed`.
+-- It serves `logons_succeed`.
 use Rattle.std.proofs.Common.{◌≡◌, ℕ, true, refl, sym, ap, ap₂, subst, ◌∙◌, List, [], ◌∷◌, ◌++◌, length, map, replicate, Option, Some, None, inl}
 use Rattle.std.specs.Prelude.{IsSomeAnd}
 use Rattle.rc4_stream.specs.Rc4.{applied}
@@ -60,8 +60,8 @@ use Rattle.logon_runs.proofs.TurnSceneLaws.{heard_there}
 use Rattle.logon_runs.proofs.TwoLinkLaws.{turns_have_links}
 use Rattle.domain_world.specs.Claims.{TravelsAsZeros, key_bytes}
 use Rattle.domain_world.specs.Past.{Coming, answers_of, at_controller, first_of, judged_of, note, note_controller, numbers_on, onto, with_reply}
-use Rattle.logons_succeed.proofs.HeardOnceLaws.{ComeTo, controller_answers, turn_answer, turn_line}
-use Rattle.logons_succeed.proofs.UnitNotedLaws.{Came, comes_so, coming, state_then}
+use Rattle.domain_world.proofs.Completeness.HeardOnceLaws.{ComeTo, controller_answers, turn_answer, turn_line}
+use Rattle.domain_world.proofs.Completeness.UnitNotedLaws.{Came, comes_so, coming, state_then}
 
 -- ---- the judging of an answer
 

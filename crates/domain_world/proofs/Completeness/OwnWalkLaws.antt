@@ -1,5 +1,5 @@
 -- The logon of a client that can succeed, over its moves: at its end the client is in, and its member told so.
--- Of `logons_succeed`.
+-- It serves `logons_succeed`.
 use Rattle.std.proofs.Common.{◌≡◌, ◌≢◌, ℕ, suc, ◌<◌, ◌^◌, sym, ap, subst, ◌∙◌, List, [], ◌∷◌, length, Some, inl, inr, slice_get, arith}
 use Rattle.std.specs.Prelude.{IsSomeAnd}
 use Rattle.std.specs.List.{AllByRecursion}
@@ -19,7 +19,7 @@ use Rattle.world_moves.specs.Forms.{HasForms}
 use Rattle.world_moves.specs.Moving.{act}
 use Rattle.world_moves.specs.World.{IsPlan, World, first_world, happens, run}
 use Rattle.logon_steps.specs.ClientSteps.{client_ended}
-use Rattle.logon_runs.specs.AnyLogons.{HasServers, LogonsRest}
+use Rattle.logon_runs.specs.AnyLogons.{HasServers}
 use Rattle.logon_runs.specs.Others.{IsStepOn}
 use Rattle.logon_runs.specs.Passing.{HasEnough}
 use Rattle.logon_runs.specs.Phases.{Aim, ArrivesAt, ComesSoFar, Coming, DrawsFew, First, HasUser, HasUserAt, IsKnown, IsOver, IsReached, IsReady, IsUnderWay, LogonPhase, MayLogOnAt, Progress, Second, Third, TurnAt, WasTold, WhoAsked, key_at, own, progress_of, progress_onward, told_of}
@@ -27,17 +27,17 @@ use Rattle.logon_runs.specs.Phases.{Acked, Answers, Binds, BindsBefore, BindsHel
 use Rattle.logon_runs.specs.Runs.{Asked}
 use Rattle.logon_runs.specs.Staying.{HasSameEnds}
 use Rattle.logon_runs.proofs.ComeInLaws.{reached_so}
-use Rattle.logon_runs.proofs.PassingLaws.{enough_after, three_from}
+use Rattle.logon_runs.proofs.PassingLaws.{enough_after, none_drawn, three_from}
 use Rattle.logon_runs.proofs.PhaseLaws.{phases_go_on}
 use Rattle.logon_runs.proofs.StayingLaws.{both_same, ends_stay}
 use Rattle.logon_runs.proofs.TurnedAwayLaws.{logons_are_turned_away}
 use Rattle.domain_world.specs.Claims.Completeness.{InEachState, IsPlainMove, IsQuiet, MayLogOnIn, OneAtATime, info_planned, started_in}
 use Rattle.domain_world.specs.Past.{book, note}
-use Rattle.logons_succeed.proofs.ApartLaws.{info_same}
-use Rattle.logons_succeed.proofs.BookStayLaws.{link_stays, told_stays}
-use Rattle.logons_succeed.proofs.MomentLaws.{moment_below}
-use Rattle.logons_succeed.proofs.OwnLogonLaws.{AreSafe, IsSafe, IsTold, IsWritten, onward_arrives, onward_written, safe_then, written_stays}
-use Rattle.logons_succeed.proofs.RestingLaws.{Started, goes_further, rests_then, stays_so, units_quiet}
+use Rattle.domain_world.proofs.Completeness.ApartLaws.{info_same}
+use Rattle.domain_world.proofs.Completeness.BookStayLaws.{link_stays, told_stays}
+use Rattle.domain_world.proofs.Completeness.MomentLaws.{moment_below}
+use Rattle.domain_world.proofs.Completeness.OwnLogonLaws.{AreSafe, IsSafe, IsTold, IsWritten, onward_arrives, onward_written, safe_then, written_stays}
+use Rattle.domain_world.proofs.Completeness.RestingLaws.{Along, Started, along_next, goes_further, rests_then, stays_so, units_quiet}
 
 -- ---- a move at which no unit comes
 
@@ -91,9 +91,6 @@ pub record IsSoFar (p : Coming) (s : State) (b : Book) : Type 0 where
 record GoesSoFar (p : Coming) (s after : State) (b : Book) : Type 0 where
   so_far : IsSoFar p after b
   few : DrawsFew s.chances.left after.chances.left
-
-none_drawn : (before after : List (List ℕ)) → after ≡ before → DrawsFew before after
-none_drawn before after same = record { front = []; few = omega arith; are = sym same }
 
 module _ (p : Coming) (w : World) (b : Book) (known : IsKnown p) (user : HasUser p) (ready : IsReady p w.state) (may : MayLogOnAt p w.state) where
   onward_goes : IsSafe (note w move.Onward b) → (at : IsUnderWay p w.state) → IsWritten p (progress_of at.phase) b → GoesSoFar p w.state (act w.state move.Onward).state (note w move.Onward b)
@@ -167,21 +164,6 @@ module _ (p : Coming) (w : World) (b : Book) (known : IsKnown p) (user : HasUser
 
 -- ---- the moves
 
--- what holds of the moves that are left
-pub record Along (plan : Plan) (moves : List Move) (w : World) : Type 0 where
-  pub plain : AllByRecursion IsPlainMove moves
-  pub quiet : OneAtATime moves w
-  pub same : HasSameEnds (first_world plan).state w.state
-  pub below : w.state.moment < 2 ^ 64
-
-pub along_next : (plan : Plan) (what : Move) (moves : List Move) (w : World) → Along plan (what ∷ moves) w → Along plan moves (happens w what)
-along_next plan what moves w along = record {
-  plain = along.plain.1;
-  quiet = along.quiet.1;
-  same = both_same (first_world plan).state w.state (act w.state what).state along.same (ends_stay.acts w.state what);
-  below = moment_below w.state what along.plain.0 along.below;
-}
-
 -- at the end of the run the client is in, with its key, and its member told so of the client's own link
 pub record OwnEnds (p : Coming) (moves : List Move) (w : World) (b : Book) : Type 0 where
   pub asked : Asked
@@ -193,13 +175,13 @@ may_at : (p : Coming) (s : State) → MayLogOnIn p.meeting.at_controller (info_p
 may_at p s may =
     subst (λ (info : NetworkInfo). IsSomeAnd (slice_get s.ends.controllers p.meeting.at_controller) (λ (c : ControllerState). MayLogOn c.table info s.moment)) (info_same p.meeting.task) may
 
-module _ (all : LogonsRest) (plan : Plan) (is : IsPlan plan) (forms : HasForms plan) (servers : HasServers plan) (p : Coming) (known : IsKnown p) (user : HasUser p) (s0 : State) (started_one : ℕ) where
+module _ (plan : Plan) (is : IsPlan plan) (forms : HasForms plan) (servers : HasServers plan) (p : Coming) (known : IsKnown p) (user : HasUser p) (s0 : State) (started_one : ℕ) where
   over_ends : (moves : List Move) (w : World) (b : Book) → IsQuiet w → Along plan moves w → Started plan (length moves) s0 started_one w.state →
       AllByRecursion (λ (other : ℕ). p.meeting.at_client ≢ other) (started_in moves (length plan.clients)) → (far : Progress) → ComesSoFar p far w.state → IsWritten p far b → OwnEnds p moves w b
   over_ends moves w b quiet along started apart far (inl at) written = absurd (phases_go_on.waits p w.state at.0 quiet.dials (units_quiet w quiet))
   over_ends moves w b quiet along started apart far (inr over) written = record {
     asked = over.0.asked;
-    is_in = stays_so all plan is forms servers p.meeting.at_client moves w along.plain along.quiet along.same along.below apart
+    is_in = stays_so plan is forms servers p.meeting.at_client moves w along apart
         (rests_then plan (length moves) s0 started_one w started quiet) ∙ over.0.shows.client;
     told = told_stays (IsTold p over.0.asked) moves w b (subst (λ (f : Progress). IsWritten p f b) (sym over.1) written);
     joined = link_stays (own p).link (ToMember p.meeting.at_client p.meeting.at_member) moves w b
@@ -220,30 +202,26 @@ module _ (all : LogonsRest) (plan : Plan) (is : IsPlan plan) (forms : HasForms p
       HasEnough (suc (length moves)) w.state.chances.left → MayLogOnIn p.meeting.at_controller (info_planned p.meeting.task) w.state ×
       InEachState (MayLogOnIn p.meeting.at_controller (info_planned p.meeting.task)) moves (happens w what) → AreSafe (book moves (happens w what) (note w what b)) → IsReached p w.state →
       Started plan (suc (length moves)) s0 started_one w.state → AllByRecursion (λ (other : ℕ). p.meeting.at_client ≢ other) (started_in moves (length plan.clients)) → IsSoFar p w.state b →
-      OwnEnds p moves (happens w what) (note w what b)
+      OwnEnds p (what ∷ moves) w b
   own_steps what moves w b steps then_on along enough may safe reached started apart so_far =
       let goes : GoesSoFar p w.state (act w.state what).state (note w what b) =
       goes_by p w b known user (ready_so (length moves) w reached along.below enough) (may_at p w.state may.0) so_far.far so_far.comes so_far.written what steps
       (safe_then moves (happens w what) (note w what b) safe) in
+      let ends : OwnEnds p moves (happens w what) (note w what b) =
       then_on (along_next plan what moves w along) (enough_after (length moves) w.state.chances.left (act w.state what).state.chances.left enough goes.few) may.1 safe
-      (reached_so p w.state (act w.state what).state reached (ends_stay.acts w.state what)) (goes_further plan (length moves) s0 started_one w.state what steps along.below started) apart goes.so_far
+      (reached_so p w.state (act w.state what).state reached (ends_stay.acts w.state what)) (goes_further plan (length moves) s0 started_one w.state what steps along.below started) apart goes.so_far in
+      record { asked = ends.asked; is_in = ends.is_in; told = ends.told; joined = ends.joined }
 
   pub own_goes : (moves : List Move) (w : World) (b : Book) → OwnGoes moves w b
   own_goes [] w b along enough may safe reached started apart so_far = over_ends [] w b along.quiet along started apart so_far.far so_far.comes so_far.written
   own_goes (move.Start number ∷ moves) w b along enough may safe reached started apart so_far =
       over_ends (move.Start number ∷ moves) w b along.quiet.0 along started apart so_far.far so_far.comes so_far.written
   own_goes (move.Connect ∷ moves) w b along enough may safe reached started apart so_far =
-      let ends : OwnEnds p moves (happens w move.Connect) (note w move.Connect b) =
-      own_steps move.Connect moves w b tt (own_goes moves (happens w move.Connect) (note w move.Connect b)) along enough may safe reached started apart so_far in
-      record { asked = ends.asked; is_in = ends.is_in; told = ends.told; joined = ends.joined }
+      own_steps move.Connect moves w b tt (own_goes moves (happens w move.Connect) (note w move.Connect b)) along enough may safe reached started apart so_far
   own_goes (move.Onward ∷ moves) w b along enough may safe reached started apart so_far =
-      let ends : OwnEnds p moves (happens w move.Onward) (note w move.Onward b) =
-      own_steps move.Onward moves w b tt (own_goes moves (happens w move.Onward) (note w move.Onward b)) along enough may safe reached started apart so_far in
-      record { asked = ends.asked; is_in = ends.is_in; told = ends.told; joined = ends.joined }
+      own_steps move.Onward moves w b tt (own_goes moves (happens w move.Onward) (note w move.Onward b)) along enough may safe reached started apart so_far
   own_goes (move.Tick more ∷ moves) w b along enough may safe reached started apart so_far =
-      let ends : OwnEnds p moves (happens w (move.Tick more)) (note w (move.Tick more) b) =
-      own_steps (move.Tick more) moves w b tt (own_goes moves (happens w (move.Tick more)) (note w (move.Tick more) b)) along enough may safe reached started apart so_far in
-      record { asked = ends.asked; is_in = ends.is_in; told = ends.told; joined = ends.joined }
+      own_steps (move.Tick more) moves w b tt (own_goes moves (happens w (move.Tick more)) (note w (move.Tick more) b)) along enough may safe reached started apart so_far
   own_goes (move.Stranger number ∷ moves) w b along enough may safe reached started apart so_far = absurd along.plain.0
   own_goes (move.FailDial ∷ moves) w b along enough may safe reached started apart so_far = absurd along.plain.0
   own_goes (move.Lose ∷ moves) w b along enough may safe reached started apart so_far = absurd along.plain.0

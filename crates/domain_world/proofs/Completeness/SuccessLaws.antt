@@ -1,5 +1,5 @@
 -- Logons that come one at a time, from one start to the next: each client that can succeed does.
--- Of `logons_succeed`.
+-- It serves `logons_succeed`.
 use Rattle.std.proofs.Common.{◌≡◌, ◌≢◌, ℕ, zero, suc, ◌-◌, ◌≤◌, ◌<◌, ◌^◌, refl, sym, ap, ap₂, subst, ◌∙◌, List, [], ◌∷◌, ◌++◌, length, Some, inl, inr, slice_get, arith}
 use Rattle.std.specs.Prelude.{◌⊎◌, ◌%◌, AllPairs}
 use Rattle.std.specs.List.{AllByRecursion}
@@ -21,7 +21,7 @@ use Rattle.world_moves.specs.Choosing.{chosen_place}
 use Rattle.world_moves.specs.Forms.{HasForms}
 use Rattle.world_moves.specs.Moving.{act, start}
 use Rattle.world_moves.specs.World.{IsPlan, World, first_world, happens, outcome_by, run}
-use Rattle.logon_runs.specs.AnyLogons.{HasServers, LogonsRest}
+use Rattle.logon_runs.specs.AnyLogons.{HasServers}
 use Rattle.logon_runs.specs.Others.{IsStepOn}
 use Rattle.logon_runs.specs.Passing.{HasEnough}
 use Rattle.logon_runs.specs.Phases.{Coming, IsReached, IsUnderWay, LogonPhase, NotYet, key_at, progress_of, scene_of, told_of}
@@ -29,22 +29,19 @@ use Rattle.logon_runs.specs.Phases.{Acked, Answers, Binds, BindsBefore, BindsHel
 use Rattle.logon_runs.specs.Rests.{CanBeGranted, HasBegun, coming_of}
 use Rattle.logon_runs.specs.Scenes.{Shows}
 use Rattle.logon_runs.specs.Waiting.{waiting}
+use Rattle.logon_runs.proofs.PhaseLaws.{one_waits}
 use Rattle.logon_runs.proofs.RestLaws.{logons_come_to_rest}
 use Rattle.logon_runs.proofs.StayingLaws.{ends_stay, reach_still}
-use Rattle.domain_world.specs.Claims.Completeness.{CanSucceed, IsQuiet, InEachState, MayLogOnIn, Succeeds, info_planned, name_of, started_in}
+use Rattle.domain_world.specs.Claims.Completeness.{CanSucceed, EachSucceeds, IsQuiet, InEachState, MayLogOnIn, Succeeds, info_planned, name_of, started_in}
 use Rattle.domain_world.specs.Past.{Past, book, note, past}
 use Rattle.domain_world.proofs.Frames.LeftLaws.{first_left_blocks}
-use Rattle.logons_succeed.specs.Succeeding.{LogonsSucceed}
-use Rattle.logons_succeed.proofs.ApartLaws.{can_be_granted, has_servers}
-use Rattle.logons_succeed.proofs.MomentLaws.{start_bag, start_chances}
-use Rattle.logons_succeed.proofs.OwnLogonLaws.{AreSafe, IsTold}
-use Rattle.logons_succeed.proofs.OwnWalkLaws.{Along, IsSoFar, OwnEnds, along_next, own_goes}
-use Rattle.logons_succeed.proofs.RestingLaws.{BeginsSo, Resting, Started, begins_so, fewer_moves, goes_further, rests_on, rests_then}
+use Rattle.domain_world.proofs.Completeness.ApartLaws.{can_be_granted, has_servers}
+use Rattle.domain_world.proofs.Completeness.MomentLaws.{start_bag, start_chances}
+use Rattle.domain_world.proofs.Completeness.OwnLogonLaws.{AreSafe, IsTold}
+use Rattle.domain_world.proofs.Completeness.OwnWalkLaws.{IsSoFar, OwnEnds, own_goes}
+use Rattle.domain_world.proofs.Completeness.RestingLaws.{Along, BeginsSo, along_next, Resting, Started, begins_so, fewer_moves, goes_further, rests_on, rests_then}
 
 -- ---- a logon that starts isn't judged yet
-
-one_waits : {T : Type 0} (items : List T) (one : T) (more : List T) → items ≡ one ∷ more → items ≡ [] → ⊥
-one_waits items one more are none = absurd cc
 
 -- no unit waits then
 not_yet : (p : Coming) (s : State) (phase : LogonPhase p) (left : List (List ℕ)) (moment : ℕ) → Shows s (scene_of p phase left moment) → waiting s.bag ≡ [] → progress_of phase ≡ NotYet
@@ -71,7 +68,7 @@ abbrev past_of : Plan → World → Book → Past
 past_of plan world bk = record { plan = plan; world = world; book = bk }
 
 -- the whole run, from a state that rests on
-module _ (all : LogonsRest) (plan : Plan) (every : List Move) (is : IsPlan plan) (forms : HasForms plan) (client : ℕ) (can : CanSucceed plan every client) (number : ℕ) (moves : List Move) (w : World) (b : Book)
+module _ (plan : Plan) (every : List Move) (is : IsPlan plan) (forms : HasForms plan) (client : ℕ) (can : CanSucceed plan every client) (number : ℕ) (moves : List Move) (w : World) (b : Book)
     (resting : Resting plan (suc (length moves)) w.state) (along : Along plan (move.Start number ∷ moves) w) (chosen : chosen_place number (length w.state.ends.clients) ≡ Some client)
     (started : Started plan (length moves) w.state client (start number w.state).state) (enough : HasEnough (length moves) (start number w.state).state.chances.left)
     (apart : AllByRecursion (λ (other : ℕ). client ≢ other) (started_in moves (length plan.clients)))
@@ -110,7 +107,7 @@ module _ (all : LogonsRest) (plan : Plan) (every : List Move) (is : IsPlan plan)
 
   ends : OwnEnds coming moves first written
   ends =
-      own_goes all plan is forms (has_servers plan every client can) coming begun.come.known begun.user w.state client moves first written (along_next plan (move.Start number) moves w along) enough may safe reached
+      own_goes plan is forms (has_servers plan every client can) coming begun.come.known begun.user w.state client moves first written (along_next plan (move.Start number) moves w along) enough may safe reached
       started apart begins_so_far
 
   told_as : told_of coming ≡ name_of can.table can.account
@@ -159,7 +156,7 @@ behind_differ first numbers all = recursion_from_All (λ (other : ℕ). first �
 later_differ : (first : ℕ) (numbers : List ℕ) → AllPairs (λ (one other : ℕ). one ≢ other) (first ∷ numbers) → AllPairs (λ (one other : ℕ). one ≢ other) numbers
 later_differ first numbers all i j d before within = all (suc i) (suc j) d (omega (arith, before)) (omega (arith, within))
 
-module _ (all : LogonsRest) (plan : Plan) (every : List Move) (is : IsPlan plan) (forms : HasForms plan) (servers : HasServers plan) (world : World) (bk : Book)
+module _ (plan : Plan) (every : List Move) (is : IsPlan plan) (forms : HasForms plan) (servers : HasServers plan) (world : World) (bk : Book)
     (safe : AreSafe bk) where
   abbrev GoalOf : ℕ → Type 0
   GoalOf client = (can : CanSucceed plan every client) → Succeeds (past_of plan world bk) every client can
@@ -173,7 +170,7 @@ module _ (all : LogonsRest) (plan : Plan) (every : List Move) (is : IsPlan plan)
       Follows (move.Start number ∷ moves) w → world ≡ run moves (happens w (move.Start number)) → bk ≡ book moves (happens w (move.Start number)) (note w (move.Start number) b) →
       GoalOf (number % length plan.clients)
   start_goal number moves w b resting along begins once follows is_world is_book can =
-      succeeds_so all plan every is forms (number % length plan.clients) can number moves w b resting along begins.chosen begins.started
+      succeeds_so plan every is forms (number % length plan.clients) can number moves w b resting along begins.chosen begins.started
       (subst (λ (chances : Drawing). HasEnough (length moves) chances.left) (sym (start_chances number w.state)) (fewer_moves (length moves) w.state.chances.left resting.enough))
       (behind_differ (number % length plan.clients) (started_in moves (length plan.clients)) once)
       (follows (MayLogOnIn can.controller (info_planned can.task)) can.may).1
@@ -190,7 +187,7 @@ module _ (all : LogonsRest) (plan : Plan) (every : List Move) (is : IsPlan plan)
       Follows (move.Start number ∷ moves) w → world ≡ run moves (happens w (move.Start number)) → bk ≡ book moves (happens w (move.Start number)) (note w (move.Start number) b) →
       Resting plan (suc (length moves)) w.state → GoalOf (number % length plan.clients) × AllByRecursion GoalOf (started_in moves (length plan.clients))
   each_starts number moves w b then_on along once follows is_world is_book resting =
-      elim (begins_so all plan (length moves) w.state number is forms servers along.same resting) [
+      elim (begins_so plan (length moves) w.state number is forms servers along.same resting) [
         | inl none ↦ (
           (λ can. absurd (got_nothing (number % length plan.clients) can.task (subst (λ (clients : List ClientPlan). slice_get clients (number % length plan.clients) ≡ Some can.task) none.1 can.is_task))),
           then_on (along_next plan (move.Start number) moves w along) (later_differ (number % length plan.clients) (started_in moves (length plan.clients)) once)
@@ -245,13 +242,13 @@ first_enough plan moves few = record {
   blocks = first_left_blocks plan;
 }
 
-pub logons_succeed : LogonsSucceed
-logons_succeed all plan moves comes =
+pub each_succeeds : (plan : Plan) (moves : List Move) → EachSucceeds (past plan moves) moves
+each_succeeds plan moves comes =
     let first : World = first_world plan in
     let is : IsPlan plan = comes.schedule.start in
     let forms : HasForms plan = comes.schedule.forms in
     all_given (λ (client : ℕ). CanSucceed plan moves client) (λ client can. Succeeds (past plan moves) moves client can) (HasServers plan) (started_in moves (length plan.clients)) (λ client can. has_servers plan moves client can)
-    (λ servers. each_from all plan moves is forms servers (run moves first) (book moves first blank) comes.keys moves first blank
+    (λ servers. each_from plan moves is forms servers (run moves first) (book moves first blank) comes.keys moves first blank
     (record { plain = comes.plain; quiet = comes.quiet; same = ends_stay.none first.state; below = forms.now })
     comes.once (λ Fact each. each) refl refl
     (inl (record { rest = logons_come_to_rest.first plan is forms; enough = first_enough plan (length moves) comes.schedule.few })))

@@ -1,6 +1,6 @@
 -- Logons that come one at a time: where a client starts, and at the end, the world rests, and a client that isn't
 -- started any more is as it was.
--- Of `logons_succeed`.
+-- It serves `logons_succeed`.
 use Rattle.std.proofs.Common.{◌≡◌, ◌≢◌, ℕ, zero, suc, ◌+◌, ◌*◌, ◌<◌, ◌^◌, Bool, true, false, refl, sym, ap, subst, ◌∙◌, List, [], ◌∷◌, ◌++◌, length, Option, Some, None, inl, inr, slice_get, arith, length-append}
 use Rattle.std.specs.Prelude.{◌⊎◌, ◌%◌, ◌==◌}
 use Rattle.std.specs.List.{AllByRecursion}
@@ -23,28 +23,26 @@ use Rattle.world_moves.specs.Choosing.{chosen_place, place_by}
 use Rattle.world_moves.specs.Forms.{HasForms}
 use Rattle.world_moves.specs.Moving.{act, connect_first, start, start_at, without_first}
 use Rattle.world_moves.specs.World.{IsPlan, World, first_world, happens, run}
-use Rattle.logon_runs.specs.AnyLogons.{AreBelow, DrawsUpTo, HasServers, LogonRests, LogonsRest}
+use Rattle.logon_runs.specs.AnyLogons.{AreBelow, DrawsUpTo, HasServers, LogonRests}
 use Rattle.logon_runs.specs.Others.{IsStepOn}
 use Rattle.logon_runs.specs.Passing.{HasEnough}
 use Rattle.logon_runs.specs.Rests.{AtRest, moved_by}
 use Rattle.logon_runs.specs.Staying.{HasSameEnds}
 use Rattle.logon_runs.specs.Waiting.{waiting}
+use Rattle.logon_runs.proofs.Any.AnyLogonLaws.{logons_rest}
+use Rattle.logon_runs.proofs.PassingLaws.{rest_of}
 use Rattle.logon_runs.proofs.RestStayLaws.{rests_stay}
 use Rattle.logon_runs.proofs.StayingLaws.{both_same, ends_stay}
 use Rattle.logon_runs.proofs.WaitingLaws.{waiting_comes}
 use Rattle.domain_world.specs.Claims.Completeness.{IsPlainMove, IsQuiet, OneAtATime, started_in}
-use Rattle.logons_succeed.proofs.MomentLaws.{moment_below, start_chances}
+use Rattle.domain_world.proofs.Completeness.MomentLaws.{moment_below, start_chances}
 
 -- ---- challenges
-
-rest_blocks : (front after : List (List ℕ)) → AllByRecursion (λ (challenge : List ℕ). IsBlock 8 challenge) (front ++ after) → AllByRecursion (λ (challenge : List ℕ). IsBlock 8 challenge) after
-rest_blocks [] after are = are
-rest_blocks (first ∷ front) after are = rest_blocks front after are.1
 
 enough_later : (moves more : ℕ) (before after : List (List ℕ)) → HasEnough (moves + more) before → DrawsUpTo (3 * moves) before after → HasEnough more after
 enough_later moves more before after enough draws = record {
   many = omega (arith, enough.many, draws.few, ap length draws.are, length-append draws.front after);
-  blocks = rest_blocks draws.front after (subst (AllByRecursion (λ (challenge : List ℕ). IsBlock 8 challenge)) draws.are enough.blocks);
+  blocks = rest_of draws.front after (subst (AllByRecursion (λ (challenge : List ℕ). IsBlock 8 challenge)) draws.are enough.blocks);
 }
 
 pub fewer_moves : (moves : ℕ) (left : List (List ℕ)) → HasEnough (suc moves) left → HasEnough moves left
@@ -60,12 +58,12 @@ pub record IsGoing (plan : Plan) (s : State) (client : ℕ) (task : ClientPlan) 
 none_before : (count : ℕ) → 0 + count ≡ count
 none_before count = omega arith
 
-pub begins_going : LogonsRest → (plan : Plan) (s : State) → AtRest plan s → (client : ℕ) (task : ClientPlan) (number : ℕ) → IsPlan plan → HasForms plan → HasServers plan →
+pub begins_going : (plan : Plan) (s : State) → AtRest plan s → (client : ℕ) (task : ClientPlan) (number : ℕ) → IsPlan plan → HasForms plan → HasServers plan →
     slice_get plan.clients client ≡ Some task → HasSameEnds (first_world plan).state s → chosen_place number (length s.ends.clients) ≡ Some client → IsGoing plan s client task (start number s).state 0 (start number s).state
-begins_going all plan s rest client task number is forms servers is_task same chosen = record {
+begins_going plan s rest client task number is forms servers is_task same chosen = record {
   closes = λ more steps below enough dials units.
       subst (λ (moves : ℕ). LogonRests plan s client task moves (start number s).state (moved_by more (start number s).state)) (sym (none_before (length more)))
-      (all.rests plan s rest client task number is forms servers is_task same chosen more steps below
+      (logons_rest.rests plan s rest client task number is forms servers is_task same chosen more steps below
       (subst (λ (moves : ℕ). HasEnough moves (start number s).state.chances.left) (none_before (length more)) enough) dials units);
 }
 
@@ -185,9 +183,9 @@ no_items (item ∷ items) none = absurd (omega (arith, none))
 no_clients : (plan : Plan) (s : State) → HasSameEnds (first_world plan).state s → (length s.ends.clients == 0) ≡ true → plan.clients ≡ []
 no_clients plan s same none = no_items plan.clients (sym (as_planned plan s same) ∙ none_first (length s.ends.clients) none)
 
-pub begins_so : LogonsRest → (plan : Plan) (left : ℕ) (s : State) (number : ℕ) → IsPlan plan → HasForms plan → HasServers plan → HasSameEnds (first_world plan).state s → Resting plan (suc left) s →
+pub begins_so : (plan : Plan) (left : ℕ) (s : State) (number : ℕ) → IsPlan plan → HasForms plan → HasServers plan → HasSameEnds (first_world plan).state s → Resting plan (suc left) s →
     (((start number s).state ≡ s) × (plan.clients ≡ [])) ⊎ BeginsSo plan left s number
-begins_so all plan left s number is forms servers same resting =
+begins_so plan left s number is forms servers same resting =
     elim (place_so number (length s.ends.clients) (length s.ends.clients == 0) refl) [
       | inl none ↦ inl (ap (λ (at : Option ℕ). (start_at at s).state) none.0, no_clients plan s same none.1)
       | inr some ↦
@@ -205,10 +203,27 @@ begins_so all plan left s number is forms servers same resting =
               count = 0;
               enough = subst (λ (moves : ℕ). HasEnough moves (start number s).state.chances.left) (sym (none_before left))
                   (subst (λ (chances : Drawing). HasEnough left chances.left) (sym (start_chances number s)) (fewer_moves left s.chances.left resting.enough));
-              going = begins_going all plan s resting.rest (number % length plan.clients) found.0 number is forms servers found.1 same chosen;
+              going = begins_going plan s resting.rest (number % length plan.clients) found.0 number is forms servers found.1 same chosen;
             };
           })
     ]
+
+-- ---- the moves
+
+-- what holds of the moves that are left
+pub record Along (plan : Plan) (moves : List Move) (w : World) : Type 0 where
+  pub plain : AllByRecursion IsPlainMove moves
+  pub quiet : OneAtATime moves w
+  pub same : HasSameEnds (first_world plan).state w.state
+  pub below : w.state.moment < 2 ^ 64
+
+pub along_next : (plan : Plan) (what : Move) (moves : List Move) (w : World) → Along plan (what ∷ moves) w → Along plan moves (happens w what)
+along_next plan what moves w along = record {
+  plain = along.plain.1;
+  quiet = along.quiet.1;
+  same = both_same (first_world plan).state w.state (act w.state what).state along.same (ends_stay.acts w.state what);
+  below = moment_below w.state what along.plain.0 along.below;
+}
 
 -- ---- a client that isn't started any more
 
@@ -248,44 +263,39 @@ step_keeps plan left client value now what steps below (inr keeps) = inr (record
   was = keeps.was;
 })
 
-module _ (all : LogonsRest) (plan : Plan) (is : IsPlan plan) (forms : HasForms plan) (servers : HasServers plan) where
+module _ (plan : Plan) (is : IsPlan plan) (forms : HasForms plan) (servers : HasServers plan) where
   start_keeps : (left client : ℕ) (value : Option ClientState) (now : State) (number : ℕ) → HasSameEnds (first_world plan).state now → client ≢ number % length plan.clients →
       KeepsAtRest plan (suc left) client value now → Keeps plan left client value (start number now).state
   start_keeps left client value now number same apart rests =
-      elim (begins_so all plan left now number is forms servers same rests.resting) [
+      elim (begins_so plan left now number is forms servers same rests.resting) [
         | inl none ↦ subst (λ (s : State). Keeps plan left client value s) (sym none.0)
             (inl (record { resting = record { rest = rests.resting.rest; enough = fewer_moves left now.chances.left rests.resting.enough }; is = rests.is }))
         | inr begins ↦ inr (record { s = now; other = number % length plan.clients; started = begins.started; apart = apart; was = rests.is })
       ]
 
-  keeps_on : (client : ℕ) (value : Option ClientState) (moves : List Move) (w : World) → AllByRecursion IsPlainMove moves → OneAtATime moves w → HasSameEnds (first_world plan).state w.state →
-      w.state.moment < 2 ^ 64 → AllByRecursion (λ (other : ℕ). client ≢ other) (started_in moves (length plan.clients)) → Keeps plan (length moves) client value w.state →
+  keeps_on : (client : ℕ) (value : Option ClientState) (moves : List Move) (w : World) → Along plan moves w →
+      AllByRecursion (λ (other : ℕ). client ≢ other) (started_in moves (length plan.clients)) → Keeps plan (length moves) client value w.state →
       slice_get (run moves w).state.ends.clients client ≡ value
-  keeps_on client value [] w plain quiet same below apart keeps = (quiet_keeps plan 0 client value w quiet keeps).is
-  keeps_on client value (move.Start number ∷ moves) w plain quiet same below apart keeps =
-      keeps_on client value moves (happens w (move.Start number)) plain.1 quiet.1 (both_same _ w.state _ same (ends_stay.acts w.state (move.Start number)))
-      (moment_below w.state (move.Start number) plain.0 below) apart.1
-      (start_keeps (length moves) client value w.state number same apart.0 (quiet_keeps plan (suc (length moves)) client value w quiet.0 keeps))
-  keeps_on client value (move.Connect ∷ moves) w plain quiet same below apart keeps =
-      keeps_on client value moves (happens w move.Connect) plain.1 quiet.1 (both_same _ w.state _ same (ends_stay.acts w.state move.Connect))
-      (moment_below w.state move.Connect plain.0 below) apart (step_keeps plan (length moves) client value w.state move.Connect tt below keeps)
-  keeps_on client value (move.Onward ∷ moves) w plain quiet same below apart keeps =
-      keeps_on client value moves (happens w move.Onward) plain.1 quiet.1 (both_same _ w.state _ same (ends_stay.acts w.state move.Onward))
-      (moment_below w.state move.Onward plain.0 below) apart (step_keeps plan (length moves) client value w.state move.Onward tt below keeps)
-  keeps_on client value (move.Tick more ∷ moves) w plain quiet same below apart keeps =
-      keeps_on client value moves (happens w (move.Tick more)) plain.1 quiet.1 (both_same _ w.state _ same (ends_stay.acts w.state (move.Tick more)))
-      (moment_below w.state (move.Tick more) plain.0 below) apart (step_keeps plan (length moves) client value w.state (move.Tick more) tt below keeps)
-  keeps_on client value (move.Stranger number ∷ moves) w plain quiet same below apart keeps = absurd plain.0
-  keeps_on client value (move.FailDial ∷ moves) w plain quiet same below apart keeps = absurd plain.0
-  keeps_on client value (move.Lose ∷ moves) w plain quiet same below apart keeps = absurd plain.0
-  keeps_on client value (move.Deliver unit link ∷ moves) w plain quiet same below apart keeps = absurd plain.0
-  keeps_on client value (move.Hand link back bytes ∷ moves) w plain quiet same below apart keeps = absurd plain.0
-  keeps_on client value (move.Shut number ∷ moves) w plain quiet same below apart keeps = absurd plain.0
-  keeps_on client value (move.Restart number ∷ moves) w plain quiet same below apart keeps = absurd plain.0
+  keeps_on client value [] w along apart keeps = (quiet_keeps plan 0 client value w along.quiet keeps).is
+  keeps_on client value (move.Start number ∷ moves) w along apart keeps =
+      keeps_on client value moves (happens w (move.Start number)) (along_next plan (move.Start number) moves w along) apart.1
+      (start_keeps (length moves) client value w.state number along.same apart.0 (quiet_keeps plan (suc (length moves)) client value w along.quiet.0 keeps))
+  keeps_on client value (move.Connect ∷ moves) w along apart keeps =
+      keeps_on client value moves (happens w move.Connect) (along_next plan move.Connect moves w along) apart (step_keeps plan (length moves) client value w.state move.Connect tt along.below keeps)
+  keeps_on client value (move.Onward ∷ moves) w along apart keeps =
+      keeps_on client value moves (happens w move.Onward) (along_next plan move.Onward moves w along) apart (step_keeps plan (length moves) client value w.state move.Onward tt along.below keeps)
+  keeps_on client value (move.Tick more ∷ moves) w along apart keeps =
+      keeps_on client value moves (happens w (move.Tick more)) (along_next plan (move.Tick more) moves w along) apart (step_keeps plan (length moves) client value w.state (move.Tick more) tt along.below keeps)
+  keeps_on client value (move.Stranger number ∷ moves) w along apart keeps = absurd along.plain.0
+  keeps_on client value (move.FailDial ∷ moves) w along apart keeps = absurd along.plain.0
+  keeps_on client value (move.Lose ∷ moves) w along apart keeps = absurd along.plain.0
+  keeps_on client value (move.Deliver unit link ∷ moves) w along apart keeps = absurd along.plain.0
+  keeps_on client value (move.Hand link back bytes ∷ moves) w along apart keeps = absurd along.plain.0
+  keeps_on client value (move.Shut number ∷ moves) w along apart keeps = absurd along.plain.0
+  keeps_on client value (move.Restart number ∷ moves) w along apart keeps = absurd along.plain.0
 
   -- from rest on
-  pub stays_so : (client : ℕ) (moves : List Move) (w : World) → AllByRecursion IsPlainMove moves → OneAtATime moves w → HasSameEnds (first_world plan).state w.state → w.state.moment < 2 ^ 64 →
-      AllByRecursion (λ (other : ℕ). client ≢ other) (started_in moves (length plan.clients)) → Resting plan (length moves) w.state →
-      slice_get (run moves w).state.ends.clients client ≡ slice_get w.state.ends.clients client
-  stays_so client moves w plain quiet same below apart resting =
-      keeps_on client (slice_get w.state.ends.clients client) moves w plain quiet same below apart (inl (record { resting = resting; is = refl }))
+  pub stays_so : (client : ℕ) (moves : List Move) (w : World) → Along plan moves w → AllByRecursion (λ (other : ℕ). client ≢ other) (started_in moves (length plan.clients)) →
+      Resting plan (length moves) w.state → slice_get (run moves w).state.ends.clients client ≡ slice_get w.state.ends.clients client
+  stays_so client moves w along apart resting =
+      keeps_on client (slice_get w.state.ends.clients client) moves w along apart (inl (record { resting = resting; is = refl }))

@@ -1,5 +1,5 @@
 -- The moment is one of 64 bits in each state, and a client that starts draws no challenge and sends no unit.
--- Of `logons_succeed`.
+-- It serves `logons_succeed`.
 use Rattle.std.proofs.Common.{◌≡◌, ℕ, ◌+◌, ◌≤◌, ◌<◌, ◌^◌, Bool, true, false, refl, ap, ◌∙◌, List, [], ◌∷◌, length, Option, Some, None, slice_get, arith, if◌then◌else◌}
 use Rattle.std.specs.Prelude.{min, nat_le}
 use Rattle.wire_base.specs.Maps.{lookup, same_number}

@@ -1,5 +1,5 @@
 -- What was told and judged stays written down, and a link stays between its ends.
--- Of `logons_succeed`.
+-- It serves `logons_succeed`.
 use Rattle.std.proofs.Common.{◌≡◌, ℕ, refl, sym, subst, true, false, List, [], ◌∷◌, ◌++◌, Option, Some, None, inl, inr, slice_get}
 use Rattle.domain_controller.specs.State.{State as ControllerState}
 use Rattle.logon_client.specs.State.{State as ClientState}
@@ -18,30 +18,19 @@ use Rattle.world_moves.specs.declared.moves.Move.{Move}
 use Rattle.world_moves.specs.declared.state.State.{State}
 use Rattle.world_moves.specs.World.{World, run}
 use Rattle.domain_world.specs.Past.{Coming, answers_of, book, controller_of, first_of, judged_of, later_of, note_at, note_client, note_controller, note_member, note_messages, note_turn, note_turns, numbers_on, onto, told_in}
+use Rattle.domain_world.proofs.Accepting.TurnNotedLaws.{turns_told}
+use Rattle.domain_world.proofs.Challenges.OwnLinkLaws.{one_earlier}
 use Rattle.domain_world.proofs.Frames.BookFrameLaws.{book_holds}
 use Rattle.domain_world.proofs.Frames.FrameLaws.{Fact, StaysWritten, run_stays}
 use Rattle.domain_world.proofs.Judgements.ReplayLaws.{client_judged, member_judged}
 
 -- ---- one of several
 
-pub one_front : {T : Type 0} (P : T → Type 0) (items more : List T) → OneOf P items → OneOf P (items ++ more)
-one_front P [] more one = absurd one
-one_front P (item ∷ items) more one = elim one [ inl here ↦ inl here | inr there ↦ inr (one_front P items more there) ]
-
-pub one_behind : {T : Type 0} (P : T → Type 0) (items more : List T) → OneOf P more → OneOf P (items ++ more)
-one_behind P [] more one = one
-one_behind P (item ∷ items) more one = inr (one_behind P items more one)
-
 one_onto : {T : Type 0} (P : T → Type 0) (items older : List T) → OneOf P older → OneOf P (onto items older)
 one_onto P [] older one = one
 one_onto P (item ∷ items) older one = one_onto P items (item ∷ older) (inr one)
 
 -- ---- what was told
-
-turns_told : (controller : ℕ) (units : List (ServedUnit AtTurn TurnTalk)) (carried : Option ℕ) (numbers : List ℕ) (b : Book) → (note_turns controller units carried numbers b).told ≡ b.told
-turns_told controller [] carried numbers b = refl
-turns_told controller (served ∷ units) carried numbers b =
-    turns_told controller units carried (later_of (turn_note controller served).sends numbers) (note_turn (turn_note controller served) served carried (first_of numbers) b)
 
 controller_told : (found : Option ControllerState) (at : ℕ) (w : Coming) (piece : List ℕ) (s after : State) (b : Book) → (note_controller found at w piece s after b).told ≡ b.told
 controller_told None at w piece s after b = refl
@@ -65,7 +54,7 @@ pub told_stays : (P : OutcomeTold → Type 0) (moves : List Move) (w : World) (b
 told_stays P moves w b one =
     book_holds (λ (now : Book). OneOf P now.told)
     (λ end w piece s after now is. subst (OneOf P) (sym (bytes_told end w piece s after now)) is)
-    (λ at given after now is. one_front P now.told (told_in given at) is) moves w b one
+    (λ at given after now is. one_earlier P now.told (told_in given at) is) moves w b one
 
 -- ---- what was judged
 
