@@ -1,23 +1,20 @@
 -- What was told and judged stays written down, and a link stays between its ends.
 -- It serves `logons_succeed`.
-use Rattle.std.proofs.Common.{◌≡◌, ℕ, refl, sym, subst, true, false, List, [], ◌∷◌, ◌++◌, Option, Some, None, inl, inr, slice_get}
+use Rattle.std.proofs.Common.{◌≡◌, ℕ, refl, sym, subst, true, false, List, [], ◌∷◌, Option, Some, None, inr, slice_get}
 use Rattle.domain_controller.specs.State.{State as ControllerState}
 use Rattle.logon_client.specs.State.{State as ClientState}
 use Rattle.member_server.specs.State.{State as MemberState}
-use Rattle.member_server.specs.declared.state.AtTurn.{AtTurn}
-use Rattle.member_server.specs.declared.state.TurnTalk.{TurnTalk}
 use Rattle.channel_events.specs.Marks.{OneOf}
 use Rattle.channel_events.proofs.ListLaws.{got_append}
-use Rattle.step_notes.specs.MemberNotes.{turn_note, turn_units}
+use Rattle.step_notes.specs.MemberNotes.{turn_units}
 use Rattle.step_notes.specs.Records.{Book, Judging, OutcomeTold}
-use Rattle.step_notes.specs.Served.{ServedUnit}
 use Rattle.world_moves.specs.declared.links.EndId.{EndId}
 use Rattle.world_moves.specs.declared.links.EndId.TheVariants.{Client, Controller, Member}
 use Rattle.world_moves.specs.declared.links.Route.{Route}
 use Rattle.world_moves.specs.declared.moves.Move.{Move}
 use Rattle.world_moves.specs.declared.state.State.{State}
 use Rattle.world_moves.specs.World.{World, run}
-use Rattle.domain_world.specs.Past.{Coming, answers_of, book, controller_of, first_of, judged_of, later_of, note_at, note_client, note_controller, note_member, note_messages, note_turn, note_turns, numbers_on, onto, told_in}
+use Rattle.domain_world.specs.Past.{Coming, answers_of, book, controller_of, judged_of, note_at, note_client, note_controller, note_member, note_messages, numbers_on, onto, told_in}
 use Rattle.domain_world.proofs.Accepting.TurnNotedLaws.{turns_told}
 use Rattle.domain_world.proofs.Challenges.OwnLinkLaws.{one_earlier}
 use Rattle.domain_world.proofs.Frames.BookFrameLaws.{book_holds}

@@ -17,7 +17,7 @@ use Rattle.world_moves.specs.declared.plan.Plan.{Plan}
 use Rattle.world_moves.specs.declared.state.State.{State}
 use Rattle.world_moves.specs.Forms.{HasForms}
 use Rattle.world_moves.specs.Moving.{act}
-use Rattle.world_moves.specs.World.{IsPlan, World, first_world, happens, run}
+use Rattle.world_moves.specs.World.{IsPlan, World, happens, run}
 use Rattle.logon_steps.specs.ClientSteps.{client_ended}
 use Rattle.logon_runs.specs.AnyLogons.{HasServers}
 use Rattle.logon_runs.specs.Others.{IsStepOn}
@@ -25,17 +25,15 @@ use Rattle.logon_runs.specs.Passing.{HasEnough}
 use Rattle.logon_runs.specs.Phases.{Aim, ArrivesAt, ComesSoFar, Coming, DrawsFew, First, HasUser, HasUserAt, IsKnown, IsOver, IsReached, IsReady, IsUnderWay, LogonPhase, MayLogOnAt, Progress, Second, Third, TurnAt, WasTold, WhoAsked, key_at, own, progress_of, progress_onward, told_of}
 use Rattle.logon_runs.specs.Phases.{Acked, Answers, Binds, BindsBefore, BindsHeld, Calls, Challenged, Dials, DialsBefore, DialsHeld, Echoed, Echoes, Granted, Halved, Named, Proved}
 use Rattle.logon_runs.specs.Runs.{Asked}
-use Rattle.logon_runs.specs.Staying.{HasSameEnds}
 use Rattle.logon_runs.proofs.ComeInLaws.{reached_so}
 use Rattle.logon_runs.proofs.PassingLaws.{enough_after, none_drawn, three_from}
 use Rattle.logon_runs.proofs.PhaseLaws.{phases_go_on}
-use Rattle.logon_runs.proofs.StayingLaws.{both_same, ends_stay}
+use Rattle.logon_runs.proofs.StayingLaws.{ends_stay}
 use Rattle.logon_runs.proofs.TurnedAwayLaws.{logons_are_turned_away}
-use Rattle.domain_world.specs.Claims.Completeness.{InEachState, IsPlainMove, IsQuiet, MayLogOnIn, OneAtATime, info_planned, started_in}
+use Rattle.domain_world.specs.Claims.Completeness.{InEachState, IsQuiet, MayLogOnIn, info_planned, started_in}
 use Rattle.domain_world.specs.Past.{book, note}
 use Rattle.domain_world.proofs.Completeness.ApartLaws.{info_same}
 use Rattle.domain_world.proofs.Completeness.BookStayLaws.{link_stays, told_stays}
-use Rattle.domain_world.proofs.Completeness.MomentLaws.{moment_below}
 use Rattle.domain_world.proofs.Completeness.OwnLogonLaws.{AreSafe, IsSafe, IsTold, IsWritten, onward_arrives, onward_written, safe_then, written_stays}
 use Rattle.domain_world.proofs.Completeness.RestingLaws.{Along, Started, along_next, goes_further, rests_then, stays_so, units_quiet}
 
