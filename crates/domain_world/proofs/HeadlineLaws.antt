@@ -18,6 +18,7 @@ use Rattle.domain_world.proofs.Challenges.MessageApartLaws.{messages_apart}
 use Rattle.domain_world.proofs.Challenges.MessageOnceLaws.{messages_once}
 use Rattle.domain_world.proofs.Challenges.OwnChallengeLaws.{messages_own}
 use Rattle.domain_world.proofs.Accepting.UnitLaws.{runs_heard}
+use Rattle.domain_world.proofs.Completeness.SuccessLaws.{each_succeeds}
 use Rattle.domain_world.proofs.Frames.BagFrameLaws.{each_marked}
 use Rattle.domain_world.proofs.Frames.DrawnRunLaws.{draws_are_blocks, draws_differ}
 use Rattle.domain_world.proofs.Judgements.GrantLaws.{grants_who_may}
@@ -68,4 +69,5 @@ all_proved let_in written asked sends heard shared plan moves short bytes = reco
   sequences = λ schedule clear. shared plan moves schedule short bytes clear;
   marked = each_marked plan moves;
   ways = marks_have_their_way plan moves;
+  complete = each_succeeds plan moves;
 }

@@ -1,5 +1,6 @@
 mod Accepting
 mod Challenges
+pub mod Completeness
 mod DrivingLaws
 pub mod Frames
 mod HeadlineLaws

@@ -1,5 +1,4 @@
--- The whole claim of a run, in two records (this project's own choice): what is proved of every run, and what is stated
--- and not proved yet. A claim that gets proved moves from the one to the other, and nothing else changes.
+-- The whole claim of a run, in one record: what is proved of every run (this project's own choice).
 use Rattle.std.specs.Prelude.{◌≡◌, List, ◌++◌}
 use Rattle.world_moves.specs.declared.moves.Move.{Move}
 use Rattle.world_moves.specs.declared.plan.Plan.{Plan}
@@ -55,20 +54,13 @@ pub record Proved (plan : Plan) (moves : List Move) : Type 0 where
   -- the units of the bag, and which way they go
   pub marked : EachUnitIsMarked (past plan moves)
   pub ways : MarksHaveTheirWay (past plan moves)
-
--- What is stated of a run and not proved yet, and no call rests on it: logons that come one at a time succeed.
-pub record Stated (plan : Plan) (moves : List Move) : Type 0 where
+  -- logons that come one at a time succeed
   pub complete : EachSucceeds (past plan moves) moves
-
--- all that is claimed of a run
-pub record AreClaimed (plan : Plan) (moves : List Move) : Type 0 where
-  pub proved : Proved plan moves
-  pub stated : Stated plan moves
 
 -- What is claimed of each schedule: a plan of which a world can be made, with the forms of its types, and at most
 -- 100,000 moves that it can make.
 abbrev pub IsClaimed : Plan → List Move → Type 0
-IsClaimed plan moves = IsSchedule plan moves → AreClaimed plan moves
+IsClaimed plan moves = IsSchedule plan moves → Proved plan moves
 
 -- It holds of the run that made a world from a plan, whatever the moves before, with these moves behind them.
 abbrev pub OfItsRun : World → List Move → (Plan → List Move → Type 0) → Type 0

@@ -7,6 +7,7 @@ ghost use Rattle.world_moves.specs.Bag.{AreShortUnits, HaveBytes};
 ghost use Rattle.world_moves.specs.Draws.{DrawsDiffer};
 ghost use Rattle.domain_world.specs.Claims.{PassesTheNextCredential, ReplaysBySum, TellsOfCallsAlone};
 ghost use Rattle.domain_world.specs.Claims.AskedFor.{MembersAskForKept, MembersAskForMessages, SendsAskForMessages};
+ghost use Rattle.domain_world.specs.Claims.Completeness.{EachSucceeds};
 ghost use Rattle.domain_world.specs.Claims.Grants.{GrantsWhoMayLogOn};
 ghost use Rattle.domain_world.specs.Claims.LetIn.{LetsInWhoAsked};
 ghost use Rattle.domain_world.specs.Claims.MarkedUnits.{EachUnitIsMarked};
@@ -151,6 +152,13 @@ pub fn sends_ask_for_messages()
 #[tactic(auto, using(crate::proofs::Requests::NamedLinkLaws::links_reach))]
 pub fn links_reach_the_named()
     ensures { LinksReachTheNamed }
+{}
+
+/// In every run, over all moves from a plan on, in which logons come one at a time (MS-NLMP 3.2.5.1.2), each client
+/// that is started and can succeed is let in, with its member's key, the domain, the account's name and its whole echo.
+#[tactic(auto, using(crate::proofs::Completeness::SuccessLaws::each_succeeds))]
+pub fn logons_succeed()
+    ensures { (plan : Plan) (moves : List Move) → EachSucceeds (past plan moves) moves }
 {}
 
 /// All that is proved of runs holds of the run of every list of moves from any plan, where the units of its bag have

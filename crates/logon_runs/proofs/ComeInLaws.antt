@@ -43,7 +43,7 @@ turn_among p v =
     put_so (three_in p) (length v.links) (answered there) (its_link (own p) ++ (length v.links, there) ∷ []) (refl, refl)
     (more_so (three_in p) (length v.links) there (its_link (own p)) (refl, refl) (own_among p))
 
-links_among : (p : Coming) (phase : LogonPhase p) (left : List (List ℕ)) (moment : ℕ) → AreAmong (three_in p) (scene_of p phase left moment).opened
+pub links_among : (p : Coming) (phase : LogonPhase p) (left : List (List ℕ)) (moment : ℕ) → AreAmong (three_in p) (scene_of p phase left moment).opened
 links_among p Dials left moment = tt
 links_among p Binds left moment = own_among p
 links_among p (Challenged challenge) left moment = own_among p

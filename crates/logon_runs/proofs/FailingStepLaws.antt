@@ -63,18 +63,18 @@ who_faulted task at most status one other who =
     ∙ ap (λ (body : Body). body_out body who.unit.call (bound_for task) status None at) (sym who.body)
     ∙ ap (λ (call : ℕ). stay (send_unit at (fault_of call 0 status)) (out_talk task status)) who.call
 
--- ---- the logon of the one link that waits ends, and nobody is let in
+-- ---- the logon of the one link that waits ends
 
-abbrev waiting_work : MemberPlan → Requester → List (ℕ × Logon) → List (ℕ × LinkState Talk) → List Action → Work
+abbrev pub waiting_work : MemberPlan → Requester → List (ℕ × Logon) → List (ℕ × LinkState Talk) → List Action → Work
 waiting_work plan channel asked links actions = record { logons = record { plan = plan; channel = channel; asked = asked }; links = links; actions = actions }
 
--- the work once the outcome is told, and what is held is answered
-out_work : (plan : MemberPlan) (channel : Requester) (task : ClientPlan) (how : Ending) (logon : Logon) (place status : ℕ) (held : List (List ℕ)) (first : List Action) →
-    phase_after how logon (bound_for task) ≡ phase.Out (bound_for task) status →
+-- the work once the outcome is told, where that is how far the link then is, and what is held is answered
+pub ended_work : (plan : MemberPlan) (channel : Requester) (task : ClientPlan) (how : Ending) (logon : Logon) (place : ℕ) (far : Phase) (held : List (List ℕ)) (first : List Action) →
+    phase_after how logon (bound_for task) ≡ far →
     end_logon place how (waiting_work plan channel ((place, logon) ∷ []) (one_link logon.link (asked_talk (bound_for task) place held)) first)
-    ≡ after_served (serve_held held (at_link logon.link (waiting_work plan channel [] [] (first ++ action.Told logon.link (outcome_of how logon) ∷ []))) (out_talk task status)) [] logon.link
-    (waiting_work plan channel [] [] (first ++ action.Told logon.link (outcome_of how logon) ∷ []))
-out_work plan channel task how logon place status held first out =
+    ≡ after_served (serve_held held (at_link logon.link (waiting_work plan channel [] [] (first ++ action.Told logon.link (outcome_of how logon) ∷ []))) (record { joiner = None; phase = far }))
+    [] logon.link (waiting_work plan channel [] [] (first ++ action.Told logon.link (outcome_of how logon) ∷ []))
+ended_work plan channel task how logon place far held first is =
     let links : List (ℕ × LinkState Talk) = one_link logon.link (asked_talk (bound_for task) place held) in
     let here : LinkState Talk = record { rest = []; talk = asked_talk (bound_for task) place held } in
     let told : List Action = first ++ action.Told logon.link (outcome_of how logon) ∷ [] in
@@ -83,7 +83,7 @@ out_work plan channel task how logon place status held first out =
     ∙ ap (λ (f : Bool). reach_link (if f then Some here else None) place how logon (waiting_work plan channel [] links told)) (same logon.link)
     ∙ ap (λ (f : Bool). turn_link (waiting_if f (bound_for task) held) here how logon (waiting_work plan channel [] links told)) (same place)
     ∙ ap (λ (f : Bool). turn_waiting (bound_for task, held) here how logon (waiting_work plan channel [] (if f then [] else links) told)) (same logon.link)
-    ∙ ap (λ (p : Phase). after_served (serve_held held (at_link logon.link alone) (record { joiner = None; phase = p })) [] logon.link alone) out
+    ∙ ap (λ (p : Phase). after_served (serve_held held (at_link logon.link alone) (record { joiner = None; phase = p })) [] logon.link alone) is
 
 held_work : (plan : MemberPlan) (channel : Requester) (task : ClientPlan) (how : Ending) (logon : Logon) (place status most : ℕ) (one other : Option SessionState) (first : List Action) →
     (who : RequestGoes most task.level 2 0 [] one other) → phase_after how logon (bound_for task) ≡ phase.Out (bound_for task) status →
@@ -92,7 +92,7 @@ held_work : (plan : MemberPlan) (channel : Requester) (task : ClientPlan) (how :
     ((first ++ action.Told logon.link (outcome_of how logon) ∷ []) ++ action.Send logon.link (who_fault status) ∷ [])
 held_work plan channel task how logon place status most one other first who out =
     let alone : Work = waiting_work plan channel [] [] (first ++ action.Told logon.link (outcome_of how logon) ∷ []) in
-    out_work plan channel task how logon place status (who.sent ∷ []) first out
+    ended_work plan channel task how logon place (phase.Out (bound_for task) status) (who.sent ∷ []) first out
     ∙ ap (λ (served : Served). after_served (then_held served (λ next said. serve_held [] next said)) [] logon.link alone)
     (who_faulted task (at_link logon.link alone) most status one other who)
 
@@ -129,7 +129,8 @@ failings_step = record {
       (action.Close turn close.CallDone ∷ []) who refl);
   dial_fails = λ plan caller how info place next number now c logon task left.
       ap (λ (work : Work). step_by actions_in state_in halted_state left (next_turn now (work, dialling.Nothing) left))
-      (out_work plan (at_rest caller standing.Nothing (after place) next) task (ending.NoController drop_cause.DialFailed) logon place rpc_s_server_unavailable [] [] refl);
+      (ended_work plan (at_rest caller standing.Nothing (after place) next) task (ending.NoController drop_cause.DialFailed) logon place
+      (phase.Out (bound_for task) rpc_s_server_unavailable) [] [] refl);
   dial_fails_held = λ plan caller how info place next number now most c logon task one other left who.
       ap (λ (work : Work). step_by actions_in state_in halted_state left (next_turn now (work, dialling.Nothing) left))
       (held_work plan (at_rest caller standing.Nothing (after place) next) task (ending.NoController drop_cause.DialFailed) logon place rpc_s_server_unavailable most one other [] who refl);

@@ -26,6 +26,8 @@ pub mod FailingStepLaws
 pub mod FailingLaws
 pub mod TurnedAwayLaws
 pub mod PassingLaws
+pub mod Any
 pub mod GrantsToldLaws
 pub mod RestStayLaws
 pub mod ExampleLogonLaws
+pub mod Keys

@@ -69,7 +69,7 @@ heard_down g how talk bytes later left moment comes = record {
   hearer = refl;
 }
 
-sent_up : (g : Meeting) (bytes : List ℕ) → IsJoined g → sent_if (slice_get g.links g.link) (Client g.at_client) g.link bytes ≡ unit_up g bytes ∷ []
+pub sent_up : (g : Meeting) (bytes : List ℕ) → IsJoined g → sent_if (slice_get g.links g.link) (Client g.at_client) g.link bytes ≡ unit_up g bytes ∷ []
 sent_up g bytes is = ap (λ (r : Option Route). sent_if r (Client g.at_client) g.link bytes) is
 
 pub sent_down : (g : Meeting) (bytes : List ℕ) → IsJoined g → sent_if (slice_get g.links g.link) (Member g.at_member) g.link bytes ≡ unit_down g bytes ∷ []

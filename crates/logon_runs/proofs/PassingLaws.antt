@@ -34,12 +34,12 @@ use Rattle.logon_runs.proofs.TurnedAwayLaws.{logons_are_turned_away}
 
 -- ---- the links of a logon that is turned away
 
-away_among : (p : Coming) (phase : AwayPhase p) (left : List (List ℕ)) (moment : ℕ) → AreAmong (three_in p) (away_scene p phase left moment).opened
+pub away_among : (p : Coming) (phase : AwayPhase p) (left : List (List ℕ)) (moment : ℕ) → AreAmong (three_in p) (away_scene p phase left moment).opened
 away_among p (Refused a who v o c timestamp accounts status) left moment = turn_among p v
 away_among p (Unheard a who e) left moment = own_among p
 away_among p (Faulted a later e status) left moment = own_among p
 
-away_dials : (p : Coming) (phase : AwayPhase p) (left : List (List ℕ)) (moment : ℕ) → (away_scene p phase left moment).dials ≡ []
+pub away_dials : (p : Coming) (phase : AwayPhase p) (left : List (List ℕ)) (moment : ℕ) → (away_scene p phase left moment).dials ≡ []
 away_dials p (Refused a who v o c timestamp accounts status) left moment = refl
 away_dials p (Unheard a who e) left moment = refl
 away_dials p (Faulted a later e status) left moment = refl
@@ -152,23 +152,23 @@ refused_by p s (Echoed a e talk one other back) what left moment fits shows know
 
 -- ---- challenges that are left
 
-three_from : (left : List (List ℕ)) → AllByRecursion (λ (challenge : List ℕ). IsBlock 8 challenge) left → 3 ≤ length left → HasThree left
+pub three_from : (left : List (List ℕ)) → AllByRecursion (λ (challenge : List ℕ). IsBlock 8 challenge) left → 3 ≤ length left → HasThree left
 three_from [] are many = absurd (omega (arith, many))
 three_from (one ∷ []) are many = absurd (omega (arith, many))
 three_from (one ∷ two ∷ []) are many = absurd (omega (arith, many))
 three_from (one ∷ two ∷ three ∷ more) are many = record { one = one; two = two; three = three; more = more; are = refl; first = are.0; second = are.1.0; third = are.1.1.0 }
 
-rest_of : (front after : List (List ℕ)) → AllByRecursion (λ (challenge : List ℕ). IsBlock 8 challenge) (front ++ after) → AllByRecursion (λ (challenge : List ℕ). IsBlock 8 challenge) after
+pub rest_of : (front after : List (List ℕ)) → AllByRecursion (λ (challenge : List ℕ). IsBlock 8 challenge) (front ++ after) → AllByRecursion (λ (challenge : List ℕ). IsBlock 8 challenge) after
 rest_of [] after are = are
 rest_of (first ∷ front) after are = rest_of front after are.1
 
-enough_after : (moves : ℕ) (before after : List (List ℕ)) → HasEnough (suc moves) before → DrawsFew before after → HasEnough moves after
+pub enough_after : (moves : ℕ) (before after : List (List ℕ)) → HasEnough (suc moves) before → DrawsFew before after → HasEnough moves after
 enough_after moves before after enough few = record {
   many = omega (arith, enough.many, few.few, ap length few.are, length-append few.front after);
   blocks = rest_of few.front after (subst (AllByRecursion (λ (challenge : List ℕ). IsBlock 8 challenge)) few.are enough.blocks);
 }
 
-none_drawn : (before after : List (List ℕ)) → after ≡ before → DrawsFew before after
+pub none_drawn : (before after : List (List ℕ)) → after ≡ before → DrawsFew before after
 none_drawn before after same = record { front = []; few = omega arith; are = sym same }
 
 -- what holds since the logon started at rest
@@ -198,7 +198,7 @@ unfolding GoesBy
 away_goes p s at = inr at
 
 -- no dial waits, so none is answered
-no_dial_among : (p : Coming) (s : State) → s.dials ≡ [] → IsDialAmong (three_in p) s (slice_get s.dials 0)
+pub no_dial_among : (p : Coming) (s : State) → s.dials ≡ [] → IsDialAmong (three_in p) s (slice_get s.dials 0)
 no_dial_among p s none = subst (λ (dials : List Waiting). IsDialAmong (three_in p) s (slice_get dials 0)) (sym none) tt
 
 going_on : (p : Coming) (s now : State) (what : Move) → IsKnown p → IsReached p s → IsStepOn what → HasThree now.chances.left → now.moment < 2 ^ 64 →

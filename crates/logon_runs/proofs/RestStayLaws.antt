@@ -1,8 +1,9 @@
 -- That a world which rests does so still after a move between starts.
 -- Of `rests_stay`.
-use Rattle.std.proofs.Common.{◌≡◌, ℕ, refl, sym, ap, subst, ◌∙◌, List, [], drop, Option, slice_get}
+use Rattle.std.proofs.Common.{◌≡◌, ℕ, refl, sym, ap, subst, ◌∙◌, List, [], drop, Option, Some, slice_get}
 use Rattle.channel_client.specs.declared.state.Standing.{Standing}
 use Rattle.channel_client.specs.declared.state.Standing.TheVariants as standing
+use Rattle.logon_client.specs.declared.plan.ClientPlan.{ClientPlan}
 use Rattle.member_server.specs.declared.plan.MemberPlan.{MemberPlan}
 use Rattle.world_moves.specs.declared.moves.Move.{Move}
 use Rattle.world_moves.specs.declared.moves.Move.TheVariants as move
@@ -17,7 +18,8 @@ use Rattle.logon_runs.specs.Rests.{AtRest, ClientRests, ControllerRests, IsInSte
 use Rattle.logon_runs.specs.Waiting.{waiting}
 use Rattle.logon_runs.proofs.WaitingLaws.{waiting_comes}
 
-well_still : (plan : Plan) (s after : State) (at : ℕ) (member : MemberPlan) (how : Standing) → after.ends ≡ s.ends → StandsWell plan s at member how → StandsWell plan after at member how
+well_still : (plan : Plan) (s after : State) (at : ℕ) (member : MemberPlan) (how : Standing) → ((k : ℕ) → slice_get after.ends.controllers k ≡ slice_get s.ends.controllers k) →
+    StandsWell plan s at member how → StandsWell plan after at member how
 well_still plan s after at member standing.Nothing same well = tt
 well_still plan s after at member (standing.Half one other) same well = absurd well
 well_still plan s after at member (standing.Open o) same well = λ controller own.
@@ -27,18 +29,19 @@ well_still plan s after at member (standing.Open o) same well = λ controller ow
       name = there.name;
       computers = there.computers;
       channel = there.channel;
-      rests = ap (λ (e : EndStates). slice_get e.controllers controller) same ∙ there.rests;
+      rests = same controller ∙ there.rests;
       keeps = there.keeps;
       in_step = there.in_step;
     }
 
--- the ends, the links, what waits and the plans are the same
-rest_still : (plan : Plan) (s after : State) → after.ends ≡ s.ends → after.open_links ≡ s.open_links → after.dials ≡ [] → after.bag ≡ s.bag → after.client_plans ≡ s.client_plans → AtRest plan s →
-    AtRest plan after
-rest_still plan s after same opened dials bag plans rest = record {
-  opened = opened ∙ rest.opened;
+-- controllers and members are as they were, and each client rests
+pub rest_with : (plan : Plan) (s after : State) → ((at : ℕ) → slice_get after.ends.controllers at ≡ slice_get s.ends.controllers at) →
+    ((at : ℕ) → slice_get after.ends.members at ≡ slice_get s.ends.members at) → ((at : ℕ) (task : ClientPlan) → slice_get plan.clients at ≡ Some task → ClientRests after at task) →
+    after.open_links ≡ [] → after.dials ≡ [] → waiting after.bag ≡ [] → after.client_plans ≡ s.client_plans → AtRest plan s → AtRest plan after
+rest_with plan s after controllers members clients opened dials units plans rest = record {
+  opened = opened;
   dials = dials;
-  units = ap (λ b. waiting b) bag ∙ rest.units;
+  units = units;
   plans = plans ∙ rest.plans;
   controllers = λ at planned is_table.
       let cr : ControllerRests plan s at planned = rest.controllers at planned is_table in
@@ -49,7 +52,7 @@ rest_still plan s after same opened dials bag plans rest = record {
         differs = cr.differs;
         ranged = cr.ranged;
         computers = cr.computers;
-        rests = ap (λ (e : EndStates). slice_get e.controllers at) same ∙ cr.rests;
+        rests = controllers at ∙ cr.rests;
       };
   members = λ at member is_plan.
       let mr : MemberRests plan s at member = rest.members at member is_plan in
@@ -57,15 +60,23 @@ rest_still plan s after same opened dials bag plans rest = record {
         how = mr.how;
         place = mr.place;
         number = mr.number;
-        rests = ap (λ (e : EndStates). slice_get e.members at) same ∙ mr.rests;
+        rests = members at ∙ mr.rests;
         place_below = mr.place_below;
         number_below = mr.number_below;
-        stands = well_still plan s after at member mr.how same mr.stands;
+        stands = well_still plan s after at member mr.how controllers mr.stands;
       };
-  clients = λ at task is_task.
-      let lr : ClientRests s at task = rest.clients at task is_task in
-      record { client = lr.client; rests = ap (λ (e : EndStates). slice_get e.clients at) same ∙ lr.rests; how = lr.how };
+  clients = clients;
 }
+
+-- the ends, the links, what waits and the plans are the same
+rest_still : (plan : Plan) (s after : State) → after.ends ≡ s.ends → after.open_links ≡ s.open_links → after.dials ≡ [] → after.bag ≡ s.bag → after.client_plans ≡ s.client_plans → AtRest plan s →
+    AtRest plan after
+rest_still plan s after same opened dials bag plans rest =
+    rest_with plan s after (λ at. ap (λ (e : EndStates). slice_get e.controllers at) same) (λ at. ap (λ (e : EndStates). slice_get e.members at) same)
+    (λ at task is_task.
+    let lr : ClientRests s at task = rest.clients at task is_task in
+    record { client = lr.client; rests = ap (λ (e : EndStates). slice_get e.clients at) same ∙ lr.rests; how = lr.how })
+    (opened ∙ rest.opened) dials (ap (λ b. waiting b) bag ∙ rest.units) plans rest
 
 -- no dial is answered
 connects_none : (plan : Plan) (s : State) → AtRest plan s → (act s move.Connect).state ≡ without_first s

@@ -13,6 +13,7 @@ use Rattle.outside.specs.declared.action.Action.TheVariants as action
 use Rattle.outside.specs.declared.action.Judged.TheVariants as judged
 use Rattle.outside.specs.Machine.{whole_step}
 use Rattle.rpc_units.specs.Numbers.{error_access_denied, rpc_s_server_unavailable}
+use Rattle.logon_stubs.specs.declared.info.NetworkInfo.{NetworkInfo}
 use Rattle.logon_stubs.specs.declared.info.Verdict.{Verdict}
 use Rattle.logon_stubs.specs.declared.info.Verdict.TheVariants as verdict
 use Rattle.logon_stubs.specs.Ranges.{InRangeReply}
@@ -74,17 +75,15 @@ use Rattle.logon_runs.proofs.TwoLinkLaws.{turns_have_links}
 
 -- ---- the statuses of verdicts
 
-IsRefusalOf : Verdict → Type 0
+abbrev pub IsRefusalOf : Verdict → Type 0
 IsRefusalOf (verdict.Granted info) = Unit {0}
 IsRefusalOf (verdict.Status status) = IsRefusal status
 
 by_rule : (refuses : Bool) (rule : Rule) (later : Option _) (info : _) → IsRefusal rule.1.status → IsRefusalOf (verdict_by later info) → IsRefusalOf (verdict_by (refusal_by refuses rule.1 later) info)
-unfolding IsRefusalOf
 by_rule true rule later info is then_is = is
 by_rule false rule later info is then_is = then_is
 
 by_rules : (rules : List Rule) (info : _) → AllByRecursion (λ (rule : Rule). IsRefusal rule.1.status) rules → IsRefusalOf (verdict_by (first_refusal rules) info)
-unfolding IsRefusalOf
 by_rules [] info all = tt
 by_rules (rule ∷ rules) info all = by_rule rule.0 rule (first_refusal rules) info all.0 (by_rules rules info all.1)
 
@@ -113,25 +112,23 @@ rules_refuse policy account shown workstation now = (
 )
 
 shown_refuses : (found : Option Account) (shown : Shown) (table : AccountTable) (name workstation : List ℕ) (now : ℕ) → IsRefusalOf (verdict_shown found shown table name workstation now)
-unfolding IsRefusalOf
 shown_refuses None shown table name workstation now = refusal _ (omega arith) refl refl
 shown_refuses (Some account) shown table name workstation now = by_rules (rules_for table.policy account shown workstation now) _ (rules_refuse table.policy account shown workstation now)
 
 routed_refuses : (route : Route) (shown : Shown) (table : AccountTable) (name user workstation : List ℕ) (now : ℕ) → IsRefusalOf (verdict_routed route shown table name user workstation now)
-unfolding IsRefusalOf
 routed_refuses Own shown table name user workstation now = shown_refuses (account_in table.accounts user) shown table name workstation now
 routed_refuses (Trust place) shown table name user workstation now = refusal _ (omega arith) refl refl
 routed_refuses Elsewhere shown table name user workstation now = refusal _ (omega arith) refl refl
 
-refusal_from : (found : Verdict) (status : ℕ) → IsRefusalOf found → found ≡ verdict.Status status → IsRefusal status
-unfolding IsRefusalOf
+pub verdict_refuses : (table : AccountTable) (name : List ℕ) (info : NetworkInfo) (now : ℕ) → IsRefusalOf (verdict_of table name info now)
+unfolding verdict_of
+verdict_refuses table name info now = routed_refuses (route_in table info.domain) (shown_by_response info) table name info.user info.workstation now
+
+pub refusal_from : (found : Verdict) (status : ℕ) → IsRefusalOf found → found ≡ verdict.Status status → IsRefusal status
 refusal_from found status is same = subst IsRefusalOf same is
 
 refusals_so : (p : Coming) (a : Asked) (moment status : ℕ) → verdict_of p.table p.name (info_asked (own p) a) moment ≡ verdict.Status status → IsRefusal status
-unfolding verdict_of
-refusals_so p a moment status is =
-    let info = info_asked (own p) a in
-    refusal_from _ status (routed_refuses (route_in p.table info.domain) (shown_by_response info) p.table p.name info.user info.workstation moment) is
+refusals_so p a moment status is = refusal_from _ status (verdict_refuses p.table p.name (info_asked (own p) a) moment) is
 
 -- ---- the reply that refuses can be taken
 
@@ -207,11 +204,10 @@ refuses_so p s a who v o c timestamp left moment status known fits is shows =
 
 -- ---- a dial that reaches no controller
 
-lost_at : Coming → TurnAt → Settled
+abbrev pub lost_at : Coming → TurnAt → Settled
 lost_at p v = record { how = standing.Nothing; number = v.next; links = v.links; table = p.table; computers = v.computers }
 
 lost_so : (p : Coming) (a : Asked) (v : TurnAt) → InRangeTable p.table → IsTurning p a v → IsSettled p (lost_at p v)
-unfolding lost_at
 lost_so p a v ranged is = record {
   joined_so = is.joined_so;
   number_below = is.next_below;
@@ -329,7 +325,6 @@ rests_so p s (move.Restart number) steps at = absurd steps
 unreached_so : (p : Coming) (s : State) (a : Asked) (who : WhoAsked p a) (v : TurnAt) (aim : Aim) (left : List (List ℕ)) (moment : ℕ) → InRangeTable p.table → IsTurning p a v →
     route_to (Member p.meeting.at_member) (end_of_peer p.meeting.plan.controller s.ends) ≡ None →
     Shows s (scene_of p (DialsBefore a who v aim) left moment) → IsAway p (connect s).state
-unfolding lost_at
 unreached_so p s a who v aim left moment ranged is reaches shows = record {
   phase = Unheard a who (lost_at p v);
   left = left;
@@ -342,7 +337,6 @@ unreached_so p s a who v aim left moment ranged is reaches shows = record {
 unreached_held_so : (p : Coming) (s : State) (a : Asked) (who : WhoAsked p a) (v : TurnAt) (aim : Aim) (left : List (List ℕ)) (moment : ℕ) → InRangeTable p.table → IsTurning p a v →
     route_to (Member p.meeting.at_member) (end_of_peer p.meeting.plan.controller s.ends) ≡ None →
     Shows s (scene_of p (DialsHeld a who v aim) left moment) → IsAway p (connect s).state
-unfolding lost_at
 unreached_held_so p s a who v aim left moment ranged is reaches shows = record {
   phase = Faulted a who.later (lost_at p v) rpc_s_server_unavailable;
   left = left;

@@ -39,7 +39,7 @@ use Rattle.logon_runs.proofs.WaitingLaws.{waiting_comes}
 abbrev both_heard : EndStates → EndStates → List (List ℕ) → List Action → ℕ → State → State
 both_heard ends others left actions link s = (after_hearing others left [] (shut_link link (after_hearing ends left actions s).state)).state
 
-lands_closing : (s : State) (v : Scene) (unit : BagUnit) (later : List BagUnit) (end other : EndId) (ends others : EndStates) (left : List (List ℕ)) (link : ℕ) (cause : CloseCause)
+pub lands_closing : (s : State) (v : Scene) (unit : BagUnit) (later : List BagUnit) (end other : EndId) (ends others : EndStates) (left : List (List ℕ)) (link : ℕ) (cause : CloseCause)
     (actions : List Action) (client : ClientState) (member : MemberState) (controller : ControllerState) → Shows s v → (comes : Comes s unit later end) →
     ClosesTo v end other link → AllByRecursion IsNoClose actions →
     hear end (event.Bytes unit.link unit.bytes) (settle comes.number s) ≡ after_hearing ends left (action.Close link cause ∷ actions) (settle comes.number s) →

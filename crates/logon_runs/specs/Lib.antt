@@ -21,5 +21,8 @@ pub mod FailingSteps
 pub mod Failings
 pub mod TurnedAway
 pub mod Passing
+pub mod Any
+pub mod AnyLogons
 pub mod GrantsTold
 pub mod ExampleLogon
+pub mod Keys

@@ -1,6 +1,11 @@
 //! Laws of the moves of a world, where little waits in it. Each function does nothing, and its
 //! clause is the law.
 
+ghost use Rattle.logon_runs.specs.Any.AnyPhases.{AnyPhasesGoOn};
+ghost use Rattle.logon_runs.specs.Any.AnyStarts.{AnyLogonsStart};
+ghost use Rattle.logon_runs.specs.Any.ControllerAnswers.{ControllersAnswer};
+ghost use Rattle.logon_runs.specs.Any.GrantRests.{GrantsRest};
+ghost use Rattle.logon_runs.specs.AnyLogons.{LogonsRest};
 ghost use Rattle.logon_runs.specs.AskScenes.{LogonsAreSeen};
 ghost use Rattle.logon_runs.specs.ExampleLogon.{AnnLogsOn};
 ghost use Rattle.logon_runs.specs.FailingSteps.{FailingsStep};
@@ -11,6 +16,8 @@ ghost use Rattle.logon_runs.specs.FirstTraces.{FirstLogonsAreSeen, FirstTurnsAre
 ghost use Rattle.logon_runs.specs.FirstWorlds.{FirstWorldsRun};
 ghost use Rattle.logon_runs.specs.Grants.{GrantsAreTold};
 ghost use Rattle.logon_runs.specs.GrantsTold.{GrantsTell};
+ghost use Rattle.logon_runs.specs.Keys.Differing.{KeysMayDiffer};
+ghost use Rattle.logon_runs.specs.Keys.LetIn.{GrantsGoOn};
 ghost use Rattle.logon_runs.specs.LinkScenes.{MeetingsAreSeen};
 ghost use Rattle.logon_runs.specs.LogonRuns.{LogonsRun};
 ghost use Rattle.logon_runs.specs.Others.{OthersAreLeft};
@@ -218,4 +225,53 @@ pub fn grants_tell()
 #[tactic(auto, using(crate::proofs::RestStayLaws::rests_stay))]
 pub fn rests_stay()
     ensures { RestsStay }
+{}
+
+/// A request at a member and a reply at its client, whatever sessions both have: the member answers or closes the
+/// link, and the client has an outcome or asks for its echo.
+#[tactic(auto, using(crate::proofs::Keys::DifferingLaws::keys_may_differ))]
+pub fn keys_may_differ()
+    ensures { KeysMayDiffer }
+{}
+
+/// A logon that a member takes as granted, with whatever key, goes on at each move to its end: the client has its
+/// outcome, and no link is open. No challenge is drawn.
+#[tactic(auto, using(crate::proofs::Keys::LetInLaws::grants_go_on))]
+pub fn grants_go_on()
+    ensures { GrantsGoOn }
+{}
+
+/// A controller answers each call of a member's turn by one reply, whatever it keeps of that
+/// computer, and keeps the channels of the others.
+#[tactic(auto, using(crate::proofs::Any::ControllerAnswerLaws::controllers_answer))]
+pub fn controllers_answer()
+    ensures { ControllersAnswer }
+{}
+
+/// A logon that a member takes as granted, with whatever key, comes to rest: once nothing waits its client has an
+/// outcome, all other ends are as they were, and no challenge was drawn.
+#[tactic(auto, using(crate::proofs::Keys::GrantRestLaws::grants_rest))]
+pub fn grants_rest()
+    ensures { GrantsRest }
+{}
+
+/// A logon at any member goes on at each move, whatever its controller answers, to its end or to
+/// where the member lets the client in. The client then has its outcome, and no link is open.
+#[tactic(auto, using(crate::proofs::Any::AnyPhaseLaws::any_phases_go_on))]
+pub fn any_phases_go_on()
+    ensures { AnyPhasesGoOn }
+{}
+
+/// A client that starts at rest is in a phase of its logon, at any member. Once the logon is over
+/// the world rests again.
+#[tactic(auto, using(crate::proofs::Any::AnyBeginLaws::any_logons_start))]
+pub fn any_logons_start()
+    ensures { AnyLogonsStart }
+{}
+
+/// Whichever client starts at rest, and whatever its member and its controller make of it: once
+/// nothing waits the world rests, and the client has an outcome.
+#[tactic(auto, using(crate::proofs::Any::AnyLogonLaws::logons_rest))]
+pub fn logons_rest()
+    ensures { LogonsRest }
 {}

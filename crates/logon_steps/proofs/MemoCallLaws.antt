@@ -42,31 +42,31 @@ use Rattle.logon_steps.proofs.StreamLaws.{read_again}
 
 -- ---- a call that fits into one unit
 
-one_fragment : (call : RpcUnit) → IsWholeCall call → length (stub_of call.body) ≤ 5792 → cut_of call 5840 ≡ call ∷ []
+pub one_fragment : (call : RpcUnit) → IsWholeCall call → length (stub_of call.body) ≤ 5792 → cut_of call 5840 ≡ call ∷ []
 unfolding cut_of
 one_fragment call whole short =
     fragments_end (length (stub_of call.body)) call (stub_size 5840) true (stub_of call.body) short
     ∙ ap (λ (body : Body). record { first = true; last = true; call = call.call; body = body; trailer = call.trailer } ∷ []) (with_stub-own call.body)
     ∙ ap₂ (λ (first last : Bool). record { first = first; last = last; call = call.call; body = call.body; trailer = call.trailer } ∷ []) (sym whole.first) (sym whole.last)
 
-one_sends : (call : RpcUnit) → CanBeSent call 5840 → length (stub_of call.body) ≤ 5792 → IsSendable call
+pub one_sends : (call : RpcUnit) → CanBeSent call 5840 → length (stub_of call.body) ≤ 5792 → IsSendable call
 one_sends call can short = (subst (λ (units : List RpcUnit). AllByRecursion IsSendable units) (one_fragment call can.whole short) (cut_sendable call 5840 can)).0
 
-one_bytes : (call : RpcUnit) → CanBeSent call 5840 → length (stub_of call.body) ≤ 5792 → bytes_of_call call 5840 ≡ written call
+pub one_bytes : (call : RpcUnit) → CanBeSent call 5840 → length (stub_of call.body) ≤ 5792 → bytes_of_call call 5840 ≡ written call
 one_bytes call can short = ap (λ (units : List RpcUnit). flat_map written units) (one_fragment call can.whole short) ∙ append-nil (written call)
 
-abbrev request_at : ℕ → ℕ → List ℕ → Option Trailer → RpcUnit
+abbrev pub request_at : ℕ → ℕ → List ℕ → Option Trailer → RpcUnit
 request_at number opnum stub trailer = record { first = true; last = true; call = number; body = Request (length stub) 0 opnum stub; trailer = trailer }
 
-abbrev response_at : ℕ → List ℕ → Option Trailer → RpcUnit
+abbrev pub response_at : ℕ → List ℕ → Option Trailer → RpcUnit
 response_at number stub trailer = record { first = true; last = true; call = number; body = Response (length stub) 0 stub; trailer = trailer }
 
 -- an empty value of 16 bytes, or none
-abbrev HasBlank : Option Trailer → Type 0
+abbrev pub HasBlank : Option Trailer → Type 0
 HasBlank None = Unit {0}
 HasBlank (Some trailer) = (length trailer.value ≡ 16) × (trailer.context < 2 ^ 32)
 
-request_can : (number opnum : ℕ) (stub : List ℕ) (trailer : Option Trailer) → number < 2 ^ 32 → opnum < 2 ^ 16 → length stub ≤ 5792 → HasBlank trailer → CanBeSent (request_at number opnum stub trailer) 5840
+pub request_can : (number opnum : ℕ) (stub : List ℕ) (trailer : Option Trailer) → number < 2 ^ 32 → opnum < 2 ^ 16 → length stub ≤ 5792 → HasBlank trailer → CanBeSent (request_at number opnum stub trailer) 5840
 request_can number opnum stub None below op short blank = record {
   whole = record { stub = tt; first = refl; last = refl };
   range = record { call = below; body = (omega arith, omega arith, op); trailer = tt };
@@ -82,7 +82,7 @@ request_can number opnum stub (Some trailer) below op short blank = record {
   room = omega (arith, blank.0);
 }
 
-response_can : (number : ℕ) (stub : List ℕ) (trailer : Option Trailer) → number < 2 ^ 32 → length stub ≤ 5792 → HasBlank trailer → CanBeSent (response_at number stub trailer) 5840
+pub response_can : (number : ℕ) (stub : List ℕ) (trailer : Option Trailer) → number < 2 ^ 32 → length stub ≤ 5792 → HasBlank trailer → CanBeSent (response_at number stub trailer) 5840
 response_can number stub None below short blank = record {
   whole = record { stub = tt; first = refl; last = refl };
   range = record { call = below; body = (omega arith, omega arith); trailer = tt };
@@ -153,7 +153,7 @@ plain_request most level number opnum stub other below op short plain =
 abbrev number_of : Direction → ℕ
 number_of d = d.number
 
-secured_one : (seals : Bool) (one : SessionState) (unit : RpcUnit) (sent : List ℕ) (later : SessionState) →
+pub secured_one : (seals : Bool) (one : SessionState) (unit : RpcUnit) (sent : List ℕ) (later : SessionState) →
     secure_unit seals one (written unit) ≡ Some (record { bytes = sent; session = later }) →
     secure_all seals one (unit ∷ []) ≡ Some (record { bytes = sent; session = later })
 unfolding secure_all
@@ -162,10 +162,10 @@ secured_one seals one unit sent later is =
     ∙ ap (λ (bytes : List ℕ). Some (record { bytes = bytes; session = later })) (append-nil sent)
 
 -- the request with room for a signature of the client
-abbrev signed_request_at : ℕ → ℕ → ℕ → List ℕ → RpcUnit
+abbrev pub signed_request_at : ℕ → ℕ → ℕ → List ℕ → RpcUnit
 signed_request_at level number opnum stub = request_at number opnum stub (Some (trailer_of level (replicate 16 0)))
 
-request_room : (level number opnum : ℕ) (stub : List ℕ) → number < 2 ^ 32 → opnum < 2 ^ 16 → length stub ≤ 5792 → HasRoom (signed_request_at level number opnum stub)
+pub request_room : (level number opnum : ℕ) (stub : List ℕ) → number < 2 ^ 32 → opnum < 2 ^ 16 → length stub ≤ 5792 → HasRoom (signed_request_at level number opnum stub)
 request_room level number opnum stub below op short = record {
   sends = one_sends (signed_request_at level number opnum stub) (request_can number opnum stub (Some (trailer_of level (replicate 16 0))) below op short (refl, omega arith)) short;
   stub = tt;
@@ -271,10 +271,10 @@ plain_reply most level number stub other below short plain =
     }
 
 -- the reply with room for a signature of the member
-abbrev signed_reply_at : ℕ → ℕ → List ℕ → RpcUnit
+abbrev pub signed_reply_at : ℕ → ℕ → List ℕ → RpcUnit
 signed_reply_at level number stub = response_at number stub (Some (blank_trailer level 1))
 
-reply_room : (level number : ℕ) (stub : List ℕ) → number < 2 ^ 32 → length stub ≤ 5792 → HasRoom (signed_reply_at level number stub)
+pub reply_room : (level number : ℕ) (stub : List ℕ) → number < 2 ^ 32 → length stub ≤ 5792 → HasRoom (signed_reply_at level number stub)
 reply_room level number stub below short = record {
   sends = one_sends (signed_reply_at level number stub) (response_can number stub (Some (blank_trailer level 1)) below short (refl, omega arith)) short;
   stub = tt;
@@ -289,7 +289,7 @@ framed_one sealing s unit sent later is =
     ap (λ (first : Option (List ℕ × SessionState)). then_frame first (λ next. frames_by sealing next [])) is
     ∙ ap (λ (bytes : List ℕ). Some (bytes, later)) (append-nil sent)
 
-signed_reply_sent : (level number : ℕ) (stub : List ℕ) (one other : SessionState) → length stub ≤ 5792 → is_plain level ≡ false →
+pub signed_reply_sent : (level number : ℕ) (stub : List ℕ) (one other : SessionState) → length stub ≤ 5792 → is_plain level ≡ false →
     (goes : TravelsToClient (is_sealed level) (signed_reply_at level number stub) other one) →
     (on : LoggedOn) (at : AtLink) → on.bound.level ≡ level → on.bound.context ≡ 1 → on.bound.binding.limit ≡ 5840 → on.session ≡ Some other →
     send_reply (is_plain level) number 0 stub on None at ≡ stay (send at goes.travels.sent) (talk_in None (logged_on on (Some goes.travels.later)))

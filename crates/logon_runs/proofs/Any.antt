@@ -1,0 +1,10 @@
+-- Of logons at any member.
+pub mod AnyBeginLaws
+pub mod AnyLogonLaws
+pub mod AnyPhaseLaws
+pub mod AnyRunLaws
+pub mod AnyStartLaws
+pub mod AnyTurnLaws
+pub mod ControllerAnswerLaws
+pub mod RestAgainLaws
+pub mod UnreachedLaws

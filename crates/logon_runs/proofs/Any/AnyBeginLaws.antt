@@ -1,0 +1,120 @@
+-- A logon of any client at any member, from its start at rest.
+-- Of `any_logons_start`.
+use Rattle.std.proofs.Common.{◌≡◌, ℕ, refl, sym, ap, subst, ◌∙◌, List, length, Some, slice_get}
+use Rattle.wire_base.specs.Maps.{lookup}
+use Rattle.wire_base.specs.Names.{IsName, same_name}
+use Rattle.account_table.specs.AccountTable.{AccountTable}
+use Rattle.account_table.specs.Changes.{DifferInCounts, with_count}
+use Rattle.account_table.specs.LookUps.{machine_name}
+use Rattle.account_table.specs.declared.account.Account.{Account}
+use Rattle.channel_client.specs.declared.state.Standing.{Standing}
+use Rattle.channel_client.specs.declared.state.Standing.TheVariants as standing
+use Rattle.domain_controller.specs.declared.state.Computers.{Computers}
+use Rattle.logon_client.specs.Plans.{CanLogOn}
+use Rattle.logon_client.specs.declared.plan.ClientPlan.{ClientPlan}
+use Rattle.member_server.specs.declared.plan.MemberPlan.{MemberPlan}
+use Rattle.world_moves.specs.declared.plan.Plan.{Plan}
+use Rattle.world_moves.specs.declared.state.State.{State}
+use Rattle.world_moves.specs.Choosing.{chosen_place}
+use Rattle.world_moves.specs.Forms.{HasForms, IsClientPlan, IsMemberPlan}
+use Rattle.world_moves.specs.Moving.{start}
+use Rattle.world_moves.specs.World.{IsPlan}
+use Rattle.logon_steps.specs.Knowing.{StandsLater}
+use Rattle.logon_steps.proofs.CallingLaws.{calls_can_go}
+use Rattle.logon_steps.proofs.KnowingLaws.{computers_are_known}
+use Rattle.logon_runs.specs.Phases.{Coming, Dials, with_its_controller}
+use Rattle.logon_runs.specs.Rests.{AtRest, ClientRests, ControllerRests, HasOwnComputer, IsInStepAt, MemberRests, StandsWell}
+use Rattle.logon_runs.specs.Any.AnyPhases.{HasSecret, IsAble, MayStand, On}
+use Rattle.logon_runs.specs.Any.AnyStarts.{AnyLogonsStart, AreThree, HasStarted, coming_from}
+use Rattle.logon_runs.proofs.FirstWorldLaws.{are_units, item_has}
+use Rattle.logon_runs.proofs.StartLaws.{starts_are_seen}
+use Rattle.logon_runs.proofs.Any.RestAgainLaws.{computers_same, rests_again, some_same}
+
+module _ (plan : Plan) (s : State) (rest : AtRest plan s) (client member controller : ℕ) (three : AreThree plan client member controller) (account machine : Account) where
+  abbrev work : MemberPlan
+  work = three.member_plan
+
+  abbrev desk : ControllerRests plan s controller three.table
+  desk = rest.controllers controller three.table three.is_table
+
+  abbrev coming : Coming
+  coming = coming_from plan s rest client member controller three account machine
+
+  -- the channel of a member with its own computer is in step
+  may_stand : (how : Standing) → StandsWell plan s member work how → MayStand plan coming desk.computers how
+  may_stand standing.Nothing well = tt
+  may_stand (standing.Half one other) well = absurd well
+  may_stand (standing.Open o) well = λ is_own.
+      let there : IsInStepAt s controller work o = well controller is_own in
+      let same : there.computers ≡ desk.computers = computers_same _ there.table desk.table there.name desk.name there.computers desk.computers there.rests desk.rests in
+      record {
+        channel = there.channel;
+        keeps = subst (λ (k : Computers). lookup same_name work.computer k.channels ≡ Some there.channel) same there.keeps;
+        in_step = there.in_step;
+      }
+
+  -- its controller knows it
+  has_secret : HasOwnComputer plan member work controller → HasSecret coming
+  has_secret is_own =
+      let same : is_own.table ≡ three.table = some_same _ _ (sym is_own.is_table ∙ three.is_table) in
+      let differs : DifferInCounts is_own.table desk.table = subst (λ (table : AccountTable). DifferInCounts table desk.table) (sym same) desk.differs in
+      let later : StandsLater desk.table (machine_name work.computer) is_own.machine =
+      computers_are_known.stands is_own.table desk.table (machine_name work.computer) is_own.machine differs is_own.machine_found in
+      let now : Account = with_count later.count is_own.machine in
+      record {
+        machine = now;
+        knows = computers_are_known.knows desk.table work.computer now later.found is_own.kind;
+        found = λ one other. computers_are_known.machine desk.table work one other now later.found is_own.kind is_own.enabled;
+        secret = is_own.secret;
+      }
+
+  pub able_so : IsPlan plan → HasForms plan → IsAble plan coming
+  able_so is forms =
+      let mr : MemberRests plan s member work = rest.members member work three.is_member_plan in
+      let is_work : IsMemberPlan work = item_has IsMemberPlan plan.members member work forms.members three.is_member_plan in
+      let is_task : IsClientPlan three.task = item_has IsClientPlan plan.clients client three.task forms.clients three.is_task in
+      record {
+        can = item_has CanLogOn plan.clients client three.task is.clients three.is_task;
+        units = record { domain = are_units three.task.domain is_task.domain; user = are_units three.task.user is_task.user; workstation = are_units three.task.workstation is_task.workstation };
+        names = record { domain = is_work.domain.0; computer = is_work.computer.0 };
+        caller = calls_can_go.caller work is_work.computer;
+        place_below = mr.place_below;
+        number_below = mr.number_below;
+        ranged = desk.ranged;
+        named = item_has IsName plan.controllers controller desk.name forms.controllers desk.is_name;
+        stands = may_stand mr.how mr.stands;
+        own_secret = has_secret;
+      }
+
+  starts_so : (number : ℕ) → IsPlan plan → HasForms plan → chosen_place number (length s.ends.clients) ≡ Some client → HasStarted plan coming (start number s).state
+  starts_so number is forms chosen =
+      let lr : ClientRests s client three.task = rest.clients client three.task three.is_task in
+      record {
+        able = able_so is forms;
+        at = record {
+          phase = On Dials;
+          left = s.chances.left;
+          moment = s.moment;
+          fits = tt;
+          shows = starts_are_seen.starts s (with_its_controller coming coming.meeting) number lr.client s.links s.chances.left s.moment chosen
+              (ap (λ (plans : List ClientPlan). slice_get plans client) rest.plans ∙ three.is_task)
+              (record {
+                client = lr.rests;
+                member = (rest.members member work three.is_member_plan).rests;
+                controller = desk.rests;
+                links = refl;
+                opened = rest.opened;
+                units = rest.units;
+                dials = rest.dials;
+                left = refl;
+                moment = refl;
+              });
+        };
+      }
+
+pub any_logons_start : AnyLogonsStart
+any_logons_start = record {
+  starts = λ plan s rest client member controller three account machine number is forms chosen. starts_so plan s rest client member controller three account machine number is forms chosen;
+  ends = λ plan s rest client member controller three account machine after reaches others plans over.
+      rests_again plan s rest client member controller three account machine after reaches others over plans;
+}

@@ -1,0 +1,210 @@
+-- A world rests again once a logon is over, at any member.
+-- Of `any_logons_start` and `logons_come_to_rest`.
+use Rattle.std.proofs.Common.{◌≡◌, ◌≢◌, ℕ, zero, suc, false, refl, sym, ap, subst, ◌∙◌, List, [], Option, Some, None, inl, inr, slice_get}
+use Rattle.std.specs.Prelude.{◌⊎◌}
+use Rattle.wire_base.specs.Maps.{lookup}
+use Rattle.wire_base.specs.Names.{same_name}
+use Rattle.account_table.specs.AccountTable.{AccountTable}
+use Rattle.account_table.specs.declared.account.Account.{Account}
+use Rattle.account_table.proofs.ChangeLaws.{differs-again}
+use Rattle.channel_client.specs.declared.state.Standing.{Standing}
+use Rattle.channel_client.specs.declared.state.Standing.TheVariants as standing
+use Rattle.channel_client.specs.Machine.{after as next_place}
+use Rattle.channel_client.specs.Opened.{OpenState}
+use Rattle.domain_controller.specs.State.{State as ControllerState}
+use Rattle.domain_controller.specs.declared.state.Computers.{Computers}
+use Rattle.domain_controller.specs.declared.state.Running.{Running}
+use Rattle.logon_client.specs.declared.plan.ClientPlan.{ClientPlan}
+use Rattle.member_server.specs.declared.plan.MemberPlan.{MemberPlan}
+use Rattle.world_moves.specs.declared.links.EndId.{EndId}
+use Rattle.world_moves.specs.declared.links.EndId.TheVariants.{Controller, Member}
+use Rattle.world_moves.specs.declared.plan.Plan.{Plan}
+use Rattle.world_moves.specs.declared.state.State.{State}
+use Rattle.world_moves.specs.Moving.{end_of_peer, route_to}
+use Rattle.world_moves.specs.World.{first_ends}
+use Rattle.logon_steps.specs.ClientSteps.{client_ended}
+use Rattle.logon_steps.specs.ControllerTurns.{controller_at}
+use Rattle.logon_runs.specs.Others.{OthersStay}
+use Rattle.logon_runs.specs.Rests.{AtRest, ClientRests, ControllerRests, HasOwnComputer, IsInStepAt, MemberRests, StandsWell, three_of}
+use Rattle.logon_runs.specs.Any.AnyPhases.{IsDone, KeepsInStep, MayStand}
+use Rattle.logon_runs.specs.Any.AnyStarts.{AreThree, IsReachedOrNot, coming_from}
+use Rattle.logon_runs.proofs.FirstTraceLaws.{after_below}
+
+pub same_or_not : (one other : ℕ) → (one ≡ other) ⊎ (one ≢ other)
+same_or_not zero zero = inl refl
+same_or_not zero (suc other) = inr (λ is. absurd cc)
+same_or_not (suc one) zero = inr (λ is. absurd cc)
+same_or_not (suc one) (suc other) =
+    elim (same_or_not one other) [
+      | inl is ↦ inl (ap suc is)
+      | inr apart ↦ inr (λ is. apart cc)
+    ]
+
+pub some_same : {T : Type 0} (one other : T) → Some one ≡ Some other → one ≡ other
+some_same one other is = cc
+
+some_not : {T : Type 0} {one : T} → Some one ≡ None → ⊥
+some_not is = absurd cc
+
+controller_same : (one other : ℕ) → Some (Controller one) ≡ Some (Controller other) → one ≡ other
+controller_same one other is = cc
+
+-- what a controller keeps of computers
+computers_by : Option Running → Computers
+computers_by None = record { pending = []; channels = [] }
+computers_by (Some running) = running.computers
+
+computers_in : Option ControllerState → Computers
+computers_in None = record { pending = []; channels = [] }
+computers_in (Some c) = computers_by c.running
+
+pub computers_same : (found : Option ControllerState) (table other_table : AccountTable) (name other_name : List ℕ) (computers other : Computers) →
+    found ≡ Some (controller_at table name computers []) → found ≡ Some (controller_at other_table other_name other []) → computers ≡ other
+unfolding computers_in computers_by
+computers_same found table other_table name other_name computers other is so = ap computers_in (sym is ∙ so)
+
+-- ---- a logon is over
+
+module _ (plan : Plan) (s : State) (rest : AtRest plan s) (client member controller : ℕ) (three : AreThree plan client member controller) (account machine : Account) (after : State)
+    (reaches : IsReachedOrNot plan member three.member_plan controller) (others : OthersStay (three_of client member controller) s after)
+    (over : IsDone plan (coming_from plan s rest client member controller three account machine) after) where
+  -- its own controller
+  controller_rests : ControllerRests plan after controller three.table
+  controller_rests =
+      let cr : ControllerRests plan s controller three.table = rest.controllers controller three.table three.is_table in
+      record {
+        name = cr.name;
+        is_name = cr.is_name;
+        table = over.settled.table;
+        differs = differs-again three.table cr.table over.settled.table cr.differs over.fits.differs;
+        ranged = over.fits.ranged;
+        computers = over.settled.computers;
+        rests = over.shows.controller;
+      }
+
+  controllers_rest : (at : ℕ) (planned : AccountTable) → slice_get plan.tables at ≡ Some planned → (at ≡ controller) ⊎ (at ≢ controller) → ControllerRests plan after at planned
+  controllers_rest at planned is_table (inl same) =
+      let is : planned ≡ three.table = some_same _ _ (sym is_table ∙ ap (λ (n : ℕ). slice_get plan.tables n) same ∙ three.is_table) in
+      subst (λ (n : ℕ). ControllerRests plan after n planned) (sym same) (subst (λ (table : AccountTable). ControllerRests plan after controller table) (sym is) controller_rests)
+  controllers_rest at planned is_table (inr apart) =
+      let cr : ControllerRests plan s at planned = rest.controllers at planned is_table in
+      record {
+        name = cr.name;
+        is_name = cr.is_name;
+        table = cr.table;
+        differs = cr.differs;
+        ranged = cr.ranged;
+        computers = cr.computers;
+        rests = others.controllers at apart ∙ cr.rests;
+      }
+
+  -- its own member
+  member_in_step : (at : ℕ) (o : OpenState) → at ≡ controller → KeepsInStep (coming_from plan s rest client member controller three account machine) over.settled.computers o →
+      IsInStepAt after at three.member_plan o
+  member_in_step at o same step_so = subst (λ (n : ℕ). IsInStepAt after n three.member_plan o) (sym same)
+      (record {
+        table = over.settled.table;
+        name = (rest.controllers controller three.table three.is_table).name;
+        computers = over.settled.computers;
+        channel = step_so.channel;
+        rests = over.shows.controller;
+        keeps = step_so.keeps;
+        in_step = step_so.in_step;
+      })
+
+  nobody_reached : (at : ℕ) → end_of_peer three.member_plan.controller (first_ends plan) ≡ Some (Controller at) → route_to (Member member) (end_of_peer three.member_plan.controller (first_ends plan)) ≡ None → ⊥
+  nobody_reached at there nobody = some_not (sym (ap (λ (end : Option EndId). route_to (Member member) end) there) ∙ nobody)
+
+  member_open : (at : ℕ) (o : OpenState) → HasOwnComputer plan member three.member_plan at → IsReachedOrNot plan member three.member_plan controller →
+      (HasOwnComputer plan member three.member_plan controller → KeepsInStep (coming_from plan s rest client member controller three account machine) over.settled.computers o) →
+      IsInStepAt after at three.member_plan o
+  member_open at o is_own (inl there) keeps =
+      let same : at ≡ controller = controller_same at controller (sym is_own.reaches ∙ there) in
+      member_in_step at o same (keeps (subst (λ (n : ℕ). HasOwnComputer plan member three.member_plan n) same is_own))
+  member_open at o is_own (inr nobody) keeps = absurd (nobody_reached at is_own.reaches nobody)
+
+  member_well : (how : Standing) → MayStand plan (coming_from plan s rest client member controller three account machine) over.settled.computers how → StandsWell plan after member three.member_plan how
+  member_well standing.Nothing stands = tt
+  member_well (standing.Half one other) stands = absurd stands
+  member_well (standing.Open o) stands = λ at is_own. member_open at o is_own reaches stands
+
+  member_rests : MemberRests plan after member three.member_plan
+  member_rests = record {
+    how = over.settled.how;
+    place = next_place (rest.members member three.member_plan three.is_member_plan).place;
+    number = over.settled.number;
+    rests = over.shows.member;
+    place_below = after_below (rest.members member three.member_plan three.is_member_plan).place;
+    number_below = over.fits.number_below;
+    stands = member_well over.settled.how over.fits.stands;
+  }
+
+  -- another member's channel
+  still_in_step : (at : ℕ) (peer : MemberPlan) (o : OpenState) → at ≢ member → (k : ℕ) → HasOwnComputer plan at peer k → IsInStepAt s k peer o → (k ≡ controller) ⊎ (k ≢ controller) →
+      IsInStepAt after k peer o
+  still_in_step at peer o apart k is_own old (inl same) =
+      let cr : ControllerRests plan s controller three.table = rest.controllers controller three.table three.is_table in
+      let computers_so : old.computers ≡ cr.computers =
+      computers_same _ old.table cr.table old.name cr.name old.computers cr.computers (ap (λ (n : ℕ). slice_get s.ends.controllers n) (sym same) ∙ old.rests) cr.rests in
+      let other_name : end_of_peer three.member_plan.controller (first_ends plan) ≡ Some (Controller controller) → same_name three.member_plan.computer peer.computer ≡ false =
+      λ there. is_own.apart member three.member_plan (λ is. apart (sym is)) three.is_member_plan (subst (λ (n : ℕ). end_of_peer three.member_plan.controller (first_ends plan) ≡ Some (Controller n)) (sym same) there) in
+      subst (λ (n : ℕ). IsInStepAt after n peer o) (sym same)
+      (record {
+        table = over.settled.table;
+        name = cr.name;
+        computers = over.settled.computers;
+        channel = old.channel;
+        rests = over.shows.controller;
+        keeps = over.fits.others peer.computer other_name ∙ ap (λ (c : Computers). lookup same_name peer.computer c.channels) (sym computers_so) ∙ old.keeps;
+        in_step = old.in_step;
+      })
+  still_in_step at peer o apart k is_own old (inr elsewhere) = record {
+    table = old.table;
+    name = old.name;
+    computers = old.computers;
+    channel = old.channel;
+    rests = others.controllers k elsewhere ∙ old.rests;
+    keeps = old.keeps;
+    in_step = old.in_step;
+  }
+
+  stands_still : (at : ℕ) (peer : MemberPlan) (how : Standing) → at ≢ member → StandsWell plan s at peer how → StandsWell plan after at peer how
+  stands_still at peer standing.Nothing apart well = tt
+  stands_still at peer (standing.Half one other) apart well = absurd well
+  stands_still at peer (standing.Open o) apart well = λ k is_own. still_in_step at peer o apart k is_own (well k is_own) (same_or_not k controller)
+
+  members_rest : (at : ℕ) (peer : MemberPlan) → slice_get plan.members at ≡ Some peer → (at ≡ member) ⊎ (at ≢ member) → MemberRests plan after at peer
+  members_rest at peer is_plan (inl same) =
+      let is : peer ≡ three.member_plan = some_same _ _ (sym is_plan ∙ ap (λ (n : ℕ). slice_get plan.members n) same ∙ three.is_member_plan) in
+      subst (λ (n : ℕ). MemberRests plan after n peer) (sym same) (subst (λ (m : MemberPlan). MemberRests plan after member m) (sym is) member_rests)
+  members_rest at peer is_plan (inr apart) =
+      let mr : MemberRests plan s at peer = rest.members at peer is_plan in
+      record {
+        how = mr.how;
+        place = mr.place;
+        number = mr.number;
+        rests = others.members at apart ∙ mr.rests;
+        place_below = mr.place_below;
+        number_below = mr.number_below;
+        stands = stands_still at peer mr.how apart mr.stands;
+      }
+
+  clients_rest : (at : ℕ) (task : ClientPlan) → slice_get plan.clients at ≡ Some task → (at ≡ client) ⊎ (at ≢ client) → ClientRests after at task
+  clients_rest at task is_task (inl same) =
+      let is : task ≡ three.task = some_same _ _ (sym is_task ∙ ap (λ (n : ℕ). slice_get plan.clients n) same ∙ three.is_task) in
+      subst (λ (n : ℕ). ClientRests after n task) (sym same) (subst (λ (t : ClientPlan). ClientRests after client t) (sym is)
+      (record { client = client_ended three.task over.outcome; rests = over.shows.client; how = inr (over.outcome, refl) }))
+  clients_rest at task is_task (inr apart) =
+      let lr : ClientRests s at task = rest.clients at task is_task in
+      record { client = lr.client; rests = others.clients at apart ∙ lr.rests; how = lr.how }
+
+  pub rests_again : after.client_plans ≡ s.client_plans → AtRest plan after
+  rests_again plans = record {
+    opened = over.shows.opened;
+    dials = over.shows.dials;
+    units = over.shows.units;
+    plans = plans ∙ rest.plans;
+    controllers = λ at planned is_table. controllers_rest at planned is_table (same_or_not at controller);
+    members = λ at peer is_plan. members_rest at peer is_plan (same_or_not at member);
+    clients = λ at task is_task. clients_rest at task is_task (same_or_not at client);
+  }
