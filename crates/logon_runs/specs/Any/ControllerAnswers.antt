@@ -1,5 +1,5 @@
--- What a controller answers to the calls of a member's turn, whatever it keeps of that computer: each is answered by one
--- reply, and what is kept of other computers stays (MS-NRPC 3.5.4.4.1, 3.5.4.4.3, 3.5.4.5.3).
+-- What a controller answers to the calls of a member's turn, whatever it keeps of that computer: each is answered by
+-- one reply, and what is kept of other computers stays (MS-NRPC 3.5.4.4.1, 3.5.4.4.3, 3.5.4.5.3).
 use Rattle.std.specs.Prelude.{ℕ, ◌≡◌, ◌<◌, ◌^◌, false, List, [], ◌∷◌}
 use Rattle.wire_base.specs.Maps.{lookup}
 use Rattle.wire_base.specs.Names.{IsName, same_name}

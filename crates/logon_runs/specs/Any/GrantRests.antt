@@ -1,5 +1,5 @@
--- A logon that a member was answered as granted, with whatever information and whatever key: where it leads once nothing
--- waits (this project's own choice).
+-- A logon that a member was answered as granted, with whatever information and whatever key: where it leads once
+-- nothing waits (this project's own choice).
 use Rattle.std.specs.List.{AllByRecursion}
 use Rattle.std.specs.Prelude.{ℕ, ◌≡◌, ◌≤◌, ◌<◌, ◌^◌, List, [], ◌∷◌, length}
 use Rattle.wire_base.specs.Units.{AreUnits}
