@@ -358,10 +358,7 @@ Holds =
     (plan : Plan) (moves : List Move) → AreShortUnits (past plan moves).world.state.bag → HaveBytes (past plan moves).world.state.bag → Proved plan moves
 
 at_first : Holds → (plan : Plan) → IsClaimed plan []
-at_first holds plan schedule = record {
-  proved = holds plan [] (none_short plan) (no_bytes plan);
-  stated = record { complete = λ come. tt };
-}
+at_first holds plan schedule = holds plan [] (none_short plan) (no_bytes plan)
 
 pub claims_tell_apart : Holds → ClaimsTellApart
 claims_tell_apart holds = record {

@@ -89,7 +89,8 @@ use Rattle.logon_runs.proofs.WaitingLaws.{waiting_comes}
 use Rattle.logon_runs.proofs.TwoLinkLaws.{turns_have_links}
 use Rattle.claim_examples.specs.ClearRuns.{FirstLogonsAreClear, IsLetIn, LetsInClearly}
 use Rattle.claim_examples.proofs.LogonTrailLaws.{FineSo, logon_trail}
-use Rattle.claim_examples.proofs.NotedLaws.{Fine, Leads, Trail, comes_so, then_on, world_at}
+use Rattle.claim_examples.proofs.NotedLaws.{Fine, Leads, Trail, then_on, world_at}
+use Rattle.domain_world.proofs.Completeness.UnitNotedLaws.{comes_so}
 use Rattle.claim_examples.proofs.SequenceLaws.{one_apart}
 use Rattle.claim_examples.proofs.ToldLaws.{LetsIn, lets_in, stays_told}
 use Rattle.claim_examples.proofs.TurnTrailLaws.{challenge_trail, names_stay, opening_trail}

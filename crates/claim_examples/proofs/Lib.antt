@@ -3,7 +3,6 @@ mod ClearRunLaws
 mod ClearSuccessLaws
 mod CompletenessLaws
 mod GrantExampleLaws
-mod HeardOnceLaws
 mod LetInExampleLaws
 mod LogonLaws
 mod LogonTrailLaws

@@ -54,7 +54,7 @@ use Rattle.logon_runs.specs.Runs.{connects, goes}
 use Rattle.logon_runs.specs.TurnScenes.{IsBetween, Turn, with_accounts}
 use Rattle.account_table.specs.AccountTable.{AccountTable}
 use Rattle.logon_runs.proofs.RunLaws.{between_still}
-use Rattle.claim_examples.proofs.HeardOnceLaws.{turn_line}
+use Rattle.domain_world.proofs.Completeness.HeardOnceLaws.{turn_line}
 use Rattle.claim_examples.proofs.NotedLaws.{Fine, Trail, world_at}
 use Rattle.claim_examples.proofs.NotedOnLaws.{waits_marked}
 use Rattle.claim_examples.proofs.TurnTrailLaws.{replied_names, turn_trail}

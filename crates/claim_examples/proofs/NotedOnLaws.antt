@@ -22,7 +22,8 @@ use Rattle.logon_runs.specs.Waiting.{waiting}
 use Rattle.logon_runs.proofs.WaitingLaws.{first_place, later_place, waits_first, waits_later}
 use Rattle.domain_world.specs.Past.{is_sent_on, marks_by, marks_of, note, note_at, note_given, sent_at}
 use Rattle.domain_world.proofs.Frames.MarkPlaceLaws.{got_later, marks_length, settled_length}
-use Rattle.claim_examples.proofs.NotedLaws.{Came, Fine, Waits, Written, coming, given_fine, grows, state_then, world_at}
+use Rattle.claim_examples.proofs.NotedLaws.{Fine, Waits, Written, given_fine, grows, world_at}
+use Rattle.domain_world.proofs.Completeness.UnitNotedLaws.{Came, coming, state_then}
 
 -- ---- fine again
 

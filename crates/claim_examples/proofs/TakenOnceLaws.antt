@@ -46,7 +46,7 @@ use Rattle.logon_steps.specs.Turning.{IsTurnReply, turn_ack, turn_response}
 use Rattle.logon_steps.proofs.MemberTurnLaws.{turns_step}
 use Rattle.logon_steps.proofs.StreamLaws.{one_unit, read_again, same}
 use Rattle.logon_steps.proofs.TurningLaws.{response_sends, turn_ack_sends, turns_go_through}
-use Rattle.claim_examples.proofs.HeardOnceLaws.{either_way, nothing_follows}
+use Rattle.domain_world.proofs.Completeness.HeardOnceLaws.{either_way, nothing_follows}
 use Rattle.claim_examples.proofs.NotedLaws.{AreOwn}
 
 -- ---- notes that clash with nothing

@@ -30,7 +30,8 @@ use Rattle.logon_runs.specs.Scenes.{HasFirst, Scene, Shows}
 use Rattle.logon_runs.specs.Waiting.{Comes}
 use Rattle.logon_runs.proofs.SceneLaws.{first_comes}
 use Rattle.logon_runs.proofs.WaitingLaws.{waiting_comes}
-use Rattle.claim_examples.proofs.NotedLaws.{Came, coming, state_then, world_at}
+use Rattle.claim_examples.proofs.NotedLaws.{world_at}
+use Rattle.domain_world.proofs.Completeness.UnitNotedLaws.{Came, coming, state_then}
 
 -- somebody was let in
 abbrev pub IsTold : List OutcomeTold → Type 0

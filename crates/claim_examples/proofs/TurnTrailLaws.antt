@@ -48,7 +48,7 @@ use Rattle.logon_runs.specs.Runs.{connects, goes}
 use Rattle.logon_runs.specs.Staying.{HasSameEnds}
 use Rattle.logon_runs.specs.TurnScenes.{IsBetween, Turn}
 use Rattle.logon_runs.proofs.StayingLaws.{both_same, connects_same, goes_same, reach_still}
-use Rattle.claim_examples.proofs.HeardOnceLaws.{turn_line}
+use Rattle.domain_world.proofs.Completeness.HeardOnceLaws.{turn_line}
 use Rattle.claim_examples.proofs.NotedLaws.{Fine, Leads, Trail, no_more_moves, then_on}
 use Rattle.claim_examples.proofs.NotedOnLaws.{waits_marked}
 use Rattle.claim_examples.proofs.UnitComesLaws.{Called, FineAnd, Names, ack_leads, answer_in_turn, bind_leads, call_comes, channel_in_turn, connect_fine, desk_in_turn, replied_bag, reply_leads, reply_waits, where_in_turn}

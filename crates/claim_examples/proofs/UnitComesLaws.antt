@@ -63,8 +63,9 @@ use Rattle.logon_runs.specs.Waiting.{after_hearing, unit_on, with_controller_at,
 use Rattle.logon_runs.proofs.LinkSceneLaws.{heard_up}
 use Rattle.logon_runs.proofs.TurnSceneLaws.{heard_back, heard_there}
 use Rattle.logon_runs.proofs.WaitingLaws.{waiting_comes}
-use Rattle.claim_examples.proofs.HeardOnceLaws.{ComeTo, bind_answers, controller_answers, turn_answer}
-use Rattle.claim_examples.proofs.NotedLaws.{AreOwn, Came, Fine, Leads, Waits, Written, client_fine, comes_so, coming, controller_fine, given_fine, grows, member_fine, state_then, world_at}
+use Rattle.domain_world.proofs.Completeness.HeardOnceLaws.{ComeTo, bind_answers, controller_answers, turn_answer}
+use Rattle.claim_examples.proofs.NotedLaws.{AreOwn, Fine, Leads, Waits, Written, client_fine, controller_fine, given_fine, grows, member_fine, world_at}
+use Rattle.domain_world.proofs.Completeness.UnitNotedLaws.{Came, comes_so, coming, state_then}
 use Rattle.claim_examples.proofs.NotedOnLaws.{came_fine, onward_waits, written_few}
 use Rattle.claim_examples.proofs.TakenOnceLaws.{ack_notes, own_notes, reply_own, rests_quiet, waits_quiet}
 

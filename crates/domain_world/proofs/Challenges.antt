@@ -3,3 +3,4 @@ pub mod MessageApartLaws
 pub mod MessageOnceLaws
 pub mod OwnChallengeLaws
 pub mod OwnLinkLaws
+pub mod WrittenDownLaws

@@ -10,6 +10,7 @@ use Rattle.domain_world.specs.Claims.{IsClear}
 use Rattle.domain_world.specs.Claims.AskedFor.{MembersAskForMessages, SendsAskForMessages}
 use Rattle.domain_world.specs.Claims.LetIn.{LetsInWhoAsked}
 use Rattle.domain_world.specs.Claims.SharedSequences.{SequencesAreShared}
+use Rattle.domain_world.specs.Claims.WrittenDown.{MembersAreWrittenDown}
 use Rattle.domain_world.specs.Headline.{Proved}
 use Rattle.domain_world.specs.Past.{Past, past}
 use Rattle.domain_world.proofs.Accepting.AnsweredRunLaws.{short_responses}
@@ -17,12 +18,14 @@ use Rattle.domain_world.proofs.Challenges.MessageApartLaws.{messages_apart}
 use Rattle.domain_world.proofs.Challenges.MessageOnceLaws.{messages_once}
 use Rattle.domain_world.proofs.Challenges.OwnChallengeLaws.{messages_own}
 use Rattle.domain_world.proofs.Accepting.UnitLaws.{runs_heard}
+use Rattle.domain_world.proofs.Completeness.SuccessLaws.{each_succeeds}
 use Rattle.domain_world.proofs.Frames.BagFrameLaws.{each_marked}
 use Rattle.domain_world.proofs.Frames.DrawnRunLaws.{draws_are_blocks, draws_differ}
 use Rattle.domain_world.proofs.Judgements.GrantLaws.{grants_who_may}
 use Rattle.domain_world.proofs.Judgements.ReplayLaws.{replays_by_sum}
 use Rattle.domain_world.proofs.Judgements.ReplyLaws.{replies_carry}
-use Rattle.domain_world.proofs.Judgements.ToldLaws.{passes_the_next}
+use Rattle.domain_world.proofs.Judgements.TableLaws.{tables_follow}
+use Rattle.domain_world.proofs.Judgements.ToldLaws.{passes_the_next, tells_of_calls}
 use Rattle.domain_world.proofs.Judgements.UnclashedLaws.{passes_unclashed}
 use Rattle.domain_world.proofs.Requests.KeptAskLaws.{members_ask}
 use Rattle.domain_world.proofs.Requests.MarkWayLaws.{marks_have_their_way}
@@ -40,22 +43,25 @@ OfSchedules Holds =
 abbrev pub SharesIfClear : Past → Type 0
 SharesIfClear past = IsClear past.book → SequencesAreShared past
 
-pub all_proved : OfRuns LetsInWhoAsked → OfRuns MembersAskForMessages → OfRuns SendsAskForMessages → OfSchedules UnitsAreHeard → OfSchedules SharesIfClear → (plan : Plan) (moves : List Move) →
+pub all_proved : OfRuns LetsInWhoAsked → OfRuns MembersAreWrittenDown → OfRuns MembersAskForMessages → OfRuns SendsAskForMessages → OfSchedules UnitsAreHeard → OfSchedules SharesIfClear → (plan : Plan) (moves : List Move) →
     AreShortUnits (past plan moves).world.state.bag → HaveBytes (past plan moves).world.state.bag → Proved plan moves
-all_proved let_in asked sends heard shared plan moves short bytes = record {
+all_proved let_in written asked sends heard shared plan moves short bytes = record {
   challenges = record { draws = draws_differ plan moves; messages = messages_once plan moves };
   messages = messages_own plan moves (draws_differ plan moves);
   responses = short_responses plan moves (draws_differ plan moves) (draws_are_blocks plan moves);
   apart = messages_apart plan moves;
   credentials = passes_the_next plan moves;
+  alone = tells_of_calls plan moves;
   replays = replays_by_sum plan moves;
   unclashed = passes_unclashed plan moves;
   grants = grants_who_may plan moves;
+  tables = tables_follow plan moves;
   replies = replies_carry plan moves;
   kept = members_ask plan moves;
   asked = asked plan moves;
   sends = sends plan moves;
   let_in = let_in plan moves;
+  written = written plan moves;
   only = λ schedule clear. runs_heard.only plan moves (heard plan moves schedule short bytes) (draws_differ plan moves) clear;
   all = λ schedule clear. runs_heard.all plan moves (heard plan moves schedule short bytes) (draws_differ plan moves) clear;
   keys = λ schedule clear. runs_heard.keys plan moves (heard plan moves schedule short bytes) (draws_differ plan moves) clear;
@@ -63,4 +69,5 @@ all_proved let_in asked sends heard shared plan moves short bytes = record {
   sequences = λ schedule clear. shared plan moves schedule short bytes clear;
   marked = each_marked plan moves;
   ways = marks_have_their_way plan moves;
+  complete = each_succeeds plan moves;
 }

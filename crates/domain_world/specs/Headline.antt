@@ -1,12 +1,11 @@
--- The whole claim of a run, in two records (this project's own choice): what is proved of every run, and what is stated
--- and not proved yet. A claim that gets proved moves from the one to the other, and nothing else changes.
+-- The whole claim of a run, in one record: what is proved of every run (this project's own choice).
 use Rattle.std.specs.Prelude.{◌≡◌, List, ◌++◌}
 use Rattle.world_moves.specs.declared.moves.Move.{Move}
 use Rattle.world_moves.specs.declared.plan.Plan.{Plan}
 use Rattle.world_moves.specs.Forms.{IsSchedule}
 use Rattle.world_moves.specs.World.{World, first_world, run}
 use Rattle.domain_world.specs.Accepting.Answered.{MarksHaveTheirWay, MessagesAreApart, PassesAreUnclashed}
-use Rattle.domain_world.specs.Claims.{AcceptsAllGranted, AcceptsOnlyGranted, ChallengesServeOnce, IsClear, KeysAgree, PassesTheNextCredential, ReplaysBySum, ShortResponsesServeOnce}
+use Rattle.domain_world.specs.Claims.{AcceptsAllGranted, AcceptsOnlyGranted, ChallengesServeOnce, IsClear, KeysAgree, PassesTheNextCredential, ReplaysBySum, ShortResponsesServeOnce, TellsOfCallsAlone}
 use Rattle.domain_world.specs.Claims.AskedFor.{MembersAskForKept, MembersAskForMessages, SendsAskForMessages}
 use Rattle.domain_world.specs.Claims.Completeness.{EachSucceeds}
 use Rattle.domain_world.specs.Claims.Counts.{EachCallRaisesOnce}
@@ -16,6 +15,8 @@ use Rattle.domain_world.specs.Claims.MarkedUnits.{EachUnitIsMarked}
 use Rattle.domain_world.specs.Claims.OwnChallenges.{MessagesHaveOwnChallenges}
 use Rattle.domain_world.specs.Claims.Replies.{RepliesCarryTheirJudgement}
 use Rattle.domain_world.specs.Claims.SharedSequences.{SequencesAreShared}
+use Rattle.domain_world.specs.Claims.Tables.{TablesFollowVerdicts}
+use Rattle.domain_world.specs.Claims.WrittenDown.{MembersAreWrittenDown}
 use Rattle.domain_world.specs.Past.{past}
 
 -- What holds of the run of every list of moves from any plan: `claims_hold_of_runs`, and the clause of `drive`. What
@@ -30,15 +31,18 @@ pub record Proved (plan : Plan) (moves : List Move) : Type 0 where
   pub apart : MessagesAreApart (past plan moves)
   -- what controllers judge, grant and answer
   pub credentials : PassesTheNextCredential (past plan moves)
+  pub alone : TellsOfCallsAlone (past plan moves)
   pub replays : ReplaysBySum (past plan moves)
   pub unclashed : PassesAreUnclashed (past plan moves)
   pub grants : GrantsWhoMayLogOn (past plan moves)
+  pub tables : TablesFollowVerdicts (past plan moves)
   pub replies : RepliesCarryTheirJudgement (past plan moves)
   -- what members ask, and whom they let in
   pub kept : MembersAskForKept (past plan moves)
   pub asked : MembersAskForMessages (past plan moves)
   pub sends : SendsAskForMessages (past plan moves)
   pub let_in : LetsInWhoAsked (past plan moves)
+  pub written : MembersAreWrittenDown (past plan moves)
   -- a member accepts exactly what its controller granted, client and member hold one key, and a call raises a count of
   -- bad passwords at most once
   pub only : IsSchedule plan moves → IsClear (past plan moves).book → AcceptsOnlyGranted (past plan moves)
@@ -50,20 +54,13 @@ pub record Proved (plan : Plan) (moves : List Move) : Type 0 where
   -- the units of the bag, and which way they go
   pub marked : EachUnitIsMarked (past plan moves)
   pub ways : MarksHaveTheirWay (past plan moves)
-
--- What is stated of a run and not proved yet, and no call rests on it: logons that come one at a time succeed.
-pub record Stated (plan : Plan) (moves : List Move) : Type 0 where
+  -- logons that come one at a time succeed
   pub complete : EachSucceeds (past plan moves) moves
-
--- all that is claimed of a run
-pub record AreClaimed (plan : Plan) (moves : List Move) : Type 0 where
-  pub proved : Proved plan moves
-  pub stated : Stated plan moves
 
 -- What is claimed of each schedule: a plan of which a world can be made, with the forms of its types, and at most
 -- 100,000 moves that it can make.
 abbrev pub IsClaimed : Plan → List Move → Type 0
-IsClaimed plan moves = IsSchedule plan moves → AreClaimed plan moves
+IsClaimed plan moves = IsSchedule plan moves → Proved plan moves
 
 -- It holds of the run that made a world from a plan, whatever the moves before, with these moves behind them.
 abbrev pub OfItsRun : World → List Move → (Plan → List Move → Type 0) → Type 0

@@ -158,7 +158,7 @@ three_from (one ∷ []) are many = absurd (omega (arith, many))
 three_from (one ∷ two ∷ []) are many = absurd (omega (arith, many))
 three_from (one ∷ two ∷ three ∷ more) are many = record { one = one; two = two; three = three; more = more; are = refl; first = are.0; second = are.1.0; third = are.1.1.0 }
 
-rest_of : (front after : List (List ℕ)) → AllByRecursion (λ (challenge : List ℕ). IsBlock 8 challenge) (front ++ after) → AllByRecursion (λ (challenge : List ℕ). IsBlock 8 challenge) after
+pub rest_of : (front after : List (List ℕ)) → AllByRecursion (λ (challenge : List ℕ). IsBlock 8 challenge) (front ++ after) → AllByRecursion (λ (challenge : List ℕ). IsBlock 8 challenge) after
 rest_of [] after are = are
 rest_of (first ∷ front) after are = rest_of front after are.1
 

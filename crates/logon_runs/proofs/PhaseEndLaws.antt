@@ -38,7 +38,7 @@ use Rattle.logon_steps.proofs.GrantingLaws.{logons_are_granted}
 use Rattle.logon_steps.proofs.MemoCallLaws.{memo_calls_go}
 use Rattle.logon_runs.specs.Grants.{CanBeTold}
 use Rattle.logon_runs.specs.LinkScenes.{meeting_scene, rest_scene, unit_down}
-use Rattle.logon_runs.specs.Phases.{Coming, Ending, Fits, IsEnding, IsKnown, Third, TurnAt, WhoAsked, key_at, meeting_at, own, scene_of, terms_at, told_of, turn_before, turn_on, waits_for}
+use Rattle.logon_runs.specs.Phases.{WasTold, Coming, Ending, Fits, IsEnding, IsKnown, Third, TurnAt, WhoAsked, key_at, meeting_at, own, scene_of, terms_at, told_of, turn_before, turn_on, waits_for}
 use Rattle.logon_runs.specs.Phases.{Echoed, Echoes, Granted, Named}
 use Rattle.logon_runs.specs.Runs.{Asked, hidden, message_for, on_for, sam_for}
 use Rattle.logon_runs.specs.Scenes.{Scene, Shows}
@@ -100,7 +100,7 @@ ending_of p v o timestamp accounts = record {
 
 pub granted_on : (p : Coming) (s : State) (a : Asked) (who : WhoAsked p a) (v : TurnAt) (o : OpenState) (c : ChannelState) (timestamp judged_at : ℕ) (accounts : AccountTable)
     (left : List (List ℕ)) (moment : ℕ) → IsKnown p → Fits p (Granted a who v o c timestamp judged_at accounts) →
-    Shows s (scene_of p (Granted a who v o c timestamp judged_at accounts) left moment) → ComesBy p s (onward s).state
+    Shows s (scene_of p (Granted a who v o c timestamp judged_at accounts) left moment) → ComesBy p (WasTold a) s (onward s).state
 granted_on p s a who v o c timestamp judged_at accounts left moment known fits shows =
     let sam : SamInfo = sam_for (own p) a p.table p.name p.account judged_at in
     let on : LoggedOn = on_for (own p) a o sam in
@@ -152,16 +152,16 @@ told_short p known =
     (subst (λ (n : List ℕ). length n ≤ 129) told.found told.short, subst AreUnits told.found told.units)
 
 over : (p : Coming) (s after : State) (a : Asked) (e : Ending) (left : List (List ℕ)) (moment : ℕ) → s.chances.left ≡ left → IsEnding p e →
-    Shows after (rest_scene (meeting_at p e) (client_ended p.meeting.task (In (told_of p) (key_at p a) p.meeting.task.echo)) e.links left moment []) → ComesBy p s after
+    Shows after (rest_scene (meeting_at p e) (client_ended p.meeting.task (In (told_of p) (key_at p a) p.meeting.task.echo)) e.links left moment []) → ComesBy p (WasTold a) s after
 over p s after a e left moment same fits shows = (
-  inr (record { asked = a; ending = e; left = left; moment = moment; fits = fits; shows = shows }),
+  inr (record { asked = a; ending = e; left = left; moment = moment; fits = fits; shows = shows }, refl),
   record { front = []; few = omega arith; are = same ∙ sym shows.left },
 )
 
 -- the argument: whether nothing is echoed
 named_by : (silent : Bool) (p : Coming) (s : State) (a : Asked) (e : Ending) (on : LoggedOn) (one other : Option SessionState)
     (back : ReplyGoes 2 p.meeting.task.level 2 (written_who_reply (told_of p)) other one) (left : List (List ℕ)) (moment : ℕ) → IsKnown p → (p.meeting.task.echo == 0) ≡ silent →
-    Fits p (Named a e on one other back) → Shows s (scene_of p (Named a e on one other back) left moment) → ComesBy p s (onward s).state
+    Fits p (Named a e on one other back) → Shows s (scene_of p (Named a e on one other back) left moment) → ComesBy p (WasTold a) s (onward s).state
 named_by true p s a e on one other back left moment known silent fits shows =
     let short = told_short p known in
     over p s _ a e left moment shows.left fits.0
@@ -181,13 +181,13 @@ named_by false p s a e on one other back left moment known silent fits shows =
 
 pub named_on : (p : Coming) (s : State) (a : Asked) (e : Ending) (on : LoggedOn) (one other : Option SessionState)
     (back : ReplyGoes 2 p.meeting.task.level 2 (written_who_reply (told_of p)) other one) (left : List (List ℕ)) (moment : ℕ) → IsKnown p →
-    Fits p (Named a e on one other back) → Shows s (scene_of p (Named a e on one other back) left moment) → ComesBy p s (onward s).state
+    Fits p (Named a e on one other back) → Shows s (scene_of p (Named a e on one other back) left moment) → ComesBy p (WasTold a) s (onward s).state
 named_on p s a e on one other back left moment known fits shows =
     named_by (p.meeting.task.echo == 0) p s a e on one other back left moment known refl fits shows
 
 pub echoes_on : (p : Coming) (s : State) (a : Asked) (e : Ending) (on : LoggedOn) (one : Option SessionState)
     (asks : RequestGoes 3 p.meeting.task.level 3 1 (written_echo_request (client.echo_bytes p.meeting.task.echo)) one on.session) (left : List (List ℕ)) (moment : ℕ) → IsKnown p →
-    Fits p (Echoes a e on one asks) → Shows s (scene_of p (Echoes a e on one asks) left moment) → ComesBy p s (onward s).state
+    Fits p (Echoes a e on one asks) → Shows s (scene_of p (Echoes a e on one asks) left moment) → ComesBy p (WasTold a) s (onward s).state
 echoes_on p s a e on one asks left moment known fits shows =
     let bytes : List ℕ = client.echo_bytes p.meeting.task.echo in
     let few : length bytes ≤ 4096 = omega (arith, echo_length p.meeting.task.echo, known.can.echo) in
@@ -200,7 +200,7 @@ echoes_on p s a e on one asks left moment known fits shows =
 
 pub echoed_on : (p : Coming) (s : State) (a : Asked) (e : Ending) (talk : Talk) (one other : Option SessionState)
     (back : ReplyGoes 4 p.meeting.task.level 3 (written_echo_reply (client.echo_bytes p.meeting.task.echo)) other one) (left : List (List ℕ)) (moment : ℕ) → IsKnown p →
-    IsEnding p e → Shows s (scene_of p (Echoed a e talk one other back) left moment) → ComesBy p s (onward s).state
+    IsEnding p e → Shows s (scene_of p (Echoed a e talk one other back) left moment) → ComesBy p (WasTold a) s (onward s).state
 echoed_on p s a e talk one other back left moment known fits shows =
     over p s _ a e left moment shows.left fits
     (meetings_are_seen.ends_echoed s (meeting_at p e) (with_session (terms_at p a) one) (told_of p) 4 other talk left moment fits.joined_so known.can back shows)

@@ -1,11 +1,11 @@
 -- One logon that is granted, move by move.
 -- Of `phases_go_on`.
-use Rattle.std.proofs.Common.{◌≡◌, ℕ, refl, subst, List, [], ◌∷◌}
+use Rattle.std.proofs.Common.{◌≡◌, ℕ, refl, subst, List, [], ◌∷◌, inl, inr}
 use Rattle.world_moves.specs.declared.moves.Move.{Move}
 use Rattle.world_moves.specs.declared.moves.Move.TheVariants as move
 use Rattle.world_moves.specs.declared.state.State.{State}
 use Rattle.world_moves.specs.Moving.{act, moment_after, onward, tick}
-use Rattle.logon_runs.specs.Phases.{Aim, First, Second, Third, TurnAt, WhoAsked, HasUser, HasUserAt, MayLogOnAt, ArrivesAt, Coming, Fits, IsOver, IsReady, IsUnderWay, IsKnown, LogonPhase, PhasesGoOn, scene_of, with_its_controller}
+use Rattle.logon_runs.specs.Phases.{Progress, Aim, First, Second, Third, TurnAt, WhoAsked, HasUser, HasUserAt, MayLogOnAt, ArrivesAt, ComesTo, ComesSoFar, Coming, progress_after, progress_of, progress_onward, Fits, IsOver, IsReady, IsUnderWay, IsKnown, LogonPhase, PhasesGoOn, scene_of, with_its_controller}
 use Rattle.logon_runs.specs.Phases.{Acked, Answers, Binds, BindsBefore, BindsHeld, Calls, Challenged, Dials, DialsBefore, DialsHeld, Echoed, Echoes, Granted, Halved, Named, Proved}
 use Rattle.logon_runs.specs.Others.{IsStepOn}
 use Rattle.logon_runs.specs.Runs.{Asked}
@@ -21,11 +21,11 @@ use Rattle.logon_runs.proofs.PhaseEndLaws.{echoed_on, echoes_on, granted_on, nam
 
 -- where none waits
 stays_heard : (p : Coming) (s : State) (phase : LogonPhase p) (left : List (List ℕ)) (moment : ℕ) → Fits p phase → (scene_of p phase left moment).units ≡ [] →
-    Shows s (scene_of p phase left moment) → ComesBy p s (onward s).state
+    Shows s (scene_of p phase left moment) → ComesBy p (progress_of phase) s (onward s).state
 stays_heard p s phase left moment fits none shows = under p s _ phase left moment (left_seen p s phase left moment shows) fits (starts_are_seen.no_unit s (scene_of p phase left moment) none shows)
 
 comes_on : (p : Coming) (s : State) (phase : LogonPhase p) (left : List (List ℕ)) (moment : ℕ) → IsKnown p → IsReady p s → Fits p phase → HasUserAt p s phase move.Onward → ArrivesAt p phase move.Onward →
-    Shows s (scene_of p phase left moment) → ComesBy p s (onward s).state
+    Shows s (scene_of p phase left moment) → ComesBy p (progress_onward phase) s (onward s).state
 comes_on p s Dials left moment known ready fits user arrives shows = stays_heard p s Dials left moment fits refl shows
 comes_on p s Binds left moment known ready fits user arrives shows = binds_on p s left moment known ready shows
 comes_on p s (Challenged challenge) left moment known ready fits user arrives shows = challenged_on p s challenge left moment known ready fits shows
@@ -68,7 +68,7 @@ same_scene p (Named a e on one other back) left moment later = refl
 same_scene p (Echoes a e on one asks) left moment later = refl
 same_scene p (Echoed a e talk one other back) left moment later = refl
 
-ticks_on : (p : Coming) (s : State) (phase : LogonPhase p) (left : List (List ℕ)) (moment more : ℕ) → Fits p phase → Shows s (scene_of p phase left moment) → ComesBy p s (tick more s)
+ticks_on : (p : Coming) (s : State) (phase : LogonPhase p) (left : List (List ℕ)) (moment more : ℕ) → Fits p phase → Shows s (scene_of p phase left moment) → ComesBy p (progress_of phase) s (tick more s)
 ticks_on p s phase left moment more fits shows =
     under p s _ phase left (moment_after more (scene_of p phase left moment).moment) (left_seen p s phase left moment shows) fits
     (subst (λ (v : Scene). Shows (tick more s) v) (same_scene p phase left moment (moment_after more (scene_of p phase left moment).moment))
@@ -76,7 +76,8 @@ ticks_on p s phase left moment more fits shows =
 
 -- ---- a move
 
-goes_so : (p : Coming) (s : State) (what : Move) → IsKnown p → IsReady p s → IsStepOn what → (at : IsUnderWay p s) → HasUserAt p s at.phase what → ArrivesAt p at.phase what → ComesBy p s (act s what).state
+goes_so : (p : Coming) (s : State) (what : Move) → IsKnown p → IsReady p s → IsStepOn what → (at : IsUnderWay p s) → HasUserAt p s at.phase what → ArrivesAt p at.phase what →
+    ComesBy p (progress_after what at.phase) s (act s what).state
 goes_so p s move.Connect known ready goes at user arrives = connects_on p s at.phase at.left at.moment ready at.fits at.shows
 goes_so p s move.Onward known ready goes at user arrives = comes_on p s at.phase at.left at.moment known ready at.fits user arrives at.shows
 goes_so p s (move.Tick more) known ready goes at user arrives = ticks_on p s at.phase at.left at.moment more at.fits at.shows
@@ -91,39 +92,53 @@ goes_so p s (move.Restart number) known ready goes at user arrives = absurd goes
 
 -- ---- once it is over
 
-rests_so : (p : Coming) (s : State) (what : Move) → IsStepOn what → IsOver p s → IsOver p (act s what).state
-rests_so p s move.Connect goes at = record {
-  asked = at.asked;
-  ending = at.ending;
-  left = at.left;
-  moment = at.moment;
-  fits = at.fits;
-  shows = starts_are_seen.no_dial s _ refl at.shows;
-}
-rests_so p s move.Onward goes at = record {
-  asked = at.asked;
-  ending = at.ending;
-  left = at.left;
-  moment = at.moment;
-  fits = at.fits;
-  shows = starts_are_seen.no_unit s _ refl at.shows;
-}
-rests_so p s (move.Tick more) goes at = record {
-  asked = at.asked;
-  ending = at.ending;
-  left = at.left;
-  moment = moment_after more at.moment;
-  fits = at.fits;
-  shows = scenes_turn.ticks s _ more at.shows;
-}
-rests_so p s (move.Start number) goes at = absurd goes
-rests_so p s (move.Stranger number) goes at = absurd goes
-rests_so p s move.FailDial goes at = absurd goes
-rests_so p s move.Lose goes at = absurd goes
-rests_so p s (move.Deliver unit link) goes at = absurd goes
-rests_so p s (move.Hand link back bytes) goes at = absurd goes
-rests_so p s (move.Shut number) goes at = absurd goes
-rests_so p s (move.Restart number) goes at = absurd goes
+rests_so : (p : Coming) (s : State) (what : Move) → IsStepOn what → (over : IsOver p s) → (later : IsOver p (act s what).state) × (later.asked ≡ over.asked)
+rests_so p s move.Connect goes over = (
+  record {
+    asked = over.asked;
+    ending = over.ending;
+    left = over.left;
+    moment = over.moment;
+    fits = over.fits;
+    shows = starts_are_seen.no_dial s _ refl over.shows;
+  },
+  refl,
+)
+rests_so p s move.Onward goes over = (
+  record {
+    asked = over.asked;
+    ending = over.ending;
+    left = over.left;
+    moment = over.moment;
+    fits = over.fits;
+    shows = starts_are_seen.no_unit s _ refl over.shows;
+  },
+  refl,
+)
+rests_so p s (move.Tick more) goes over = (
+  record {
+    asked = over.asked;
+    ending = over.ending;
+    left = over.left;
+    moment = moment_after more over.moment;
+    fits = over.fits;
+    shows = scenes_turn.ticks s _ more over.shows;
+  },
+  refl,
+)
+rests_so p s (move.Start number) goes over = absurd goes
+rests_so p s (move.Stranger number) goes over = absurd goes
+rests_so p s move.FailDial goes over = absurd goes
+rests_so p s move.Lose goes over = absurd goes
+rests_so p s (move.Deliver unit link) goes over = absurd goes
+rests_so p s (move.Hand link back bytes) goes over = absurd goes
+rests_so p s (move.Shut number) goes over = absurd goes
+rests_so p s (move.Restart number) goes over = absurd goes
+
+-- whatever is told
+comes_of : (p : Coming) (far : Progress) (s : State) → ComesSoFar p far s → ComesTo p s
+comes_of p far s (inl at) = inl at.0
+comes_of p far s (inr over) = inr over.0
 
 -- ---- something waits
 
@@ -192,9 +207,11 @@ phases_go_on = record {
     fits = tt;
     shows = starts_are_seen.starts s (with_its_controller p p.meeting) number before p.meeting.links left moment chosen planned shows;
   };
-  goes_on = λ p s what known ready goes at user arrives. (goes_so p s what known ready goes at user arrives).0;
+  goes_on = λ p s what known ready goes at user arrives. comes_of p (progress_after what at.phase) (act s what).state (goes_so p s what known ready goes at user arrives).0;
+  goes_so_far = λ p s what known ready goes at user arrives. (goes_so p s what known ready goes at user arrives).0;
   draws = λ p s what known ready goes at user arrives. (goes_so p s what known ready goes at user arrives).1;
   has_user = user_at;
   waits = λ p s at dials units. waits_so p s at.phase at.left at.moment at.shows dials units;
-  rests = rests_so;
+  rests = λ p s what goes over. (rests_so p s what goes over).0;
+  rests_same = rests_so;
 }

@@ -18,7 +18,7 @@ use Rattle.logon_steps.proofs.MemoCallLaws.{memo_calls_go}
 use Rattle.logon_steps.proofs.TellingLaws.{logons_are_short}
 use Rattle.logon_runs.specs.LinkScenes.{its_link, unit_up}
 use Rattle.logon_runs.specs.LogonRuns.{asked_at}
-use Rattle.logon_runs.specs.Phases.{DrawsFew, Aim, ComesTo, Coming, First, Fits, HasThree, IsAimed, IsAnswering, IsReady, IsTurning, IsKnown, LogonPhase, Third, TurnAt, WhoAsked, call_for, key_at, own, scene_of, standing_for, terms_at, turn_before, waits_for, with_its_controller}
+use Rattle.logon_runs.specs.Phases.{DrawsFew, Aim, ComesSoFar, NotYet, Progress, Coming, First, Fits, HasThree, IsAimed, IsAnswering, IsReady, IsTurning, IsKnown, LogonPhase, Third, TurnAt, WhoAsked, call_for, key_at, own, scene_of, standing_for, terms_at, progress_of, turn_before, waits_for, with_its_controller}
 use Rattle.logon_runs.specs.Phases.{Acked, Answers, Binds, BindsBefore, BindsHeld, Calls, Challenged, Dials, DialsBefore, DialsHeld, Echoed, Echoes, Granted, Halved, Named, Proved}
 use Rattle.logon_runs.specs.Runs.{Asked, StandsInStep}
 use Rattle.logon_runs.specs.Scenes.{Scene, Shows}
@@ -33,9 +33,9 @@ use Rattle.logon_runs.proofs.TwoLinkLaws.{got_last, turns_have_links}
 
 -- ---- the phase that follows
 
--- and few challenges were drawn
-abbrev pub ComesBy : Coming → State → State → Type 0
-ComesBy p s after = ComesTo p after × DrawsFew s.chances.left after.chances.left
+-- so far, and few challenges were drawn
+abbrev pub ComesBy : Coming → Progress → State → State → Type 0
+ComesBy p far s after = ComesSoFar p far after × DrawsFew s.chances.left after.chances.left
 
 left_of : (p : Coming) (phase : LogonPhase p) (left : List (List ℕ)) (moment : ℕ) → (scene_of p phase left moment).left ≡ left
 left_of p Dials left moment = refl
@@ -60,15 +60,15 @@ left_seen p s phase left moment shows = shows.left ∙ left_of p phase left mome
 
 -- these were drawn
 pub under_less : (p : Coming) (s after : State) (phase : LogonPhase p) (front left : List (List ℕ)) (moment : ℕ) → length front ≤ 3 → s.chances.left ≡ front ++ left → Fits p phase →
-    Shows after (scene_of p phase left moment) → ComesBy p s after
+    Shows after (scene_of p phase left moment) → ComesBy p (progress_of phase) s after
 under_less p s after phase front left moment few are fits shows = (
-  inl (record { phase = phase; left = left; moment = moment; fits = fits; shows = shows }),
+  inl (record { phase = phase; left = left; moment = moment; fits = fits; shows = shows }, refl),
   record { front = front; few = few; are = are ∙ ap (λ (l : List (List ℕ)). front ++ l) (sym (left_seen p after phase left moment shows)) },
 )
 
 -- none was
 pub under : (p : Coming) (s after : State) (phase : LogonPhase p) (left : List (List ℕ)) (moment : ℕ) → s.chances.left ≡ left → Fits p phase → Shows after (scene_of p phase left moment) →
-    ComesBy p s after
+    ComesBy p (progress_of phase) s after
 under p s after phase left moment same fits shows = under_less p s after phase [] left moment (omega arith) same fits shows
 
 -- the same with what is known of the challenges that are left
@@ -80,13 +80,13 @@ zero_so count is = grind (arith, nat_tests)
 
 -- ---- a dial is answered
 
-client_connects : (p : Coming) (s : State) (left : List (List ℕ)) (moment : ℕ) → IsReady p s → Shows s (scene_of p Dials left moment) → ComesBy p s (connect s).state
+client_connects : (p : Coming) (s : State) (left : List (List ℕ)) (moment : ℕ) → IsReady p s → Shows s (scene_of p Dials left moment) → ComesBy p NotYet s (connect s).state
 client_connects p s left moment ready shows =
     under p s _ Binds left moment shows.left tt
     (meetings_are_seen.dialled s (with_its_controller p p.meeting) p.meeting.links left moment (got_last p.meeting.links (ToMember p.meeting.at_client p.meeting.at_member)) ready.reached.member shows)
 
 turn_connects_before : (p : Coming) (s : State) (a : Asked) (who : WhoAsked p a) (v : TurnAt) (aim : Aim) (left : List (List ℕ)) (moment : ℕ) → IsReady p s →
-    IsTurning p a v × IsAimed p v aim → Shows s (scene_of p (DialsBefore a who v aim) left moment) → ComesBy p s (connect s).state
+    IsTurning p a v × IsAimed p v aim → Shows s (scene_of p (DialsBefore a who v aim) left moment) → ComesBy p NotYet s (connect s).state
 turn_connects_before p s a who v aim left moment ready fits shows =
     let t : Turn = turn_before p a who.later [] v in
     under p s _ (BindsBefore a who v aim) left moment shows.left fits
@@ -94,7 +94,7 @@ turn_connects_before p s a who v aim left moment ready fits shows =
     (turns_have_links.found (own p) t fits.0.joined_so) (turns_have_links.new (own p) t _ fits.0.joined_so) (turns_have_links.between (own p) t (standing_for aim) fits.0.joined_so) shows)
 
 turn_connects : (p : Coming) (s : State) (a : Asked) (who : WhoAsked p a) (v : TurnAt) (aim : Aim) (left : List (List ℕ)) (moment : ℕ) → IsReady p s →
-    IsTurning p a v × IsAimed p v aim → Shows s (scene_of p (DialsHeld a who v aim) left moment) → ComesBy p s (connect s).state
+    IsTurning p a v × IsAimed p v aim → Shows s (scene_of p (DialsHeld a who v aim) left moment) → ComesBy p NotYet s (connect s).state
 turn_connects p s a who v aim left moment ready fits shows =
     let t : Turn = turn_before p a who.later (who.sent ∷ []) v in
     under p s _ (BindsHeld a who v aim) left moment shows.left fits
@@ -103,11 +103,11 @@ turn_connects p s a who v aim left moment ready fits shows =
 
 -- where no dial waits
 stays_connected : (p : Coming) (s : State) (phase : LogonPhase p) (left : List (List ℕ)) (moment : ℕ) → Fits p phase → (scene_of p phase left moment).dials ≡ [] →
-    Shows s (scene_of p phase left moment) → ComesBy p s (connect s).state
+    Shows s (scene_of p phase left moment) → ComesBy p (progress_of phase) s (connect s).state
 stays_connected p s phase left moment fits none shows = under p s _ phase left moment (left_seen p s phase left moment shows) fits (starts_are_seen.no_dial s (scene_of p phase left moment) none shows)
 
 pub connects_on : (p : Coming) (s : State) (phase : LogonPhase p) (left : List (List ℕ)) (moment : ℕ) → IsReady p s → Fits p phase → Shows s (scene_of p phase left moment) →
-    ComesBy p s (connect s).state
+    ComesBy p (progress_of phase) s (connect s).state
 connects_on p s Dials left moment ready fits shows = client_connects p s left moment ready shows
 connects_on p s Binds left moment ready fits shows = stays_connected p s Binds left moment fits refl shows
 connects_on p s (Challenged challenge) left moment ready fits shows = stays_connected p s (Challenged challenge) left moment fits refl shows
@@ -128,7 +128,7 @@ connects_on p s (Echoed a e talk one other back) left moment ready fits shows = 
 
 -- ---- a client and its member
 
-pub binds_on : (p : Coming) (s : State) (left : List (List ℕ)) (moment : ℕ) → IsKnown p → IsReady p s → Shows s (scene_of p Binds left moment) → ComesBy p s (onward s).state
+pub binds_on : (p : Coming) (s : State) (left : List (List ℕ)) (moment : ℕ) → IsKnown p → IsReady p s → Shows s (scene_of p Binds left moment) → ComesBy p NotYet s (onward s).state
 binds_on p s left moment known ready shows =
     let three : HasThree s.chances.left = ready.draws in
     under_less p s _ (Challenged three.one) (three.one ∷ []) (three.two ∷ three.three ∷ three.more) moment (omega arith) three.are three.first
@@ -137,7 +137,7 @@ binds_on p s left moment known ready shows =
     (left_so s (λ (l : List (List ℕ)). scene_of p Binds l moment) left _ shows.left three.are shows))
 
 pub challenged_on : (p : Coming) (s : State) (challenge : List ℕ) (left : List (List ℕ)) (moment : ℕ) → IsKnown p → IsReady p s → IsBlock 8 challenge →
-    Shows s (scene_of p (Challenged challenge) left moment) → ComesBy p s (onward s).state
+    Shows s (scene_of p (Challenged challenge) left moment) → ComesBy p NotYet s (onward s).state
 challenged_on p s challenge left moment known ready block shows =
     let three : HasThree s.chances.left = ready.draws in
     let a : Asked = asked_at challenge three.one three.two three.three moment in
@@ -169,7 +169,7 @@ turns_first p a known is = record {
 }
 
 pub answers_on : (p : Coming) (s : State) (a : Asked) (who : WhoAsked p a) (left : List (List ℕ)) (moment : ℕ) → IsKnown p → IsReady p s → IsAnswering p a →
-    ((p.meeting.how ≡ standing.Nothing) ⊎ StandsInStep p.meeting p.computers) → Shows s (scene_of p (Answers a who) left moment) → ComesBy p s (onward s).state
+    ((p.meeting.how ≡ standing.Nothing) ⊎ StandsInStep p.meeting p.computers) → Shows s (scene_of p (Answers a who) left moment) → ComesBy p NotYet s (onward s).state
 answers_on p s a who left moment known ready is (inl none) shows =
     let three : HasThree s.chances.left = ready.draws in
     under_less p s _ (DialsBefore a who (turn_first_of p) (First three.one)) (three.one ∷ []) (three.two ∷ three.three ∷ three.more) moment (omega arith) three.are (turns_first p a known is, three.first)

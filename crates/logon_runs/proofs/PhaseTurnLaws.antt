@@ -54,7 +54,7 @@ use Rattle.logon_steps.proofs.ControllerTurnLaws.{controllers_step}
 use Rattle.logon_steps.proofs.GrantingLaws.{logons_are_granted}
 use Rattle.logon_runs.specs.Grants.{KeyArrives}
 use Rattle.logon_runs.specs.LinkScenes.{its_link}
-use Rattle.logon_runs.specs.Phases.{Aim, ArrivesAt, Coming, First, Fits, HasThree, IsAimed, IsReady, IsTurning, HasUser, HasUserAt, MayLogOnAt, IsKnown, Second, Third, TurnAt, WhoAsked, call_for, own, scene_of, standing_for, turn_before, turn_on}
+use Rattle.logon_runs.specs.Phases.{NotYet, WasJudged, progress_onward, Aim, ArrivesAt, Coming, First, Fits, HasThree, IsAimed, IsReady, IsTurning, HasUser, HasUserAt, MayLogOnAt, IsKnown, Second, Third, TurnAt, WhoAsked, call_for, own, scene_of, standing_for, turn_before, turn_on}
 use Rattle.logon_runs.specs.Phases.{Acked, BindsBefore, BindsHeld, Calls, DialsBefore, DialsHeld, Granted, Halved, Proved}
 use Rattle.logon_runs.specs.Runs.{Asked, hidden, info_asked, sam_for, with_moved}
 use Rattle.logon_runs.specs.FirstRuns.{with_pair}
@@ -71,13 +71,13 @@ use Rattle.logon_runs.proofs.PhaseStartLaws.{ComesBy, under_less, left_so, under
 -- ---- the bind, the answer and the call
 
 module _ (p : Coming) (s : State) (a : Asked) (who : WhoAsked p a) (v : TurnAt) (aim : Aim) (left : List (List ℕ)) (moment : ℕ) (fits : IsTurning p a v × IsAimed p v aim) where
-  pub dials_held : Shows s (scene_of p (DialsBefore a who v aim) left moment) → ComesBy p s (onward s).state
+  pub dials_held : Shows s (scene_of p (DialsBefore a who v aim) left moment) → ComesBy p NotYet s (onward s).state
   dials_held shows =
       under p s _ (DialsHeld a who v aim) left moment shows.left fits
       (logons_are_seen.held_before s (own p) (turn_before p a who.later [] v) (its_link (own p)) (standing_for aim) v.next v.number 1 2 0 (call_for p a aim) v.computers [] _ _ who []
       left moment refl (found_here (own p)) shows)
 
-  pub binds_held : Shows s (scene_of p (BindsBefore a who v aim) left moment) → ComesBy p s (onward s).state
+  pub binds_held : Shows s (scene_of p (BindsBefore a who v aim) left moment) → ComesBy p NotYet s (onward s).state
   binds_held shows =
       let t : Turn = turn_before p a who.later [] v in
       under p s _ (BindsHeld a who v aim) left moment shows.left fits
@@ -87,12 +87,12 @@ module _ (p : Coming) (s : State) (a : Asked) (who : WhoAsked p a) (v : TurnAt) 
   between : IsBetween (turn_on p a who.later (who.sent ∷ []) v aim)
   between = turns_have_links.between (own p) (turn_before p a who.later (who.sent ∷ []) v) (standing_for aim) fits.0.joined_so
 
-  pub bound_on : Shows s (scene_of p (BindsHeld a who v aim) left moment) → ComesBy p s (onward s).state
+  pub bound_on : Shows s (scene_of p (BindsHeld a who v aim) left moment) → ComesBy p NotYet s (onward s).state
   bound_on shows =
       under p s _ (Acked a who v aim) left moment shows.left fits
       (turns_are_seen.bound s (turn_on p a who.later (who.sent ∷ []) v aim) v.next v.number (call_for p a aim) v.computers left moment between fits.0.number_below shows)
 
-  pub acked_on : Shows s (scene_of p (Acked a who v aim) left moment) → ComesBy p s (onward s).state
+  pub acked_on : Shows s (scene_of p (Acked a who v aim) left moment) → ComesBy p NotYet s (onward s).state
   acked_on shows =
       under p s _ (Calls a who v aim) left moment shows.left fits
       (turns_are_seen.asks s (turn_on p a who.later (who.sent ∷ []) v aim) v.next v.number (call_for p a aim) v.computers left moment between fits.0.number_below shows)
@@ -100,7 +100,7 @@ module _ (p : Coming) (s : State) (a : Asked) (who : WhoAsked p a) (v : TurnAt) 
 -- ---- the controller answers
 
 first_answered : (p : Coming) (s : State) (a : Asked) (who : WhoAsked p a) (v : TurnAt) (client : List ℕ) (left : List (List ℕ)) (moment : ℕ) → IsKnown p → IsReady p s →
-    IsTurning p a v × IsAimed p v (First client) → Shows s (scene_of p (Calls a who v (First client)) left moment) → ComesBy p s (onward s).state
+    IsTurning p a v × IsAimed p v (First client) → Shows s (scene_of p (Calls a who v (First client)) left moment) → ComesBy p NotYet s (onward s).state
 first_answered p s a who v client left moment known ready fits shows =
     let three : HasThree s.chances.left = ready.draws in
     let can : IsTurnCall (call_for p a (First client)) = calls_can_go.challenge p.meeting.caller client known.caller fits.1 in
@@ -128,7 +128,7 @@ with_stands p client server computers = record {
 }
 
 second_answered : (p : Coming) (s : State) (a : Asked) (who : WhoAsked p a) (v : TurnAt) (client server : List ℕ) (left : List (List ℕ)) (moment : ℕ) → IsKnown p →
-    IsTurning p a v × IsAimed p v (Second client server) → Shows s (scene_of p (Calls a who v (Second client server)) left moment) → ComesBy p s (onward s).state
+    IsTurning p a v × IsAimed p v (Second client server) → Shows s (scene_of p (Calls a who v (Second client server)) left moment) → ComesBy p NotYet s (onward s).state
 second_answered p s a who v client server left moment known fits shows =
     let can : IsTurnCall (call_for p a (Second client server)) = calls_can_go.authenticate p.meeting.caller client server known.caller in
     let later : Computers = with_stands p client server v.computers in
@@ -190,7 +190,7 @@ grants_then p a v o c timestamp moment left known user is aimed may can =
 
 third_answered : (p : Coming) (s : State) (a : Asked) (who : WhoAsked p a) (v : TurnAt) (o : OpenState) (c : ChannelState) (timestamp : ℕ) (left : List (List ℕ)) (moment : ℕ) → IsKnown p → HasUser p → MayLogOnAt p s →
     IsReady p s → IsTurning p a v × IsAimed p v (Third o c timestamp) → KeyArrives (own p) a o → Shows s (scene_of p (Calls a who v (Third o c timestamp)) left moment) →
-    ComesBy p s (onward s).state
+    ComesBy p (WasJudged a o) s (onward s).state
 third_answered p s a who v o c timestamp left moment known user may_log ready fits arrives shows =
     let can : IsTurnCall (call_for p a (Third o c timestamp)) = calls_can_go.logon p.meeting.caller o timestamp (info_asked (own p) a) known.caller fits.1.0 fits.0.answering.info in
     let later : Computers = with_moved (own p) c timestamp v.computers in
@@ -222,7 +222,7 @@ third_answered p s a who v o c timestamp left moment known user may_log ready fi
     (between p s a who v (Third o c timestamp) left moment fits) can (grants_then p a v o c timestamp moment left known user fits.0 fits.1 may can) shows)
 
 pub calls_on : (p : Coming) (s : State) (a : Asked) (who : WhoAsked p a) (v : TurnAt) (aim : Aim) (left : List (List ℕ)) (moment : ℕ) → IsKnown p → IsReady p s →
-    IsTurning p a v × IsAimed p v aim → HasUserAt p s (Calls a who v aim) move.Onward → ArrivesAt p (Calls a who v aim) move.Onward → Shows s (scene_of p (Calls a who v aim) left moment) → ComesBy p s (onward s).state
+    IsTurning p a v × IsAimed p v aim → HasUserAt p s (Calls a who v aim) move.Onward → ArrivesAt p (Calls a who v aim) move.Onward → Shows s (scene_of p (Calls a who v aim) left moment) → ComesBy p (progress_onward {p = p} (Calls a who v aim)) s (onward s).state
 calls_on p s a who v (First client) left moment known ready fits user arrives shows = first_answered p s a who v client left moment known ready fits shows
 calls_on p s a who v (Second client server) left moment known ready fits user arrives shows = second_answered p s a who v client server left moment known fits shows
 calls_on p s a who v (Third o c timestamp) left moment known ready fits user arrives shows =
@@ -249,7 +249,7 @@ turning_after p a who v aim is = record {
 }
 
 pub halved_on : (p : Coming) (s : State) (a : Asked) (who : WhoAsked p a) (v : TurnAt) (client server : List ℕ) (left : List (List ℕ)) (moment : ℕ) →
-    Fits p (Halved a who v client server) → Shows s (scene_of p (Halved a who v client server) left moment) → ComesBy p s (onward s).state
+    Fits p (Halved a who v client server) → Shows s (scene_of p (Halved a who v client server) left moment) → ComesBy p NotYet s (onward s).state
 halved_on p s a who v client server left moment fits shows =
     let t : Turn = turn_before p a who.later (who.sent ∷ []) v in
     let out : Turn = turn_on p a who.later (who.sent ∷ []) v (First client) in
@@ -261,7 +261,7 @@ halved_on p s a who v client server left moment fits shows =
     fits.0.next_below refl (calls_can_go.challenged client server fits.1) shows))
 
 pub proved_on : (p : Coming) (s : State) (a : Asked) (who : WhoAsked p a) (v : TurnAt) (client server : List ℕ) (left : List (List ℕ)) (moment : ℕ) →
-    Fits p (Proved a who v client server) → Shows s (scene_of p (Proved a who v client server) left moment) → ComesBy p s (onward s).state
+    Fits p (Proved a who v client server) → Shows s (scene_of p (Proved a who v client server) left moment) → ComesBy p NotYet s (onward s).state
 proved_on p s a who v client server left moment fits shows =
     let t : Turn = turn_before p a who.later (who.sent ∷ []) v in
     let half : Standing = standing.Half client server in

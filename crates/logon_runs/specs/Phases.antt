@@ -389,6 +389,34 @@ pub record IsReady (p : Coming) (s : State) : Type 0 where
 abbrev pub ComesTo : Coming → State → Type 0
 ComesTo p s = IsUnderWay p s ⊎ IsOver p s
 
+-- how far a logon is: not judged; judged, of what the client answered and on the channel that stood so; or told by the
+-- member
+pub data Progress : Type 0 where
+  NotYet : Progress
+  WasJudged : (a : Asked) (o : OpenState) → Progress
+  WasTold : (a : Asked) → Progress
+
+abbrev pub progress_of : {p : Coming} → LogonPhase p → Progress
+progress_of (Granted a who v o c timestamp judged_at accounts) = WasJudged a o
+progress_of (Named a e on one other back) = WasTold a
+progress_of (Echoes a e on one asks) = WasTold a
+progress_of (Echoed a e talk one other back) = WasTold a
+progress_of _ = NotYet
+
+-- once a unit came, and after any move
+abbrev pub progress_onward : {p : Coming} → LogonPhase p → Progress
+progress_onward (Calls a who v (Third o c timestamp)) = WasJudged a o
+progress_onward (Granted a who v o c timestamp judged_at accounts) = WasTold a
+progress_onward phase = progress_of phase
+
+abbrev pub progress_after : {p : Coming} → Move → LogonPhase p → Progress
+progress_after move.Onward phase = progress_onward phase
+progress_after _ phase = progress_of phase
+
+-- what a state comes to, where the logon is so far
+abbrev pub ComesSoFar : Coming → Progress → State → Type 0
+ComesSoFar p far s = ((at : IsUnderWay p s) × (progress_of at.phase ≡ far)) ⊎ ((over : IsOver p s) × (WasTold over.asked ≡ far))
+
 -- at most three challenges were drawn, the first ones
 pub record DrawsFew (before after : List (List ℕ)) : Type 0 where
   pub front : List (List ℕ)
@@ -403,6 +431,9 @@ pub record PhasesGoOn : Type 0 where
   -- each move leads to a phase, or to the end, where the client is in
   pub goes_on : (p : Coming) (s : State) (what : Move) → IsKnown p → IsReady p s → IsStepOn what → (at : IsUnderWay p s) → HasUserAt p s at.phase what →
       ArrivesAt p at.phase what → ComesTo p (act s what).state
+  -- and so far
+  pub goes_so_far : (p : Coming) (s : State) (what : Move) → IsKnown p → IsReady p s → IsStepOn what → (at : IsUnderWay p s) → HasUserAt p s at.phase what →
+      ArrivesAt p at.phase what → ComesSoFar p (progress_after what at.phase) (act s what).state
   -- and draws few challenges
   pub draws : (p : Coming) (s : State) (what : Move) → IsKnown p → IsReady p s → IsStepOn what → (at : IsUnderWay p s) → HasUserAt p s at.phase what →
       ArrivesAt p at.phase what → DrawsFew s.chances.left (act s what).state.chances.left
@@ -412,3 +443,4 @@ pub record PhasesGoOn : Type 0 where
   pub waits : (p : Coming) (s : State) → IsUnderWay p s → s.dials ≡ [] → waiting s.bag ≡ [] → ⊥
   -- once it is over, moves change nothing of it
   pub rests : (p : Coming) (s : State) (what : Move) → IsStepOn what → IsOver p s → IsOver p (act s what).state
+  pub rests_same : (p : Coming) (s : State) (what : Move) → IsStepOn what → (over : IsOver p s) → (later : IsOver p (act s what).state) × (later.asked ≡ over.asked)

@@ -7,4 +7,5 @@ pub mod RestLaws
 pub mod SameLogonLaws
 pub mod TurnAnswerLaws
 pub mod TurnHeardLaws
+pub mod TurnRequestLaws
 pub mod UnservedLaws

@@ -48,7 +48,7 @@ use Rattle.world_moves.specs.Counting.{is_in}
 use Rattle.world_moves.specs.Ends.{acceptors_in, actions_by, count_of, member_step}
 use Rattle.world_moves.specs.Links.{acceptor_of, handed_links, hearer_of, links_of}
 use Rattle.world_moves.specs.Moving.{act, come_by, come_on_own, deliver_by, deliver_on, deliver_unit, hand_on, onward_by, settle, without_first}
-use Rattle.world_moves.specs.World.{World, first_world, happens}
+use Rattle.world_moves.specs.World.{World, first_world, happens, run}
 use Rattle.domain_world.specs.Claims.LetIn.{IsLetInBy, LetsInWhoAsked}
 use Rattle.domain_world.specs.Past.{Coming, at_member, book, controller_of, first_of, later_of, note, note_at, note_chosen, note_client, note_coming, note_controller, note_deliver, note_hand, note_member, note_messages, note_on, note_onward, note_own, note_pieces, note_turn, note_turns, note_unit, numbers_on, past, told_by, told_in}
 use Rattle.channel_events.proofs.ListLaws.{got_append}
@@ -466,9 +466,9 @@ note_holds law w what b holds =
           (given_known later.messages w.moves (act w.state what).given goes.let_in);
     }
 
-book_holds : LetsInTheGranted → (moves : List Move) (w : World) (b : Book) → HoldsOf w b → AreKnown (book moves w b).messages (book moves w b).told
-book_holds law [] w b holds = holds.known
-book_holds law (what ∷ moves) w b holds = book_holds law moves (happens w what) (note w what b) (note_holds law w what b holds)
+pub run_holds : LetsInTheGranted → (moves : List Move) (w : World) (b : Book) → HoldsOf w b → HoldsOf (run moves w) (book moves w b)
+run_holds law [] w b holds = holds
+run_holds law (what ∷ moves) w b holds = run_holds law moves (happens w what) (note w what b) (note_holds law w what b holds)
 
 fresh_kept : (plans : List MemberPlan) (Kept : Option Running → Type 0) → ((plan : MemberPlan) → Kept (fresh_member plan).running) → (k : ℕ) (m : MemberState) →
     slice_get (map fresh_member plans) k ≡ Some m → Kept m.running
@@ -487,4 +487,4 @@ first_holds plan = record {
 
 -- in every run a member lets in only who asked
 pub lets_in_who_asked : LetsInTheGranted → (plan : Plan) (moves : List Move) → LetsInWhoAsked (past plan moves)
-lets_in_who_asked law plan moves = book_holds law moves (first_world plan) blank (first_holds plan)
+lets_in_who_asked law plan moves = (run_holds law moves (first_world plan) blank (first_holds plan)).known

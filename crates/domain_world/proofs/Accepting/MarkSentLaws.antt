@@ -66,7 +66,8 @@ use Rattle.domain_world.proofs.Accepting.QuietTurnLaws.{IfOn, IsOneUnit, IsReste
 use Rattle.domain_world.proofs.Frames.BagFrameLaws.{controller_marks}
 use Rattle.domain_world.proofs.Frames.NewUnitLaws.{IsFront}
 use Rattle.domain_world.proofs.Requests.CallMessageLaws.{bytes_are, last_is}
-use Rattle.domain_world.proofs.Requests.CallWholeLaws.{IsOfTurn, of_turn, request_heard}
+use Rattle.step_notes.proofs.Members.TurnRequestLaws.{IsOfTurn, of_turn}
+use Rattle.domain_world.proofs.Requests.CallWholeLaws.{request_heard}
 
 -- ---- what is sent for a mark
 

@@ -21,7 +21,7 @@ pub all_pair : {T : Type 0} (P Q : T → Type 0) (items : List T) → AllByRecur
 all_pair P Q [] one other = tt
 all_pair P Q (item ∷ items) one other = ((one.0, other.0), all_pair P Q items one.1 other.1)
 
-one_after : {T : Type 0} (P : T → Type 0) (items more : List T) → OneOf P more → OneOf P (items ++ more)
+pub one_after : {T : Type 0} (P : T → Type 0) (items more : List T) → OneOf P more → OneOf P (items ++ more)
 one_after P [] more one = one
 one_after P (item ∷ items) more one = inr (one_after P items more one)
 

@@ -391,11 +391,15 @@ apart_so challenges drawn drew differ apart i j d lt within same =
     (one_draw drawn differ other.challenge other.draw one.draw (All-from_recursion (IsDrawn drawn) challenges drew j d within)
     (All-from_recursion (IsDrawn drawn) challenges drew i d (omega (arith, lt, within)) ∙ ap (λ (challenge : List ℕ). Some challenge) same))
 
+-- in every run each link has its own CHALLENGE
+pub links_own : (plan : Plan) (moves : List Move) → HoldsIn (Owns (notes_of (past plan moves).book)) (past plan moves).world.state
+links_own plan moves = run_stays notes_of Owns owns_written moves (first_world plan) blank (first_owns plan)
+
 -- in every run whose draws differ each message is for the own unused challenge of its link
 pub messages_own : (plan : Plan) (moves : List Move) → DrawsDiffer (past plan moves).world → MessagesHaveOwnChallenges (past plan moves)
 messages_own plan moves differ =
     let run : Past = past plan moves in
-    let kept : HoldsIn (Owns (notes_of run.book)) run.world.state = run_stays notes_of Owns owns_written moves (first_world plan) blank (first_owns plan) in
+    let kept : HoldsIn (Owns (notes_of run.book)) run.world.state = links_own plan moves in
     record {
       each = bare_all run (own_unused run kept.drew differ (messages_once plan moves)) run.book.messages kept.messages;
       apart = apart_so run.book.challenges run.world.state.chances.drawn kept.drew differ kept.apart;

@@ -24,7 +24,7 @@ use Rattle.channel_events.specs.Marks.{Mark, Calling}
 use Rattle.channel_events.proofs.ListLaws.{got_append, some_is}
 use Rattle.step_notes.specs.MemberNotes.{TurnNote, asked_note, request_note, taking_note, timestamp_bound}
 use Rattle.step_notes.specs.Records.{LogonTurn}
-use Rattle.domain_world.proofs.Requests.CallWholeLaws.{IsOfTurn, of_turn}
+use Rattle.step_notes.proofs.Members.TurnRequestLaws.{IsOfTurn, of_turn}
 use Rattle.domain_world.proofs.Requests.LooserLaws.{IsPlaced, NoCalls, Placed, calls_before}
 use Rattle.domain_world.proofs.Sequences.CallTurnLaws.{CallsMade, KnowsCalls, answered_knows, called_knows, calls_still, opened_knows}
 use Rattle.domain_world.proofs.Sequences.SeedTurnLaws.{Turned, none_on}

@@ -35,7 +35,7 @@ use Rattle.step_notes.specs.ChannelNames.{place_answered, standing_channel}
 use Rattle.step_notes.specs.MemberNotes.{asked_note, taking_note}
 use Rattle.step_notes.specs.Records.{Book, MessageTaken, OutcomeTold}
 use Rattle.step_notes.proofs.Channels.ChannelNameLaws.{channels_are_named_alike}
-use Rattle.domain_world.proofs.Requests.CallWholeLaws.{found_if}
+use Rattle.step_notes.proofs.Members.TurnRequestLaws.{found_if}
 use Rattle.world_moves.specs.declared.plan.Plan.{Plan}
 use Rattle.world_moves.specs.declared.state.State.{State}
 use Rattle.domain_world.specs.Accepting.Runs.{IsOut}

@@ -1,9 +1,7 @@
 -- Each Logon call that goes out at a member carries the logon that it keeps under the place of the turn.
 -- It serves `calls_carry_their_logon`.
-use Rattle.std.proofs.Common.{◌≡◌, ℕ, ◌==◌, Bool, true, false, List, [], ◌∷◌, ◌++◌, map, Option, Some, None, Result, Ok, Err, refl, sym, ap, ap₂, subst, ◌∙◌, if◌then◌else◌}
+use Rattle.std.proofs.Common.{◌≡◌, ℕ, ◌==◌, Bool, true, false, List, [], ◌∷◌, ◌++◌, Option, Some, None, Result, Ok, Err, refl, sym, ap, ap₂, subst, ◌∙◌}
 use Rattle.std.specs.List.{AllByRecursion}
-use Rattle.wire_base.specs.Maps.{lookup, same_number}
-use Rattle.wire_base.proofs.NameLaws.{IsSameness-same_number}
 use Rattle.authenticators.specs.Channels.{Channel, channel_key}
 use Rattle.authenticators.specs.Sequences.{authenticator_of, next_seed}
 use Rattle.outside.specs.declared.action.Action.{Action}
@@ -11,20 +9,14 @@ use Rattle.outside.specs.declared.action.StepRefused.{StepRefused}
 use Rattle.outside.specs.declared.event.Event.TheVariants as event
 use Rattle.rpc_units.specs.declared.refused.JoinRefused.{JoinRefused}
 use Rattle.rpc_units.specs.declared.refused.UnitRefused.{UnitRefused}
-use Rattle.rpc_units.specs.declared.unit.Body.{Body}
-use Rattle.rpc_units.specs.declared.unit.Body.TheVariants.{Bind, BindAck, BindNak, Auth3, Request, Response, Fault}
 use Rattle.rpc_units.specs.declared.unit.Unit.{Unit as RpcUnit}
 use Rattle.rpc_units.specs.Joining.{answer_of, open_after}
 use Rattle.rpc_units.specs.Reading.{unit_of}
 use Rattle.rpc_units.specs.Stream.{cut_stream}
-use Rattle.logon_stubs.specs.Calls.{reply_of}
 use Rattle.logon_stubs.specs.declared.calls.Call.{Call}
 use Rattle.logon_stubs.specs.declared.calls.Call.TheVariants as call
 use Rattle.logon_stubs.specs.declared.calls.LogonCall.{LogonCall}
-use Rattle.logon_stubs.specs.declared.calls.Reply.{Reply}
 use Rattle.logon_stubs.specs.declared.info.NetworkInfo.{NetworkInfo}
-use Rattle.logon_stubs.specs.declared.refused.StubRefused.{StubRefused}
-use Rattle.end_links.specs.Binding.{limit_of}
 use Rattle.end_links.specs.Links.{LinkState}
 use Rattle.channel_client.specs.declared.answers.Taken.TheVariants as taken
 use Rattle.channel_client.specs.declared.caller.Caller.{Caller}
@@ -37,11 +29,10 @@ use Rattle.channel_client.specs.declared.state.Question.{Question}
 use Rattle.channel_client.specs.declared.state.Question.TheVariants as question
 use Rattle.channel_client.specs.declared.state.Standing.{Standing}
 use Rattle.channel_client.specs.declared.state.Standing.TheVariants as standing
-use Rattle.channel_client.specs.declared.state.Step.{Step}
 use Rattle.channel_client.specs.declared.state.Step.TheVariants as step
 use Rattle.channel_client.specs.declared.state.Waiting.{Waiting}
 use Rattle.channel_client.specs.Effects.{IsForFirst, MatchesStep, channel_of, seed_in, step_in}
-use Rattle.channel_client.specs.Machine.{act, hear, hear_ack, hear_body, hear_by, hear_reply, hear_stub, is_accepting, judge, logon_call, opnum_asked, place_of, question_of, settle, wait_for}
+use Rattle.channel_client.specs.Machine.{act, hear, judge, logon_call, place_of, question_of, settle, wait_for}
 use Rattle.channel_client.specs.Opened.{OpenState, after_call, open_key}
 use Rattle.channel_client.specs.State.{Requester}
 use Rattle.member_server.specs.declared.plan.MemberPlan.{MemberPlan}
@@ -54,79 +45,15 @@ use Rattle.member_server.specs.declared.state.TurnTalk.{TurnTalk}
 use Rattle.member_server.specs.Laws.{is_dialled}
 use Rattle.member_server.specs.Machine.{at_turn, caller_of, step_of, work_of}
 use Rattle.member_server.specs.Turns.{TurnServed, do_taken, turn_by_join, turn_server, turn_unit}
-use Rattle.step_notes.specs.CallLogons.{AsksForKept, AsksUnlessStopped, CallsCarryTheirLogon, CarriesItsLogon, CarriesNoted, HasSecret, IsForItsLogon, IsStamped, IsStampedStep, call_for, info_at, waiting_for}
+use Rattle.step_notes.specs.CallLogons.{AsksForKept, AsksUnlessStopped, CallsCarryTheirLogon, CarriesItsLogon, CarriesNoted, HasSecret, IsForItsLogon, IsStamped, IsStampedStep, call_for, info_at}
 use Rattle.step_notes.specs.ChannelNames.{AreFramesOf}
 use Rattle.step_notes.specs.MemberNotes.{asked_note, taken_note, taking_joined, taking_note, taking_read, timestamp_bound, turn_units_by, turn_units_in, turn_units_on}
 use Rattle.step_notes.specs.Served.{ServedUnit, served_units, units_if_taken, units_on}
 use Rattle.step_notes.proofs.Channels.ChannelNameLaws.{bound_at}
+use Rattle.step_notes.proofs.Members.TurnRequestLaws.{HasLogon, IsOfTurn, asked_after, first_logon, of_turn}
 use Rattle.step_notes.proofs.Members.CallKeptLaws.{TurnAsksBy, at_channel, fresh_asks, step_asks, turn_asks}
 
--- ---- the request that is heard to go out
-
--- it is that of the call of the turn
-abbrev pub IsOfTurn : Option Pending → ℕ → Hearing → Type 0
-IsOfTurn turn next hearing.Skip = Unit {0}
-IsOfTurn turn next (hearing.Next q frames) =
-    (number : ℕ) × (place : ℕ) × (c : Call) × (turn ≡ bound_at number place c) × (q ≡ question_of c) × AreFramesOf next c frames
-IsOfTurn turn next (hearing.Reply q r) = Unit {0}
-IsOfTurn turn next (hearing.Drop cause) = Unit {0}
-
-module _ (p : Pending) (next : ℕ) where
-  ack_of : (accepts : Bool) (st : Step) (receive : ℕ) → p.step ≡ st → IsOfTurn (Some p) next (hear_ack accepts st receive next)
-  ack_of false st receive is = tt
-  ack_of true (step.Bind c) receive is =
-      (p.number, p.place, c, ap (λ (st : Step). Some (record { number = p.number; place = p.place; step = st })) is, refl, (limit_of receive, refl))
-  ack_of true (step.Reply q) receive is = tt
-
-  reply_of_turn : (q : Question) (read : Result Reply StubRefused) → IsOfTurn (Some p) next (hear_reply q read)
-  reply_of_turn q (Err why) = tt
-  reply_of_turn q (Ok r) = tt
-
-  stub_of_turn : (st : Step) (stub : List ℕ) → IsOfTurn (Some p) next (hear_stub st stub)
-  stub_of_turn (step.Bind c) stub = tt
-  stub_of_turn (step.Reply q) stub = reply_of_turn q (reply_of (opnum_asked q) stub)
-
-  body_of_turn : (body : Body) → IsOfTurn (Some p) next (hear_body body p.step next)
-  body_of_turn (Bind send receive group contexts) = tt
-  body_of_turn (BindAck send receive group results) = ack_of (is_accepting results) p.step receive refl
-  body_of_turn (BindNak reason) = tt
-  body_of_turn Auth3 = tt
-  body_of_turn (Request hint context opnum stub) = tt
-  body_of_turn (Response hint context stub) = stub_of_turn p.step stub
-  body_of_turn (Fault hint context status) = tt
-
-  numbered_of_turn : (same : Bool) (unit : RpcUnit) → IsOfTurn (Some p) next (hear_by same p unit next)
-  numbered_of_turn false unit = tt
-  numbered_of_turn true unit = body_of_turn unit.body
-
-of_turn : (turn : Option Pending) (unit : RpcUnit) (next : ℕ) → IsOfTurn turn next (hear turn unit next)
-of_turn None unit next = tt
-of_turn (Some p) unit next = numbered_of_turn p next (unit.call == p.number) unit
-
--- ---- the first logon that is kept
-
-found_if : (hit : Bool) (logon : Logon) (found : Option Logon) → hit ≡ true → (if hit then Some logon else found) ≡ Some logon
-found_if true logon found is = refl
-found_if false logon found is = absurd (let x = is in cc)
-
-abbrev pub HasLogon : ℕ → LogonCall → List (ℕ × Logon) → Type 0
-HasLogon place c asked = (logon : Logon) × (lookup same_number place asked ≡ Some logon) × (c.info ≡ info_at place logon)
-
-first_logon : (asked : List (ℕ × Logon)) (number place : ℕ) (c : LogonCall) → IsForFirst (bound_at number place (call.Logon c)) (map waiting_for asked) → HasLogon place c asked
-first_logon [] number place c first = absurd first
-first_logon (entry ∷ asked) number place c first = (
-  entry.1,
-  found_if (same_number place entry.0) entry.1 (lookup same_number place asked)
-      (ap (λ (n : ℕ). same_number place n) (sym first.0) ∙ IsSameness-same_number.reflexive place),
-  first.1 ∙ ap (λ (n : ℕ). info_at n entry.1) (sym first.0),
-)
-
 -- ---- a request that goes out
-
--- the member at work, behind it
-abbrev pub asked_after : AtTurn → Option RpcUnit → Question → List (List ℕ) → Option AtTurn
-asked_after at joiner q frames =
-    Some (do_taken (taken.Next tt frames) joiner (at_channel at (wait_for at.work.logons.channel (place_of at.work.logons.channel.turn) (step.Reply q)))).0
 
 open_is : (one other : OpenState) → standing.Open one ≡ standing.Open other → one ≡ other
 open_is one other is = cc
@@ -207,7 +134,7 @@ module _ (controller : ℕ) (at : AtTurn) (kept : AsksForKept true at.work.logon
   acted_carries (hearing.Next q frames) joiner is =
       let s : Requester = at.work.logons.channel in
       subst (λ (asked : Question). CarriesNoted (asked_note (Some (step.Reply asked)) s.standing controller s (wait_for s (place_of s.turn) (step.Reply asked))) controller at (asked_after at joiner asked frames))
-      (sym is.4) (asked_goes controller at joiner kept frames is.0 is.1 is.2 s.standing refl is.3 is.5)
+      (sym is.4) (asked_goes controller at joiner kept frames is.0 is.1 is.2 s.standing refl is.3 (is.5, is.8))
   acted_carries (hearing.Reply q r) joiner is =
       let s : Requester = at.work.logons.channel in settled_carries (judge q r s.standing s.caller.secret) _
   acted_carries (hearing.Drop cause) joiner is = tt

@@ -1,0 +1,185 @@
+-- What is written down where the controller grants a logon: a call that passed with status 0, by the user's hash and on
+-- the member's channel.
+-- It serves `logons_succeed`.
+use Rattle.std.proofs.Common.{◌≡◌, ℕ, true, refl, sym, ap, ap₂, subst, ◌∙◌, List, [], ◌∷◌, ◌++◌, length, map, replicate, Option, Some, None, inl}
+use Rattle.std.specs.Prelude.{IsSomeAnd}
+use Rattle.rc4_stream.specs.Rc4.{applied}
+use Rattle.authenticators.specs.Channels.{Channel}
+use Rattle.outside.specs.declared.action.Judged.{Judged}
+use Rattle.outside.specs.declared.action.Judged.TheVariants as judged
+use Rattle.outside.specs.Machine.{Stepped}
+use Rattle.rpc_units.specs.Calls.{bytes_of_call}
+use Rattle.ntlm_responses.specs.Verification.{base_key_of}
+use Rattle.authenticators.specs.Sequences.{authenticator_of, return_of}
+use Rattle.end_links.specs.Serving.{ServedPart}
+use Rattle.logon_stubs.specs.declared.calls.Call.{Call}
+use Rattle.logon_stubs.specs.declared.calls.LogonCall.{LogonCall}
+use Rattle.logon_stubs.specs.declared.info.NetworkInfo.{NetworkInfo}
+use Rattle.account_table.specs.LookUps.{account_in}
+use Rattle.sam_logon.specs.MayLogOn.{MayLogOn}
+use Rattle.sam_logon.specs.Verdict.{Judgement}
+use Rattle.channel_client.specs.declared.state.Question.TheVariants as question
+use Rattle.channel_client.specs.declared.state.Step.TheVariants as step
+use Rattle.channel_client.specs.declared.caller.Caller.{Caller}
+use Rattle.channel_client.specs.Machine.{after, level_asked}
+use Rattle.channel_client.specs.Opened.{OpenState, open_key}
+use Rattle.domain_controller.specs.Channels.{ChannelState}
+use Rattle.domain_controller.specs.Hearing.{bound_talk}
+use Rattle.domain_controller.specs.Machine.{Desk, by_call, put_channel, take_channel, with_judgement}
+use Rattle.domain_controller.specs.declared.line.Line.{Line}
+use Rattle.domain_controller.specs.declared.state.Talk.{Talk}
+use Rattle.domain_controller.specs.State.{State as ControllerState}
+use Rattle.domain_controller.specs.Step.{first_desk}
+use Rattle.channel_events.specs.Marks.{OneOf}
+use Rattle.step_notes.specs.ControllerNotes.{Answered, Where, answer_on, channel_by, channel_in, has_passed, judged_in, judging_by, judging_of, new_actions, passing, units_of_controller}
+use Rattle.step_notes.specs.Judged.{channel_if, hash_in, passed_channel}
+use Rattle.step_notes.specs.Records.{Book, Judging}
+use Rattle.step_notes.specs.Served.{work_after}
+use Rattle.world_moves.specs.declared.bag.BagUnit.{BagUnit}
+use Rattle.world_moves.specs.declared.links.EndId.TheVariants.{Controller}
+use Rattle.world_moves.specs.declared.moves.Move.TheVariants as move
+use Rattle.world_moves.specs.declared.state.State.{State}
+use Rattle.world_moves.specs.Moving.{settle}
+use Rattle.world_moves.specs.World.{World}
+use Rattle.logon_steps.specs.Answering.{moved}
+use Rattle.logon_steps.specs.Calling.{TravelsAsZeros as KeyTravels}
+use Rattle.logon_steps.specs.ControllerTurns.{controller_at, turn_link}
+use Rattle.logon_steps.specs.Granting.{base_key, info_told}
+use Rattle.logon_steps.specs.Turning.{IsTurnCall, turn_agreed, turn_request}
+use Rattle.logon_steps.proofs.AnsweringLaws.{calls_are_answered}
+use Rattle.logon_steps.proofs.AnswersLaws.{answers_are_asked}
+use Rattle.logon_steps.proofs.CallingLaws.{calls_can_go}
+use Rattle.logon_steps.proofs.ControllerTurnLaws.{controllers_step}
+use Rattle.logon_steps.proofs.GrantingLaws.{logons_are_granted}
+use Rattle.logon_steps.proofs.TurningLaws.{request_comes}
+use Rattle.logon_runs.specs.Phases.{Calls, Coming as LogonComing, Fits, HasUser, IsAimed, IsKnown, IsTurning, MayLogOnAt, Third, TurnAt, WhoAsked, call_for, own, scene_of, standing_for, turn_before, turn_on}
+use Rattle.logon_runs.specs.Runs.{Asked, info_asked, message_for}
+use Rattle.logon_runs.specs.Scenes.{Shows}
+use Rattle.logon_runs.specs.TurnScenes.{IsBetween, Turn, unit_there}
+use Rattle.logon_runs.proofs.TurnSceneLaws.{heard_there}
+use Rattle.logon_runs.proofs.TwoLinkLaws.{turns_have_links}
+use Rattle.domain_world.specs.Claims.{TravelsAsZeros, key_bytes}
+use Rattle.domain_world.specs.Past.{Coming, answers_of, at_controller, first_of, judged_of, note, note_controller, numbers_on, onto, with_reply}
+use Rattle.domain_world.proofs.Completeness.HeardOnceLaws.{ComeTo, controller_answers, turn_answer, turn_line}
+use Rattle.domain_world.proofs.Completeness.UnitNotedLaws.{Came, comes_so, coming, state_then}
+
+-- ---- the judging of an answer
+
+passing_judging : (channel : Option Channel) (j : Judging) → (passing channel j).judging ≡ Some j
+passing_judging None j = refl
+passing_judging (Some channel) j = refl
+
+-- it is written down in front of the others, with its reply
+newest : (P : Judging → Type 0) (one : Answered) (j : Judging) (numbers : List ℕ) (older : List Judging) → one.judging ≡ Some j →
+    ((number : Option ℕ) → P (record j { reply = number })) → OneOf P (onto (judged_of (one ∷ []) numbers) older)
+newest P one j numbers older is holds =
+    subst (λ (found : Option Judging). OneOf P (onto (with_reply found (first_of numbers) ++ []) older)) (sym is) (inl (holds (first_of numbers)))
+
+-- ---- the call that grants
+
+-- passed with status 0, on a key that travels as zeros where this one does
+pub record IsGrant (key base : List ℕ) (j : Judging) : Type 0 where
+  pub how : j.how ≡ Some (judged.Passed 0)
+  pub zeros : KeyTravels key base → TravelsAsZeros j j.logon.info
+
+-- the logon of the call
+abbrev pub logon_value : Caller → OpenState → ℕ → NetworkInfo → LogonCall
+logon_value caller o timestamp info = record {
+  server = None;
+  computer = Some caller.computer;
+  authenticator = Some (authenticator_of (open_key o) o.seed timestamp);
+  returned = Some (record { credential = replicate 8 0; timestamp = 0 });
+  info = info;
+  validation = level_asked;
+}
+
+module _ (p : LogonComing) (a : Asked) (v : TurnAt) (o : OpenState) (c : ChannelState) (timestamp moment : ℕ) (left : List (List ℕ)) (known : IsKnown p) (user : HasUser p) (is : IsTurning p a v)
+    (aimed : IsAimed p v (Third o c timestamp)) (may : MayLogOn p.table (info_told p.meeting.task) moment) where
+  abbrev info : NetworkInfo
+  info = info_asked (own p) a
+
+  abbrev line : Line
+  line = turn_line (length v.links) v.next
+
+  abbrev before : Desk
+  before = first_desk p.table (record { computers = v.computers; links = turn_link (length v.links) })
+
+  abbrev then_so : Option Desk
+  then_so = work_after (by_call (call_for p a (Third o c timestamp)) line (bound_talk None turn_agreed) p.name moment before left)
+
+  passed_so : judged_in (new_actions then_so before) ≡ Some (judged.Passed 0)
+  passed_so =
+      ap (λ (part : ServedPart Desk Talk). judged_in (new_actions (work_after part) before))
+      (calls_are_answered.judges p.meeting.caller o c info timestamp line (bound_talk None turn_agreed) p.name moment before left aimed.1 aimed.2)
+      ∙ ap (λ (j : Judgement). judged_in (new_actions (Some (with_judgement j line level_asked (open_key o) (return_of (open_key o) o.seed timestamp)
+      (put_channel p.meeting.caller.computer (moved c timestamp) (take_channel p.meeting.caller.computer before.work)))) before))
+      (logons_are_granted.granted p.meeting.plan p.meeting.task a.challenge a.one a.two a.three a.then_now p.meeting.place moment p.table p.name p.account known.can known.units is.answering.draws
+      user.found user.hash may)
+
+  names_so : (info.domain ≡ p.meeting.task.domain) × (info.user ≡ p.meeting.task.user) × (info.workstation ≡ p.meeting.task.workstation)
+  names_so = answers_are_asked.names p.meeting.plan p.meeting.task a.challenge a.one a.two a.three a.then_now known.can known.units
+
+  hash_so : hash_in (account_in p.table.accounts info.user) ≡ p.meeting.task.hash
+  hash_so = ap (λ (name : List ℕ). hash_in (account_in p.table.accounts name)) names_so.1 ∙ ap hash_in user.found ∙ user.hash
+
+  base_so : base_key_of (hash_in (account_in p.table.accounts info.user)) info.user info.domain info.nt ≡ base_key p.meeting.task (message_for (own p) a)
+  base_so =
+      ap₂ (λ (hash name : List ℕ). base_key_of hash name info.domain info.nt) hash_so names_so.1
+      ∙ ap (λ (domain : List ℕ). base_key_of p.meeting.task.hash p.meeting.task.user domain info.nt) names_so.0
+
+  -- the judging that is written down
+  abbrev judging_then : Where → Judging
+  judging_then w = judging_of w line (logon_value p.meeting.caller o timestamp info) before then_so
+
+  bytes_so : (w : Where) (number : Option ℕ) → key_bytes (passed_channel (record (judging_then w) { reply = number })) ≡ applied (open_key o) 0 (replicate 16 0)
+  bytes_so w number =
+      ap (λ (how : Option Judged). key_bytes (channel_if (has_passed how) (record (judging_then w) { reply = number }))) passed_so
+      ∙ ap (λ (found : Option ChannelState). key_bytes (channel_by w.controller p.meeting.caller.computer found)) aimed.1
+      ∙ ap (λ (key : List ℕ). applied key 0 (replicate 16 0)) aimed.2.key
+
+  pub grant_so : (w : Where) (number : Option ℕ) → IsGrant (open_key o) (base_key p.meeting.task (message_for (own p) a)) (record (judging_then w) { reply = number })
+  grant_so w number = record { how = passed_so; zeros = λ zeros. base_so ∙ zeros ∙ sym (bytes_so w number) }
+
+  pub judging_so : (w : Where) → (turn_answer p.name moment (length v.links) v.next (call_for p a (Third o c timestamp)) w before left).judging ≡ Some (judging_then w)
+  judging_so w =
+      ap (λ (how : Option Judged). (judging_by (has_passed how) (judging_then w)).judging) passed_so
+      ∙ passing_judging (channel_in (judging_then w).controller (judging_then w).logon.computer (judging_then w).computers) (judging_then w)
+
+-- ---- the move at which it is judged
+
+pub grant_noted : (p : LogonComing) (w : World) (b : Book) (a : Asked) (who : WhoAsked p a) (v : TurnAt) (o : OpenState) (c : ChannelState) (timestamp : ℕ) (left : List (List ℕ)) (moment : ℕ) → IsKnown p →
+    HasUser p → MayLogOnAt p w.state → Fits p (Calls a who v (Third o c timestamp)) → Shows w.state (scene_of p (Calls a who v (Third o c timestamp)) left moment) →
+    OneOf (IsGrant (open_key o) (base_key p.meeting.task (message_for (own p) a))) (note w move.Onward b).judged
+grant_noted p w b a who v o c timestamp left moment known user may_log fits shows =
+    let s : State = w.state in
+    let call : Call = call_for p a (Third o c timestamp) in
+    let t : Turn = turn_on p a who.later (who.sent ∷ []) v (Third o c timestamp) in
+    let bytes : List ℕ = bytes_of_call (turn_request v.next call) 5840 in
+    let unit : BagUnit = unit_there t bytes in
+    let at : ℕ = p.meeting.at_controller in
+    let there : ControllerState = controller_at p.table p.name v.computers (turn_link (length v.links)) in
+    let may_then : MayLogOn p.table (info_told p.meeting.task) s.moment =
+    subst (λ (found : Option ControllerState). IsSomeAnd found (λ (k : ControllerState). MayLogOn k.table (info_told p.meeting.task) s.moment)) shows.controller may_log in
+    let may : MayLogOn p.table (info_told p.meeting.task) moment = subst (λ (now : ℕ). MayLogOn p.table (info_told p.meeting.task) now) shows.moment may_then in
+    let can : IsTurnCall call = calls_can_go.logon p.meeting.caller o timestamp (info_asked (own p) a) known.caller fits.1.0 fits.0.answering.info in
+    let between : IsBetween t = turns_have_links.between (own p) (turn_before p a who.later (who.sent ∷ []) v) (standing_for (Third o c timestamp)) fits.0.joined_so in
+    let came : Came s unit [] (Controller at) =
+    comes_so s _ unit [] (Controller at) shows
+    (heard_there t bytes (after v.next) v.next (step.Reply question.Logon) v.computers (turn_link (length v.links)) left moment between (request_comes v.next call can)) in
+    let by : Coming = coming w.moves came.number unit in
+    let s1 : State = settle came.number s in
+    let later : State = state_then (Controller at) unit came.number s in
+    let where_so : Where = at_controller at there by s1 in
+    let one : Answered = turn_answer p.name moment (length v.links) v.next call where_so (first_desk p.table (record { computers = v.computers; links = turn_link (length v.links) })) left in
+    let to : ComeTo (answers_of at there by bytes s1) one =
+    subst (λ (all : List Answered). ComeTo all one)
+    (sym (ap₂ (λ (now : ℕ) (l : List (List ℕ)). map (answer_on (length v.links) where_so) (units_of_controller there (length v.links) bytes now l)) shows.moment shows.left))
+    (controller_answers p.name moment (length v.links) v.next call where_so can p.table v.computers left _ fits.0.next_below
+    (ap (λ (stepped : Stepped ControllerState). stepped.answer)
+    (controllers_step.judged p.table p.name v.computers (length v.links) moment v.next timestamp p.meeting.caller o c (info_asked (own p) a) left fits.0.next_below can fits.1.1 fits.1.2))) in
+    let numbers : List ℕ = numbers_on unit.link true s1.bag later.bag in
+    subst (λ (now : Book). OneOf (IsGrant (open_key o) (base_key p.meeting.task (message_for (own p) a))) now.judged)
+    (sym (came.noted w.moves b ∙ ap (λ (found : Option ControllerState). note_controller found at by bytes s1 later b) shows.controller))
+    (subst (λ (js : List Judging). OneOf (IsGrant (open_key o) (base_key p.meeting.task (message_for (own p) a))) (onto js b.judged)) (sym (to.judged numbers))
+    (newest (IsGrant (open_key o) (base_key p.meeting.task (message_for (own p) a))) one _ numbers b.judged (judging_so p a v o c timestamp moment left known user fits.0 fits.1 may where_so)
+    (grant_so p a v o c timestamp moment left known user fits.0 fits.1 may where_so)))

@@ -1,0 +1,141 @@
+-- The logon of a client that can succeed, move by move: where it is judged and told, that is written down; at its end
+-- the client is in, with the key that was told.
+-- It serves `logons_succeed`.
+use Rattle.std.proofs.Common.{◌≡◌, ℕ, refl, sym, subst, List, [], ◌∷◌, length, Some, inl}
+use Rattle.std.specs.List.{AllByRecursion}
+use Rattle.outside.specs.declared.action.Action.TheVariants as action
+use Rattle.outside.specs.declared.action.CloseCause.TheVariants as close
+use Rattle.outside.specs.declared.action.Judged.TheVariants as judged
+use Rattle.outside.specs.declared.action.Outcome.TheVariants as outcome
+use Rattle.channel_client.specs.Opened.{OpenState, open_key}
+use Rattle.domain_controller.specs.Channels.{ChannelState}
+use Rattle.account_table.specs.AccountTable.{AccountTable}
+use Rattle.channel_events.specs.Marks.{OneOf}
+use Rattle.channel_events.proofs.ListLaws.{one_found}
+use Rattle.step_notes.specs.Records.{Book, Judging, OutcomeTold}
+use Rattle.world_moves.specs.declared.links.EndId.TheVariants.{Member}
+use Rattle.world_moves.specs.declared.moves.Move.{Move}
+use Rattle.world_moves.specs.declared.moves.Move.TheVariants as move
+use Rattle.world_moves.specs.Acting.{Given}
+use Rattle.world_moves.specs.Moving.{onward}
+use Rattle.world_moves.specs.World.{World}
+use Rattle.logon_steps.specs.Calling.{TravelsAsZeros as KeyTravels}
+use Rattle.logon_steps.specs.Granting.{base_key}
+use Rattle.logon_runs.specs.GrantsTold.{TellsIn}
+use Rattle.logon_runs.specs.Phases.{Aim, ArrivesAt, Coming, First, Fits, HasUser, IsKnown, LogonPhase, MayLogOnAt, NotYet, Progress, Second, Third, TurnAt, WasJudged, WasTold, WhoAsked, key_at, own, progress_of, progress_onward, scene_of}
+use Rattle.logon_runs.specs.Phases.{Acked, Answers, Binds, BindsBefore, BindsHeld, Calls, Challenged, Dials, DialsBefore, DialsHeld, Echoed, Echoes, Granted, Halved, Named, Proved}
+use Rattle.logon_runs.specs.Runs.{Asked, message_for}
+use Rattle.logon_runs.specs.Scenes.{Shows}
+use Rattle.logon_runs.proofs.GrantsToldLaws.{grants_tell}
+use Rattle.domain_world.specs.Claims.{TravelsAsZeros}
+use Rattle.domain_world.specs.Past.{book, note, told_in}
+use Rattle.domain_world.proofs.Accepting.TurnChangedLaws.{one_after}
+use Rattle.domain_world.proofs.Completeness.BookStayLaws.{judged_stays, told_stays}
+use Rattle.domain_world.proofs.Completeness.JudgedNoteLaws.{IsGrant, grant_noted}
+
+-- ---- what is written down
+
+-- the member told of the client's own link that he is in, with the client's key
+abbrev pub IsTold : Coming → Asked → OutcomeTold → Type 0
+IsTold p a told = (told.link ≡ (own p).link) × (told.member ≡ p.meeting.at_member) × (told.outcome ≡ outcome.In p.table.domain p.account.name (key_at p a))
+
+-- of a logon that is so far
+abbrev pub IsWritten : Coming → Progress → Book → Type 0
+IsWritten p NotYet b = Unit {0}
+IsWritten p (WasJudged a o) b = OneOf (IsGrant (open_key o) (base_key p.meeting.task (message_for (own p) a))) b.judged
+IsWritten p (WasTold a) b = OneOf (IsTold p a) b.told
+
+pub written_stays : (p : Coming) (far : Progress) (what : Move) (w : World) (b : Book) → IsWritten p far b → IsWritten p far (note w what b)
+written_stays p NotYet what w b is = tt
+written_stays p (WasJudged a o) what w b is = judged_stays (IsGrant (open_key o) (base_key p.meeting.task (message_for (own p) a))) (what ∷ []) w b is
+written_stays p (WasTold a) what w b is = told_stays (IsTold p a) (what ∷ []) w b is
+
+-- no key of a call that was granted travels as zeros
+abbrev pub IsSafe : Book → Type 0
+IsSafe b = (key base : List ℕ) → OneOf (IsGrant key base) b.judged → KeyTravels key base → ⊥
+
+-- of the whole run, so by then
+abbrev pub AreSafe : Book → Type 0
+AreSafe b = AllByRecursion (λ (j : Judging). j.how ≡ Some (judged.Passed 0) → TravelsAsZeros j j.logon.info → ⊥) b.judged
+
+pub safe_then : (moves : List Move) (w : World) (b : Book) → AreSafe (book moves w b) → IsSafe b
+safe_then moves w b safe key base one zeros =
+    let found = one_found (IsGrant key base) (λ (j : Judging). j.how ≡ Some (judged.Passed 0) → TravelsAsZeros j j.logon.info → ⊥) (book moves w b).judged safe
+    (judged_stays (IsGrant key base) moves w b one) in
+    found.2 found.1.how (found.1.zeros zeros)
+
+-- ---- the member tells
+
+told_so : (p : Coming) (a : Asked) (w : World) (b : Book) (turn : ℕ) (answer : List ℕ) (rest : Given) →
+    (onward w.state).given
+    ≡ (Member p.meeting.at_member, action.Close turn close.CallDone)
+    ∷ (Member p.meeting.at_member, action.Told (own p).link (outcome.In p.table.domain p.account.name (key_at p a)))
+    ∷ (Member p.meeting.at_member, action.Send (own p).link answer)
+    ∷ rest → OneOf (IsTold p a) (note w move.Onward b).told
+told_so p a w b turn answer rest is =
+    one_after (IsTold p a) _ (told_in (onward w.state).given w.moves)
+    (subst (λ (given : Given). OneOf (IsTold p a) (told_in given w.moves)) (sym is) (inl (refl, refl, refl)))
+
+-- ---- a unit comes
+
+module _ (p : Coming) (w : World) (b : Book) (known : IsKnown p) (user : HasUser p) (may : MayLogOnAt p w.state) (safe : IsSafe (note w move.Onward b)) where
+  call_written : (a : Asked) (who : WhoAsked p a) (v : TurnAt) (aim : Aim) (left : List (List ℕ)) (moment : ℕ) → Fits p (Calls a who v aim) → Shows w.state (scene_of p (Calls a who v aim) left moment) →
+      IsWritten p (progress_onward {p = p} (Calls a who v aim)) (note w move.Onward b)
+  call_written a who v (First client) left moment fits shows = tt
+  call_written a who v (Second client server) left moment fits shows = tt
+  call_written a who v (Third o c timestamp) left moment fits shows = grant_noted p w b a who v o c timestamp left moment known user may fits shows
+
+  granted_written : (a : Asked) (who : WhoAsked p a) (v : TurnAt) (o : OpenState) (c : ChannelState) (timestamp judged_at : ℕ) (accounts : AccountTable) (left : List (List ℕ)) (moment : ℕ) →
+      Fits p (Granted a who v o c timestamp judged_at accounts) → Shows w.state (scene_of p (Granted a who v o c timestamp judged_at accounts) left moment) →
+      IsWritten p (WasJudged a o) b → OneOf (IsTold p a) (note w move.Onward b).told
+  granted_written a who v o c timestamp judged_at accounts left moment fits shows is =
+      let tells : TellsIn p w.state a v =
+      grants_tell.tells p w.state a who v o c timestamp judged_at accounts left moment known fits
+      (safe (open_key o) (base_key p.meeting.task (message_for (own p) a)) (written_stays p (WasJudged a o) move.Onward w b is)) shows in
+      told_so p a w b (length v.links) tells.answer tells.rest tells.are
+
+  pub onward_written : (phase : LogonPhase p) (left : List (List ℕ)) (moment : ℕ) → Fits p phase → Shows w.state (scene_of p phase left moment) → IsWritten p (progress_of phase) b →
+      IsWritten p (progress_onward phase) (note w move.Onward b)
+  onward_written Dials left moment fits shows is = tt
+  onward_written Binds left moment fits shows is = tt
+  onward_written (Challenged challenge) left moment fits shows is = tt
+  onward_written (Answers a who) left moment fits shows is = tt
+  onward_written (DialsBefore a who v aim) left moment fits shows is = tt
+  onward_written (DialsHeld a who v aim) left moment fits shows is = tt
+  onward_written (BindsBefore a who v aim) left moment fits shows is = tt
+  onward_written (BindsHeld a who v aim) left moment fits shows is = tt
+  onward_written (Acked a who v aim) left moment fits shows is = tt
+  onward_written (Calls a who v aim) left moment fits shows is = call_written a who v aim left moment fits shows
+  onward_written (Halved a who v client server) left moment fits shows is = tt
+  onward_written (Proved a who v client server) left moment fits shows is = tt
+  onward_written (Granted a who v o c timestamp judged_at accounts) left moment fits shows is =
+      granted_written a who v o c timestamp judged_at accounts left moment fits shows is
+  onward_written (Named a e on one other back) left moment fits shows is = written_stays p (WasTold a) move.Onward w b is
+  onward_written (Echoes a e on one asks) left moment fits shows is = written_stays p (WasTold a) move.Onward w b is
+  onward_written (Echoed a e talk one other back) left moment fits shows is = written_stays p (WasTold a) move.Onward w b is
+
+  call_arrives : (a : Asked) (who : WhoAsked p a) (v : TurnAt) (aim : Aim) (left : List (List ℕ)) (moment : ℕ) → Fits p (Calls a who v aim) → Shows w.state (scene_of p (Calls a who v aim) left moment) →
+      ArrivesAt p (Calls a who v aim) move.Onward
+  call_arrives a who v (First client) left moment fits shows = tt
+  call_arrives a who v (Second client server) left moment fits shows = tt
+  call_arrives a who v (Third o c timestamp) left moment fits shows = λ signed zeros.
+      safe (open_key o) (base_key p.meeting.task (message_for (own p) a)) (grant_noted p w b a who v o c timestamp left moment known user may fits shows) zeros
+
+  -- the key of a call that is granted arrives
+  pub onward_arrives : (phase : LogonPhase p) (left : List (List ℕ)) (moment : ℕ) → Fits p phase → Shows w.state (scene_of p phase left moment) → ArrivesAt p phase move.Onward
+  onward_arrives Dials left moment fits shows = tt
+  onward_arrives Binds left moment fits shows = tt
+  onward_arrives (Challenged challenge) left moment fits shows = tt
+  onward_arrives (Answers a who) left moment fits shows = tt
+  onward_arrives (DialsBefore a who v aim) left moment fits shows = tt
+  onward_arrives (DialsHeld a who v aim) left moment fits shows = tt
+  onward_arrives (BindsBefore a who v aim) left moment fits shows = tt
+  onward_arrives (BindsHeld a who v aim) left moment fits shows = tt
+  onward_arrives (Acked a who v aim) left moment fits shows = tt
+  onward_arrives (Calls a who v aim) left moment fits shows = call_arrives a who v aim left moment fits shows
+  onward_arrives (Halved a who v client server) left moment fits shows = tt
+  onward_arrives (Proved a who v client server) left moment fits shows = tt
+  onward_arrives (Granted a who v o c timestamp judged_at accounts) left moment fits shows = tt
+  onward_arrives (Named a e on one other back) left moment fits shows = tt
+  onward_arrives (Echoes a e on one asks) left moment fits shows = tt
+  onward_arrives (Echoed a e talk one other back) left moment fits shows = tt
