@@ -9,7 +9,7 @@ use Rattle.wire_base.specs.Names.{is_name, is_name_byte, IsName, IsNameByte}
 use Rattle.logon_client.specs.Plans.{is_level}
 use Rattle.logon_client.specs.declared.plan.AuthKind.TheVariants.{V1, V1Ess, V2}
 use Rattle.nt_words.specs.Forms.{IsAddress, IsControllerForm, IsMemberForm, IsLogonForm, IsDrillForm}
-use Rattle.nt_words.specs.Jobs.{ControllerJob, MemberJob, LogonJob, DrillJob, Form, form, rows_by, rows_of_values, named_rows, fault_rows, misfit_rows, is_led_by, or_else, number_in, level_in, auth_in, controller_form, member_form, logon_form, drill_form, controller_of, member_of, logon_of, drill_of}
+use Rattle.nt_words.specs.Jobs.{Form, form, rows_by, rows_of_values, named_rows, fault_rows, misfit_rows, is_led_by, or_else, number_in, level_in, auth_in, controller_form, member_form, logon_form, drill_form, controller_of, member_of, logon_of, drill_of}
 use Rattle.nt_words.specs.Options.{Choice, choice, suits, suits_in, first_misfit, number_of, is_at_most, is_text}
 use Rattle.nt_words.specs.Words.{app_with}
 use Rattle.nt_words.specs.declared.options.Kind.TheVariants.{Address, Name, Number, Auth}
@@ -97,7 +97,7 @@ auth_suits rows (Some word) is plain =
 
 -- ---- the rows of each command
 
-abbrev EachSuits : List Row → List Choice → Type 0
+abbrev pub EachSuits : List Row → List Choice → Type 0
 EachSuits rows [] = Unit {0}
 EachSuits rows (one ∷ more) = (suits rows one (first_of one.name rows) ≡ true) × EachSuits rows more
 
@@ -105,61 +105,37 @@ each : (rows : List Row) (choices : List Choice) → list_all (suits_in rows) ch
 each rows [] is = _
 each rows (one ∷ more) is = let parts = both (suits_in rows one) (list_all (suits_in rows) more) is in (parts.0, each rows more parts.1)
 
-pub controller_formed : (words : List Text) (rows : List Row) → rows_by controller_form words ≡ Ok rows → IsControllerForm (controller_of rows)
-controller_formed words rows is =
-    let all = each rows controller_form.choices (rows_suit controller_form words rows is) in record {
-      listen = address_suits rows (codes "listen") (first_of (codes "listen") rows) all.0;
-      name = name_suits rows (codes "name") (first_of (codes "name") rows) all.1.0;
-    }
+pub controller_formed : (rows : List Row) → EachSuits rows controller_form.choices → IsControllerForm (controller_of rows)
+controller_formed rows all = record {
+  listen = address_suits rows (codes "listen") (first_of (codes "listen") rows) all.0;
+  name = name_suits rows (codes "name") (first_of (codes "name") rows) all.1.0;
+}
 
-pub member_formed : (words : List Text) (rows : List Row) → rows_by member_form words ≡ Ok rows → IsMemberForm (member_of rows)
-member_formed words rows is =
-    let all = each rows member_form.choices (rows_suit member_form words rows is) in record {
-      listen = address_suits rows (codes "listen") (first_of (codes "listen") rows) all.0;
-      computer = name_suits rows (codes "computer") (first_of (codes "computer") rows) all.1.0;
-      domain = name_suits rows (codes "domain") (first_of (codes "domain") rows) all.1.1.0;
-      controller = address_suits rows (codes "controller") (first_of (codes "controller") rows) all.1.1.1.1.0;
-    }
+pub member_formed : (rows : List Row) → EachSuits rows member_form.choices → IsMemberForm (member_of rows)
+member_formed rows all = record {
+  listen = address_suits rows (codes "listen") (first_of (codes "listen") rows) all.0;
+  computer = name_suits rows (codes "computer") (first_of (codes "computer") rows) all.1.0;
+  domain = name_suits rows (codes "domain") (first_of (codes "domain") rows) all.1.1.0;
+  controller = address_suits rows (codes "controller") (first_of (codes "controller") rows) all.1.1.1.1.0;
+}
 
-pub logon_formed : (words : List Text) (rows : List Row) → rows_by logon_form words ≡ Ok rows → IsLogonForm (logon_of rows)
-logon_formed words rows is =
-    let all = each rows logon_form.choices (rows_suit logon_form words rows is) in record {
-      server = address_suits rows (codes "server") (first_of (codes "server") rows) all.0;
-      domain = name_suits rows (codes "domain") (first_of (codes "domain") rows) all.1.0;
-      user = name_suits rows (codes "user") (first_of (codes "user") rows) all.1.1.0;
-      workstation = name_suits rows (codes "workstation") (first_of (codes "workstation") rows) all.1.1.1.0;
-      level = level_is (first_of (codes "level") rows);
-      plain = auth_suits rows (first_of (codes "auth") rows) all.1.1.1.1.1.1.0;
-      echo = number_suits rows (codes "echo") 4096 false (first_of (codes "echo") rows) all.1.1.1.1.1.1.1.0;
-    }
+pub logon_formed : (rows : List Row) → EachSuits rows logon_form.choices → IsLogonForm (logon_of rows)
+logon_formed rows all = record {
+  server = address_suits rows (codes "server") (first_of (codes "server") rows) all.0;
+  domain = name_suits rows (codes "domain") (first_of (codes "domain") rows) all.1.0;
+  user = name_suits rows (codes "user") (first_of (codes "user") rows) all.1.1.0;
+  workstation = name_suits rows (codes "workstation") (first_of (codes "workstation") rows) all.1.1.1.0;
+  level = level_is (first_of (codes "level") rows);
+  plain = auth_suits rows (first_of (codes "auth") rows) all.1.1.1.1.1.1.0;
+  echo = number_suits rows (codes "echo") 4096 false (first_of (codes "echo") rows) all.1.1.1.1.1.1.1.0;
+}
 
-pub drill_formed : (words : List Text) (rows : List Row) → rows_by drill_form words ≡ Ok rows → IsDrillForm (drill_of rows)
-drill_formed words rows is =
-    let all = each rows drill_form.choices (rows_suit drill_form words rows is) in
-    record { moves = number_suits rows (codes "moves") 100000 true (first_of (codes "moves") rows) all.1.0 }
+pub drill_formed : (rows : List Row) → EachSuits rows drill_form.choices → IsDrillForm (drill_of rows)
+drill_formed rows all = record { moves = number_suits rows (codes "moves") 100000 true (first_of (codes "moves") rows) all.1.0 }
 
--- ---- a job whose values are those of the rows
-
-pub controller_built : (words : List Text) (options : List Choice) (rows : List Row) (job : ControllerJob) → options ≡ controller_form.choices →
-    rows_by (form controller_form.name options) words ≡ Ok rows → job ≡ controller_of rows → IsControllerForm job
-controller_built words options rows job choices read is =
-    let whole = subst (λ (c : List Choice). rows_by (form controller_form.name c) words ≡ Ok rows) choices read in
-    subst IsControllerForm (sym is) (controller_formed words rows whole)
-
-pub member_built : (words : List Text) (options : List Choice) (rows : List Row) (job : MemberJob) → options ≡ member_form.choices →
-    rows_by (form member_form.name options) words ≡ Ok rows → job ≡ member_of rows → IsMemberForm job
-member_built words options rows job choices read is =
-    let whole = subst (λ (c : List Choice). rows_by (form member_form.name c) words ≡ Ok rows) choices read in
-    subst IsMemberForm (sym is) (member_formed words rows whole)
-
-pub logon_built : (words : List Text) (options : List Choice) (rows : List Row) (job : LogonJob) → options ≡ logon_form.choices →
-    rows_by (form logon_form.name options) words ≡ Ok rows → job ≡ logon_of rows → IsLogonForm job
-logon_built words options rows job choices read is =
-    let whole = subst (λ (c : List Choice). rows_by (form logon_form.name c) words ≡ Ok rows) choices read in
-    subst IsLogonForm (sym is) (logon_formed words rows whole)
-
-pub drill_built : (words : List Text) (options : List Choice) (rows : List Row) (job : DrillJob) → options ≡ drill_form.choices →
-    rows_by (form drill_form.name options) words ≡ Ok rows → job ≡ drill_of rows → IsDrillForm job
-drill_built words options rows job choices read is =
-    let whole = subst (λ (c : List Choice). rows_by (form drill_form.name c) words ≡ Ok rows) choices read in
-    subst IsDrillForm (sym is) (drill_formed words rows whole)
+-- A job whose values are those of the rows has the form that each job of such rows has.
+pub built : {J : Type 0} (IsForm : J → Type 0) (asked : Form) (of : List Row → J) → ((rows : List Row) → EachSuits rows asked.choices → IsForm (of rows)) →
+    (words : List Text) (options : List Choice) (rows : List Row) (job : J) → options ≡ asked.choices → rows_by (form asked.name options) words ≡ Ok rows → job ≡ of rows → IsForm job
+built IsForm asked of formed words options rows job choices read is =
+    let whole = subst (λ (c : List Choice). rows_by (form asked.name c) words ≡ Ok rows) choices read in
+    subst IsForm (sym is) (formed rows (each rows asked.choices (rows_suit asked words rows whole)))

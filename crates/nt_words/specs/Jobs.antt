@@ -49,6 +49,11 @@ is_led_by name (word ∷ words) = bytes_eq word name
 abbrev pub rows_by : Form → List Text → Result (List Row) WordsRefused
 rows_by form words = named_rows (is_led_by form.name words) form words
 
+-- the job that is made of the rows, or their refusal
+abbrev pub job_by : {X : Type 0} → (List Row → X) → Result (List Row) WordsRefused → Result X WordsRefused
+job_by of (Err refused) = Err refused
+job_by of (Ok rows) = Ok (of rows)
+
 abbrev pub or_else : {X : Type 0} → Option X → X → X
 or_else None other = other
 or_else (Some x) other = x
@@ -98,12 +103,8 @@ controller_of rows = record {
   events = number_at rows (codes "events") 4294967295;
 }
 
-abbrev pub controller_job_from : Result (List Row) WordsRefused → Result ControllerJob WordsRefused
-controller_job_from (Err refused) = Err refused
-controller_job_from (Ok rows) = Ok (controller_of rows)
-
 unfoldable pub controller_job : List Text → Result ControllerJob WordsRefused
-controller_job words = controller_job_from (rows_by controller_form words)
+controller_job words = job_by controller_of (rows_by controller_form words)
 
 -- ---- `nt_member serve`
 
@@ -144,12 +145,8 @@ member_of rows = record {
   events = number_at rows (codes "events") 4294967295;
 }
 
-abbrev pub member_job_from : Result (List Row) WordsRefused → Result MemberJob WordsRefused
-member_job_from (Err refused) = Err refused
-member_job_from (Ok rows) = Ok (member_of rows)
-
 unfoldable pub member_job : List Text → Result MemberJob WordsRefused
-member_job words = member_job_from (rows_by member_form words)
+member_job words = job_by member_of (rows_by member_form words)
 
 -- ---- `nt_logon logon`
 
@@ -206,12 +203,8 @@ logon_of rows = record {
   boot = number_at rows (codes "boot") 0;
 }
 
-abbrev pub logon_job_from : Result (List Row) WordsRefused → Result LogonJob WordsRefused
-logon_job_from (Err refused) = Err refused
-logon_job_from (Ok rows) = Ok (logon_of rows)
-
 unfoldable pub logon_job : List Text → Result LogonJob WordsRefused
-logon_job words = logon_job_from (rows_by logon_form words)
+logon_job words = job_by logon_of (rows_by logon_form words)
 
 -- ---- `nt_logon drill`
 
@@ -232,12 +225,8 @@ pub record DrillJob : Type 0 where
 abbrev pub drill_of : List Row → DrillJob
 drill_of rows = record { number = number_at rows (codes "number") 0; moves = number_at rows (codes "moves") 0 }
 
-abbrev pub drill_job_from : Result (List Row) WordsRefused → Result DrillJob WordsRefused
-drill_job_from (Err refused) = Err refused
-drill_job_from (Ok rows) = Ok (drill_of rows)
-
 unfoldable pub drill_job : List Text → Result DrillJob WordsRefused
-drill_job words = drill_job_from (rows_by drill_form words)
+drill_job words = job_by drill_of (rows_by drill_form words)
 
 -- ---- commands without options
 

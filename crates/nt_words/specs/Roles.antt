@@ -5,40 +5,49 @@ use Rattle.clap.specs.Words.{Text, fault_of, matches_of}
 use Rattle.nt_words.specs.Jobs.{Form, controller_form, controller_job, member_form, member_job, logon_form, logon_job, drill_form, drill_job, is_led_by}
 use Rattle.nt_words.specs.Options.{IsFirstMisfit}
 use Rattle.nt_words.specs.Words.{app_with}
+use Rattle.nt_words.specs.declared.job.Command.{Command}
+use Rattle.nt_words.specs.declared.job.Command.TheVariants as commands
 use Rattle.nt_words.specs.declared.job.Job.{Job}
 use Rattle.nt_words.specs.declared.job.Job.TheVariants as jobs
 use Rattle.nt_words.specs.declared.job.Role.{Role}
 use Rattle.nt_words.specs.declared.job.Role.TheVariants.{Controller, Member, Logon}
+use Rattle.nt_words.specs.declared.job.Service.{Service}
+use Rattle.nt_words.specs.declared.job.Service.TheVariants as services
 use Rattle.nt_words.specs.declared.options.WordsRefused.{WordsRefused}
 use Rattle.nt_words.specs.declared.options.WordsRefused.TheVariants.{BadWords}
 
 abbrev pub check : List Text → Result Job WordsRefused
-check (command ∷ hash ∷ challenge ∷ message ∷ []) = Ok (jobs.Check (record { hash = hash; challenge = challenge; message = message }))
+check (command ∷ hash ∷ challenge ∷ message ∷ []) = Ok (jobs.Command (commands.Check (record { hash = hash; challenge = challenge; message = message })))
 check words = Err (BadWords 0)
 
 abbrev pub show : List Text → Result Job WordsRefused
-show (command ∷ message ∷ []) = Ok (jobs.Show (record { message = message }))
+show (command ∷ message ∷ []) = Ok (jobs.Command (commands.Show (record { message = message })))
 show words = Err (BadWords 0)
 
--- what a program does with the words: its job, or the refusal
-abbrev pub job_from : {X : Type 0} → (X → Job) → Result X WordsRefused → Result Job WordsRefused
-job_from wrap (Ok job) = Ok (wrap job)
-job_from wrap (Err refused) = Err refused
+-- the job of what the words of a service or of a command come to, or the refusal
+abbrev pub service_from : {X : Type 0} → (X → Service) → Result X WordsRefused → Result Job WordsRefused
+service_from wrap (Ok job) = Ok (jobs.Service (wrap job))
+service_from wrap (Err refused) = Err refused
 
+abbrev pub command_from : {X : Type 0} → (X → Command) → Result X WordsRefused → Result Job WordsRefused
+command_from wrap (Ok job) = Ok (jobs.Command (wrap job))
+command_from wrap (Err refused) = Err refused
+
+-- what a program does with the words: its job, or the refusal
 abbrev pub member_by : Bool → List Text → Result Job WordsRefused
 member_by true words = check words
-member_by false words = job_from jobs.Member (member_job words)
+member_by false words = service_from services.Member (member_job words)
 
 abbrev pub drill_by : Bool → List Text → Result Job WordsRefused
-drill_by true words = job_from jobs.Drill (drill_job words)
-drill_by false words = job_from jobs.Logon (logon_job words)
+drill_by true words = command_from commands.Drill (drill_job words)
+drill_by false words = service_from services.Logon (logon_job words)
 
 abbrev pub logon_by : Bool → List Text → Result Job WordsRefused
 logon_by true words = show words
 logon_by false words = drill_by (is_led_by (codes "drill") words) words
 
 abbrev pub job_of : Role → List Text → Result Job WordsRefused
-job_of Controller words = job_from jobs.Controller (controller_job words)
+job_of Controller words = service_from services.Controller (controller_job words)
 job_of Member words = member_by (is_led_by (codes "check") words) words
 job_of Logon words = logon_by (is_led_by (codes "show") words) words
 

