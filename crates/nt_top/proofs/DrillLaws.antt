@@ -16,7 +16,7 @@ use Rattle.logon_client.specs.Plans.{CanLogOn, is_level}
 use Rattle.logon_client.specs.declared.plan.AuthKind.{AuthKind}
 use Rattle.logon_client.specs.declared.plan.AuthKind.TheVariants.{V1}
 use Rattle.domain_world.specs.Generator.{Making, made, move_by, moves_of, next_seed, rare_by, value_of}
-use Rattle.domain_world.specs.World.{IsMove, IsPlan, report_of_run, run}
+use Rattle.domain_world.specs.World.{IsMove, IsPlan, report_of_run}
 use Rattle.world_moves.specs.declared.counting.Report.{Report}
 use Rattle.world_moves.specs.declared.moves.Move.{Move}
 use Rattle.world_moves.specs.declared.plan.Plan.{Plan}

@@ -6,6 +6,7 @@ use Rattle.ntlm_messages.specs.declared.messages.Authenticate.{Authenticate}
 use Rattle.ntlm_messages.proofs.AuthenticateLaws.{authenticate_only}
 use Rattle.nt_words.specs.Jobs.{CheckJob, DrillJob, ShowJob}
 use Rattle.nt_words.specs.Roles.{job_of}
+use Rattle.nt_words.specs.declared.job.Command.TheVariants as commands
 use Rattle.nt_words.specs.declared.job.Job.{Job}
 use Rattle.nt_words.specs.declared.job.Job.TheVariants as jobs
 use Rattle.nt_words.specs.declared.job.Role.{Role}
@@ -25,7 +26,7 @@ use Rattle.nt_top.specs.Ends.{Ends, SinkChange}
 use Rattle.nt_top.specs.Service.{ActsByWords}
 use Rattle.nt_top.specs.Show.{show_answer, shown, AskedShown}
 use Rattle.nt_top.proofs.CheckLaws.{accepts_is, check_answer-is, check_is_bad, check_ok, decided, refuses_is}
-use Rattle.nt_top.proofs.JobLaws.{Refusal, OfWords, Elsewhere, OfCheck, OfShow, OfMemory, answer_err, answer_ok, job_of_check, job_of_drill, job_of_show, told_by_words}
+use Rattle.nt_top.proofs.JobLaws.{Refusal, OfWords, Elsewhere, OfCheck, OfShow, OfMemory, answer_err, answer_ok, job_of_check, job_of_drill, job_of_show, service_uses_port}
 use Rattle.nt_top.proofs.ShownLaws.{show_is_bad, show_ok, shown_answer}
 
 -- ---- what is asked is answered
@@ -81,7 +82,7 @@ pub record DrilledBy (role : Role) (words : List (List ℕ)) (answer : Answer) :
   pub asked : AskedDrill role words
   pub is : answer ≡ shown (drill_text asked.number asked.count)
 
-checked_by : (role : Role) (words : List (List ℕ)) (answer : Answer) (job : CheckJob) → job_of role words ≡ Ok (jobs.Check job) → check_answer job.hash job.challenge job.message ≡ Ok answer → CheckedBy role words answer
+checked_by : (role : Role) (words : List (List ℕ)) (answer : Answer) (job : CheckJob) → job_of role words ≡ Ok (jobs.Command (commands.Check job)) → check_answer job.hash job.challenge job.message ≡ Ok answer → CheckedBy role words answer
 checked_by role words answer job came e =
     let words-are = job_of_check role words job came in
     let found = check_ok job.hash job.challenge job.message answer e in record {
@@ -103,7 +104,7 @@ checked_by role words answer job came e =
       is = found.answer_is;
     }
 
-shown_by : (role : Role) (words : List (List ℕ)) (answer : Answer) (job : ShowJob) → job_of role words ≡ Ok (jobs.Show job) → show_answer job.message ≡ Ok answer → ShownBy role words answer
+shown_by : (role : Role) (words : List (List ℕ)) (answer : Answer) (job : ShowJob) → job_of role words ≡ Ok (jobs.Command (commands.Show job)) → show_answer job.message ≡ Ok answer → ShownBy role words answer
 shown_by role words answer job came e =
     let words-are = job_of_show role words job came in
     let found = show_ok job.message answer e in record {
@@ -116,7 +117,7 @@ shown_by role words answer job came e =
       is = found.4;
     }
 
-drilled_by : (role : Role) (words : List (List ℕ)) (answer : Answer) (job : DrillJob) → job_of role words ≡ Ok (jobs.Drill job) → answer ≡ shown (drill_text job.number job.moves) → DrilledBy role words answer
+drilled_by : (role : Role) (words : List (List ℕ)) (answer : Answer) (job : DrillJob) → job_of role words ≡ Ok (jobs.Command (commands.Drill job)) → answer ≡ shown (drill_text job.number job.moves) → DrilledBy role words answer
 drilled_by role words answer job came is = record { asked = record { number = job.number; count = job.moves; asks = came }; is = is }
 
 -- an answer of a check is a verdict, and every other one is of lines that are shown
@@ -141,7 +142,7 @@ IsAlone _ = ⊥
 
 alone : (came : Result Job WordsRefused) (exit : Exit) → Refusal came exit → IsAlone exit
 alone came exit (OfWords number e is) = subst IsAlone (sym is) tt
-alone came exit (Elsewhere job e other is) = subst IsAlone (sym is) tt
+alone came exit (Elsewhere service e is) = subst IsAlone (sym is) tt
 alone came exit (OfCheck job number e bad is) = subst IsAlone (sym is) tt
 alone came exit (OfShow job e none is) = subst IsAlone (sym is) tt
 alone came exit (OfMemory is) = subst IsAlone (sym is) tt
@@ -280,14 +281,14 @@ input_of (Err refusal) s number ends =
 
 words_why : (role : Role) (words : List (List ℕ)) (number : ℕ) → ActsByWords role words → Refusal (job_of role words) (BadWords number) → IsBadWords role words number
 words_why role words number other (OfWords n e is) = e ∙ ap (λ (m : ℕ). Err (refusals.BadWords m)) (sym (same_words number n is))
-words_why role words number other (Elsewhere job e has_end is) = absurd (true_not_false (sym (told_by_words role words job other e) ∙ has_end))
+words_why role words number other (Elsewhere service e is) = absurd (true_not_false (sym (service_uses_port role words service e) ∙ other))
 words_why role words number other (OfCheck job n e bad is) = absurd (let wrong = is in cc)
 words_why role words number other (OfShow job e none is) = absurd (let wrong = is in cc)
 words_why role words number other (OfMemory is) = absurd (let wrong = is in cc)
 
 input_why : (role : Role) (words : List (List ℕ)) (number : ℕ) → Refusal (job_of role words) (BadInput number) → IsBadInput role words number
 input_why role words number (OfWords n e is) = absurd (let wrong = is in cc)
-input_why role words number (Elsewhere job e other is) = absurd (let wrong = is in cc)
+input_why role words number (Elsewhere service e is) = absurd (let wrong = is in cc)
 input_why role words number (OfCheck job n e bad is) =
     let words-are = job_of_check role words job e in
     let same = same_input number n is in

@@ -10,3 +10,4 @@ pub mod DialLaws
 pub mod LinkLaws
 pub mod LogonLaws
 pub mod ServingLaws
+pub mod RunLaws

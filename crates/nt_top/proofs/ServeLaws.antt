@@ -1,6 +1,5 @@
 -- A command that serves, by the results of its parts.
-use Rattle.std.proofs.Common.{◌≡◌, inl, inr, ℕ, Bool, true, false, List, [], ◌∷◌, codes, Option, Some, None, IfSome, Result, Ok, Err, OnOk, IfErr, refl, sym, ap, subst, ◌∙◌}
-use Rattle.std.proofs.lemmas.Slice.Eq.{bytes_eq-Decides}
+use Rattle.std.proofs.Common.{◌≡◌, inl, inr, ℕ, true, false, List, ◌∷◌, codes, Option, Some, IfSome, Result, Ok, Err, OnOk, IfErr, refl, sym, ap, subst, ◌∙◌}
 use Rattle.outside.specs.Causes.{Rose}
 use Rattle.outside.specs.Machine.{Machine}
 use Rattle.end_loop.specs.Seen.{Sight}
@@ -9,12 +8,13 @@ use Rattle.end_loop.specs.declared.halt.Halt.{Halt}
 use Rattle.end_loop.specs.declared.halt.Halt.TheVariants as halts
 use Rattle.wire_base.specs.Memory.{UpToMemory}
 use Rattle.nt_words.specs.Files.{FaultRose, HasFault, Shelf, UpToFaults}
-use Rattle.nt_words.specs.Jobs.{is_led_by}
-use Rattle.nt_words.specs.Roles.{job_at_once, job_of, unless_led}
+use Rattle.nt_words.specs.Roles.{job_of}
 use Rattle.nt_words.specs.Setups.{setup_due}
 use Rattle.nt_words.specs.declared.job.Job.{Job}
+use Rattle.nt_words.specs.declared.job.Job.TheVariants as jobs
 use Rattle.nt_words.specs.declared.job.Role.{Role}
-use Rattle.nt_words.specs.declared.job.Role.TheVariants.{Controller, Member, Logon}
+use Rattle.nt_words.specs.declared.job.Role.TheVariants.{Member, Logon}
+use Rattle.nt_words.specs.declared.job.Service.{Service}
 use Rattle.nt_words.specs.declared.options.WordsRefused.{WordsRefused}
 use Rattle.nt_words.specs.declared.options.WordsRefused.TheVariants.{BadWords, Memory}
 use Rattle.nt_words.specs.declared.files.FilesRefused.{FilesRefused}
@@ -25,7 +25,6 @@ use Rattle.logon_client.specs.declared.outcome.NoAnswerCause.{NoAnswerCause}
 use Rattle.logon_client.specs.declared.outcome.NoAnswerCause.TheVariants.{DialFailed, LinkClosed, NoController}
 use Rattle.nt_top.specs.declared.exit.Exit.{Exit}
 use Rattle.nt_top.specs.declared.exit.Exit.TheVariants as exits
-use Rattle.nt_top.specs.Answers.{exit_at_once, from_at_once}
 use Rattle.nt_top.specs.Causes.{Comes, IsBadInput, IsBadWords, IsOfForm}
 use Rattle.nt_top.specs.Check.{AskedAccepted, AskedRefused}
 use Rattle.nt_top.specs.Drill.{AskedDrill}
@@ -35,7 +34,7 @@ use Rattle.nt_top.specs.Serve.{IsServed, MayServe, ServesTo, halt_exit, service_
 use Rattle.nt_top.specs.Logon.{plan_of}
 use Rattle.nt_top.specs.LogonExits.{IsAnswered, IsOfClients, LosesLink}
 use Rattle.nt_top.specs.Service.{IsBadOfFiles, IsOfContents, IsServedBy, IsServiceOfForm, ServiceAsked, ServiceBy, ServiceFollows, ServiceReads, ServiceRuns, uses_port}
-use Rattle.nt_top.proofs.JobLaws.{drill_by_words}
+use Rattle.nt_top.proofs.JobLaws.{acts_by_words}
 use Rattle.nt_top.proofs.LogonLaws.{logon_laws}
 
 halt_serves : {S : Type 0} (machine : Machine S) (old : S) (address seed : List ℕ) (boot most : ℕ) (before after : Sight) (halt : Halt) →
@@ -87,9 +86,9 @@ pub follows_err : (read : Result Setup FilesRefused) (refused : FilesRefused) (s
 follows_err read refused sight exit is due = subst (λ z. ServiceFollows z sight sight exit) (sym is) (due, refl)
 
 -- what follows the words, by their result
-pub asked_ok : (asked : Result Job WordsRefused) (job : Job) (shelf shelf_after : Shelf) (before after : Sight) (exit : Exit) →
-    asked ≡ Ok job → ServiceReads job shelf shelf_after before after exit → ServiceAsked asked shelf shelf_after before after exit
-asked_ok asked job shelf shelf_after before after exit is reads = subst (λ z. ServiceAsked z shelf shelf_after before after exit) (sym is) reads
+pub asked_ok : (asked : Result Job WordsRefused) (service : Service) (shelf shelf_after : Shelf) (before after : Sight) (exit : Exit) →
+    asked ≡ Ok (jobs.Service service) → ServiceReads service shelf shelf_after before after exit → ServiceAsked asked shelf shelf_after before after exit
+asked_ok asked service shelf shelf_after before after exit is reads = subst (λ z. ServiceAsked z shelf shelf_after before after exit) (sym is) reads
 
 pub asked_err : (asked : Result Job WordsRefused) (refused : WordsRefused) (shelf : Shelf) (sight : Sight) (exit : Exit) →
     asked ≡ Err refused → exit ≡ words_exit refused → ServiceAsked asked shelf shelf sight sight exit
@@ -115,7 +114,7 @@ pub not_shown : (role : Role) (words : List (List ℕ)) → uses_port role words
 not_shown role words uses asked = not_show role words _ uses asked.asks.logon asked.asks.words_are
 
 pub not_drilled : (role : Role) (words : List (List ℕ)) → uses_port role words ≡ true → AskedDrill role words → ⊥
-not_drilled role words uses asked = absurd (let wrong : true ≡ false = sym uses ∙ drill_by_words role words _ asked.asks in cc)
+not_drilled role words uses asked = absurd (let wrong : true ≡ false = sym uses ∙ acts_by_words role words _ asked.asks in cc)
 
 pub not_input : (role : Role) (words : List (List ℕ)) (number : ℕ) → uses_port role words ≡ true → IsBadInput role words number → ⊥
 not_input role words number uses (inl asked) = not_check role words _ uses asked.member asked.words_are
@@ -127,57 +126,12 @@ not_of_form role words uses (inl (inr asked)) = not_rejected role words uses ask
 not_of_form role words uses (inr (inl asked)) = not_shown role words uses asked
 not_of_form role words uses (inr (inr asked)) = not_drilled role words uses asked
 
--- ---- what is seen of the words without memory
-
--- what is seen of them is a refusal, or nothing
-abbrev SeesRefusal : Option (Result Job WordsRefused) → Type 0
-SeesRefusal None = Unit {0}
-SeesRefusal (Some (Ok job)) = ⊥
-SeesRefusal (Some (Err refused)) = Unit {0}
-
-unless_sees : (led : Bool) → SeesRefusal (unless_led led)
-unless_sees true = tt
-unless_sees false = tt
-
-member_sees : (words : List (List ℕ)) → is_led_by (codes "serve") words ≡ true → SeesRefusal (job_at_once Member words)
-member_sees [] led = absurd cc
-member_sees (word ∷ words) led =
-    let is : word ≡ codes "serve" = (bytes_eq-Decides word (codes "serve")).0 led in
-    subst (λ w. SeesRefusal (job_at_once Member (w ∷ words))) (sym is) tt
-
-logon_sees : (words : List (List ℕ)) → is_led_by (codes "logon") words ≡ true → SeesRefusal (job_at_once Logon words)
-logon_sees [] led = absurd cc
-logon_sees (word ∷ words) led =
-    let is : word ≡ codes "logon" = (bytes_eq-Decides word (codes "logon")).0 led in
-    subst (λ w. SeesRefusal (job_at_once Logon (w ∷ words))) (sym is) tt
-
-sees : (role : Role) (words : List (List ℕ)) → uses_port role words ≡ true → SeesRefusal (job_at_once role words)
-sees Controller words uses = unless_sees (is_led_by (codes "serve") words)
-sees Member words uses = member_sees words uses
-sees Logon words uses = logon_sees words uses
-
-by_sight : (seen : Option (Result Job WordsRefused)) (asked : Result Job WordsRefused) (exit : Exit) →
-    SeesRefusal seen → IfSome seen (λ due. asked ≡ due) → IfErr asked (λ refused. exit ≡ words_exit refused) → IfSome (from_at_once seen) (λ due. exit ≡ due)
-by_sight None asked exit refusal is due = tt
-by_sight (Some (Ok job)) asked exit refusal is due = absurd refusal
-by_sight (Some (Err refused)) asked exit refusal is due = subst (λ (r : Result Job WordsRefused). IfErr r (λ why. exit ≡ words_exit why)) is due
-
--- the exit that is seen in the words without memory
-pub seen_at_once : (role : Role) (words : List (List ℕ)) (asked : Result Job WordsRefused) (exit : Exit) → uses_port role words ≡ true →
-    IfSome (job_at_once role words) (λ due. asked ≡ due) → IfErr asked (λ refused. exit ≡ words_exit refused) → IfSome (exit_at_once role words) (λ due. exit ≡ due)
-seen_at_once role words asked exit uses is due = by_sight (job_at_once role words) asked exit (sees role words uses) is due
-
-pub err_of : {T E : Type 0} (result : Result T E) (why : E) (P : E → Type 0) → result ≡ Err why → P why → IfErr result P
-err_of result why P is holds = subst (λ r. IfErr r P) (sym is) holds
-
-pub ok_of : {T E : Type 0} (result : Result T E) (x : T) (P : E → Type 0) → result ≡ Ok x → IfErr result P
-ok_of result x P is = subst (λ r. IfErr r P) (sym is) tt
-
 -- ---- the number of words that are refused
 
 come_by : (asked : Result Job WordsRefused) (number : ℕ) (shelf shelf_after : Shelf) (before after : Sight) (exit : Exit) →
     UpToMemory Memory asked (Err (BadWords number)) → ServiceAsked asked shelf shelf_after before after exit → Comes (exits.BadWords number) exit
-come_by (Ok job) number shelf shelf_after before after exit is runs = absurd (cc)
+come_by (Ok (jobs.Service service)) number shelf shelf_after before after exit is runs = absurd (cc)
+come_by (Ok (jobs.Command command)) number shelf shelf_after before after exit is runs = absurd runs
 come_by (Err refused) number shelf shelf_after before after exit (inl memory) runs = inr (runs.1.0 ∙ ap words_exit memory)
 come_by (Err refused) number shelf shelf_after before after exit (inr is) runs =
     let same : refused ≡ BadWords number = cc in inl (runs.1.0 ∙ ap words_exit same)
@@ -242,10 +196,7 @@ client_inputs exits.Spent is of = is
 by_inputs : (setup : Setup) (before after : Sight) (exit : Exit) → IsOfInputs exit → ServiceBy setup before after exit → ⊥
 by_inputs (setups.Controller job files) before after exit is serves = may_inputs _ _ _ _ _ _ before after exit is serves
 by_inputs (setups.Member job files) before after exit is serves = may_inputs _ _ _ _ _ _ before after exit is serves
-by_inputs (setups.Check job) before after exit is left = subst IsOfInputs left.0 is
 by_inputs (setups.Logon job files) before after exit is ends = client_inputs exit is (logon_laws.exits (plan_of job files) files.seed job.boot before after exit ends)
-by_inputs (setups.Show job) before after exit is left = subst IsOfInputs left.0 is
-by_inputs (setups.Drill job) before after exit is left = subst IsOfInputs left.0 is
 
 follows_no_words : (read : Result Setup FilesRefused) (before after : Sight) (number : ℕ) → ServiceFollows read before after (exits.BadWords number) → ⊥
 follows_no_words (Err refused) before after number left = files_no_words refused number (sym left.0)
@@ -253,7 +204,8 @@ follows_no_words (Ok setup) before after number serves = by_inputs setup before 
 
 only_by : (asked due : Result Job WordsRefused) (number : ℕ) (shelf shelf_after : Shelf) (before after : Sight) →
     UpToMemory Memory asked due → ServiceAsked asked shelf shelf_after before after (exits.BadWords number) → due ≡ Err (BadWords number)
-only_by (Ok job) due number shelf shelf_after before after is runs = absurd (follows_no_words runs.setup before after number runs.follows)
+only_by (Ok (jobs.Command command)) due number shelf shelf_after before after is runs = absurd runs
+only_by (Ok (jobs.Service service)) due number shelf shelf_after before after is runs = absurd (follows_no_words runs.setup before after number runs.follows)
 only_by (Err refused) due number shelf shelf_after before after (inl memory) runs =
     let same = words_is refused number (sym runs.1.0) in absurd cc
 only_by (Err refused) due number shelf shelf_after before after (inr is) runs =
@@ -277,22 +229,23 @@ files_come_by (Err (files.BadInput number)) due refused before after exit is up 
     let same : files.BadInput number ≡ refused = cc in inl (left.0 ∙ ap files_exit same)
 files_come_by (Ok read) due refused before after exit is up file serves = absurd cc
 
-asked_files_come : (asked due : Result Job WordsRefused) (job : Job) (told : List (List ℕ × List ℕ)) (refused : FilesRefused) (shelf shelf_after : Shelf) (before after : Sight) (exit : Exit) →
-    UpToMemory Memory asked due → due ≡ Ok job → shelf.contents ≡ Some told → setup_due job told ≡ Err refused → (exit ≡ exits.FileFault → ⊥) →
+asked_files_come : (asked due : Result Job WordsRefused) (service : Service) (told : List (List ℕ × List ℕ)) (refused : FilesRefused) (shelf shelf_after : Shelf) (before after : Sight) (exit : Exit) →
+    UpToMemory Memory asked due → due ≡ Ok (jobs.Service service) → shelf.contents ≡ Some told → setup_due service told ≡ Err refused → (exit ≡ exits.FileFault → ⊥) →
     ServiceAsked asked shelf shelf_after before after exit → Comes (files_exit refused) exit
-asked_files_come (Err why) due job told refused shelf shelf_after before after exit (inl memory) is tells of file runs = inr (runs.1.0 ∙ ap words_exit memory)
-asked_files_come (Err why) due job told refused shelf shelf_after before after exit (inr other) is tells of file runs = absurd cc
-asked_files_come (Ok other) due job told refused shelf shelf_after before after exit up is tells of file runs =
-    let same : other ≡ job = cc in
+asked_files_come (Err why) due service told refused shelf shelf_after before after exit (inl memory) is tells of file runs = inr (runs.1.0 ∙ ap words_exit memory)
+asked_files_come (Err why) due service told refused shelf shelf_after before after exit (inr other) is tells of file runs = absurd cc
+asked_files_come (Ok (jobs.Command command)) due service told refused shelf shelf_after before after exit up is tells of file runs = absurd runs
+asked_files_come (Ok (jobs.Service other)) due service told refused shelf shelf_after before after exit up is tells of file runs =
+    let same : other ≡ service = cc in
     let there = subst (λ z. IfSome z (λ contents. UpToFaults runs.setup (setup_due other contents))) tells runs.reads.exact in
-    let due_is = subst (λ (z : Job). setup_due z told ≡ Err refused) (sym same) of in
+    let due_is = subst (λ (z : Service). setup_due z told ≡ Err refused) (sym same) of in
     files_come_by runs.setup (setup_due other told) refused before after exit due_is there file runs.follows
 
 -- files that are refused come to the exit of their refusal, where no read fails
 pub files_come : (role : Role) (words : List (List ℕ)) (refused : FilesRefused) (shelf shelf_after : Shelf) (before after : Sight) (exit : Exit) →
     ServiceRuns role words shelf shelf_after before after exit → IsBadOfFiles role words shelf.contents refused → (exit ≡ exits.FileFault → ⊥) → Comes (files_exit refused) exit
 files_come role words refused shelf shelf_after before after exit runs bad file =
-    asked_files_come runs.job (job_of role words) bad.job bad.told refused shelf shelf_after before after exit runs.is bad.job_is bad.told_is bad.due file runs.runs
+    asked_files_come runs.job (job_of role words) bad.service bad.told refused shelf shelf_after before after exit runs.is bad.job_is bad.told_is bad.due file runs.runs
 
 contents_inputs : (refused : FilesRefused) → IsOfContents refused → IsOfInputs (files_exit refused)
 contents_inputs files.FileFault is = absurd is
@@ -339,14 +292,15 @@ asked_only : (role : Role) (words : List (List ℕ)) (asked : Result Job WordsRe
     uses_port role words ≡ true → UpToMemory Memory asked (job_of role words) → shelf.contents ≡ Some told → IsOfContents refused → exit ≡ files_exit refused →
     ServiceAsked asked shelf shelf_after before after exit → IsBadOfFiles role words shelf.contents refused
 asked_only role words (Err why) told refused shelf shelf_after before after exit uses up tells is e runs = absurd (words_no_contents why refused is (sym runs.1.0 ∙ e))
-asked_only role words (Ok job) told refused shelf shelf_after before after exit uses up tells is e runs =
-    let there = subst (λ z. IfSome z (λ contents. UpToFaults runs.setup (setup_due job contents))) tells runs.reads.exact in record {
+asked_only role words (Ok (jobs.Command command)) told refused shelf shelf_after before after exit uses up tells is e runs = absurd runs
+asked_only role words (Ok (jobs.Service service)) told refused shelf shelf_after before after exit uses up tells is e runs =
+    let there = subst (λ z. IfSome z (λ contents. UpToFaults runs.setup (setup_due service contents))) tells runs.reads.exact in record {
       uses = uses;
-      job = job;
+      service = service;
       job_is = up;
       told = told;
       told_is = tells;
-      due = follows_only runs.setup (setup_due job told) refused before after exit is e there runs.follows;
+      due = follows_only runs.setup (setup_due service told) refused before after exit is e there runs.follows;
     }
 
 -- the exit of what a file holds comes only where files are refused so
@@ -400,18 +354,12 @@ memory_served : (setup : Setup) (exit : Exit) → exit ≡ exits.NoMemory → Is
 memory_served (setups.Controller job files) exit is = subst IsServed (sym is) tt
 memory_served (setups.Member job files) exit is = subst IsServed (sym is) tt
 memory_served (setups.Logon job files) exit is = subst IsAnswered (sym is) tt
-memory_served (setups.Check job) exit is = subst IsServed (sym is) tt
-memory_served (setups.Show job) exit is = subst IsServed (sym is) tt
-memory_served (setups.Drill job) exit is = subst IsServed (sym is) tt
 
 by_served : (setup : Setup) (before after : Sight) (exit : Exit) → (exit ≡ exits.PortFault → ⊥) → (exit ≡ exits.SinkFault → ⊥) → ServiceBy setup before after exit → IsServedBy setup exit
 by_served (setups.Controller job files) before after exit port sink serves = may_served _ _ _ _ _ _ before after exit port sink serves
 by_served (setups.Member job files) before after exit port sink serves = may_served _ _ _ _ _ _ before after exit port sink serves
 by_served (setups.Logon job files) before after exit port sink ends =
     client_answered exit (logon_laws.exits (plan_of job files) files.seed job.boot before after exit ends) port sink
-by_served (setups.Check job) before after exit port sink left = subst IsServed (sym left.0) tt
-by_served (setups.Show job) before after exit port sink left = subst IsServed (sym left.0) tt
-by_served (setups.Drill job) before after exit port sink left = subst IsServed (sym left.0) tt
 
 files_served : (read due : Result Setup FilesRefused) (setup : Setup) (before after : Sight) (exit : Exit) →
     due ≡ Ok setup → UpToFaults read due → (exit ≡ exits.FileFault → ⊥) → (exit ≡ exits.PortFault → ⊥) → (exit ≡ exits.SinkFault → ⊥) →
@@ -423,23 +371,24 @@ files_served (Err (files.BadInput number)) due setup before after exit is up fil
 files_served (Ok read) due setup before after exit is up file port sink serves =
     let same : read ≡ setup = cc in subst (λ z. IsServedBy z exit) same (by_served read before after exit port sink serves)
 
-asked_served : (asked due : Result Job WordsRefused) (job : Job) (told : List (List ℕ × List ℕ)) (setup : Setup) (shelf shelf_after : Shelf) (before after : Sight) (exit : Exit) →
-    UpToMemory Memory asked due → due ≡ Ok job → shelf.contents ≡ Some told → setup_due job told ≡ Ok setup →
+asked_served : (asked due : Result Job WordsRefused) (service : Service) (told : List (List ℕ × List ℕ)) (setup : Setup) (shelf shelf_after : Shelf) (before after : Sight) (exit : Exit) →
+    UpToMemory Memory asked due → due ≡ Ok (jobs.Service service) → shelf.contents ≡ Some told → setup_due service told ≡ Ok setup →
     (exit ≡ exits.FileFault → ⊥) → (exit ≡ exits.PortFault → ⊥) → (exit ≡ exits.SinkFault → ⊥) →
     ServiceAsked asked shelf shelf_after before after exit → IsServedBy setup exit
-asked_served (Err refused) due job told setup shelf shelf_after before after exit (inl memory) is tells of file port sink runs = memory_served setup exit (runs.1.0 ∙ ap words_exit memory)
-asked_served (Err refused) due job told setup shelf shelf_after before after exit (inr other) is tells of file port sink runs = absurd cc
-asked_served (Ok other) due job told setup shelf shelf_after before after exit up is tells of file port sink runs =
-    let same : other ≡ job = cc in
+asked_served (Err refused) due service told setup shelf shelf_after before after exit (inl memory) is tells of file port sink runs = memory_served setup exit (runs.1.0 ∙ ap words_exit memory)
+asked_served (Err refused) due service told setup shelf shelf_after before after exit (inr other) is tells of file port sink runs = absurd cc
+asked_served (Ok (jobs.Command command)) due service told setup shelf shelf_after before after exit up is tells of file port sink runs = absurd runs
+asked_served (Ok (jobs.Service other)) due service told setup shelf shelf_after before after exit up is tells of file port sink runs =
+    let same : other ≡ service = cc in
     let there = subst (λ z. IfSome z (λ contents. UpToFaults runs.setup (setup_due other contents))) tells runs.reads.exact in
-    let due_is = subst (λ (z : Job). setup_due z told ≡ Ok setup) (sym same) of in
+    let due_is = subst (λ (z : Service). setup_due z told ≡ Ok setup) (sym same) of in
     files_served runs.setup (setup_due other told) setup before after exit due_is there file port sink runs.follows
 
 pub serve_done : (role : Role) (words : List (List ℕ)) (shelf shelf_after : Shelf) (before after : Sight) (exit : Exit) →
     ServiceRuns role words shelf shelf_after before after exit → (form : IsServiceOfForm role words shelf.contents) →
     (exit ≡ exits.FileFault → ⊥) → (exit ≡ exits.PortFault → ⊥) → (exit ≡ exits.SinkFault → ⊥) → IsServedBy form.setup exit
 serve_done role words shelf shelf_after before after exit runs form file port sink =
-    asked_served runs.job (job_of role words) form.job form.told form.setup shelf shelf_after before after exit runs.is form.job_is form.told_is form.setup_is file port sink runs.runs
+    asked_served runs.job (job_of role words) form.service form.told form.setup shelf shelf_after before after exit runs.is form.job_is form.told_is form.setup_is file port sink runs.runs
 
 pub not_serve : (role : Role) (words : List (List ℕ)) (contents : Option (List (List ℕ × List ℕ))) → uses_port role words ≡ false → IsServiceOfForm role words contents → ⊥
 not_serve role words contents other form = let wrong : true ≡ false = sym form.uses ∙ other in cc
@@ -460,9 +409,6 @@ by_cause (setups.Controller job files) cause before after (inl left) = absurd (l
 by_cause (setups.Controller job files) cause before after (inr serves) = absurd serves
 by_cause (setups.Member job files) cause before after (inl left) = absurd (let is = left.0 in cc)
 by_cause (setups.Member job files) cause before after (inr serves) = absurd serves
-by_cause (setups.Check job) cause before after left = absurd (let is = left.0 in cc)
-by_cause (setups.Show job) cause before after left = absurd (let is = left.0 in cc)
-by_cause (setups.Drill job) cause before after left = absurd (let is = left.0 in cc)
 
 follows_cause : (setup : Result Setup FilesRefused) (cause : NoAnswerCause) (before after : Sight) → ServiceFollows setup before after (exits.NoAnswer cause) → ShowsCause cause before after
 follows_cause (Err files.FileFault) cause before after left = absurd (let is = left.0 in cc)
@@ -474,7 +420,8 @@ follows_cause (Ok setup) cause before after ends = by_cause setup cause before a
 asked_cause : (job : Result Job WordsRefused) (cause : NoAnswerCause) (shelf shelf_after : Shelf) (before after : Sight) → ServiceAsked job shelf shelf_after before after (exits.NoAnswer cause) → ShowsCause cause before after
 asked_cause (Err Memory) cause shelf shelf_after before after runs = absurd (let is = runs.1.0 in cc)
 asked_cause (Err (BadWords number)) cause shelf shelf_after before after runs = absurd (let is = runs.1.0 in cc)
-asked_cause (Ok job) cause shelf shelf_after before after runs = follows_cause runs.setup cause before after runs.follows
+asked_cause (Ok (jobs.Command command)) cause shelf shelf_after before after runs = absurd runs
+asked_cause (Ok (jobs.Service service)) cause shelf shelf_after before after runs = follows_cause runs.setup cause before after runs.follows
 
 service_cause : (role : Role) (words : List (List ℕ)) (cause : NoAnswerCause) (shelf shelf_after : Shelf) (before after : Sight) →
     ServiceRuns role words shelf shelf_after before after (exits.NoAnswer cause) → ShowsCause cause before after

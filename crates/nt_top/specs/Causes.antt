@@ -1,5 +1,5 @@
 -- When each exit of a command comes, in the words' own terms (this project's own choice). Words are lists of bytes.
-use Rattle.std.specs.Prelude.{◌≡◌, ◌⊎◌, ◌*◌, ℕ, Bool, true, false, List, [], ◌∷◌, length, Ok, Err, codes}
+use Rattle.std.specs.Prelude.{◌≡◌, ◌⊎◌, ◌*◌, ℕ, List, [], ◌∷◌, length, Ok, Err, codes}
 use Rattle.std.specs.List.{AllPass}
 use Rattle.hex.specs.Hex.{decode_of, is_hex_digit}
 use Rattle.ntlm_messages.specs.Authenticate.{IsAuthenticate}

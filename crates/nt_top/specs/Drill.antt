@@ -16,6 +16,7 @@ use Rattle.domain_world.specs.World.{report_of_run}
 use Rattle.world_moves.specs.declared.counting.Report.{Report}
 use Rattle.world_moves.specs.declared.plan.Plan.{Plan}
 use Rattle.nt_words.specs.Roles.{job_of}
+use Rattle.nt_words.specs.declared.job.Command.TheVariants as commands
 use Rattle.nt_words.specs.declared.job.Job.TheVariants as jobs
 use Rattle.nt_words.specs.declared.job.Role.{Role}
 use Rattle.nt_top.specs.Show.{shown}
@@ -126,4 +127,4 @@ drill_answer number count = Ok (shown (drill_text number count))
 pub record AskedDrill (role : Role) (words : List (List ℕ)) : Type 0 where
   pub number : ℕ
   pub count : ℕ
-  pub asks : job_of role words ≡ Ok (jobs.Drill (record { number = number; moves = count }))
+  pub asks : job_of role words ≡ Ok (jobs.Command (commands.Drill (record { number = number; moves = count })))

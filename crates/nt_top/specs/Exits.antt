@@ -1,5 +1,5 @@
 -- Exit statuses and what is said of an exit (this project's own choice).
-use Rattle.std.specs.Prelude.{ℕ, ◌≡◌, List, [], ◌∷◌, ◌++◌, codes}
+use Rattle.std.specs.Prelude.{ℕ, List, [], ◌∷◌, ◌++◌, codes}
 use Rattle.std.specs.Fmt.{decimal}
 use Rattle.nt_top.specs.declared.exit.Exit.{Exit}
 use Rattle.nt_top.specs.declared.exit.Exit.TheVariants.{Done, Refused, BadWords, FileFault, BadTable, BadInput, PortFault, SinkFault, NoMemory, NoAnswer, BadPeer, Spent}
@@ -24,11 +24,6 @@ status_of exit = (row_of exit).0
 
 abbrev pub line_of : Exit → List ℕ
 line_of exit = (row_of exit).1
-
--- the status is that of some exit
-pub record IsStatus (status : ℕ) : Type 0 where
-  pub exit : Exit
-  pub status_is : status ≡ status_of exit
 
 -- what is put on standard error: nothing where the line is empty, else the line and a newline
 abbrev pub with_newline : List ℕ → List ℕ

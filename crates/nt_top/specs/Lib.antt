@@ -8,6 +8,7 @@ pub mod Logon
 pub mod LogonExits
 pub mod Needs
 pub mod Refusals
+pub mod Runs
 pub mod Serve
 pub mod ServeExits
 pub mod Service

@@ -1,28 +1,27 @@
 -- The commands that use the port (this project's own choice): the words are judged, then the files that they name are
 -- read and judged, and then the end that words and files make is served, or logs on.
 use Rattle.std.specs.Prelude.{ℕ, ◌≡◌, Bool, true, false, List, Option, Some, Result, Ok, Err, IfOk, codes}
-use Rattle.outside.specs.Drawing.{Drawing}
-use Rattle.outside.specs.declared.event.Happening.{Happening}
-use Rattle.end_loop.specs.Seen.{Sight, sight_of}
+use Rattle.end_loop.specs.Seen.{Sight}
 use Rattle.domain_controller.specs.Step.{controller_machine, first_state}
 use Rattle.member_server.specs.Machine.{fresh_member, member_machine}
 use Rattle.member_server.specs.declared.plan.MemberPlan.{MemberPlan}
-use Rattle.nt_words.specs.Files.{ReadsFiles, SecretFiles, Shelf, shelf_of}
+use Rattle.nt_words.specs.Files.{ReadsFiles, SecretFiles, Shelf}
 use Rattle.nt_words.specs.Jobs.{MemberJob, is_led_by}
 use Rattle.nt_words.specs.Roles.{job_of}
-use Rattle.nt_words.specs.Setups.{file_names, job_in, setup_due}
+use Rattle.nt_words.specs.Setups.{file_names, service_in, setup_due}
 use Rattle.nt_words.specs.declared.files.FilesRefused.{FilesRefused}
 use Rattle.nt_words.specs.declared.files.FilesRefused.TheVariants as files
 use Rattle.nt_words.specs.declared.job.Job.{Job}
+use Rattle.nt_words.specs.declared.job.Job.TheVariants as jobs
 use Rattle.nt_words.specs.declared.job.Role.{Role}
 use Rattle.nt_words.specs.declared.job.Role.TheVariants.{Controller, Member, Logon}
+use Rattle.nt_words.specs.declared.job.Service.{Service}
 use Rattle.nt_words.specs.declared.options.WordsRefused.{WordsRefused}
 use Rattle.nt_words.specs.declared.options.WordsRefused.TheVariants as words
 use Rattle.nt_words.specs.declared.setup.Setup.{Setup}
 use Rattle.nt_words.specs.declared.setup.Setup.TheVariants as setups
 use Rattle.wire_base.specs.Memory.{UpToMemory}
 use Rattle.nt_top.specs.declared.exit.Exit.{Exit}
-use Rattle.nt_top.specs.declared.exit.Exit.TheVariants.{NoMemory}
 use Rattle.nt_top.specs.Logon.{LogonEnds, plan_of}
 use Rattle.nt_top.specs.LogonExits.{IsAnswered}
 use Rattle.nt_top.specs.Refusals.{files_exit, words_exit}
@@ -52,37 +51,36 @@ IsRefusal asked = (refused : WordsRefused) × (asked ≡ Err refused)
 abbrev pub member_plan : MemberJob → SecretFiles → MemberPlan
 member_plan job files = record { computer = job.computer; domain = job.domain; secret = files.secret; controller = job.controller }
 
--- The end of the job is served: a controller of the words' name over the file's table, or a member server. It is served
--- at the words' address, with the file's seed and the words' number of the boot, for as many events as they say. A
--- logon client of the words and the file's hash comes to its exit. No other job has an end.
+-- The end of the service is served: a controller of the words' name over the file's table, or a member server. It is
+-- served at the words' address, with the file's seed and the words' number of the boot, for as many events as they say.
+-- A logon client of the words and the file's hash comes to its exit.
 abbrev pub ServiceBy : Setup → Sight → Sight → Exit → Type 0
 ServiceBy (setups.Controller job files) before after exit =
     MayServe controller_machine (first_state files.table job.name) job.listen files.seed job.boot job.events before after exit
 ServiceBy (setups.Member job files) before after exit =
     MayServe member_machine (fresh_member (member_plan job files)) job.listen files.seed job.boot job.events before after exit
-ServiceBy (setups.Check job) before after exit = IsLeft NoMemory before after exit
 ServiceBy (setups.Logon job files) before after exit = LogonEnds (plan_of job files) files.seed job.boot before after exit
-ServiceBy (setups.Show job) before after exit = IsLeft NoMemory before after exit
-ServiceBy (setups.Drill job) before after exit = IsLeft NoMemory before after exit
 
 -- ---- a command, from its words on
 
--- What follows the files: their refusal is the exit; else what the end of the job does.
+-- What follows the files: their refusal is the exit; else what the end of the service does.
 abbrev pub ServiceFollows : Result Setup FilesRefused → Sight → Sight → Exit → Type 0
 ServiceFollows (Err refused) before after exit = IsLeft (files_exit refused) before after exit
 ServiceFollows (Ok setup) before after exit = ServiceBy setup before after exit
 
--- The files of the job were read in their order, and then what follows them came.
-pub record ServiceReads (job : Job) (shelf shelf_after : Shelf) (before after : Sight) (exit : Exit) : Type 0 where
+-- The files of the service were read in their order, and then what follows them came.
+pub record ServiceReads (service : Service) (shelf shelf_after : Shelf) (before after : Sight) (exit : Exit) : Type 0 where
   pub setup : Result Setup FilesRefused
-  pub reads : ReadsFiles (file_names job) (setup_due job) setup shelf shelf_after
-  pub is_of_job : IfOk setup (λ s. job_in s ≡ job)
+  pub reads : ReadsFiles (file_names service) (setup_due service) setup shelf shelf_after
+  pub is_of_service : IfOk setup (λ s. service_in s ≡ service)
   pub follows : ServiceFollows setup before after exit
 
--- What follows the words: their refusal is the exit, and no file is read; else the job's files are read.
+-- What follows the words: their refusal is the exit, and no file is read; else they ask for a service, whose files are
+-- read.
 abbrev pub ServiceAsked : Result Job WordsRefused → Shelf → Shelf → Sight → Sight → Exit → Type 0
 ServiceAsked (Err refused) shelf shelf_after before after exit = (shelf_after ≡ shelf) × IsLeft (words_exit refused) before after exit
-ServiceAsked (Ok job) shelf shelf_after before after exit = ServiceReads job shelf shelf_after before after exit
+ServiceAsked (Ok (jobs.Service service)) shelf shelf_after before after exit = ServiceReads service shelf shelf_after before after exit
+ServiceAsked (Ok (jobs.Command command)) shelf shelf_after before after exit = ⊥
 
 -- The command ran: its words were judged, and then what follows them came.
 pub record ServiceRuns (role : Role) (asked : List (List ℕ)) (shelf shelf_after : Shelf) (before after : Sight) (exit : Exit) : Type 0 where
@@ -90,31 +88,23 @@ pub record ServiceRuns (role : Role) (asked : List (List ℕ)) (shelf shelf_afte
   pub is : UpToMemory words.Memory job (job_of role asked)
   pub runs : ServiceAsked job shelf shelf_after before after exit
 
--- What a command that uses the port does, by what the outside tells, by the meanings of its traits, before and after.
-abbrev pub ServiceActs : {P F S C Q : Type 0} → Role → List (List ℕ) → (P → Option (List Happening)) → (P → ℕ) →
-    (F → ℕ) → (F → Option (List (List ℕ × List ℕ))) → (F → Option (List (List ℕ × Bool))) → (F → Option (List (List ℕ × List ℕ × Bool))) → (S → Option (List ℕ)) → (C → Option (List ℕ)) → (Q → Drawing) →
-    P → F → S → C → Q → P → F → S → C → Q → Exit → Type 0
-ServiceActs role asked story link_faults faults contents reads writes taken moments drawing port files out clock chances port_after files_after out_after clock_after chances_after exit =
-    uses_port role asked ≡ true → ServiceRuns role asked (shelf_of faults contents reads writes files) (shelf_of faults contents reads writes files_after)
-    (sight_of story link_faults moments drawing taken port clock chances out)
-    (sight_of story link_faults moments drawing taken port_after clock_after chances_after out_after) exit
-
 -- ---- where words and files are of their forms
 
 -- The words ask for such a command and are of its form, and the files that they name are told and are of theirs.
 pub record IsServiceOfForm (role : Role) (asked : List (List ℕ)) (contents : Option (List (List ℕ × List ℕ))) : Type 0 where
   pub uses : uses_port role asked ≡ true
-  pub job : Job
-  pub job_is : job_of role asked ≡ Ok job
+  pub service : Service
+  pub job_is : job_of role asked ≡ Ok (jobs.Service service)
   pub told : List (List ℕ × List ℕ)
   pub told_is : contents ≡ Some told
   pub setup : Setup
-  pub setup_is : setup_due job told ≡ Ok setup
+  pub setup_is : setup_due service told ≡ Ok setup
 
 -- how a command ends whose words and files are of their forms, where no count rises
 abbrev pub IsServedBy : Setup → Exit → Type 0
+IsServedBy (setups.Controller job files) exit = IsServed exit
+IsServedBy (setups.Member job files) exit = IsServed exit
 IsServedBy (setups.Logon job files) exit = IsAnswered exit
-IsServedBy _ exit = IsServed exit
 
 -- ---- refused files in their own terms
 
@@ -122,11 +112,11 @@ IsServedBy _ exit = IsServed exit
 -- first file that isn't there, is too long or isn't of its form.
 pub record IsBadOfFiles (role : Role) (asked : List (List ℕ)) (contents : Option (List (List ℕ × List ℕ))) (refused : FilesRefused) : Type 0 where
   pub uses : uses_port role asked ≡ true
-  pub job : Job
-  pub job_is : job_of role asked ≡ Ok job
+  pub service : Service
+  pub job_is : job_of role asked ≡ Ok (jobs.Service service)
   pub told : List (List ℕ × List ℕ)
   pub told_is : contents ≡ Some told
-  pub due : setup_due job told ≡ Err refused
+  pub due : setup_due service told ≡ Err refused
 
 -- a refusal of what a file holds
 abbrev pub IsOfContents : FilesRefused → Type 0

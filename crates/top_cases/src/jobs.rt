@@ -2,9 +2,12 @@
 
 use crate::line::{command_line, role};
 use crate::top::text_of_exit;
-use case_words::{add_answer, add_debug, blob, debug_text, no_case, number_list, told, word};
+use case_words::{
+    add_answer, add_debug, blob, debug_text, no_case, number_list, ok_text, refusal_text, told,
+    word,
+};
 use nt_top::{Exit, Role};
-use nt_words::{ControllerSetup, FilesRefused, SecretSetup, Setup, job_of, set_up};
+use nt_words::{ControllerSetup, FilesRefused, Job, SecretSetup, Setup, job_of, set_up};
 use outside::{MapFiles, Texts};
 use std::alloc::Global;
 use wire_base::Blob;
@@ -12,7 +15,11 @@ use wire_base::Blob;
 /// `job ROLE WORD..`: what the words ask for, or why they aren't of the form.
 fn job_case(alloc: Global, words: &[&str]) -> anyhow::Result<String> {
     let command = command_line(alloc, words, 2)?;
-    debug_text(alloc, job_of(alloc, role(word(words, 1)), &command))
+    match job_of(alloc, role(word(words, 1)), &command) {
+        Ok(Job::Service(service)) => ok_text(alloc, service),
+        Ok(Job::Command(command)) => ok_text(alloc, command),
+        Err(refused) => refusal_text(alloc, refused),
+    }
 }
 
 /// A file `NAME=BYTES`.
@@ -58,16 +65,15 @@ fn text_of_secret(alloc: Global, files: &SecretSetup) -> anyhow::Result<String> 
     Ok(text)
 }
 
-/// What a job starts from.
+/// What a service starts from.
 fn text_of_setup(alloc: Global, setup: Setup) -> anyhow::Result<String> {
     match setup {
         Setup::Controller(_, files) => text_of_table(alloc, files),
         Setup::Member(_, files) | Setup::Logon(_, files) => text_of_secret(alloc, &files),
-        Setup::Check(_) | Setup::Show(_) | Setup::Drill(_) => Ok("no files".to_string(alloc)?),
     }
 }
 
-/// What the files of a job come to.
+/// What the files of a service come to.
 fn text_of_files(alloc: Global, came: Result<Setup, FilesRefused>) -> anyhow::Result<String> {
     match came {
         Ok(setup) => text_of_setup(alloc, setup),
@@ -83,7 +89,8 @@ fn text_of_job(
     files: &mut MapFiles,
 ) -> anyhow::Result<String> {
     match job_of(alloc, role, command) {
-        Ok(job) => text_of_files(alloc, set_up(alloc, files, job)),
+        Ok(Job::Service(service)) => text_of_files(alloc, set_up(alloc, files, service)),
+        Ok(Job::Command(_)) => Ok("no files".to_string(alloc)?),
         Err(refused) => text_of_exit(alloc, &Exit::from(refused)),
     }
 }

@@ -5,7 +5,7 @@ pub returns-in-Ok-clause-reads : goal.returns-in-Ok-clause-reads
 returns-in-Ok-clause-reads g c = record {
   setup = c.set_up.result;
   reads = c.set_up.ensures.files;
-  is_of_job = c.set_up.ensures.words;
+  is_of_service = c.set_up.ensures.words;
   follows = follows_ok c.set_up.result _ _ _ _ c.in-Ok.is c.serve_by.ensures.serves;
 }
 
@@ -13,7 +13,7 @@ pub returns-in-Err-clause-reads : goal.returns-in-Err-clause-reads
 returns-in-Err-clause-reads g c = record {
   setup = c.set_up.result;
   reads = c.set_up.ensures.files;
-  is_of_job = c.set_up.ensures.words;
+  is_of_service = c.set_up.ensures.words;
   follows = follows_err c.set_up.result _ _ _ c.in-Err.is c.exit_of_files.ensures.exit;
 }
 
