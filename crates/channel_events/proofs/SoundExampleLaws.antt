@@ -5,8 +5,9 @@ use Rattle.wire_base.specs.Names.{SameName}
 use Rattle.authenticators.specs.Channels.{Channel, SameChannel}
 use Rattle.channel_client.specs.Effects.{Changes, Effect, Counts, Begins, Opens, Moves, Calls, Answers, View}
 use Rattle.channel_events.specs.Marks.{Opened, ReplyTo}
+use Rattle.channel_events.specs.Requests.{fresh_view}
 use Rattle.channel_events.specs.Sound.{History}
-use Rattle.channel_events.specs.SoundEvents.{IsNamedAlike, Notes, RequesterStep, fresh_view}
+use Rattle.channel_events.specs.SoundEvents.{IsNamedAlike, Notes, RequesterStep}
 use Rattle.channel_events.specs.SoundExamples.{ExchangeHappens, answer_notes, at_first, called_view, client_challenge, first_credential, noted, of_computer, only, opened_view, opening_view, server_challenge, standing_view, the_channel, turned_view, with_challenges, with_channel, with_opened, with_reply, with_turn}
 use Rattle.channel_events.proofs.ListLaws.{no_some, some_is}
 

@@ -3,7 +3,7 @@
 -- accepted and passed. It names no machine, no layout of a unit and no other end, so that it serves any end that asks
 -- on a channel. It is the invariant that the claims on answers rest on: that each event of a channel keeps it is said
 -- in `SoundEvents`; that a run is made of such events isn't proved yet.
-use Rattle.std.specs.Prelude.{ℕ, ◌≡◌, ◌≢◌, ◌+◌, ◌<◌, ◌≤◌, ◌⊎◌, Bool, true, false, List, [], ◌∷◌, ◌++◌, map, Option, Some, None, slice_get, AllPairs}
+use Rattle.std.specs.Prelude.{ℕ, ◌≡◌, ◌≢◌, ◌<◌, ◌⊎◌, Bool, true, false, List, [], ◌∷◌, ◌++◌, map, Option, Some, None, slice_get, AllPairs}
 use Rattle.std.specs.List.{AllByRecursion}
 use Rattle.wire_base.specs.Names.{SameName}
 use Rattle.channel_keys.specs.Credentials.{cred_of}
@@ -11,6 +11,7 @@ use Rattle.authenticators.specs.Channels.{Channel, SameChannel, channel_key, sam
 use Rattle.authenticators.specs.Sequences.{add_to, moved_by}
 use Rattle.channel_client.specs.Effects.{View}
 use Rattle.channel_events.specs.Marks.{Mark, Opening, Opened, Calling, ReplyTo, OneOf}
+use Rattle.channel_events.specs.Requests.{CallsAreApart, Holds, IsDrawn, Requests}
 
 -- ---- the history of the channels of a run, whoever their requesters are
 
@@ -53,9 +54,9 @@ pub record History (Who : Type 0) : Type 0 where
 
 -- ---- the facts
 
--- a requester holds that challenge: of an opening that is under way, or of the channel that stands
-pub record Holds (v : View) (challenge : List ℕ) : Type 0 where
-  pub how : (v.opening ≡ Some challenge) ⊎ ((c : Channel) × (v.stands ≡ Some c) × (c.client ≡ challenge))
+-- what the requesters hold, and the calls that they made
+abbrev pub requests_of : {Who : Type 0} → History Who → Requests Who
+requests_of h = record { views = h.views; marks = h.marks; drawn = h.drawn; uses = h.moves }
 
 -- the opening in that unit was accepted
 abbrev pub IsAcceptedOpening : List Accepted → ℕ → Type 0
@@ -68,35 +69,20 @@ IsPassedCall passed unit = OneOf (λ (pass : Passing). pass.unit ≡ Some unit) 
 pub record Sound {Who : Type 0} (h : History Who) : Type 0 where
   -- no two draws gave one challenge
   pub draws : AllPairs (λ (one other : List ℕ). one ≢ other) h.drawn
-  -- an opening or a call was made for a channel whose client's challenge was drawn: no later draw gives it
-  pub opened_before : (unit number : ℕ) (c : Channel) → slice_get h.marks unit ≡ Some (Opening c number) →
-      OneOf (λ (challenge : List ℕ). challenge ≡ c.client) h.drawn
-  pub made_before : (unit number timestamp : ℕ) (c : Channel) → slice_get h.marks unit ≡ Some (Calling c number timestamp) →
-      OneOf (λ (challenge : List ℕ). challenge ≡ c.client) h.drawn
-  -- so was each challenge that a requester holds
-  pub held_before : (i : Who) (v : View) (challenge : List ℕ) → h.views i ≡ Some v → Holds v challenge →
-      OneOf (λ (drawn : List ℕ). drawn ≡ challenge) h.drawn
-  -- no two requesters hold one challenge, so that a channel has one requester
-  pub apart : (i j : Who) (u v : View) (challenge : List ℕ) → h.views i ≡ Some u → h.views j ≡ Some v → Holds u challenge →
-      Holds v challenge → i ≡ j
-  -- for a channel that is only being opened no call was made yet
-  pub opening : (i : Who) (v : View) (unit number timestamp : ℕ) (c : Channel) → h.views i ≡ Some v → v.opening ≡ Some c.client →
-      slice_get h.marks unit ≡ Some (Calling c number timestamp) → ⊥
-  -- nor was an opening made with the challenge of an opening that is under way and isn't out
+  -- the requesters' half: no two of them hold one challenge, no two calls on a channel have one number, and no number
+  -- comes round
+  pub requests : CallsAreApart (requests_of h)
+  -- an opening was made for a channel whose client's challenge was drawn: no later draw gives it
+  pub opened_before : (unit number : ℕ) (c : Channel) → slice_get h.marks unit ≡ Some (Opening c number) → IsDrawn c.client h.drawn
+  -- no opening was made with the challenge of an opening that is under way and isn't out
   pub unopened : (i : Who) (v : View) (unit number : ℕ) (c : Channel) → h.views i ≡ Some v → v.opening ≡ Some c.client →
       h.opening_out i ≡ false → slice_get h.marks unit ≡ Some (Opening c number) → ⊥
-  -- an opening made with a challenge that a requester holds has a number below its next one, and so has a call made
-  -- with it
+  -- an opening made with a challenge that a requester holds has a number below its next one
   pub opening_numbers : (i : Who) (v : View) (unit number : ℕ) (c : Channel) → h.views i ≡ Some v → Holds v c.client →
       slice_get h.marks unit ≡ Some (Opening c number) → number < v.call
-  pub numbers : (i : Who) (v : View) (unit number timestamp : ℕ) (c : Channel) → h.views i ≡ Some v → Holds v c.client →
-      slice_get h.marks unit ≡ Some (Calling c number timestamp) → number < v.call
   -- one opening is made with a client's challenge
   pub opening_distinct : (unit other number more : ℕ) (c d : Channel) → slice_get h.marks unit ≡ Some (Opening c number) →
       slice_get h.marks other ≡ Some (Opening d more) → c.client ≡ d.client → unit ≡ other
-  -- the calls made with a client's challenge have different numbers
-  pub distinct : (unit other number timestamp later : ℕ) (c d : Channel) → slice_get h.marks unit ≡ Some (Calling c number timestamp) →
-      slice_get h.marks other ≡ Some (Calling d number later) → c.client ≡ d.client → unit ≡ other
   -- each reply that accepts an opening answers one made for that channel, of that number, which was accepted
   pub openings : (unit number request : ℕ) (c : Channel) → slice_get h.marks unit ≡ Some (Opened c number request) →
       (slice_get h.marks request ≡ Some (Opening c number)) × IsAcceptedOpening h.accepted request
@@ -116,8 +102,8 @@ pub record Sound {Who : Type 0} (h : History Who) : Type 0 where
       (number : ℕ) × (slice_get h.marks unit ≡ Some (Calling pass.channel number pass.timestamp))) h.passed
   -- each server's challenge that waits at a controller, or that a channel was accepted with, was drawn
   pub waiting_before : (controller : ℕ) (computer server : List ℕ) → h.waits controller computer ≡ Some server →
-      OneOf (λ (drawn : List ℕ). drawn ≡ server) h.drawn
-  pub accepted_before : AllByRecursion (λ (one : Accepted). OneOf (λ (drawn : List ℕ). drawn ≡ one.channel.server) h.drawn) h.accepted
+      IsDrawn server h.drawn
+  pub accepted_before : AllByRecursion (λ (one : Accepted). IsDrawn one.channel.server h.drawn) h.accepted
   -- one that waits was drawn for one computer at one controller, and no channel was accepted with it
   pub waiting_apart : (controller more : ℕ) (computer other server : List ℕ) → h.waits controller computer ≡ Some server →
       h.waits more other ≡ Some server → (controller ≡ more) × SameName computer other
@@ -136,8 +122,6 @@ pub record Sound {Who : Type 0} (h : History Who) : Type 0 where
   -- the requester's seed is the client's credential moved by the timestamps of its turns on the channel that stands
   pub seeds : (i : Who) (v : View) (c : Channel) → h.views i ≡ Some v → v.stands ≡ Some c →
       v.seed ≡ Some (add_to (cred_of (channel_key c) c.client) (moved_by (h.turned i)))
-  -- a requester's next number is at most one above the count of numbers used: so no number comes round within a run
-  pub calls : (i : Who) (v : View) → h.views i ≡ Some v → v.call ≤ h.moves + 1
 
 -- ---- both ends in step
 

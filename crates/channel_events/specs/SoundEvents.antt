@@ -6,7 +6,8 @@ use Rattle.std.specs.Prelude.{ℕ, ◌≡◌, ◌+◌, ◌<◌, ◌≤◌, ◌^�
 use Rattle.wire_base.specs.Names.{SameName}
 use Rattle.authenticators.specs.Channels.{Channel, SameChannel}
 use Rattle.channel_client.specs.Effects.{Changes, Effect, Stays, Counts, Begins, Opens, Moves, Calls, Answers, Drops, View}
-use Rattle.channel_events.specs.Marks.{Mark, Plain, Opening, Opened, Calling, ReplyTo, OneOf}
+use Rattle.channel_events.specs.Marks.{Mark, Plain, Opening, Opened, Calling, ReplyTo}
+use Rattle.channel_events.specs.Requests.{IsDrawn, fresh_view, used_by}
 use Rattle.channel_events.specs.Sound.{History, IsAcceptedOpening, IsPassedCall, Sound}
 
 -- ---- what is noted of requesters
@@ -54,10 +55,6 @@ abbrev pub AreAsBeforeBut : {Who : Type 0} → Notes Who → Notes Who → Who �
 AreAsBeforeBut {Who} old new who view =
     (j : Who) (v : View) → new.views j ≡ Some v → ((j ≡ who) × (v ≡ view)) ⊎ IsAsBefore old new j v
 
--- a requester that has used no number and holds nothing
-abbrev pub fresh_view : View
-fresh_view = record { stands = None; seed = None; opening = None; asking = None; call = 1 }
-
 -- ---- a step of a requester
 
 -- It is seen so before and after, by the effect of the step. No number comes round.
@@ -93,7 +90,7 @@ pub record HasNoNotes {Who : Type 0} (n : Notes Who) (who : Who) : Type 0 where
 
 -- no challenge that was drawn is this one
 abbrev pub IsFresh : List ℕ → List (List ℕ) → Type 0
-IsFresh challenge drawn = OneOf (λ (one : List ℕ). one ≡ challenge) drawn → ⊥
+IsFresh challenge drawn = IsDrawn challenge drawn → ⊥
 
 -- the count grows
 pub record CountGrows {Who : Type 0} (h : History Who) : Type 0 where
@@ -143,11 +140,6 @@ IsQuiet (Calls c number) = ⊥
 IsQuiet (Answers c number) = ⊥
 IsQuiet Drops = Unit {0}
 
--- the numbers that such a step uses
-abbrev pub numbers_used : Effect → ℕ
-numbers_used Counts = 1
-numbers_used _ = 0
-
 pub record QuietStep {Who : Type 0} (h : History Who) : Type 0 where
   pub effect : Effect
   pub quiet : IsQuiet effect
@@ -156,7 +148,7 @@ pub record QuietStep {Who : Type 0} (h : History Who) : Type 0 where
   pub notes : (c : Channel) → step.after.stands ≡ Some c → KeepsNotes (notes_of h) step.notes step.who
 
 abbrev pub after_quiet : {Who : Type 0} → (h : History Who) → QuietStep h → History Who
-after_quiet h e = with_notes e.step.notes (record h { moves = h.moves + numbers_used e.effect })
+after_quiet h e = with_notes e.step.notes (record h { moves = h.moves + used_by e.effect })
 
 -- a requester is made anew, or is seen no more
 pub record RequesterRenewed {Who : Type 0} (h : History Who) : Type 0 where

@@ -7,8 +7,9 @@ use Rattle.authenticators.specs.Channels.{Channel, channel_key}
 use Rattle.authenticators.specs.Sequences.{next_seed}
 use Rattle.channel_client.specs.Effects.{View}
 use Rattle.channel_events.specs.Marks.{Opening, Opened, Calling, ReplyTo}
+use Rattle.channel_events.specs.Requests.{fresh_view}
 use Rattle.channel_events.specs.Sound.{History}
-use Rattle.channel_events.specs.SoundEvents.{AnswerTaken, CallPasses, CallSent, ChannelOpens, Notes, OpeningAccepted, OpeningBegins, OpeningSent, ServerWaits, StaySound, TurnStarts, UnitSent, after_acceptance, after_answer, after_beginning, after_call, after_opening, after_pass, after_standing, after_turn, after_unit, after_waiting, first_history, fresh_view, with_notes}
+use Rattle.channel_events.specs.SoundEvents.{AnswerTaken, CallPasses, CallSent, ChannelOpens, Notes, OpeningAccepted, OpeningBegins, OpeningSent, ServerWaits, StaySound, TurnStarts, UnitSent, after_acceptance, after_answer, after_beginning, after_call, after_opening, after_pass, after_standing, after_turn, after_unit, after_waiting, first_history, with_notes}
 
 -- ---- one requester, and one channel
 

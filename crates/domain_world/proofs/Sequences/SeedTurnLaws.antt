@@ -24,8 +24,7 @@ use Rattle.channel_client.specs.Machine.{ask_of, can_start, hear, judge, lose_of
 use Rattle.channel_client.specs.State.{Requester}
 use Rattle.channel_client.proofs.EffectLaws.{steps_have_effects}
 use Rattle.channel_events.specs.RequestSteps.{IsFreshIf, drawn_if}
-use Rattle.channel_events.specs.Requests.{IsDrawn}
-use Rattle.channel_events.specs.Sound.{Holds}
+use Rattle.channel_events.specs.Requests.{Holds, IsDrawn}
 use Rattle.channel_events.proofs.ListLaws.{all_weaker, moved_none, moved_one, some_is}
 use Rattle.member_server.specs.Dials.{ComesUnstarted, IsNoStart}
 use Rattle.member_server.specs.Laws.{Asks, Doing, Loses, Starts, Takes, state_after}
