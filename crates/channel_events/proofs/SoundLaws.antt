@@ -2,17 +2,19 @@
 -- It serves `channels_stay_sound`.
 use Rattle.std.proofs.Common.{◌≡◌, ℕ, List, [], ◌∷◌, ◌++◌, inl, inr, Option, Some, None, slice_get, refl, sym, ap, subst, ◌∙◌, arith}
 use Rattle.std.specs.List.{AllByRecursion}
-use Rattle.authenticators.specs.Channels.{Channel}
+use Rattle.authenticators.specs.Channels.{Channel, SameChannel}
 use Rattle.channel_client.specs.Effects.{View}
 use Rattle.channel_events.specs.Marks.{Mark, Plain, Opening, Opened, Calling, ReplyTo, OneOf}
 use Rattle.channel_events.specs.Requests.{Holds, IsDrawn, IsNoCall}
-use Rattle.channel_events.specs.Sound.{Accepted, History, Passing, Sound, requests_of}
+use Rattle.channel_events.specs.Sound.{Accepted, History, Kept, Passing, Sound, requests_of}
 use Rattle.channel_events.specs.SoundEvents.{AreFresh, CallPasses, CarriesCall, CarriesOpening, ControllerForgets, IsNamedAlike, IsReplyRight, Notes, OpeningAccepted, ServerWaits, StaySound, UnitSent, after_acceptance, after_count, after_draw, after_forgetting, after_pass, after_unit, after_waiting, first_history}
 use Rattle.channel_events.specs.SoundExamples.{ChannelsStaySound}
-use Rattle.channel_events.proofs.ListLaws.{all_none, all_weaker, got_nothing, no_some, one_found, one_last, one_more, pairs_first, some_is}
+use Rattle.channel_events.proofs.ChannelSeedLaws.{kept_first, kept_next, kept_other}
+use Rattle.channel_events.proofs.ListLaws.{all_none, all_weaker, got_nothing, no_some, one_found, one_last, one_more, one_weaker, pairs_first, some_is}
 use Rattle.channel_events.proofs.RequestLaws.{calls_stay_apart, fresh_holds, more_used}
-use Rattle.channel_events.proofs.SoundExampleLaws.{exchange_happens}
-use Rattle.channel_events.proofs.SoundParts.{AreKeptSound, AreOther, AreRepliesSound, IsAcceptedOn, IsUnitSo, Parts, counts_more, draws_one, kept_drawn, parts_of, sends_one, whole_of}
+use Rattle.channel_events.proofs.SameLaws.{same_on}
+use Rattle.channel_events.proofs.SoundExampleLaws.{exchange_happens, seeds_are_told}
+use Rattle.channel_events.proofs.SoundParts.{AreKeptSound, AreOther, AreRepliesSound, AreSeedsKept, IsAcceptedOn, IsUnitSo, Parts, counts_more, draws_one, kept_drawn, parts_of, sends_one, whole_of}
 use Rattle.channel_events.proofs.SoundSteps.{answer_keeps, answers_its_own, beginning_keeps, call_keeps, opening_keeps, quiet_keeps, renewed_keeps, standing_keeps, turn_keeps}
 
 -- ---- a unit that is no request
@@ -39,13 +41,14 @@ unit_keeps h e s =
 -- ---- a server's challenge waits
 
 -- what controllers keep is otherwise
-keeps_otherwise : {Who : Type 0} (h : History Who) (waits : ℕ → List ℕ → Option (List ℕ)) (keeps : ℕ → List ℕ → Option Channel) → AreKeptSound h.accepted h.drawn waits keeps → Parts h →
-    Parts (record h { waits = waits; keeps = keeps })
-keeps_otherwise h waits keeps kept p = record {
+keeps_otherwise : {Who : Type 0} (h : History Who) (waits : ℕ → List ℕ → Option (List ℕ)) (keeps : ℕ → List ℕ → Option Kept) → AreKeptSound h.accepted h.drawn waits keeps →
+    AreSeedsKept h.passed keeps → Parts h → Parts (record h { waits = waits; keeps = keeps })
+keeps_otherwise h waits keeps kept seeds p = record {
   draws = p.draws;
   openings = p.openings;
   replies = p.replies;
   kept = kept;
+  kept_seeds = seeds;
   under_way = p.under_way;
   standing = p.standing;
 }
@@ -86,7 +89,7 @@ waiting_keeps {Who} h e s =
     let p : Parts h = parts_of h s in
     let drawn : History Who = record h { drawn = h.drawn ++ e.server ∷ [] } in
     whole_of (after_waiting h e) (calls_stay_apart.draws (requests_of h) e.server s.requests)
-    (keeps_otherwise drawn e.waits h.keeps (waiting_kept h e p.kept) (draws_one h e.server e.fresh p))
+    (keeps_otherwise drawn e.waits h.keeps (waiting_kept h e p.kept) p.kept_seeds (draws_one h e.server e.fresh p))
 
 -- ---- an opening is accepted
 
@@ -150,8 +153,22 @@ accepted_kept h e k = record {
             old.1 place.0 place.1
         | inr there ↦ k.waiting_unused controller computer server old.0 there
       ];
-  kept = λ controller computer c at. elim (e.kept controller computer c at) [ inl same ↦ inl same | inr old ↦ inr (k.kept controller computer c old) ];
+  kept = λ controller computer one at. elim (e.kept controller computer one at) [ inl new ↦ inl new.0 | inr old ↦ inr (k.kept controller computer one old) ];
 }
+
+-- no call passed on it yet: each passed on a channel that was accepted, and none of these has its server's challenge
+accepted_seeds : {Who : Type 0} (h : History Who) (e : OpeningAccepted h) → Parts h → AreSeedsKept h.passed e.keeps
+accepted_seeds h e p controller computer k at =
+    elim (e.kept controller computer k at) [
+      | inl new ↦
+          kept_first e.channel k.channel k.seed h.passed new.0 new.1
+          (all_weaker (λ (pass : Passing). IsAcceptedOn h.accepted pass.channel) (λ (pass : Passing). SameChannel pass.channel k.channel → ⊥) h.passed
+          (λ pass on same.
+          p.kept.waiting_unused e.channel.controller e.channel.computer e.channel.server e.waited
+          (one_weaker (λ (one : Accepted). SameChannel one.channel pass.channel) (λ (one : Accepted). one.channel.server ≡ e.channel.server) h.accepted
+          (λ one is. is.server ∙ same.server ∙ sym new.0.server) on)) p.replies.on_accepted)
+      | inr old ↦ p.kept_seeds controller computer k old
+    ]
 
 acceptance_keeps : {Who : Type 0} (h : History Who) (e : OpeningAccepted h) → Sound h → Sound (after_acceptance h e)
 acceptance_keeps h e s =
@@ -162,12 +179,41 @@ acceptance_keeps h e s =
       openings = p.openings;
       replies = accepted_replies h e p.kept p.replies;
       kept = accepted_kept h e p.kept;
+      kept_seeds = accepted_seeds h e p;
       under_way = p.under_way;
       standing = λ i v c at stands.
           let o = p.standing i v c at stands in record { stands = inr o.stands; turns = o.turns; ends = o.ends; seeds = o.seeds };
     })
 
 -- ---- a call passes
+
+-- a channel that is kept was accepted
+pass_kept : {Who : Type 0} (h : History Who) (e : CallPasses h) → AreKeptSound h.accepted h.drawn h.waits h.keeps → AreKeptSound h.accepted h.drawn h.waits e.keeps
+pass_kept h e k = record {
+  waiting_before = k.waiting_before;
+  accepted_before = k.accepted_before;
+  waiting_apart = k.waiting_apart;
+  waiting_unused = k.waiting_unused;
+  kept = λ controller computer one at. elim (e.moved controller computer one at) [
+    | inl moved ↦
+        one_weaker (λ (a : Accepted). SameChannel a.channel e.channel) (λ (a : Accepted). SameChannel a.channel one.channel) h.accepted
+        (λ a is. same_on a.channel e.channel one.channel is moved.0)
+        (k.kept e.channel.controller e.channel.computer (record { channel = e.channel; seed = e.seed }) e.kept)
+    | inr other ↦ k.kept controller computer one other.1
+  ];
+}
+
+pass_seeds : {Who : Type 0} (h : History Who) (e : CallPasses h) → AreSeedsKept h.passed h.keeps →
+    AreSeedsKept (record { unit = e.unit; channel = e.channel; timestamp = e.timestamp } ∷ h.passed) e.keeps
+pass_seeds h e seeds controller computer k at =
+    let pass : Passing = record { unit = e.unit; channel = e.channel; timestamp = e.timestamp } in
+    elim (e.moved controller computer k at) [
+      | inl moved ↦
+          moved.1
+          ∙ kept_next e.channel k.channel e.seed pass h.passed refl moved.0
+          (seeds e.channel.controller e.channel.computer (record { channel = e.channel; seed = e.seed }) e.kept)
+      | inr other ↦ kept_other k.channel k.seed pass h.passed other.0 (seeds controller computer k other.1)
+    ]
 
 pass_keeps : {Who : Type 0} (h : History Who) (e : CallPasses h) → Sound h → Sound (after_pass h e)
 pass_keeps h e s =
@@ -180,11 +226,15 @@ pass_keeps h e s =
         openings = p.replies.openings;
         replies = λ unit number request c is. let it = p.replies.replies unit number request c is in (it.0, inr it.1);
         once = p.replies.once;
-        on_accepted = (p.kept.kept e.channel.controller e.channel.computer e.channel e.kept, p.replies.on_accepted);
+        on_accepted = (
+          p.kept.kept e.channel.controller e.channel.computer (record { channel = e.channel; seed = e.seed }) e.kept,
+          p.replies.on_accepted,
+        );
         openers = p.replies.openers;
         timestamps = ((λ unit is. (e.number, call_at h.marks e.unit e.number e.timestamp e.channel unit e.carried is)), p.replies.timestamps);
       };
-      kept = p.kept;
+      kept = pass_kept h e p.kept;
+      kept_seeds = pass_seeds h e p.kept_seeds;
       under_way = p.under_way;
       standing = λ i v c at stands.
           let o = p.standing i v c at stands in
@@ -204,8 +254,9 @@ forgetting_keeps h e s =
       waiting_apart = λ controller more computer other server at also.
           k.waiting_apart controller more computer other server (e.waited controller computer server at) (e.waited more other server also);
       waiting_unused = λ controller computer server at one. k.waiting_unused controller computer server (e.waited controller computer server at) one;
-      kept = λ controller computer c at. k.kept controller computer c (e.kept controller computer c at);
-    }) p)
+      kept = λ controller computer one at. k.kept controller computer one (e.kept controller computer one at);
+    })
+    (λ controller computer one at. p.kept_seeds controller computer one (e.kept controller computer one at)) p)
 
 -- ---- at first
 
@@ -241,7 +292,8 @@ first_sound {Who} n fresh =
       accepted_before = tt;
       waiting_apart = λ controller more computer other server at also. absurd (no_some server at);
       waiting_unused = λ controller computer server at one. no_some server at;
-      kept = λ controller computer c at. absurd (no_some c at);
+      kept = λ controller computer k at. absurd (no_some k at);
+      kept_seeds = λ controller computer k at. absurd (no_some k at);
       turns = λ i v number c at stands asks. absurd (stands_none i v c at stands);
       ends = λ i v c at stands unit ended. absurd (stands_none i v c at stands);
       seeds = λ i v c at stands. absurd (stands_none i v c at stands);
@@ -273,4 +325,4 @@ stay_sound Who = record {
 }
 
 pub channels_stay_sound : ChannelsStaySound
-channels_stay_sound = record { events = stay_sound ℕ; exchange = exchange_happens }
+channels_stay_sound = record { events = stay_sound ℕ; exchange = exchange_happens; seeds = seeds_are_told (stay_sound ℕ) }

@@ -7,13 +7,12 @@ use Rattle.std.specs.List.{AllByRecursion}
 use Rattle.std.proofs.lemmas.List.Elements.{All-from_recursion}
 use Rattle.std.proofs.lemmas.List.Quantifiers.{all_pairs_push}
 use Rattle.wire_base.specs.Names.{SameName}
-use Rattle.channel_keys.specs.Credentials.{cred_of}
-use Rattle.authenticators.specs.Channels.{Channel, SameChannel, channel_key}
-use Rattle.authenticators.specs.Sequences.{add_to, moved_by}
+use Rattle.authenticators.specs.Channels.{Channel, SameChannel}
 use Rattle.channel_client.specs.Effects.{View}
 use Rattle.channel_events.specs.Marks.{Mark, Plain, Opening, Opened, Calling, ReplyTo, OneOf}
 use Rattle.channel_events.specs.Requests.{AreSeenBut, CallsAreApart, Holds, IsDrawn}
-use Rattle.channel_events.specs.Sound.{Accepted, History, IsAcceptedOpening, IsPassedCall, Passing, Sound, requests_of}
+use Rattle.channel_events.specs.Seeds.{channel_seed}
+use Rattle.channel_events.specs.Sound.{Accepted, History, IsAcceptedOpening, IsPassedCall, Kept, Passing, Sound, passed_timestamps, requests_of}
 use Rattle.channel_events.specs.SoundEvents.{AreAsBeforeBut, IsFresh, Notes, notes_of, with_notes}
 use Rattle.channel_events.proofs.ListLaws.{all_none, all_weaker, at_end, got_append, one_more}
 
@@ -57,14 +56,19 @@ pub record AreRepliesSound (marks : List Mark) (accepted : List Accepted) (passe
   pub timestamps : AllByRecursion (IsCallOf marks) passed
 
 -- what controllers keep
-pub record AreKeptSound (accepted : List Accepted) (drawn : List (List ℕ)) (waits : ℕ → List ℕ → Option (List ℕ)) (keeps : ℕ → List ℕ → Option Channel) : Type 0 where
+pub record AreKeptSound (accepted : List Accepted) (drawn : List (List ℕ)) (waits : ℕ → List ℕ → Option (List ℕ)) (keeps : ℕ → List ℕ → Option Kept) : Type 0 where
   pub waiting_before : (controller : ℕ) (computer server : List ℕ) → waits controller computer ≡ Some server → IsDrawn server drawn
   pub accepted_before : AllByRecursion (λ (one : Accepted). IsDrawn one.channel.server drawn) accepted
   pub waiting_apart : (controller more : ℕ) (computer other server : List ℕ) → waits controller computer ≡ Some server →
       waits more other ≡ Some server → (controller ≡ more) × SameName computer other
   pub waiting_unused : (controller : ℕ) (computer server : List ℕ) → waits controller computer ≡ Some server →
       OneOf (λ (one : Accepted). one.channel.server ≡ server) accepted → ⊥
-  pub kept : (controller : ℕ) (computer : List ℕ) (c : Channel) → keeps controller computer ≡ Some c → IsAcceptedOn accepted c
+  pub kept : (controller : ℕ) (computer : List ℕ) (k : Kept) → keeps controller computer ≡ Some k → IsAcceptedOn accepted k.channel
+
+-- the seeds that they keep
+abbrev pub AreSeedsKept : List Passing → (ℕ → List ℕ → Option Kept) → Type 0
+AreSeedsKept passed keeps =
+    (controller : ℕ) (computer : List ℕ) (k : Kept) → keeps controller computer ≡ Some k → k.seed ≡ channel_seed k.channel (passed_timestamps k.channel passed)
 
 -- one requester that is seen so: the openings with a challenge that it holds, by whether its own is out
 pub record IsUnderWay (marks : List Mark) (out : Bool) (v : View) : Type 0 where
@@ -82,13 +86,14 @@ pub record IsOnChannel (marks : List Mark) (accepted : List Accepted) (passed : 
   pub stands : IsAcceptedOn accepted c
   pub turns : (number : ℕ) → asking ≡ Some number → IsMade marks asked c number
   pub ends : AreEndedOn marks passed c ended
-  pub seeds : seed ≡ Some (add_to (cred_of (channel_key c) c.client) (moved_by turned))
+  pub seeds : seed ≡ Some (channel_seed c turned)
 
 pub record Parts {Who : Type 0} (h : History Who) : Type 0 where
   pub draws : AllPairs (λ (one other : List ℕ). one ≢ other) h.drawn
   pub openings : AreOpeningsSound h.marks h.drawn
   pub replies : AreRepliesSound h.marks h.accepted h.passed
   pub kept : AreKeptSound h.accepted h.drawn h.waits h.keeps
+  pub kept_seeds : AreSeedsKept h.passed h.keeps
   pub under_way : (i : Who) (v : View) → h.views i ≡ Some v → IsUnderWay h.marks (h.opening_out i) v
   pub standing : (i : Who) (v : View) (c : Channel) → h.views i ≡ Some v → v.stands ≡ Some c →
       IsOnChannel h.marks h.accepted h.passed (h.asked i) (h.ended i) (h.turned i) v.asking v.seed c
@@ -112,6 +117,7 @@ parts_of h s = record {
     waiting_unused = s.waiting_unused;
     kept = s.kept;
   };
+  kept_seeds = s.kept_seeds;
   under_way = λ i v at. record {
     unopened = λ unit number c under out is. s.unopened i v unit number c at under out is;
     opening_numbers = λ unit number c holds is. s.opening_numbers i v unit number c at holds is;
@@ -144,6 +150,7 @@ whole_of h a p = record {
   waiting_apart = p.kept.waiting_apart;
   waiting_unused = p.kept.waiting_unused;
   kept = p.kept.kept;
+  kept_seeds = p.kept_seeds;
   turns = λ i v number c at stands asks. (p.standing i v c at stands).turns number asks;
   ends = λ i v c at stands unit ended. (p.standing i v c at stands).ends unit ended;
   seeds = λ i v c at stands. (p.standing i v c at stands).seeds;
@@ -157,7 +164,7 @@ draws_more drawn challenge fresh draws =
     all_pairs_push (λ (one other : List ℕ). one ≢ other) drawn challenge draws
     (All-from_recursion (λ (one : List ℕ). one ≢ challenge) drawn (all_none (λ (one : List ℕ). one ≡ challenge) drawn fresh))
 
-pub kept_drawn : (accepted : List Accepted) (drawn : List (List ℕ)) (challenge : List ℕ) (waits : ℕ → List ℕ → Option (List ℕ)) (keeps : ℕ → List ℕ → Option Channel) →
+pub kept_drawn : (accepted : List Accepted) (drawn : List (List ℕ)) (challenge : List ℕ) (waits : ℕ → List ℕ → Option (List ℕ)) (keeps : ℕ → List ℕ → Option Kept) →
     AreKeptSound accepted drawn waits keeps → AreKeptSound accepted (drawn ++ challenge ∷ []) waits keeps
 kept_drawn accepted drawn challenge waits keeps k = record {
   waiting_before = λ controller computer server at. one_more (λ (one : List ℕ). one ≡ server) drawn challenge (k.waiting_before controller computer server at);
@@ -177,6 +184,7 @@ draws_one h challenge fresh p = record {
   };
   replies = p.replies;
   kept = kept_drawn h.accepted h.drawn challenge h.waits h.keeps p.kept;
+  kept_seeds = p.kept_seeds;
   under_way = p.under_way;
   standing = p.standing;
 }
@@ -187,6 +195,7 @@ counts_more h moves p = record {
   openings = p.openings;
   replies = p.replies;
   kept = p.kept;
+  kept_seeds = p.kept_seeds;
   under_way = p.under_way;
   standing = p.standing;
 }
@@ -266,6 +275,7 @@ sends_one {Who} h mark so p =
       openings = openings_more h mark so p.openings;
       replies = replies_more h mark so p.replies;
       kept = p.kept;
+      kept_seeds = p.kept_seeds;
       under_way = λ i v at. record {
         unopened = λ unit number c under out is. elim (at_end h.marks mark (Opening c number) unit is) [
           | inl old ↦ (p.under_way i v at).unopened unit number c under out old
@@ -303,7 +313,7 @@ on_as_before marks accepted passed asked more ended ends turned turns asking cal
   ends = subst (AreEndedOn marks passed c) (sym same_ended) o.ends;
   seeds = same_seed
       ∙ o.seeds
-      ∙ ap (λ (timestamps : List ℕ). Some (add_to (cred_of (channel_key c) c.client) (moved_by timestamps))) (sym same_turned);
+      ∙ ap (λ (timestamps : List ℕ). Some (channel_seed c timestamps)) (sym same_turned);
 }
 
 pub notes_one : {Who : Type 0} (h : History Who) (n : Notes Who) (who : Who) (view : View) → AreAsBeforeBut (notes_of h) n who view → IsUnderWay h.marks (n.opening_out who) view →
@@ -314,6 +324,7 @@ notes_one {Who} h n who view others under standing p = record {
   openings = p.openings;
   replies = p.replies;
   kept = p.kept;
+  kept_seeds = p.kept_seeds;
   under_way = λ j v at. elim (others j v at) [
     | inl here ↦ subst (λ (k : Who). IsUnderWay h.marks (n.opening_out k) v) (sym here.0) (subst (IsUnderWay h.marks (n.opening_out who)) (sym here.1) under)
     | inr before ↦ subst (λ (out : Bool). IsUnderWay h.marks out v) (sym before.opening_out) (p.under_way j v before.view)

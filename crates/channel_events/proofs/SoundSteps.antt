@@ -1,18 +1,17 @@
 -- Each step of a requester keeps the facts about secure channels.
 -- It serves `channels_stay_sound`.
 use Rattle.std.proofs.Common.{◌≡◌, ℕ, ◌+◌, ◌<◌, ◌≤◌, ◌^◌, List, [], ◌∷◌, ◌++◌, length, inl, inr, Some, None, slice_get, sym, ap, subst, ◌∙◌, arith}
-use Rattle.channel_keys.specs.Credentials.{cred_of}
-use Rattle.channel_keys.proofs.CredLaws.{IsBlock-cred_of}
-use Rattle.authenticators.specs.Channels.{Channel, SameChannel, channel_key}
-use Rattle.authenticators.specs.Sequences.{add_to, moved_by, next_seed}
-use Rattle.authenticators.proofs.SeedLaws.{add_to-add_to, add_to-zero}
+use Rattle.authenticators.specs.Channels.{Channel, SameChannel}
+use Rattle.authenticators.specs.Sequences.{moved_by, next_seed}
 use Rattle.channel_client.specs.Effects.{Changes, Effect, Stays, Counts, Begins, Opens, Moves, Calls, Answers, Drops, View}
 use Rattle.channel_client.specs.Machine.{after}
 use Rattle.channel_events.specs.Marks.{Mark, Opening, Calling, OneOf}
 use Rattle.channel_events.specs.Requests.{CallsAreApart, Holds, IsCalm, IsDrawn, Steps, fresh_view, used_by}
+use Rattle.channel_events.specs.Seeds.{channel_seed, client_credential}
 use Rattle.channel_events.specs.Sound.{Accepted, History, IsPassedCall, Sound, requests_of}
 use Rattle.channel_events.specs.SoundEvents.{AnswerTaken, CallSent, ChannelOpens, IsQuiet, KeepsOpening, OpeningBegins, OpeningSent, QuietStep, RequesterRenewed, RequesterStep, TurnStarts, after_answer, after_beginning, after_call, after_opening, after_quiet, after_renewal, after_standing, after_turn, notes_of, with_notes}
-use Rattle.channel_events.proofs.ListLaws.{got_last, moved_none, moved_one, no_some, not_both, one_with, some_is}
+use Rattle.channel_events.proofs.ChannelSeedLaws.{first_seed, next_is}
+use Rattle.channel_events.proofs.ListLaws.{got_last, moved_one, no_some, not_both, one_with, some_is}
 use Rattle.channel_events.proofs.RequestLaws.{IsCalmer, after_is, begun_holds, calls_stay_apart, calmer, fresh_holds, more_used, room_for, same_holds}
 use Rattle.channel_events.proofs.SoundParts.{AreEndedOn, IsAcceptedOn, IsMade, IsNewOpening, IsOnChannel, IsOpenerOf, IsUnderWay, Parts, counts_more, draws_one, notes_one, on_as_before, parts_of, seen_but, sends_one, whole_of}
 
@@ -164,12 +163,6 @@ opening_keeps {Who} h e sound =
 
 -- ---- the channel stands
 
--- the client's credential is the seed that no turn moved
-first_seed : (c : Channel) (turned : List ℕ) → turned ≡ [] → cred_of (channel_key c) c.client ≡ add_to (cred_of (channel_key c) c.client) (moved_by turned)
-first_seed c turned none =
-    sym (add_to-zero (cred_of (channel_key c) c.client) (IsBlock-cred_of (channel_key c) c.client))
-    ∙ ap (λ (n : ℕ). add_to (cred_of (channel_key c) c.client) n) (sym moved_none ∙ ap moved_by (sym none))
-
 opener_is : (c d : Channel) (number more : ℕ) → Some (Opening c number) ≡ Some (Opening d more) → c ≡ d
 opener_is c d number more is = cc
 
@@ -177,7 +170,7 @@ pub standing_keeps : {Who : Type 0} (h : History Who) (e : ChannelOpens h) → S
 standing_keeps h e sound =
     let s : RequesterStep h (Opens e.channel) = e.step in
     let p : Parts h = parts_of h sound in
-    let now : View = record { stands = Some e.channel; seed = Some (cred_of (channel_key e.channel) e.channel.client); opening = None; asking = None; call = s.before.call } in
+    let now : View = record { stands = Some e.channel; seed = Some (client_credential e.channel); opening = None; asking = None; call = s.before.call } in
     let is : s.after ≡ now = s.change.1 in
     let reply = p.replies.openings e.unit e.number e.request e.named e.reply in
     let accepted : IsAcceptedOn h.accepted e.channel =
@@ -203,13 +196,6 @@ standing_keeps h e sound =
 
 -- ---- a turn starts
 
--- the seed of a turn more
-next_is : (base seed : List ℕ) (timestamp : ℕ) (turned more : List ℕ) → seed ≡ add_to base (moved_by turned) → more ≡ timestamp ∷ turned →
-    next_seed seed timestamp ≡ add_to base (moved_by more)
-next_is base seed timestamp turned more is new =
-    let sum : moved_by turned + (timestamp + 1) ≡ moved_by (timestamp ∷ turned) = omega (arith, moved_one timestamp turned) in
-    ap (λ (x : List ℕ). add_to x (timestamp + 1)) is ∙ add_to-add_to base (moved_by turned) (timestamp + 1) ∙ ap (add_to base) (sum ∙ ap moved_by (sym new))
-
 pub turn_keeps : {Who : Type 0} (h : History Who) (e : TurnStarts h) → Sound h → Sound (after_turn h e)
 turn_keeps h e sound =
     let s : RequesterStep h (Moves e.channel e.timestamp) = e.step in
@@ -227,8 +213,8 @@ turn_keeps h e sound =
       turns = λ number asks. absurd (no_some number (sym s.change.3 ∙ sym (ap View.asking is) ∙ asks));
       ends = subst (AreEndedOn h.marks h.passed c) (sym e.ended) o.ends;
       seeds = ap View.seed is
-          ∙ ap Some (next_is (cred_of (channel_key c) c.client) seed e.timestamp (h.turned s.who) (s.notes.turned s.who)
-          (some_is seed (add_to (cred_of (channel_key c) c.client) (moved_by (h.turned s.who))) (sym s.change.2 ∙ o.seeds)) e.turned);
+          ∙ ap Some (next_is c seed e.timestamp (h.turned s.who) (s.notes.turned s.who) (some_is seed (channel_seed c (h.turned s.who)) (sym s.change.2 ∙ o.seeds))
+          (omega (arith, ap moved_by e.turned, moved_one e.timestamp (h.turned s.who))));
     }) (counts_more h (h.moves + 1) p))
 
 -- ---- a call goes out
@@ -275,7 +261,7 @@ call_keeps {Who} h e sound =
       ends = subst (AreEndedOn sent.marks h.passed c) (sym e.ended) o.ends;
       seeds = ap View.seed is
           ∙ o.seeds
-          ∙ ap (λ (timestamps : List ℕ). Some (add_to (cred_of (channel_key c) c.client) (moved_by timestamps))) (sym e.turned);
+          ∙ ap (λ (timestamps : List ℕ). Some (channel_seed c timestamps)) (sym e.turned);
     }) p)
 
 -- ---- an answer is taken
@@ -314,5 +300,5 @@ answer_keeps h e sound =
           ]);
       seeds = ap View.seed is
           ∙ o.seeds
-          ∙ ap (λ (timestamps : List ℕ). Some (add_to (cred_of (channel_key c) c.client) (moved_by timestamps))) (sym e.turned);
+          ∙ ap (λ (timestamps : List ℕ). Some (channel_seed c timestamps)) (sym e.turned);
     }) p)

@@ -6,12 +6,11 @@
 use Rattle.std.specs.Prelude.{ℕ, ◌≡◌, ◌≢◌, ◌<◌, ◌⊎◌, Bool, true, false, List, [], ◌∷◌, ◌++◌, map, Option, Some, None, slice_get, AllPairs}
 use Rattle.std.specs.List.{AllByRecursion}
 use Rattle.wire_base.specs.Names.{SameName}
-use Rattle.channel_keys.specs.Credentials.{cred_of}
-use Rattle.authenticators.specs.Channels.{Channel, SameChannel, channel_key, same_channel}
-use Rattle.authenticators.specs.Sequences.{add_to, moved_by}
+use Rattle.authenticators.specs.Channels.{Channel, SameChannel, same_channel}
 use Rattle.channel_client.specs.Effects.{View}
 use Rattle.channel_events.specs.Marks.{Mark, Opening, Opened, Calling, ReplyTo, OneOf}
 use Rattle.channel_events.specs.Requests.{CallsAreApart, Holds, IsDrawn, Requests}
+use Rattle.channel_events.specs.Seeds.{channel_seed}
 
 -- ---- the history of the channels of a run, whoever their requesters are
 
@@ -25,6 +24,11 @@ pub record Passing : Type 0 where
   pub unit : Option ℕ
   pub channel : Channel
   pub timestamp : ℕ
+
+-- a channel that a controller keeps, and its seed
+pub record Kept : Type 0 where
+  pub channel : Channel
+  pub seed : List ℕ
 
 pub record History (Who : Type 0) : Type 0 where
   -- each requester, as it is seen (`View` of the channel's client); None where there is none of that name
@@ -44,7 +48,7 @@ pub record History (Who : Type 0) : Type 0 where
   -- at each controller, by its number, for each computer, by its name: the server's challenge that waits for an
   -- opening, and the channel that is kept
   pub waits : ℕ → List ℕ → Option (List ℕ)
-  pub keeps : ℕ → List ℕ → Option Channel
+  pub keeps : ℕ → List ℕ → Option Kept
   -- the openings that were accepted and the calls that passed, the newest first
   pub accepted : List Accepted
   pub passed : List Passing
@@ -65,6 +69,16 @@ IsAcceptedOpening accepted unit = OneOf (λ (one : Accepted). one.unit ≡ Some 
 -- the call in that unit passed
 abbrev pub IsPassedCall : List Passing → ℕ → Type 0
 IsPassedCall passed unit = OneOf (λ (pass : Passing). pass.unit ≡ Some unit) passed
+
+-- the timestamps of the calls that passed on a channel, the newest first; the argument: whether the call did
+abbrev pub timestamp_if : Bool → ℕ → List ℕ → List ℕ
+timestamp_if false timestamp earlier = earlier
+timestamp_if true timestamp earlier = timestamp ∷ earlier
+
+abbrev pub passed_timestamps : Channel → List Passing → List ℕ
+passed_timestamps c [] = []
+passed_timestamps c (pass ∷ passed) =
+    timestamp_if (same_channel pass.channel c) pass.timestamp (passed_timestamps c passed)
 
 pub record Sound {Who : Type 0} (h : History Who) : Type 0 where
   -- no two draws gave one challenge
@@ -110,8 +124,11 @@ pub record Sound {Who : Type 0} (h : History Who) : Type 0 where
   pub waiting_unused : (controller : ℕ) (computer server : List ℕ) → h.waits controller computer ≡ Some server →
       OneOf (λ (one : Accepted). one.channel.server ≡ server) h.accepted → ⊥
   -- each channel that a controller keeps was accepted
-  pub kept : (controller : ℕ) (computer : List ℕ) (c : Channel) → h.keeps controller computer ≡ Some c →
-      OneOf (λ (one : Accepted). SameChannel one.channel c) h.accepted
+  pub kept : (controller : ℕ) (computer : List ℕ) (k : Kept) → h.keeps controller computer ≡ Some k →
+      OneOf (λ (one : Accepted). SameChannel one.channel k.channel) h.accepted
+  -- the controller's seed is the client's credential moved by the timestamps of the calls that passed on the channel
+  pub kept_seeds : (controller : ℕ) (computer : List ℕ) (k : Kept) → h.keeps controller computer ≡ Some k →
+      k.seed ≡ channel_seed k.channel (passed_timestamps k.channel h.passed)
   -- the call that is out on the channel that stands is the last one that the requester made
   pub turns : (i : Who) (v : View) (number : ℕ) (c : Channel) → h.views i ≡ Some v → v.stands ≡ Some c → v.asking ≡ Some number →
       (timestamp : ℕ) × (slice_get h.marks (h.asked i) ≡ Some (Calling c number timestamp))
@@ -121,7 +138,7 @@ pub record Sound {Who : Type 0} (h : History Who) : Type 0 where
       ((number : ℕ) × (timestamp : ℕ) × (slice_get h.marks unit ≡ Some (Calling c number timestamp))) × IsPassedCall h.passed unit
   -- the requester's seed is the client's credential moved by the timestamps of its turns on the channel that stands
   pub seeds : (i : Who) (v : View) (c : Channel) → h.views i ≡ Some v → v.stands ≡ Some c →
-      v.seed ≡ Some (add_to (cred_of (channel_key c) c.client) (moved_by (h.turned i)))
+      v.seed ≡ Some (channel_seed c (h.turned i))
 
 -- ---- both ends in step
 

@@ -5,10 +5,12 @@
 use Rattle.std.specs.Prelude.{ℕ, ◌≡◌, ◌+◌, ◌<◌, ◌≤◌, ◌^◌, ◌⊎◌, Bool, true, false, List, [], ◌∷◌, ◌++◌, length, Option, Some, None, slice_get}
 use Rattle.wire_base.specs.Names.{SameName}
 use Rattle.authenticators.specs.Channels.{Channel, SameChannel}
+use Rattle.authenticators.specs.Sequences.{next_seed}
 use Rattle.channel_client.specs.Effects.{Changes, Effect, Stays, Counts, Begins, Opens, Moves, Calls, Answers, Drops, View}
 use Rattle.channel_events.specs.Marks.{Mark, Plain, Opening, Opened, Calling, ReplyTo}
 use Rattle.channel_events.specs.Requests.{IsDrawn, fresh_view, used_by}
-use Rattle.channel_events.specs.Sound.{History, IsAcceptedOpening, IsPassedCall, Sound}
+use Rattle.channel_events.specs.Seeds.{client_credential}
+use Rattle.channel_events.specs.Sound.{History, IsAcceptedOpening, IsPassedCall, Kept, Sound}
 
 -- ---- what is noted of requesters
 
@@ -280,19 +282,20 @@ pub record ServerWaits {Who : Type 0} (h : History Who) : Type 0 where
 abbrev pub after_waiting : {Who : Type 0} → (h : History Who) → ServerWaits h → History Who
 after_waiting h e = record h { drawn = h.drawn ++ e.server ∷ []; waits = e.waits }
 
--- an opening is accepted: the server's challenge that waited waits no more, and no channel is kept but it and those
--- that were
+-- an opening is accepted: the server's challenge that waited waits no more, and no channel is kept but it, with the
+-- client's credential as its seed, and those that were
 pub record OpeningAccepted {Who : Type 0} (h : History Who) : Type 0 where
   pub unit : Option ℕ
   pub number : ℕ
   pub channel : Channel
   pub waits : ℕ → List ℕ → Option (List ℕ)
-  pub keeps : ℕ → List ℕ → Option Channel
+  pub keeps : ℕ → List ℕ → Option Kept
   pub carried : CarriesOpening h.marks unit number channel
   pub waited : h.waits channel.controller channel.computer ≡ Some channel.server
   pub served : (one : ℕ) (name challenge : List ℕ) → waits one name ≡ Some challenge →
       (h.waits one name ≡ Some challenge) × ((one ≡ channel.controller) → SameName name channel.computer → ⊥)
-  pub kept : (one : ℕ) (name : List ℕ) (c : Channel) → keeps one name ≡ Some c → SameChannel channel c ⊎ (h.keeps one name ≡ Some c)
+  pub kept : (one : ℕ) (name : List ℕ) (k : Kept) → keeps one name ≡ Some k →
+      (SameChannel channel k.channel × (k.seed ≡ client_credential channel)) ⊎ (h.keeps one name ≡ Some k)
 
 abbrev pub after_acceptance : {Who : Type 0} → (h : History Who) → OpeningAccepted h → History Who
 after_acceptance h e = record h {
@@ -301,24 +304,32 @@ after_acceptance h e = record h {
   accepted = record { unit = e.unit; channel = e.channel } ∷ h.accepted;
 }
 
--- a call passes on a channel that is kept
+-- a call passes on a channel that is kept: its timestamp moves the seed of that channel, and of no other (MS-NRPC
+-- 3.1.4.5), and no channel is kept that wasn't
 pub record CallPasses {Who : Type 0} (h : History Who) : Type 0 where
   pub unit : Option ℕ
   pub number : ℕ
   pub timestamp : ℕ
   pub channel : Channel
+  pub seed : List ℕ
+  pub keeps : ℕ → List ℕ → Option Kept
   pub carried : CarriesCall h.marks unit number timestamp channel
-  pub kept : h.keeps channel.controller channel.computer ≡ Some channel
+  pub kept : h.keeps channel.controller channel.computer ≡ Some (record { channel = channel; seed = seed })
+  pub moved : (one : ℕ) (name : List ℕ) (k : Kept) → keeps one name ≡ Some k →
+      (SameChannel channel k.channel × (k.seed ≡ next_seed seed timestamp)) ⊎ ((SameChannel channel k.channel → ⊥) × (h.keeps one name ≡ Some k))
 
 abbrev pub after_pass : {Who : Type 0} → (h : History Who) → CallPasses h → History Who
-after_pass h e = record h { passed = record { unit = e.unit; channel = e.channel; timestamp = e.timestamp } ∷ h.passed }
+after_pass h e = record h {
+  keeps = e.keeps;
+  passed = record { unit = e.unit; channel = e.channel; timestamp = e.timestamp } ∷ h.passed;
+}
 
--- challenges wait no more, or channels are kept no more
+-- challenges wait no more, or channels are kept no more; the seeds of those that are kept stay
 pub record ControllerForgets {Who : Type 0} (h : History Who) : Type 0 where
   pub waits : ℕ → List ℕ → Option (List ℕ)
-  pub keeps : ℕ → List ℕ → Option Channel
+  pub keeps : ℕ → List ℕ → Option Kept
   pub waited : (one : ℕ) (name challenge : List ℕ) → waits one name ≡ Some challenge → h.waits one name ≡ Some challenge
-  pub kept : (one : ℕ) (name : List ℕ) (c : Channel) → keeps one name ≡ Some c → h.keeps one name ≡ Some c
+  pub kept : (one : ℕ) (name : List ℕ) (k : Kept) → keeps one name ≡ Some k → h.keeps one name ≡ Some k
 
 abbrev pub after_forgetting : {Who : Type 0} → (h : History Who) → ControllerForgets h → History Who
 after_forgetting h e = record h { waits = e.waits; keeps = e.keeps }

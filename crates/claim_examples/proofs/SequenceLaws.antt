@@ -21,12 +21,14 @@ use Rattle.domain_controller.specs.State.{State as ControllerState}
 use Rattle.domain_controller.specs.declared.state.Running.{Running as ControllerRunning}
 use Rattle.channel_events.specs.Marks.{Calling, Mark, Opened, Opening, ReplyTo}
 use Rattle.channel_events.specs.Requests.{Holds}
+use Rattle.channel_events.specs.Seeds.{channel_seed}
 use Rattle.channel_events.specs.Sound.{Accepted, Sound, passed_units}
 use Rattle.step_notes.specs.Records.{Book, blank}
-use Rattle.domain_world.specs.Claims.SharedSequences.{IsBeforeTurn, Keeps, SequencesAreShared, Stands, any_foreign, channel_seed, timestamps_on}
+use Rattle.domain_world.specs.Claims.SharedSequences.{IsBeforeTurn, Keeps, SequencesAreShared, Stands, any_foreign, timestamps_on}
 use Rattle.domain_world.specs.Past.{controller_of}
 use Rattle.claim_examples.specs.ClaimExamples.{OfInStep, OfSequences, OfSoundness, keeping_controller, keeping_running, one_call, one_turn, open_channel, open_member, open_running, passed_from, run_open, seed_after_one, seed_after_two, small_channel, small_computers, small_name, small_seed, small_turn, small_view, small_views, turn_out, two_turns, whole_history, whole_view, world_open}
 use Rattle.channel_events.proofs.ListLaws.{got_nothing, moved_none}
+use Rattle.channel_events.proofs.SameLaws.{same_self}
 
 pub one_apart : {T : Type 0} (R : T → T → Type 0) (x : T) → AllPairs R (x ∷ [])
 one_apart R x i j d before within = absurd (omega arith)
@@ -84,7 +86,7 @@ keeps_small : (turn : Option Pending) (seed other : List ℕ) → Keeps (world_o
 keeps_small turn seed other = record { state = keeping_controller other; running = keeping_running other; at = refl; runs = refl; kept = kept_small other }
 
 pub same_small : SameChannel small_name small_name
-same_small = record { controller = refl; computer = refl; secret = refl; client = refl; server = refl; flags = refl }
+same_small = same_self small_name
 
 -- a run shares its sequence where its one channel does
 pub shares_by : (book : Book) (turn : Option Pending) (seed other timestamps : List ℕ) → timestamps_on 0 small_name book.turns ≡ timestamps → seed ≡ channel_seed small_name timestamps →
@@ -270,7 +272,8 @@ whole_sound = record {
   accepted_before = (inl refl, tt);
   waiting_apart = λ controller more computer other server at also. absurd (let none : None ≡ Some server = at in cc);
   waiting_unused = λ controller computer server at one. absurd (let none : None ≡ Some server = at in cc);
-  kept = λ controller computer c at. absurd (let none : None ≡ Some c = at in cc);
+  kept = λ controller computer k at. absurd (let none : None ≡ Some k = at in cc);
+  kept_seeds = λ controller computer k at. absurd (let none : None ≡ Some k = at in cc);
   turns = λ i v number c at stands asks. absurd (let none : None ≡ Some number = ap View.asking (view_whole i v at).1 ∙ asks in cc);
   ends = λ i v c at stands unit ended.
       let is : small_name ≡ c = stands_whole v c (view_whole i v at).1 stands in

@@ -4,13 +4,12 @@ use Rattle.std.specs.Prelude.{ℕ, ◌≡◌, ◌⊎◌, ◌==◌, ◌&&◌, Boo
 use Rattle.std.specs.List.{list_any}
 use Rattle.wire_base.specs.Maps.{lookup}
 use Rattle.wire_base.specs.Names.{same_name}
-use Rattle.channel_keys.specs.Credentials.{cred_of}
-use Rattle.authenticators.specs.Channels.{Channel, SameChannel, channel_key, same_channel}
-use Rattle.authenticators.specs.Sequences.{add_to, moved_by}
+use Rattle.authenticators.specs.Channels.{Channel, SameChannel, same_channel}
 use Rattle.channel_client.specs.Effects.{channel_of}
 use Rattle.channel_client.specs.Opened.{OpenState}
 use Rattle.channel_client.specs.declared.state.Standing.TheVariants as standing
 use Rattle.channel_client.specs.declared.state.Pending.{Pending}
+use Rattle.channel_events.specs.Seeds.{channel_seed}
 use Rattle.domain_controller.specs.Channels.{ChannelState}
 use Rattle.domain_controller.specs.State.{State as ControllerState}
 use Rattle.domain_controller.specs.declared.state.Running.{Running as ControllerRunning}
@@ -31,11 +30,6 @@ is_turn_on member channel turn = (turn.member == member) && same_channel turn.ch
 -- the timestamps of its turns on the channel, in order
 abbrev pub timestamps_on : ℕ → Channel → List LogonTurn → List ℕ
 timestamps_on member channel turns = map (λ (turn : LogonTurn). turn.timestamp) (filter (is_turn_on member channel) turns)
-
--- the seed of a channel after authenticators with these timestamps: the client's credential moved by the sum of each
--- plus one
-abbrev pub channel_seed : Channel → List ℕ → List ℕ
-channel_seed channel timestamps = add_to (cred_of (channel_key channel) channel.client) (moved_by timestamps)
 
 -- a turn is out, and this is the seed before its timestamp, the last one
 pub record IsBeforeTurn (turn : Option Pending) (seed : List ℕ) (channel : Channel) (timestamps : List ℕ) : Type 0 where
