@@ -1,8 +1,9 @@
 -- What is to hold of the secure channels of a run in which no credential passed on a unit that was made for another
--- channel, one channel at a time: of its requester, of the units that were made for it, and of what its controller
--- accepted and passed. It names no machine, no layout of a unit and no other end, so that it serves any end that asks
--- on a channel. It is the invariant that the claims on answers rest on: that each event of a channel keeps it is said
--- in `SoundEvents`; that a run is made of such events isn't proved yet.
+-- channel, one channel at a time: of its requester, of the units that were made for it, of what its controller accepted
+-- and passed, and of the seed that it keeps. It names no machine, no layout of a unit and no other end, so that it
+-- serves any end that asks on a channel. Each event of a channel keeps it (`SoundEvents`). It is kept for channels
+-- between controllers, and for calls that change a secret. No claim on runs rests on it; of its facts those on calls
+-- (`Requests`) are proved of runs. That a run is made of such events isn't proved.
 use Rattle.std.specs.Prelude.{ℕ, ◌≡◌, ◌≢◌, ◌<◌, ◌⊎◌, Bool, true, false, List, [], ◌∷◌, ◌++◌, map, Option, Some, None, slice_get, AllPairs}
 use Rattle.std.specs.List.{AllByRecursion}
 use Rattle.wire_base.specs.Names.{SameName}

@@ -1,7 +1,8 @@
 -- What happens to the secure channels of a run, one event at a time, and the history that each leaves: each event is a
 -- record of what must be so of the history when it happens. Of a requester that is read off its own step (`Changes` of
 -- the channel's client), of a controller off what it answers and what it keeps of a computer; of a unit that came, off
--- its mark, its bytes, and that there was no clash. Which of them happens at which step is said elsewhere.
+-- its mark, its bytes, and that there was no clash. They are kept for channels between controllers, and for calls that
+-- change a secret. That a run is made of them isn't proved: what single steps give of them is said above this crate.
 use Rattle.std.specs.Prelude.{ℕ, ◌≡◌, ◌+◌, ◌<◌, ◌≤◌, ◌^◌, ◌⊎◌, Bool, true, false, List, [], ◌∷◌, ◌++◌, length, Option, Some, None, slice_get}
 use Rattle.wire_base.specs.Names.{SameName}
 use Rattle.authenticators.specs.Channels.{Channel, SameChannel}
