@@ -73,17 +73,19 @@ any_foreign channel judgings = list_any (λ (j : Judging). is_foreign channel j.
 
 -- The seed of a member's open channel is the client's credential moved by the timestamps of its Logon turns on that
 -- channel, each plus one: the first part of the claim, which speaks of the member alone.
-abbrev pub SequencesAreOwn : Past → Type 0
-SequencesAreOwn past =
-    (member : ℕ) (channel : Channel) (o : OpenState) → Stands past.world.state member channel o →
+abbrev pub SequenceIsOwn : Past → ℕ → Type 0
+SequenceIsOwn past member =
+    (channel : Channel) (o : OpenState) → Stands past.world.state member channel o →
     o.seed ≡ channel_seed channel (timestamps_on member channel past.book.turns)
 
--- The seed of a member's open channel is the client's credential moved by the timestamps of its Logon turns on that
--- channel, each plus one. Where the controller of its plan has the same channel, and no authenticator from outside
+-- each member's is
+abbrev pub SequencesAreOwn : Past → Type 0
+SequencesAreOwn past = (member : ℕ) → SequenceIsOwn past member
+
+-- Its sequence is its own so. Where the controller of its plan has the same channel, and no authenticator from outside
 -- passed on it, the controller's seed is the member's, or with a turn out the one before that turn.
 pub record SequenceIsShared (past : Past) (member : ℕ) : Type 0 where
-  pub own : (channel : Channel) (o : OpenState) → Stands past.world.state member channel o →
-      o.seed ≡ channel_seed channel (timestamps_on member channel past.book.turns)
+  pub own : SequenceIsOwn past member
   pub other : (channel : Channel) (o : OpenState) (c : ChannelState) → (stands : Stands past.world.state member channel o) →
       Keeps past.world.state channel.controller channel.computer c →
       SameChannel (channel_with channel.controller channel.computer c) channel →
