@@ -5,19 +5,18 @@ use Rattle.authenticators.specs.Channels.{Channel}
 use Rattle.channel_client.specs.Effects.{Changes, Effect, Stays, Counts, Begins, Opens, Moves, Calls, Answers, Drops, View}
 use Rattle.channel_client.specs.Machine.{after}
 use Rattle.channel_events.specs.Marks.{Mark, Calling}
-use Rattle.channel_events.specs.Requests.{AreSeenBut, CallsAreApart, CallsStayApart, IsCalm, IsDrawn, IsNoCall, Requests, Steps, after_step, used_by}
-use Rattle.channel_events.specs.Sound.{Holds}
+use Rattle.channel_events.specs.Requests.{AreSeenBut, CallsAreApart, CallsStayApart, Holds, IsCalm, IsDrawn, IsNoCall, Requests, Steps, after_step, fresh_view, used_by}
 use Rattle.channel_events.proofs.ListLaws.{at_end, no_some, one_last, one_more, some_is}
 
 -- ---- a requester that holds no more than before
 
-record IsCalmer (u v : View) : Type 0 where
-  holds : (challenge : List ℕ) → Holds v challenge → Holds u challenge
-  opening : (challenge : List ℕ) → v.opening ≡ Some challenge → u.opening ≡ Some challenge
-  onward : u.call ≤ v.call
-  few : v.call ≤ u.call + 1
+pub record IsCalmer (u v : View) : Type 0 where
+  pub holds : (challenge : List ℕ) → Holds v challenge → Holds u challenge
+  pub opening : (challenge : List ℕ) → v.opening ≡ Some challenge → u.opening ≡ Some challenge
+  pub onward : u.call ≤ v.call
+  pub few : v.call ≤ u.call + 1
 
-same_holds : (u v : View) → v.stands ≡ u.stands → v.opening ≡ u.opening → (challenge : List ℕ) → Holds v challenge → Holds u challenge
+pub same_holds : (u v : View) → v.stands ≡ u.stands → v.opening ≡ u.opening → (challenge : List ℕ) → Holds v challenge → Holds u challenge
 same_holds u v stands opening challenge holds = record {
   how = elim holds.how [
     | inl under ↦ inl (sym opening ∙ under)
@@ -34,10 +33,10 @@ goes_on u v stands opening onward few = record {
   few = few;
 }
 
-after_is : (call : ℕ) → call + 1 < 2 ^ 32 → after call ≡ call + 1
+pub after_is : (call : ℕ) → call + 1 < 2 ^ 32 → after call ≡ call + 1
 after_is call room = omega (arith, room)
 
-calmer : (effect : Effect) (u v : View) → IsCalm effect → Changes effect u v → u.call + 1 < 2 ^ 32 → IsCalmer u v
+pub calmer : (effect : Effect) (u v : View) → IsCalm effect → Changes effect u v → u.call + 1 < 2 ^ 32 → IsCalmer u v
 calmer Stays u v calm change room = subst (λ (x : View). IsCalmer u x) (sym change) (goes_on u u refl refl (omega arith) (omega arith))
 calmer Counts u v calm change room =
     subst (λ (x : View). IsCalmer u x) (sym change)
@@ -79,13 +78,13 @@ few_used (Calls c number) u v calm change room = absurd calm
 few_used (Answers c number) u v calm change room = omega (arith, ap (λ (x : View). x.call) change.2)
 few_used Drops u v calm change room = omega (arith, ap (λ (x : View). x.call) change)
 
-room_for : (call uses : ℕ) → call ≤ uses + 1 → uses + 2 < 2 ^ 32 → call + 1 < 2 ^ 32
+pub room_for : (call uses : ℕ) → call ≤ uses + 1 → uses + 2 < 2 ^ 32 → call + 1 < 2 ^ 32
 room_for call uses few room = omega (arith, few, room)
 
 calling_is : (c d : Channel) (number more timestamp later : ℕ) → Calling c number timestamp ≡ Calling d more later → (c ≡ d) × (number ≡ more)
 calling_is c d number more timestamp later is = (let x = is in cc, let x = is in cc)
 
-fresh_holds : (challenge : List ℕ) → Holds (record { stands = None; seed = None; opening = None; asking = None; call = 1 }) challenge → ⊥
+pub fresh_holds : (challenge : List ℕ) → Holds fresh_view challenge → ⊥
 fresh_holds challenge holds = elim holds.how [ inl under ↦ no_some challenge under | inr there ↦ no_some there.0 there.1 ]
 
 was_made : (marks : List Mark) (mark : Mark) (unit number timestamp : ℕ) (c : Channel) → IsNoCall mark → slice_get (marks ++ mark ∷ []) unit ≡ Some (Calling c number timestamp) →
@@ -98,10 +97,22 @@ was_made marks mark unit number timestamp c none made = elim (at_end marks mark 
 itself : (v : View) → IsCalmer v v
 itself v = goes_on v v refl refl (omega arith) (omega arith)
 
-begun_holds : (client : List ℕ) (call : ℕ) (challenge : List ℕ) → Holds (record { stands = None; seed = None; opening = Some client; asking = None; call = call }) challenge → challenge ≡ client
+pub begun_holds : (client : List ℕ) (call : ℕ) (challenge : List ℕ) → Holds (record { stands = None; seed = None; opening = Some client; asking = None; call = call }) challenge → challenge ≡ client
 begun_holds client call challenge holds = elim holds.how [ inl under ↦ sym (some_is client challenge under) | inr there ↦ absurd (no_some there.0 there.1) ]
 
 module _ {Who : Type 0} where
+  -- more numbers may be counted
+  pub more_used : (r : Requests Who) (more : ℕ) → r.uses ≤ more → CallsAreApart r → CallsAreApart (record r { uses = more })
+  more_used r more onward a = record {
+    made_before = a.made_before;
+    held_before = a.held_before;
+    apart = a.apart;
+    opening = a.opening;
+    numbers = a.numbers;
+    distinct = a.distinct;
+    calls = λ i v at. omega (arith, onward, a.calls i v at);
+  }
+
   -- whoever is seen afterwards holds what one held that was seen before
   record Was (views : Who → Option View) (j : Who) (w : View) : Type 0 where
     view : View
@@ -269,11 +280,10 @@ module _ {Who : Type 0} where
   -- ---- a requester is made anew
 
   renewed_keep : (r : Requests Who) (who : Who) (views : Who → Option View) →
-      AreSeenBut r.views views who (record { stands = None; seed = None; opening = None; asking = None; call = 1 }) → CallsAreApart r →
+      AreSeenBut r.views views who fresh_view → CallsAreApart r →
       CallsAreApart (record r { views = views })
   renewed_keep r who views others a =
-      let fresh : View = record { stands = None; seed = None; opening = None; asking = None; call = 1 } in
-      let none : (v : View) (challenge : List ℕ) → v ≡ fresh → Holds v challenge → ⊥ =
+      let none : (v : View) (challenge : List ℕ) → v ≡ fresh_view → Holds v challenge → ⊥ =
       λ v challenge same holds. fresh_holds challenge (subst (λ (x : View). Holds x challenge) same holds) in
       record {
         made_before = a.made_before;

@@ -17,9 +17,9 @@ use Rattle.channel_client.specs.declared.state.Waiting.{Waiting}
 use Rattle.channel_client.proofs.EffectLaws.{steps_have_effects}
 use Rattle.channel_events.specs.Marks.{Calling}
 use Rattle.channel_events.specs.RequestSteps.{AfterTaking, IsFreshIf, IsSeen, IsSeenAfter, RequestersKeepCallsApart, drawn_if, seen_if, with_seen}
-use Rattle.channel_events.specs.Requests.{AreSeenBut, CallsAreApart, IsCalm, Requests, Steps, after_step, used_by}
+use Rattle.channel_events.specs.Requests.{AreSeenBut, IsCalm, Requests, Steps, after_step, used_by}
 use Rattle.channel_events.proofs.ListLaws.{some_is}
-use Rattle.channel_events.proofs.RequestLaws.{calls_stay_apart}
+use Rattle.channel_events.proofs.RequestLaws.{calls_stay_apart, more_used}
 
 -- ---- one is seen otherwise
 
@@ -44,18 +44,6 @@ step_of r who controller effect s t seen change = record {
   others = others_are r who (view_of controller t);
   change = change;
   few = seen.few;
-}
-
--- more numbers may be counted
-more_used : (r : Requests ℕ) (more : ℕ) → r.uses ≤ more → CallsAreApart r → CallsAreApart (record r { uses = more })
-more_used r more onward a = record {
-  made_before = a.made_before;
-  held_before = a.held_before;
-  apart = a.apart;
-  opening = a.opening;
-  numbers = a.numbers;
-  distinct = a.distinct;
-  calls = λ i v at. omega (arith, onward, a.calls i v at);
 }
 
 calm_seen : (r : Requests ℕ) (who controller used : ℕ) (effect : Effect) (s t : Requester) → IsSeen r who controller s → IsCalm effect → used_by effect ≤ used →

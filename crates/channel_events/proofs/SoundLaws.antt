@@ -2,69 +2,55 @@
 -- It serves `channels_stay_sound`.
 use Rattle.std.proofs.Common.{◌≡◌, ℕ, List, [], ◌∷◌, ◌++◌, inl, inr, Option, Some, None, slice_get, refl, sym, ap, subst, ◌∙◌, arith}
 use Rattle.std.specs.List.{AllByRecursion}
-use Rattle.authenticators.specs.Channels.{Channel}
+use Rattle.authenticators.specs.Channels.{Channel, SameChannel}
 use Rattle.channel_client.specs.Effects.{View}
 use Rattle.channel_events.specs.Marks.{Mark, Plain, Opening, Opened, Calling, ReplyTo, OneOf}
-use Rattle.channel_events.specs.Sound.{Accepted, History, Holds, Passing}
-use Rattle.channel_events.specs.SoundEvents.{AreFresh, CallPasses, CarriesCall, CarriesOpening, ControllerForgets, IsNamedAlike, IsReplyRight, Notes, OpeningAccepted, ServerWaits, StaySound, UnitSent, after_acceptance, after_answer, after_forgetting, after_pass, after_unit, after_waiting, first_history, notes_of}
+use Rattle.channel_events.specs.Requests.{Holds, IsDrawn, IsNoCall}
+use Rattle.channel_events.specs.Sound.{Accepted, History, Kept, Passing, Sound, requests_of}
+use Rattle.channel_events.specs.SoundEvents.{AreFresh, CallPasses, CarriesCall, CarriesOpening, ControllerForgets, IsNamedAlike, IsReplyRight, Notes, OpeningAccepted, ServerWaits, StaySound, UnitSent, after_acceptance, after_count, after_draw, after_forgetting, after_pass, after_unit, after_waiting, first_history}
 use Rattle.channel_events.specs.SoundExamples.{ChannelsStaySound}
-use Rattle.channel_events.proofs.ListLaws.{all_none, all_weaker, got_nothing, no_some, one_found, one_last, one_more, pairs_first, some_is}
-use Rattle.channel_events.proofs.SoundExampleLaws.{exchange_happens}
-use Rattle.channel_events.proofs.SoundParts.{AreKeptSound, AreOther, AreRepliesSound, IsAcceptedOn, IsDrawn, IsNewTo, IsReplySo, IsSeenSound, Parts, draws_one, kept_drawn, later, one_sent, parts_of, sends_one, whole_of}
-use Rattle.channel_events.proofs.SoundSteps.{answer_keeps, answers_its_own, beginning_keeps, call_keeps, fresh_holds, fresh_one, opening_keeps, quiet_keeps, renewed_keeps, standing_keeps, turn_keeps}
+use Rattle.channel_events.proofs.ChannelSeedLaws.{kept_first, kept_next, kept_other}
+use Rattle.channel_events.proofs.ListLaws.{all_none, all_weaker, got_nothing, no_some, one_found, one_last, one_more, one_weaker, pairs_first, some_is}
+use Rattle.channel_events.proofs.RequestLaws.{calls_stay_apart, fresh_holds, more_used}
+use Rattle.channel_events.proofs.SameLaws.{same_on}
+use Rattle.channel_events.proofs.SoundExampleLaws.{exchange_happens, seeds_are_told}
+use Rattle.channel_events.proofs.SoundParts.{AreKeptSound, AreOther, AreRepliesSound, AreSeedsKept, IsAcceptedOn, IsUnitSo, Parts, counts_more, draws_one, kept_drawn, parts_of, sends_one, whole_of}
+use Rattle.channel_events.proofs.SoundSteps.{answer_keeps, answers_its_own, beginning_keeps, call_keeps, opening_keeps, quiet_keeps, renewed_keeps, standing_keeps, turn_keeps}
 
 -- ---- a unit that is no request
 
-reply_so : {Who : Type 0} (h : History Who) (mark : Mark) → IsReplyRight h mark → IsReplySo h.marks h.accepted h.passed mark
-reply_so h Plain right = tt
-reply_so h (Opening c number) right = tt
-reply_so h (Opened c number request) right = right
-reply_so h (Calling c number timestamp) right = tt
-reply_so h (ReplyTo c number request) right = right
+unit_so : {Who : Type 0} (h : History Who) (mark : Mark) → IsReplyRight h mark → IsUnitSo h mark
+unit_so h Plain right = tt
+unit_so h (Opening c number) right = absurd right
+unit_so h (Opened c number request) right = right
+unit_so h (Calling c number timestamp) right = absurd right
+unit_so h (ReplyTo c number request) right = right
 
-unit_keeps : {Who : Type 0} (h : History Who) (e : UnitSent h) → Parts h → Parts (after_unit h e)
-unit_keeps {Who} h e p =
-    let no_opening : (c : Channel) (number : ℕ) → e.mark ≡ Opening c number → ⊥ =
-    λ c number is. subst (λ (x : Mark). IsReplyRight h x) is e.right in
-    let no_call : (c : Channel) (number timestamp : ℕ) → e.mark ≡ Calling c number timestamp → ⊥ =
-    λ c number timestamp is. subst (λ (x : Mark). IsReplyRight h x) is e.right in
-    let new : (j : Who) (v : View) → IsNewTo h e.mark j v =
-    λ j v. record {
-      call = λ c number timestamp is under. no_call c number timestamp is;
-      call_number = λ c number timestamp is holds. absurd (no_call c number timestamp is);
-      opening = λ c number is under out. no_opening c number is;
-      opening_number = λ c number is holds. absurd (no_opening c number is);
-    } in
-    sends_one h (notes_of h) e.mark (λ c number is. absurd (no_opening c number is)) (λ c number timestamp is. absurd (no_call c number timestamp is))
-    (reply_so h e.mark e.right) p.apart (λ j v at. one_sent h e.mark j v (new j v) (p.each j v at)) p
+no_call : {Who : Type 0} (h : History Who) (mark : Mark) → IsReplyRight h mark → IsNoCall mark
+no_call h Plain right = tt
+no_call h (Opening c number) right = absurd right
+no_call h (Opened c number request) right = tt
+no_call h (Calling c number timestamp) right = absurd right
+no_call h (ReplyTo c number request) right = tt
+
+unit_keeps : {Who : Type 0} (h : History Who) (e : UnitSent h) → Sound h → Sound (after_unit h e)
+unit_keeps h e s =
+    whole_of (after_unit h e) (calls_stay_apart.unit (requests_of h) e.mark (no_call h e.mark e.right) s.requests)
+    (sends_one h e.mark (unit_so h e.mark e.right) (parts_of h s))
 
 -- ---- a server's challenge waits
 
-one_kept : {Who : Type 0} (h : History Who) (waits : ℕ → List ℕ → Option (List ℕ)) (keeps : ℕ → List ℕ → Option Channel) (i : Who) (v : View) → IsSeenSound h i v →
-    IsSeenSound (record h { waits = waits; keeps = keeps }) i v
-one_kept h waits keeps i v o = record {
-  held_before = o.held_before;
-  opening = o.opening;
-  unopened = o.unopened;
-  opening_numbers = o.opening_numbers;
-  numbers = o.numbers;
-  stands = o.stands;
-  turns = o.turns;
-  ends = o.ends;
-  seeds = o.seeds;
-  calls = o.calls;
-}
-
 -- what controllers keep is otherwise
-keeps_otherwise : {Who : Type 0} (h : History Who) (waits : ℕ → List ℕ → Option (List ℕ)) (keeps : ℕ → List ℕ → Option Channel) → AreKeptSound h.accepted h.drawn waits keeps → Parts h →
-    Parts (record h { waits = waits; keeps = keeps })
-keeps_otherwise h waits keeps kept p = record {
+keeps_otherwise : {Who : Type 0} (h : History Who) (waits : ℕ → List ℕ → Option (List ℕ)) (keeps : ℕ → List ℕ → Option Kept) → AreKeptSound h.accepted h.drawn waits keeps →
+    AreSeedsKept h.passed keeps → Parts h → Parts (record h { waits = waits; keeps = keeps })
+keeps_otherwise h waits keeps kept seeds p = record {
   draws = p.draws;
-  requests = p.requests;
+  openings = p.openings;
   replies = p.replies;
   kept = kept;
-  apart = p.apart;
-  each = λ i v at. one_kept h waits keeps i v (p.each i v at);
+  kept_seeds = seeds;
+  under_way = p.under_way;
+  standing = p.standing;
 }
 
 waiting_kept : {Who : Type 0} (h : History Who) (e : ServerWaits h) → AreKeptSound h.accepted h.drawn h.waits h.keeps →
@@ -98,10 +84,12 @@ waiting_kept h e k =
       kept = k.kept;
     }
 
-waiting_keeps : {Who : Type 0} (h : History Who) (e : ServerWaits h) → Parts h → Parts (after_waiting h e)
-waiting_keeps {Who} h e p =
+waiting_keeps : {Who : Type 0} (h : History Who) (e : ServerWaits h) → Sound h → Sound (after_waiting h e)
+waiting_keeps {Who} h e s =
+    let p : Parts h = parts_of h s in
     let drawn : History Who = record h { drawn = h.drawn ++ e.server ∷ [] } in
-    keeps_otherwise drawn e.waits h.keeps (waiting_kept h e p.kept) (draws_one h e.server e.fresh p)
+    whole_of (after_waiting h e) (calls_stay_apart.draws (requests_of h) e.server s.requests)
+    (keeps_otherwise drawn e.waits h.keeps (waiting_kept h e p.kept) p.kept_seeds (draws_one h e.server e.fresh p))
 
 -- ---- an opening is accepted
 
@@ -128,20 +116,6 @@ call_at marks None number timestamp channel unit carried is = absurd (no_some un
 call_at marks (Some at) number timestamp channel unit carried is =
     subst (λ (k : ℕ). slice_get marks k ≡ Some (Calling channel number timestamp)) (some_is at unit is)
     (carried.1 ∙ ap (λ (c : Channel). Some (Calling c number timestamp)) (named_is carried.0 channel carried.2))
-
-one_accepted : {Who : Type 0} (h : History Who) (new : Accepted) (i : Who) (v : View) → IsSeenSound h i v → IsSeenSound (record h { accepted = new ∷ h.accepted }) i v
-one_accepted h new i v o = record {
-  held_before = o.held_before;
-  opening = o.opening;
-  unopened = o.unopened;
-  opening_numbers = o.opening_numbers;
-  numbers = o.numbers;
-  stands = λ c stands. inr (o.stands c stands);
-  turns = o.turns;
-  ends = o.ends;
-  seeds = o.seeds;
-  calls = o.calls;
-}
 
 -- none was accepted with that server's challenge
 others_accepted : (accepted : List Accepted) (new : Accepted) → (OneOf (λ (one : Accepted). one.channel.server ≡ new.channel.server) accepted → ⊥) → AllByRecursion (AreOther new) accepted
@@ -179,126 +153,176 @@ accepted_kept h e k = record {
             old.1 place.0 place.1
         | inr there ↦ k.waiting_unused controller computer server old.0 there
       ];
-  kept = λ controller computer c at. elim (e.kept controller computer c at) [ inl same ↦ inl same | inr old ↦ inr (k.kept controller computer c old) ];
+  kept = λ controller computer one at. elim (e.kept controller computer one at) [ inl new ↦ inl new.0 | inr old ↦ inr (k.kept controller computer one old) ];
 }
 
-acceptance_keeps : {Who : Type 0} (h : History Who) (e : OpeningAccepted h) → Parts h → Parts (after_acceptance h e)
-acceptance_keeps h e p =
-    let new : Accepted = record { unit = e.unit; channel = e.channel } in
-    record {
+-- no call passed on it yet: each passed on a channel that was accepted, and none of these has its server's challenge
+accepted_seeds : {Who : Type 0} (h : History Who) (e : OpeningAccepted h) → Parts h → AreSeedsKept h.passed e.keeps
+accepted_seeds h e p controller computer k at =
+    elim (e.kept controller computer k at) [
+      | inl new ↦
+          kept_first e.channel k.channel k.seed h.passed new.0 new.1
+          (all_weaker (λ (pass : Passing). IsAcceptedOn h.accepted pass.channel) (λ (pass : Passing). SameChannel pass.channel k.channel → ⊥) h.passed
+          (λ pass on same.
+          p.kept.waiting_unused e.channel.controller e.channel.computer e.channel.server e.waited
+          (one_weaker (λ (one : Accepted). SameChannel one.channel pass.channel) (λ (one : Accepted). one.channel.server ≡ e.channel.server) h.accepted
+          (λ one is. is.server ∙ same.server ∙ sym new.0.server) on)) p.replies.on_accepted)
+      | inr old ↦ p.kept_seeds controller computer k old
+    ]
+
+acceptance_keeps : {Who : Type 0} (h : History Who) (e : OpeningAccepted h) → Sound h → Sound (after_acceptance h e)
+acceptance_keeps h e s =
+    let p : Parts h = parts_of h s in
+    whole_of (after_acceptance h e) s.requests
+    (record {
       draws = p.draws;
-      requests = p.requests;
+      openings = p.openings;
       replies = accepted_replies h e p.kept p.replies;
       kept = accepted_kept h e p.kept;
-      apart = p.apart;
-      each = λ i v at. one_kept (record h { accepted = new ∷ h.accepted }) e.waits e.keeps i v (one_accepted h new i v (p.each i v at));
-    }
+      kept_seeds = accepted_seeds h e p;
+      under_way = p.under_way;
+      standing = λ i v c at stands.
+          let o = p.standing i v c at stands in record { stands = inr o.stands; turns = o.turns; ends = o.ends; seeds = o.seeds };
+    })
 
 -- ---- a call passes
 
-one_passed : {Who : Type 0} (h : History Who) (new : Passing) (i : Who) (v : View) → IsSeenSound h i v → IsSeenSound (record h { passed = new ∷ h.passed }) i v
-one_passed h new i v o = record {
-  held_before = o.held_before;
-  opening = o.opening;
-  unopened = o.unopened;
-  opening_numbers = o.opening_numbers;
-  numbers = o.numbers;
-  stands = o.stands;
-  turns = o.turns;
-  ends = λ c stands unit ended. let it = o.ends c stands unit ended in (it.0, inr it.1);
-  seeds = o.seeds;
-  calls = o.calls;
+-- a channel that is kept was accepted
+pass_kept : {Who : Type 0} (h : History Who) (e : CallPasses h) → AreKeptSound h.accepted h.drawn h.waits h.keeps → AreKeptSound h.accepted h.drawn h.waits e.keeps
+pass_kept h e k = record {
+  waiting_before = k.waiting_before;
+  accepted_before = k.accepted_before;
+  waiting_apart = k.waiting_apart;
+  waiting_unused = k.waiting_unused;
+  kept = λ controller computer one at. elim (e.moved controller computer one at) [
+    | inl moved ↦
+        one_weaker (λ (a : Accepted). SameChannel a.channel e.channel) (λ (a : Accepted). SameChannel a.channel one.channel) h.accepted
+        (λ a is. same_on a.channel e.channel one.channel is moved.0)
+        (k.kept e.channel.controller e.channel.computer (record { channel = e.channel; seed = e.seed }) e.kept)
+    | inr other ↦ k.kept controller computer one other.1
+  ];
 }
 
-pass_keeps : {Who : Type 0} (h : History Who) (e : CallPasses h) → Parts h → Parts (after_pass h e)
-pass_keeps h e p =
-    let new : Passing = record { unit = e.unit; channel = e.channel; timestamp = e.timestamp } in
-    record {
+pass_seeds : {Who : Type 0} (h : History Who) (e : CallPasses h) → AreSeedsKept h.passed h.keeps →
+    AreSeedsKept (record { unit = e.unit; channel = e.channel; timestamp = e.timestamp } ∷ h.passed) e.keeps
+pass_seeds h e seeds controller computer k at =
+    let pass : Passing = record { unit = e.unit; channel = e.channel; timestamp = e.timestamp } in
+    elim (e.moved controller computer k at) [
+      | inl moved ↦
+          moved.1
+          ∙ kept_next e.channel k.channel e.seed pass h.passed refl moved.0
+          (seeds e.channel.controller e.channel.computer (record { channel = e.channel; seed = e.seed }) e.kept)
+      | inr other ↦ kept_other k.channel k.seed pass h.passed other.0 (seeds controller computer k other.1)
+    ]
+
+pass_keeps : {Who : Type 0} (h : History Who) (e : CallPasses h) → Sound h → Sound (after_pass h e)
+pass_keeps h e s =
+    let p : Parts h = parts_of h s in
+    whole_of (after_pass h e) s.requests
+    (record {
       draws = p.draws;
-      requests = p.requests;
+      openings = p.openings;
       replies = record {
         openings = p.replies.openings;
         replies = λ unit number request c is. let it = p.replies.replies unit number request c is in (it.0, inr it.1);
         once = p.replies.once;
-        on_accepted = (p.kept.kept e.channel.controller e.channel.computer e.channel e.kept, p.replies.on_accepted);
+        on_accepted = (
+          p.kept.kept e.channel.controller e.channel.computer (record { channel = e.channel; seed = e.seed }) e.kept,
+          p.replies.on_accepted,
+        );
         openers = p.replies.openers;
         timestamps = ((λ unit is. (e.number, call_at h.marks e.unit e.number e.timestamp e.channel unit e.carried is)), p.replies.timestamps);
       };
-      kept = p.kept;
-      apart = p.apart;
-      each = λ i v at. one_passed h new i v (p.each i v at);
-    }
+      kept = pass_kept h e p.kept;
+      kept_seeds = pass_seeds h e p.kept_seeds;
+      under_way = p.under_way;
+      standing = λ i v c at stands.
+          let o = p.standing i v c at stands in
+          record { stands = o.stands; turns = o.turns; ends = λ unit ended. let it = o.ends unit ended in (it.0, inr it.1); seeds = o.seeds };
+    })
 
 -- ---- a controller forgets
 
-forgetting_keeps : {Who : Type 0} (h : History Who) (e : ControllerForgets h) → Parts h → Parts (after_forgetting h e)
-forgetting_keeps h e p =
+forgetting_keeps : {Who : Type 0} (h : History Who) (e : ControllerForgets h) → Sound h → Sound (after_forgetting h e)
+forgetting_keeps h e s =
+    let p : Parts h = parts_of h s in
     let k = p.kept in
-    keeps_otherwise h e.waits e.keeps
+    whole_of (after_forgetting h e) s.requests (keeps_otherwise h e.waits e.keeps
     (record {
       waiting_before = λ controller computer server at. k.waiting_before controller computer server (e.waited controller computer server at);
       accepted_before = k.accepted_before;
       waiting_apart = λ controller more computer other server at also.
           k.waiting_apart controller more computer other server (e.waited controller computer server at) (e.waited more other server also);
       waiting_unused = λ controller computer server at one. k.waiting_unused controller computer server (e.waited controller computer server at) one;
-      kept = λ controller computer c at. k.kept controller computer c (e.kept controller computer c at);
-    }) p
+      kept = λ controller computer one at. k.kept controller computer one (e.kept controller computer one at);
+    })
+    (λ controller computer one at. p.kept_seeds controller computer one (e.kept controller computer one at)) p)
 
 -- ---- at first
 
-first_parts : {Who : Type 0} (n : Notes Who) → AreFresh n → Parts (first_history n)
-first_parts n fresh = record {
-  draws = λ i j d before within. absurd (omega arith);
-  requests = record {
-    opened_before = λ unit number c is. absurd (got_nothing unit (Opening c number) is);
-    made_before = λ unit number timestamp c is. absurd (got_nothing unit (Calling c number timestamp) is);
-    opening_distinct = λ unit other number more c d is also same. absurd (got_nothing unit (Opening c number) is);
-    distinct = λ unit other number timestamp later c d is also same. absurd (got_nothing unit (Calling c number timestamp) is);
-  };
-  replies = record {
-    openings = λ unit number request c is. absurd (got_nothing unit (Opened c number request) is);
-    replies = λ unit number request c is. absurd (got_nothing unit (ReplyTo c number request) is);
-    once = λ i j d before within. absurd (omega arith);
-    on_accepted = tt;
-    openers = tt;
-    timestamps = tt;
-  };
-  kept = record {
-    waiting_before = λ controller computer server at. absurd (no_some server at);
-    accepted_before = tt;
-    waiting_apart = λ controller more computer other server at also. absurd (no_some server at);
-    waiting_unused = λ controller computer server at one. absurd (no_some server at);
-    kept = λ controller computer c at. absurd (no_some c at);
-  };
-  apart = λ i j u v challenge at also holds too. absurd (fresh_holds challenge (subst (λ (x : View). Holds x challenge) (fresh i u at) holds));
-  each = λ i v at. subst (λ (x : View). IsSeenSound (first_history n) i x) (sym (fresh i v at)) (fresh_one (first_history n) i);
-}
+first_sound : {Who : Type 0} (n : Notes Who) → AreFresh n → Sound (first_history n)
+first_sound {Who} n fresh =
+    let holds_none : (i : Who) (v : View) (challenge : List ℕ) → n.views i ≡ Some v → Holds v challenge → ⊥ =
+    λ i v challenge at holds. fresh_holds challenge (subst (λ (x : View). Holds x challenge) (fresh i v at) holds) in
+    let stands_none : (i : Who) (v : View) (c : Channel) → n.views i ≡ Some v → v.stands ≡ Some c → ⊥ =
+    λ i v c at stands. no_some c (sym (ap View.stands (fresh i v at)) ∙ stands) in
+    record {
+      draws = λ i j d before within. absurd (omega arith);
+      requests = record {
+        made_before = λ unit number timestamp c is. absurd (got_nothing unit (Calling c number timestamp) is);
+        held_before = λ i v challenge at holds. absurd (holds_none i v challenge at holds);
+        apart = λ i j u v challenge at also holds too. absurd (holds_none i u challenge at holds);
+        opening = λ i v unit number timestamp c at under is. got_nothing unit (Calling c number timestamp) is;
+        numbers = λ i v unit number timestamp c at holds is. absurd (holds_none i v c.client at holds);
+        distinct = λ unit other number timestamp later c d is also same. absurd (got_nothing unit (Calling c number timestamp) is);
+        calls = λ i v at. omega (arith, ap View.call (fresh i v at));
+      };
+      opened_before = λ unit number c is. absurd (got_nothing unit (Opening c number) is);
+      unopened = λ i v unit number c at under out is. got_nothing unit (Opening c number) is;
+      opening_numbers = λ i v unit number c at holds is. absurd (holds_none i v c.client at holds);
+      opening_distinct = λ unit other number more c d is also same. absurd (got_nothing unit (Opening c number) is);
+      openings = λ unit number request c is. absurd (got_nothing unit (Opened c number request) is);
+      replies = λ unit number request c is. absurd (got_nothing unit (ReplyTo c number request) is);
+      stands = λ i v c at stands. absurd (stands_none i v c at stands);
+      once = λ i j d before within. absurd (omega arith);
+      on_accepted = tt;
+      openers = tt;
+      timestamps = tt;
+      waiting_before = λ controller computer server at. absurd (no_some server at);
+      accepted_before = tt;
+      waiting_apart = λ controller more computer other server at also. absurd (no_some server at);
+      waiting_unused = λ controller computer server at one. no_some server at;
+      kept = λ controller computer k at. absurd (no_some k at);
+      kept_seeds = λ controller computer k at. absurd (no_some k at);
+      turns = λ i v number c at stands asks. absurd (stands_none i v c at stands);
+      ends = λ i v c at stands unit ended. absurd (stands_none i v c at stands);
+      seeds = λ i v c at stands. absurd (stands_none i v c at stands);
+    }
 
 -- ---- all of them
 
 stay_sound : (Who : Type 0) → StaySound Who
 stay_sound Who = record {
-  first = λ n fresh. whole_of (first_history n) (first_parts n fresh);
-  count = λ h e s. whole_of _ (later h e.moves e.onward (parts_of h s));
-  drawn = λ h e s. whole_of _ (draws_one h e.challenge e.fresh (parts_of h s));
-  unit = λ h e s. whole_of _ (unit_keeps h e (parts_of h s));
-  quiet = λ h e s. whole_of _ (quiet_keeps h e (parts_of h s));
-  renewed = λ h e s. whole_of _ (renewed_keeps h e (parts_of h s));
-  begins = λ h e s. whole_of _ (beginning_keeps h e (parts_of h s));
-  opening = λ h e s. whole_of _ (opening_keeps h e (parts_of h s));
-  opens = λ h e s. whole_of _ (standing_keeps h e (parts_of h s));
-  turn = λ h e s. whole_of _ (turn_keeps h e (parts_of h s));
-  call = λ h e s. whole_of _ (call_keeps h e (parts_of h s));
-  answer = λ h e s.
-      let own = answers_its_own h e (parts_of h s) in
-      (whole_of (after_answer h e) (answer_keeps h e (parts_of h s)), own.0, own.1);
-  waits = λ h e s. whole_of _ (waiting_keeps h e (parts_of h s));
-  accepted = λ h e s. whole_of _ (acceptance_keeps h e (parts_of h s));
+  first = first_sound;
+  count = λ h e s. whole_of (after_count h e) (more_used (requests_of h) e.moves e.onward s.requests) (counts_more h e.moves (parts_of h s));
+  drawn = λ h e s.
+      whole_of (after_draw h e) (calls_stay_apart.draws (requests_of h) e.challenge s.requests) (draws_one h e.challenge e.fresh (parts_of h s));
+  unit = unit_keeps;
+  quiet = quiet_keeps;
+  renewed = renewed_keeps;
+  begins = beginning_keeps;
+  opening = opening_keeps;
+  opens = standing_keeps;
+  turn = turn_keeps;
+  call = call_keeps;
+  answer = λ h e s. let own = answers_its_own h e s in (answer_keeps h e s, own.0, own.1);
+  waits = waiting_keeps;
+  accepted = acceptance_keeps;
   accepted_reply = λ h e unit is. (opening_at h.marks e.unit e.number e.channel unit e.carried is, inl is);
-  passes = λ h e s. whole_of _ (pass_keeps h e (parts_of h s));
+  passes = pass_keeps;
   passed_reply = λ h e unit is. ((e.timestamp, call_at h.marks e.unit e.number e.timestamp e.channel unit e.carried is), inl is);
-  forgets = λ h e s. whole_of _ (forgetting_keeps h e (parts_of h s));
+  forgets = forgetting_keeps;
 }
 
 pub channels_stay_sound : ChannelsStaySound
-channels_stay_sound = record { events = stay_sound ℕ; exchange = exchange_happens }
+channels_stay_sound = record { events = stay_sound ℕ; exchange = exchange_happens; seeds = seeds_are_told (stay_sound ℕ) }

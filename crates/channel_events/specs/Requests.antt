@@ -5,7 +5,14 @@ use Rattle.std.specs.Prelude.{ℕ, ◌≡◌, ◌+◌, ◌<◌, ◌≤◌, ◌^�
 use Rattle.authenticators.specs.Channels.{Channel}
 use Rattle.channel_client.specs.Effects.{Changes, Effect, Stays, Counts, Begins, Opens, Moves, Calls, Answers, Drops, View}
 use Rattle.channel_events.specs.Marks.{Mark, Calling, OneOf}
-use Rattle.channel_events.specs.Sound.{Holds}
+
+-- a requester that has used no number and holds nothing
+abbrev pub fresh_view : View
+fresh_view = record { stands = None; seed = None; opening = None; asking = None; call = 1 }
+
+-- a requester holds that challenge: of an opening that is under way, or of the channel that stands
+pub record Holds (v : View) (challenge : List ℕ) : Type 0 where
+  pub how : (v.opening ≡ Some challenge) ⊎ ((c : Channel) × (v.stands ≡ Some c) × (c.client ≡ challenge))
 
 pub record Requests (Who : Type 0) : Type 0 where
   -- each requester, as it is seen; None where there is none of that name
@@ -17,6 +24,7 @@ pub record Requests (Who : Type 0) : Type 0 where
   -- how often a requester used a number for a bind or a request, or more
   pub uses : ℕ
 
+-- that challenge was drawn
 abbrev pub IsDrawn : List ℕ → List (List ℕ) → Type 0
 IsDrawn challenge drawn = OneOf (λ (one : List ℕ). one ≡ challenge) drawn
 
@@ -95,8 +103,7 @@ pub record CallsStayApart (Who : Type 0) : Type 0 where
       CallsAreApart (after_step (record r { drawn = r.drawn ++ client ∷ [] }) (Begins client) e.views)
   pub calls : (r : Requests Who) (c : Channel) (number timestamp : ℕ) (e : Steps r (Calls c number)) → CallsAreApart r →
       CallsAreApart (after_step (record r { marks = r.marks ++ Calling c number timestamp ∷ [] }) (Calls c number) e.views)
-  pub renewed : (r : Requests Who) (who : Who) (views : Who → Option View) →
-      AreSeenBut r.views views who (record { stands = None; seed = None; opening = None; asking = None; call = 1 }) → CallsAreApart r →
+  pub renewed : (r : Requests Who) (who : Who) (views : Who → Option View) → AreSeenBut r.views views who fresh_view → CallsAreApart r →
       CallsAreApart (record r { views = views })
   pub draws : (r : Requests Who) (challenge : List ℕ) → CallsAreApart r → CallsAreApart (record r { drawn = r.drawn ++ challenge ∷ [] })
   pub unit : (r : Requests Who) (mark : Mark) → IsNoCall mark → CallsAreApart r → CallsAreApart (record r { marks = r.marks ++ mark ∷ [] })

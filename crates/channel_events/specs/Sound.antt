@@ -1,16 +1,17 @@
 -- What is to hold of the secure channels of a run in which no credential passed on a unit that was made for another
--- channel, one channel at a time: of its requester, of the units that were made for it, and of what its controller
--- accepted and passed. It names no machine, no layout of a unit and no other end, so that it serves any end that asks
--- on a channel. It is the invariant that the claims on answers rest on: that each event of a channel keeps it is said
--- in `SoundEvents`; that a run is made of such events isn't proved yet.
-use Rattle.std.specs.Prelude.{ℕ, ◌≡◌, ◌≢◌, ◌+◌, ◌<◌, ◌≤◌, ◌⊎◌, Bool, true, false, List, [], ◌∷◌, ◌++◌, map, Option, Some, None, slice_get, AllPairs}
+-- channel, one channel at a time: of its requester, of the units that were made for it, of what its controller accepted
+-- and passed, and of the seed that it keeps. It names no machine, no layout of a unit and no other end, so that it
+-- serves any end that asks on a channel. Each event of a channel keeps it (`SoundEvents`). It is kept for channels
+-- between controllers, and for calls that change a secret. No claim on runs rests on it; of its facts those on calls
+-- (`Requests`) are proved of runs. That a run is made of such events isn't proved.
+use Rattle.std.specs.Prelude.{ℕ, ◌≡◌, ◌≢◌, ◌<◌, ◌⊎◌, Bool, true, false, List, [], ◌∷◌, ◌++◌, map, Option, Some, None, slice_get, AllPairs}
 use Rattle.std.specs.List.{AllByRecursion}
 use Rattle.wire_base.specs.Names.{SameName}
-use Rattle.channel_keys.specs.Credentials.{cred_of}
-use Rattle.authenticators.specs.Channels.{Channel, SameChannel, channel_key, same_channel}
-use Rattle.authenticators.specs.Sequences.{add_to, moved_by}
+use Rattle.authenticators.specs.Channels.{Channel, SameChannel, same_channel}
 use Rattle.channel_client.specs.Effects.{View}
 use Rattle.channel_events.specs.Marks.{Mark, Opening, Opened, Calling, ReplyTo, OneOf}
+use Rattle.channel_events.specs.Requests.{CallsAreApart, Holds, IsDrawn, Requests}
+use Rattle.channel_events.specs.Seeds.{channel_seed}
 
 -- ---- the history of the channels of a run, whoever their requesters are
 
@@ -24,6 +25,11 @@ pub record Passing : Type 0 where
   pub unit : Option ℕ
   pub channel : Channel
   pub timestamp : ℕ
+
+-- a channel that a controller keeps, and its seed
+pub record Kept : Type 0 where
+  pub channel : Channel
+  pub seed : List ℕ
 
 pub record History (Who : Type 0) : Type 0 where
   -- each requester, as it is seen (`View` of the channel's client); None where there is none of that name
@@ -43,7 +49,7 @@ pub record History (Who : Type 0) : Type 0 where
   -- at each controller, by its number, for each computer, by its name: the server's challenge that waits for an
   -- opening, and the channel that is kept
   pub waits : ℕ → List ℕ → Option (List ℕ)
-  pub keeps : ℕ → List ℕ → Option Channel
+  pub keeps : ℕ → List ℕ → Option Kept
   -- the openings that were accepted and the calls that passed, the newest first
   pub accepted : List Accepted
   pub passed : List Passing
@@ -53,9 +59,9 @@ pub record History (Who : Type 0) : Type 0 where
 
 -- ---- the facts
 
--- a requester holds that challenge: of an opening that is under way, or of the channel that stands
-pub record Holds (v : View) (challenge : List ℕ) : Type 0 where
-  pub how : (v.opening ≡ Some challenge) ⊎ ((c : Channel) × (v.stands ≡ Some c) × (c.client ≡ challenge))
+-- what the requesters hold, and the calls that they made
+abbrev pub requests_of : {Who : Type 0} → History Who → Requests Who
+requests_of h = record { views = h.views; marks = h.marks; drawn = h.drawn; uses = h.moves }
 
 -- the opening in that unit was accepted
 abbrev pub IsAcceptedOpening : List Accepted → ℕ → Type 0
@@ -65,38 +71,33 @@ IsAcceptedOpening accepted unit = OneOf (λ (one : Accepted). one.unit ≡ Some 
 abbrev pub IsPassedCall : List Passing → ℕ → Type 0
 IsPassedCall passed unit = OneOf (λ (pass : Passing). pass.unit ≡ Some unit) passed
 
+-- the timestamps of the calls that passed on a channel, the newest first; the argument: whether the call did
+abbrev pub timestamp_if : Bool → ℕ → List ℕ → List ℕ
+timestamp_if false timestamp earlier = earlier
+timestamp_if true timestamp earlier = timestamp ∷ earlier
+
+abbrev pub passed_timestamps : Channel → List Passing → List ℕ
+passed_timestamps c [] = []
+passed_timestamps c (pass ∷ passed) =
+    timestamp_if (same_channel pass.channel c) pass.timestamp (passed_timestamps c passed)
+
 pub record Sound {Who : Type 0} (h : History Who) : Type 0 where
   -- no two draws gave one challenge
   pub draws : AllPairs (λ (one other : List ℕ). one ≢ other) h.drawn
-  -- an opening or a call was made for a channel whose client's challenge was drawn: no later draw gives it
-  pub opened_before : (unit number : ℕ) (c : Channel) → slice_get h.marks unit ≡ Some (Opening c number) →
-      OneOf (λ (challenge : List ℕ). challenge ≡ c.client) h.drawn
-  pub made_before : (unit number timestamp : ℕ) (c : Channel) → slice_get h.marks unit ≡ Some (Calling c number timestamp) →
-      OneOf (λ (challenge : List ℕ). challenge ≡ c.client) h.drawn
-  -- so was each challenge that a requester holds
-  pub held_before : (i : Who) (v : View) (challenge : List ℕ) → h.views i ≡ Some v → Holds v challenge →
-      OneOf (λ (drawn : List ℕ). drawn ≡ challenge) h.drawn
-  -- no two requesters hold one challenge, so that a channel has one requester
-  pub apart : (i j : Who) (u v : View) (challenge : List ℕ) → h.views i ≡ Some u → h.views j ≡ Some v → Holds u challenge →
-      Holds v challenge → i ≡ j
-  -- for a channel that is only being opened no call was made yet
-  pub opening : (i : Who) (v : View) (unit number timestamp : ℕ) (c : Channel) → h.views i ≡ Some v → v.opening ≡ Some c.client →
-      slice_get h.marks unit ≡ Some (Calling c number timestamp) → ⊥
-  -- nor was an opening made with the challenge of an opening that is under way and isn't out
+  -- the requesters' half: no two of them hold one challenge, no two calls on a channel have one number, and no number
+  -- comes round
+  pub requests : CallsAreApart (requests_of h)
+  -- an opening was made for a channel whose client's challenge was drawn: no later draw gives it
+  pub opened_before : (unit number : ℕ) (c : Channel) → slice_get h.marks unit ≡ Some (Opening c number) → IsDrawn c.client h.drawn
+  -- no opening was made with the challenge of an opening that is under way and isn't out
   pub unopened : (i : Who) (v : View) (unit number : ℕ) (c : Channel) → h.views i ≡ Some v → v.opening ≡ Some c.client →
       h.opening_out i ≡ false → slice_get h.marks unit ≡ Some (Opening c number) → ⊥
-  -- an opening made with a challenge that a requester holds has a number below its next one, and so has a call made
-  -- with it
+  -- an opening made with a challenge that a requester holds has a number below its next one
   pub opening_numbers : (i : Who) (v : View) (unit number : ℕ) (c : Channel) → h.views i ≡ Some v → Holds v c.client →
       slice_get h.marks unit ≡ Some (Opening c number) → number < v.call
-  pub numbers : (i : Who) (v : View) (unit number timestamp : ℕ) (c : Channel) → h.views i ≡ Some v → Holds v c.client →
-      slice_get h.marks unit ≡ Some (Calling c number timestamp) → number < v.call
   -- one opening is made with a client's challenge
   pub opening_distinct : (unit other number more : ℕ) (c d : Channel) → slice_get h.marks unit ≡ Some (Opening c number) →
       slice_get h.marks other ≡ Some (Opening d more) → c.client ≡ d.client → unit ≡ other
-  -- the calls made with a client's challenge have different numbers
-  pub distinct : (unit other number timestamp later : ℕ) (c d : Channel) → slice_get h.marks unit ≡ Some (Calling c number timestamp) →
-      slice_get h.marks other ≡ Some (Calling d number later) → c.client ≡ d.client → unit ≡ other
   -- each reply that accepts an opening answers one made for that channel, of that number, which was accepted
   pub openings : (unit number request : ℕ) (c : Channel) → slice_get h.marks unit ≡ Some (Opened c number request) →
       (slice_get h.marks request ≡ Some (Opening c number)) × IsAcceptedOpening h.accepted request
@@ -116,16 +117,19 @@ pub record Sound {Who : Type 0} (h : History Who) : Type 0 where
       (number : ℕ) × (slice_get h.marks unit ≡ Some (Calling pass.channel number pass.timestamp))) h.passed
   -- each server's challenge that waits at a controller, or that a channel was accepted with, was drawn
   pub waiting_before : (controller : ℕ) (computer server : List ℕ) → h.waits controller computer ≡ Some server →
-      OneOf (λ (drawn : List ℕ). drawn ≡ server) h.drawn
-  pub accepted_before : AllByRecursion (λ (one : Accepted). OneOf (λ (drawn : List ℕ). drawn ≡ one.channel.server) h.drawn) h.accepted
+      IsDrawn server h.drawn
+  pub accepted_before : AllByRecursion (λ (one : Accepted). IsDrawn one.channel.server h.drawn) h.accepted
   -- one that waits was drawn for one computer at one controller, and no channel was accepted with it
   pub waiting_apart : (controller more : ℕ) (computer other server : List ℕ) → h.waits controller computer ≡ Some server →
       h.waits more other ≡ Some server → (controller ≡ more) × SameName computer other
   pub waiting_unused : (controller : ℕ) (computer server : List ℕ) → h.waits controller computer ≡ Some server →
       OneOf (λ (one : Accepted). one.channel.server ≡ server) h.accepted → ⊥
   -- each channel that a controller keeps was accepted
-  pub kept : (controller : ℕ) (computer : List ℕ) (c : Channel) → h.keeps controller computer ≡ Some c →
-      OneOf (λ (one : Accepted). SameChannel one.channel c) h.accepted
+  pub kept : (controller : ℕ) (computer : List ℕ) (k : Kept) → h.keeps controller computer ≡ Some k →
+      OneOf (λ (one : Accepted). SameChannel one.channel k.channel) h.accepted
+  -- the controller's seed is the client's credential moved by the timestamps of the calls that passed on the channel
+  pub kept_seeds : (controller : ℕ) (computer : List ℕ) (k : Kept) → h.keeps controller computer ≡ Some k →
+      k.seed ≡ channel_seed k.channel (passed_timestamps k.channel h.passed)
   -- the call that is out on the channel that stands is the last one that the requester made
   pub turns : (i : Who) (v : View) (number : ℕ) (c : Channel) → h.views i ≡ Some v → v.stands ≡ Some c → v.asking ≡ Some number →
       (timestamp : ℕ) × (slice_get h.marks (h.asked i) ≡ Some (Calling c number timestamp))
@@ -135,9 +139,7 @@ pub record Sound {Who : Type 0} (h : History Who) : Type 0 where
       ((number : ℕ) × (timestamp : ℕ) × (slice_get h.marks unit ≡ Some (Calling c number timestamp))) × IsPassedCall h.passed unit
   -- the requester's seed is the client's credential moved by the timestamps of its turns on the channel that stands
   pub seeds : (i : Who) (v : View) (c : Channel) → h.views i ≡ Some v → v.stands ≡ Some c →
-      v.seed ≡ Some (add_to (cred_of (channel_key c) c.client) (moved_by (h.turned i)))
-  -- a requester's next number is at most one above the count of numbers used: so no number comes round within a run
-  pub calls : (i : Who) (v : View) → h.views i ≡ Some v → v.call ≤ h.moves + 1
+      v.seed ≡ Some (channel_seed c (h.turned i))
 
 -- ---- both ends in step
 

@@ -1,13 +1,17 @@
 -- What happens to the secure channels of a run, one event at a time, and the history that each leaves: each event is a
 -- record of what must be so of the history when it happens. Of a requester that is read off its own step (`Changes` of
 -- the channel's client), of a controller off what it answers and what it keeps of a computer; of a unit that came, off
--- its mark, its bytes, and that there was no clash. Which of them happens at which step is said elsewhere.
+-- its mark, its bytes, and that there was no clash. They are kept for channels between controllers, and for calls that
+-- change a secret. That a run is made of them isn't proved: what single steps give of them is said above this crate.
 use Rattle.std.specs.Prelude.{ℕ, ◌≡◌, ◌+◌, ◌<◌, ◌≤◌, ◌^◌, ◌⊎◌, Bool, true, false, List, [], ◌∷◌, ◌++◌, length, Option, Some, None, slice_get}
 use Rattle.wire_base.specs.Names.{SameName}
 use Rattle.authenticators.specs.Channels.{Channel, SameChannel}
+use Rattle.authenticators.specs.Sequences.{next_seed}
 use Rattle.channel_client.specs.Effects.{Changes, Effect, Stays, Counts, Begins, Opens, Moves, Calls, Answers, Drops, View}
-use Rattle.channel_events.specs.Marks.{Mark, Plain, Opening, Opened, Calling, ReplyTo, OneOf}
-use Rattle.channel_events.specs.Sound.{History, IsAcceptedOpening, IsPassedCall, Sound}
+use Rattle.channel_events.specs.Marks.{Mark, Plain, Opening, Opened, Calling, ReplyTo}
+use Rattle.channel_events.specs.Requests.{IsDrawn, fresh_view, used_by}
+use Rattle.channel_events.specs.Seeds.{client_credential}
+use Rattle.channel_events.specs.Sound.{History, IsAcceptedOpening, IsPassedCall, Kept, Sound}
 
 -- ---- what is noted of requesters
 
@@ -54,10 +58,6 @@ abbrev pub AreAsBeforeBut : {Who : Type 0} → Notes Who → Notes Who → Who �
 AreAsBeforeBut {Who} old new who view =
     (j : Who) (v : View) → new.views j ≡ Some v → ((j ≡ who) × (v ≡ view)) ⊎ IsAsBefore old new j v
 
--- a requester that has used no number and holds nothing
-abbrev pub fresh_view : View
-fresh_view = record { stands = None; seed = None; opening = None; asking = None; call = 1 }
-
 -- ---- a step of a requester
 
 -- It is seen so before and after, by the effect of the step. No number comes round.
@@ -93,7 +93,7 @@ pub record HasNoNotes {Who : Type 0} (n : Notes Who) (who : Who) : Type 0 where
 
 -- no challenge that was drawn is this one
 abbrev pub IsFresh : List ℕ → List (List ℕ) → Type 0
-IsFresh challenge drawn = OneOf (λ (one : List ℕ). one ≡ challenge) drawn → ⊥
+IsFresh challenge drawn = IsDrawn challenge drawn → ⊥
 
 -- the count grows
 pub record CountGrows {Who : Type 0} (h : History Who) : Type 0 where
@@ -143,11 +143,6 @@ IsQuiet (Calls c number) = ⊥
 IsQuiet (Answers c number) = ⊥
 IsQuiet Drops = Unit {0}
 
--- the numbers that such a step uses
-abbrev pub numbers_used : Effect → ℕ
-numbers_used Counts = 1
-numbers_used _ = 0
-
 pub record QuietStep {Who : Type 0} (h : History Who) : Type 0 where
   pub effect : Effect
   pub quiet : IsQuiet effect
@@ -156,7 +151,7 @@ pub record QuietStep {Who : Type 0} (h : History Who) : Type 0 where
   pub notes : (c : Channel) → step.after.stands ≡ Some c → KeepsNotes (notes_of h) step.notes step.who
 
 abbrev pub after_quiet : {Who : Type 0} → (h : History Who) → QuietStep h → History Who
-after_quiet h e = with_notes e.step.notes (record h { moves = h.moves + numbers_used e.effect })
+after_quiet h e = with_notes e.step.notes (record h { moves = h.moves + used_by e.effect })
 
 -- a requester is made anew, or is seen no more
 pub record RequesterRenewed {Who : Type 0} (h : History Who) : Type 0 where
@@ -288,19 +283,20 @@ pub record ServerWaits {Who : Type 0} (h : History Who) : Type 0 where
 abbrev pub after_waiting : {Who : Type 0} → (h : History Who) → ServerWaits h → History Who
 after_waiting h e = record h { drawn = h.drawn ++ e.server ∷ []; waits = e.waits }
 
--- an opening is accepted: the server's challenge that waited waits no more, and no channel is kept but it and those
--- that were
+-- an opening is accepted: the server's challenge that waited waits no more, and no channel is kept but it, with the
+-- client's credential as its seed, and those that were
 pub record OpeningAccepted {Who : Type 0} (h : History Who) : Type 0 where
   pub unit : Option ℕ
   pub number : ℕ
   pub channel : Channel
   pub waits : ℕ → List ℕ → Option (List ℕ)
-  pub keeps : ℕ → List ℕ → Option Channel
+  pub keeps : ℕ → List ℕ → Option Kept
   pub carried : CarriesOpening h.marks unit number channel
   pub waited : h.waits channel.controller channel.computer ≡ Some channel.server
   pub served : (one : ℕ) (name challenge : List ℕ) → waits one name ≡ Some challenge →
       (h.waits one name ≡ Some challenge) × ((one ≡ channel.controller) → SameName name channel.computer → ⊥)
-  pub kept : (one : ℕ) (name : List ℕ) (c : Channel) → keeps one name ≡ Some c → SameChannel channel c ⊎ (h.keeps one name ≡ Some c)
+  pub kept : (one : ℕ) (name : List ℕ) (k : Kept) → keeps one name ≡ Some k →
+      (SameChannel channel k.channel × (k.seed ≡ client_credential channel)) ⊎ (h.keeps one name ≡ Some k)
 
 abbrev pub after_acceptance : {Who : Type 0} → (h : History Who) → OpeningAccepted h → History Who
 after_acceptance h e = record h {
@@ -309,24 +305,32 @@ after_acceptance h e = record h {
   accepted = record { unit = e.unit; channel = e.channel } ∷ h.accepted;
 }
 
--- a call passes on a channel that is kept
+-- a call passes on a channel that is kept: its timestamp moves the seed of that channel, and of no other (MS-NRPC
+-- 3.1.4.5), and no channel is kept that wasn't
 pub record CallPasses {Who : Type 0} (h : History Who) : Type 0 where
   pub unit : Option ℕ
   pub number : ℕ
   pub timestamp : ℕ
   pub channel : Channel
+  pub seed : List ℕ
+  pub keeps : ℕ → List ℕ → Option Kept
   pub carried : CarriesCall h.marks unit number timestamp channel
-  pub kept : h.keeps channel.controller channel.computer ≡ Some channel
+  pub kept : h.keeps channel.controller channel.computer ≡ Some (record { channel = channel; seed = seed })
+  pub moved : (one : ℕ) (name : List ℕ) (k : Kept) → keeps one name ≡ Some k →
+      (SameChannel channel k.channel × (k.seed ≡ next_seed seed timestamp)) ⊎ ((SameChannel channel k.channel → ⊥) × (h.keeps one name ≡ Some k))
 
 abbrev pub after_pass : {Who : Type 0} → (h : History Who) → CallPasses h → History Who
-after_pass h e = record h { passed = record { unit = e.unit; channel = e.channel; timestamp = e.timestamp } ∷ h.passed }
+after_pass h e = record h {
+  keeps = e.keeps;
+  passed = record { unit = e.unit; channel = e.channel; timestamp = e.timestamp } ∷ h.passed;
+}
 
--- challenges wait no more, or channels are kept no more
+-- challenges wait no more, or channels are kept no more; the seeds of those that are kept stay
 pub record ControllerForgets {Who : Type 0} (h : History Who) : Type 0 where
   pub waits : ℕ → List ℕ → Option (List ℕ)
-  pub keeps : ℕ → List ℕ → Option Channel
+  pub keeps : ℕ → List ℕ → Option Kept
   pub waited : (one : ℕ) (name challenge : List ℕ) → waits one name ≡ Some challenge → h.waits one name ≡ Some challenge
-  pub kept : (one : ℕ) (name : List ℕ) (c : Channel) → keeps one name ≡ Some c → h.keeps one name ≡ Some c
+  pub kept : (one : ℕ) (name : List ℕ) (k : Kept) → keeps one name ≡ Some k → h.keeps one name ≡ Some k
 
 abbrev pub after_forgetting : {Who : Type 0} → (h : History Who) → ControllerForgets h → History Who
 after_forgetting h e = record h { waits = e.waits; keeps = e.keeps }

@@ -2,13 +2,14 @@
 -- answer is taken. So what these events ask for can be so, one after another. Binds, other draws and units, requesters
 -- made anew, and what is lost or forgotten are left out.
 use Rattle.std.specs.Prelude.{ℕ, zero, suc, ◌≡◌, Bool, true, false, List, [], ◌∷◌, Option, Some, None}
-use Rattle.channel_keys.specs.Credentials.{cred_of}
-use Rattle.authenticators.specs.Channels.{Channel, channel_key}
+use Rattle.authenticators.specs.Channels.{Channel}
 use Rattle.authenticators.specs.Sequences.{next_seed}
 use Rattle.channel_client.specs.Effects.{View}
 use Rattle.channel_events.specs.Marks.{Opening, Opened, Calling, ReplyTo}
-use Rattle.channel_events.specs.Sound.{History}
-use Rattle.channel_events.specs.SoundEvents.{AnswerTaken, CallPasses, CallSent, ChannelOpens, Notes, OpeningAccepted, OpeningBegins, OpeningSent, ServerWaits, StaySound, TurnStarts, UnitSent, after_acceptance, after_answer, after_beginning, after_call, after_opening, after_pass, after_standing, after_turn, after_unit, after_waiting, first_history, fresh_view, with_notes}
+use Rattle.channel_events.specs.Requests.{fresh_view}
+use Rattle.channel_events.specs.Seeds.{client_credential}
+use Rattle.channel_events.specs.Sound.{History, Kept, Sound}
+use Rattle.channel_events.specs.SoundEvents.{AnswerTaken, CallPasses, CallSent, ChannelOpens, Notes, OpeningAccepted, OpeningBegins, OpeningSent, ServerWaits, StaySound, TurnStarts, UnitSent, after_acceptance, after_answer, after_beginning, after_call, after_opening, after_pass, after_standing, after_turn, after_unit, after_waiting, first_history, with_notes}
 
 -- ---- one requester, and one channel
 
@@ -50,6 +51,10 @@ of_computer item zero [] = Some item
 of_computer item zero (letter ∷ name) = None
 of_computer item (suc controller) name = None
 
+-- the channel with that seed, which the controller keeps
+abbrev pub kept_with : List ℕ → ℕ → List ℕ → Option Kept
+kept_with seed = of_computer (record { channel = the_channel; seed = seed })
+
 -- ---- how the requester is seen
 
 abbrev pub opening_view : View
@@ -58,14 +63,18 @@ opening_view = record { stands = None; seed = None; opening = Some client_challe
 abbrev pub opened_view : View
 opened_view = record opening_view { call = 3 }
 
+-- the seed before and after the turn's timestamp
 abbrev pub first_credential : List ℕ
-first_credential = cred_of (channel_key the_channel) client_challenge
+first_credential = client_credential the_channel
 
 abbrev pub standing_view : View
 standing_view = record { stands = Some the_channel; seed = Some first_credential; opening = None; asking = None; call = 3 }
 
+abbrev pub moved_seed : List ℕ
+moved_seed = next_seed first_credential 5
+
 abbrev pub turned_view : View
-turned_view = record standing_view { seed = Some (next_seed first_credential 5); call = 4 }
+turned_view = record standing_view { seed = Some moved_seed; call = 4 }
 
 abbrev pub called_view : View
 called_view = record turned_view { asking = Some 4; call = 5 }
@@ -90,7 +99,7 @@ with_opening = with_notes (noted opened_view true 0 [] []) (record with_challeng
 abbrev pub with_acceptance : History ℕ
 with_acceptance = record with_opening {
   waits = λ controller computer. None;
-  keeps = of_computer the_channel;
+  keeps = kept_with first_credential;
   accepted = record { unit = Some 0; channel = the_channel } ∷ [];
 }
 
@@ -112,7 +121,10 @@ with_call = with_notes (noted called_view false 2 (2 ∷ []) (5 ∷ [])) (record
 })
 
 abbrev pub with_pass : History ℕ
-with_pass = record with_call { passed = record { unit = Some 2; channel = the_channel; timestamp = 5 } ∷ [] }
+with_pass = record with_call {
+  keeps = kept_with moved_seed;
+  passed = record { unit = Some 2; channel = the_channel; timestamp = 5 } ∷ [];
+}
 
 abbrev pub with_reply : History ℕ
 with_reply = record with_pass {
@@ -130,12 +142,15 @@ with_answer = with_notes answer_notes with_reply
 abbrev pub with_foreign_acceptance : History ℕ
 with_foreign_acceptance = record with_challenges {
   waits = λ controller computer. None;
-  keeps = of_computer the_channel;
+  keeps = kept_with first_credential;
   accepted = record { unit = None; channel = the_channel } ∷ [];
 }
 
 abbrev pub with_foreign_pass : History ℕ
-with_foreign_pass = record with_foreign_acceptance { passed = record { unit = None; channel = the_channel; timestamp = 5 } ∷ [] }
+with_foreign_pass = record with_foreign_acceptance {
+  keeps = kept_with moved_seed;
+  passed = record { unit = None; channel = the_channel; timestamp = 5 } ∷ [];
+}
 
 -- ---- each comes of the one before it by an event
 
@@ -154,8 +169,20 @@ pub record ExchangeHappens : Type 0 where
   pub foreign_accepted : (e : OpeningAccepted with_challenges) × (after_acceptance with_challenges e ≡ with_foreign_acceptance)
   pub foreign_passes : (e : CallPasses with_foreign_acceptance) × (after_pass with_foreign_acceptance e ≡ with_foreign_pass)
 
+-- ---- the controller's seed
+
+-- While the call is out the controller has the seed before it, and once it passed the seed after it: not the other way
+-- round, though the requester has the seed after it at both times. Nor is it moved twice.
+pub record SeedsAreTold : Type 0 where
+  pub out : Sound with_call
+  pub passed : Sound with_pass
+  pub moved_early : Sound (record with_call { keeps = kept_with moved_seed }) → ⊥
+  pub left_behind : Sound (record with_pass { keeps = kept_with first_credential }) → ⊥
+  pub moved_twice : Sound (record with_pass { keeps = kept_with (next_seed moved_seed 5) }) → ⊥
+
 -- Each event of a channel keeps the facts about channels, of requesters that are told apart by numbers; and such events
--- can follow one another.
+-- can follow one another. The controller's seed is told by them.
 pub record ChannelsStaySound : Type 0 where
   pub events : StaySound ℕ
   pub exchange : ExchangeHappens
+  pub seeds : SeedsAreTold

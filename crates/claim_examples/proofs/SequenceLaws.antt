@@ -20,12 +20,15 @@ use Rattle.domain_controller.specs.Channels.{ChannelState}
 use Rattle.domain_controller.specs.State.{State as ControllerState}
 use Rattle.domain_controller.specs.declared.state.Running.{Running as ControllerRunning}
 use Rattle.channel_events.specs.Marks.{Calling, Mark, Opened, Opening, ReplyTo}
-use Rattle.channel_events.specs.Sound.{Accepted, Holds, Sound, passed_units}
+use Rattle.channel_events.specs.Requests.{Holds}
+use Rattle.channel_events.specs.Seeds.{channel_seed}
+use Rattle.channel_events.specs.Sound.{Accepted, Sound, passed_units}
 use Rattle.step_notes.specs.Records.{Book, blank}
-use Rattle.domain_world.specs.Claims.SharedSequences.{IsBeforeTurn, Keeps, SequencesAreShared, Stands, any_foreign, channel_seed, timestamps_on}
+use Rattle.domain_world.specs.Claims.SharedSequences.{IsBeforeTurn, Keeps, SequencesAreShared, Stands, any_foreign, timestamps_on}
 use Rattle.domain_world.specs.Past.{controller_of}
 use Rattle.claim_examples.specs.ClaimExamples.{OfInStep, OfSequences, OfSoundness, keeping_controller, keeping_running, one_call, one_turn, open_channel, open_member, open_running, passed_from, run_open, seed_after_one, seed_after_two, small_channel, small_computers, small_name, small_seed, small_turn, small_view, small_views, turn_out, two_turns, whole_history, whole_view, world_open}
 use Rattle.channel_events.proofs.ListLaws.{got_nothing, moved_none}
+use Rattle.channel_events.proofs.SameLaws.{same_self}
 
 pub one_apart : {T : Type 0} (R : T → T → Type 0) (x : T) → AllPairs R (x ∷ [])
 one_apart R x i j d before within = absurd (omega arith)
@@ -83,7 +86,7 @@ keeps_small : (turn : Option Pending) (seed other : List ℕ) → Keeps (world_o
 keeps_small turn seed other = record { state = keeping_controller other; running = keeping_running other; at = refl; runs = refl; kept = kept_small other }
 
 pub same_small : SameChannel small_name small_name
-same_small = record { controller = refl; computer = refl; secret = refl; client = refl; server = refl; flags = refl }
+same_small = same_self small_name
 
 -- a run shares its sequence where its one channel does
 pub shares_by : (book : Book) (turn : Option Pending) (seed other timestamps : List ℕ) → timestamps_on 0 small_name book.turns ≡ timestamps → seed ≡ channel_seed small_name timestamps →
@@ -237,16 +240,19 @@ holds_whole v challenge is holds = elim holds.how [
 whole_sound : Sound whole_history
 whole_sound = record {
   draws = one_apart (λ one other. one ≢ other) [];
+  requests = record {
+    made_before = λ unit number timestamp c is. inl (ap Channel.client (calling_whole unit number timestamp c is).2);
+    held_before = λ i v challenge at holds. inl (holds_whole v challenge (view_whole i v at).1 holds);
+    apart = λ i j u v challenge at also holds too. (view_whole i u at).0 ∙ sym (view_whole j v also).0;
+    opening = λ i v unit number timestamp c at opens is. opens_whole v c.client (view_whole i v at).1 opens;
+    numbers = λ i v unit number timestamp c at stands is. omega (arith, (calling_whole unit number timestamp c is).1, ap View.call (view_whole i v at).1);
+    distinct = λ unit other number timestamp later c d is also same. (calling_whole unit number timestamp c is).0 ∙ sym (calling_whole other number later d also).0;
+    calls = λ i v at. omega (arith, ap View.call (view_whole i v at).1);
+  };
   opened_before = λ unit number c is. inl (ap Channel.client (opening_whole unit number c is).2);
-  made_before = λ unit number timestamp c is. inl (ap Channel.client (calling_whole unit number timestamp c is).2);
-  held_before = λ i v challenge at holds. inl (holds_whole v challenge (view_whole i v at).1 holds);
-  apart = λ i j u v challenge at also holds too. (view_whole i u at).0 ∙ sym (view_whole j v also).0;
-  opening = λ i v unit number timestamp c at opens is. opens_whole v c.client (view_whole i v at).1 opens;
   unopened = λ i v unit number c at opens out is. opens_whole v c.client (view_whole i v at).1 opens;
   opening_numbers = λ i v unit number c at holds is. omega (arith, (opening_whole unit number c is).1, ap View.call (view_whole i v at).1);
-  numbers = λ i v unit number timestamp c at stands is. omega (arith, (calling_whole unit number timestamp c is).1, ap View.call (view_whole i v at).1);
   opening_distinct = λ unit other number more c d is also same. (opening_whole unit number c is).0 ∙ sym (opening_whole other more d also).0;
-  distinct = λ unit other number timestamp later c d is also same. (calling_whole unit number timestamp c is).0 ∙ sym (calling_whole other number later d also).0;
   openings = λ unit number request c is.
       let it = opened_whole unit number request c is in (
         subst (λ (r : ℕ). slice_get whole_history.marks r ≡ Some (Opening c number)) it.1 (ap (λ (n : ℕ). Some (Opening small_name n)) it.0 ∙ ap (λ (one : Channel). Some (Opening one number)) it.2),
@@ -266,7 +272,8 @@ whole_sound = record {
   accepted_before = (inl refl, tt);
   waiting_apart = λ controller more computer other server at also. absurd (let none : None ≡ Some server = at in cc);
   waiting_unused = λ controller computer server at one. absurd (let none : None ≡ Some server = at in cc);
-  kept = λ controller computer c at. absurd (let none : None ≡ Some c = at in cc);
+  kept = λ controller computer k at. absurd (let none : None ≡ Some k = at in cc);
+  kept_seeds = λ controller computer k at. absurd (let none : None ≡ Some k = at in cc);
   turns = λ i v number c at stands asks. absurd (let none : None ≡ Some number = ap View.asking (view_whole i v at).1 ∙ asks in cc);
   ends = λ i v c at stands unit ended.
       let is : small_name ≡ c = stands_whole v c (view_whole i v at).1 stands in
@@ -279,13 +286,12 @@ whole_sound = record {
       ];
   seeds = λ i v c at stands.
       sym (ap View.seed (view_whole i v at).1) ∙ ap (λ (one : Channel). Some (channel_seed one (0 ∷ []))) (stands_whole v c (view_whole i v at).1 stands);
-  calls = λ i v at. omega (arith, ap View.call (view_whole i v at).1);
 }
 
 pub of_soundness : OfSoundness
 of_soundness = record {
   meets = whole_sound;
-  fails = λ c sound. absurd (let same : 0 ≡ 1 = sound.distinct 0 1 5 0 0 c c refl refl refl in omega arith);
+  fails = λ c sound. absurd (let same : 0 ≡ 1 = sound.requests.distinct 0 1 5 0 0 c c refl refl refl in omega arith);
   fails_ended = λ sound. absurd (let call = (sound.ends 0 whole_view small_name refl refl 1 (inl refl)).0.2 in cc);
 }
 

@@ -42,6 +42,7 @@ use Rattle.member_server.specs.declared.state.Running.{Running as MemberRunning}
 use Rattle.member_server.specs.declared.state.Logon.{Logon}
 use Rattle.member_server.specs.declared.state.TurnTalk.{TurnTalk}
 use Rattle.channel_events.specs.Marks.{Calling, Mark, Opened, Opening, Plain, ReplyTo}
+use Rattle.channel_events.specs.Seeds.{channel_seed}
 use Rattle.channel_events.specs.Sound.{AreInStep, History, Sound}
 use Rattle.step_notes.specs.ControllerNotes.{channel_with, passing}
 use Rattle.step_notes.specs.Marking.{clashes}
@@ -53,7 +54,7 @@ use Rattle.world_moves.specs.declared.links.Route.TheVariants.{ToController, ToM
 use Rattle.world_moves.specs.declared.plan.Plan.{Plan}
 use Rattle.world_moves.specs.World.{World, first_world}
 use Rattle.domain_world.specs.Claims.{AcceptsAllGranted, AcceptsOnlyGranted, ChallengesServeOnce, IsClear, IsPlainlyAccepted, IsAccepted, KeysAgree, PassesTheNextCredential, ReplaysBySum, ShortResponsesServeOnce, TravelsAsZeros, Wraps, info_asked, taken_answer_on}
-use Rattle.domain_world.specs.Claims.SharedSequences.{SequencesAreShared, channel_seed}
+use Rattle.domain_world.specs.Claims.SharedSequences.{SequencesAreShared}
 use Rattle.domain_world.specs.Past.{Past, note_turn, sent_at, with_answers}
 
 -- ---- a world of one controller, PDC, one member, FILE1, and one user, ann, in which one challenge was drawn

@@ -5,6 +5,7 @@ use Rattle.world_moves.specs.Bag.{AreShortUnits, HaveBytes}
 use Rattle.world_moves.specs.declared.moves.Move.{Move}
 use Rattle.world_moves.specs.declared.plan.Plan.{Plan}
 use Rattle.world_moves.specs.Forms.{IsSchedule}
+use Rattle.domain_world.specs.Accepting.Sequences.{TurnsAreCalled}
 use Rattle.domain_world.specs.Accepting.Units.{UnitsAreHeard}
 use Rattle.domain_world.specs.Claims.{IsClear}
 use Rattle.domain_world.specs.Claims.AskedFor.{MembersAskForMessages, SendsAskForMessages}
@@ -39,13 +40,13 @@ abbrev pub OfSchedules : (Past → Type 0) → Type 0
 OfSchedules Holds =
     (plan : Plan) (moves : List Move) → IsSchedule plan moves → AreShortUnits (past plan moves).world.state.bag → HaveBytes (past plan moves).world.state.bag → Holds (past plan moves)
 
--- where it is clear, the ends of a channel share its sequence
-abbrev pub SharesIfClear : Past → Type 0
-SharesIfClear past = IsClear past.book → SequencesAreShared past
+-- where it is clear
+abbrev pub IfClear : (Past → Type 0) → Past → Type 0
+IfClear Holds past = IsClear past.book → Holds past
 
-pub all_proved : OfRuns LetsInWhoAsked → OfRuns MembersAreWrittenDown → OfRuns MembersAskForMessages → OfRuns SendsAskForMessages → OfSchedules UnitsAreHeard → OfSchedules SharesIfClear → (plan : Plan) (moves : List Move) →
+pub all_proved : OfRuns LetsInWhoAsked → OfRuns MembersAreWrittenDown → OfRuns MembersAskForMessages → OfRuns SendsAskForMessages → OfSchedules UnitsAreHeard → OfSchedules (IfClear SequencesAreShared) → OfSchedules (IfClear TurnsAreCalled) → (plan : Plan) (moves : List Move) →
     AreShortUnits (past plan moves).world.state.bag → HaveBytes (past plan moves).world.state.bag → Proved plan moves
-all_proved let_in written asked sends heard shared plan moves short bytes = record {
+all_proved let_in written asked sends heard shared called plan moves short bytes = record {
   challenges = record { draws = draws_differ plan moves; messages = messages_once plan moves };
   messages = messages_own plan moves (draws_differ plan moves);
   responses = short_responses plan moves (draws_differ plan moves) (draws_are_blocks plan moves);
@@ -67,6 +68,7 @@ all_proved let_in written asked sends heard shared plan moves short bytes = reco
   keys = λ schedule clear. runs_heard.keys plan moves (heard plan moves schedule short bytes) (draws_differ plan moves) clear;
   counts = λ schedule clear. runs_heard.counts plan moves (heard plan moves schedule short bytes) (draws_differ plan moves) clear;
   sequences = λ schedule clear. shared plan moves schedule short bytes clear;
+  called = λ schedule clear. called plan moves schedule short bytes clear;
   marked = each_marked plan moves;
   ways = marks_have_their_way plan moves;
   complete = each_succeeds plan moves;

@@ -5,6 +5,7 @@ use Rattle.world_moves.specs.declared.plan.Plan.{Plan}
 use Rattle.world_moves.specs.Forms.{IsSchedule}
 use Rattle.world_moves.specs.World.{World, first_world, run}
 use Rattle.domain_world.specs.Accepting.Answered.{MarksHaveTheirWay, MessagesAreApart, PassesAreUnclashed}
+use Rattle.domain_world.specs.Accepting.Sequences.{TurnsAreCalled}
 use Rattle.domain_world.specs.Claims.{AcceptsAllGranted, AcceptsOnlyGranted, ChallengesServeOnce, IsClear, KeysAgree, PassesTheNextCredential, ReplaysBySum, ShortResponsesServeOnce, TellsOfCallsAlone}
 use Rattle.domain_world.specs.Claims.AskedFor.{MembersAskForKept, MembersAskForMessages, SendsAskForMessages}
 use Rattle.domain_world.specs.Claims.Completeness.{EachSucceeds}
@@ -20,9 +21,9 @@ use Rattle.domain_world.specs.Claims.WrittenDown.{MembersAreWrittenDown}
 use Rattle.domain_world.specs.Past.{past}
 
 -- What holds of the run of every list of moves from any plan: `claims_hold_of_runs`, and the clause of `drive`. What
--- members accept, how often a count is raised, and what the ends of a channel share, is of schedules that are clear: in
--- them no credential passed on a unit made for another channel or for none, and no seed came round. Of the others
--- `unclashed` alone asks that, of its own passes.
+-- members accept, how often a count is raised, what the ends of a channel share, and which calls turns made, is of
+-- schedules that are clear: in them no credential passed on a unit made for another channel or for none, and no seed
+-- came round. Of the others `unclashed` alone asks that, of its own passes.
 pub record Proved (plan : Plan) (moves : List Move) : Type 0 where
   -- challenges, and the messages that are made for them
   pub challenges : ChallengesServeOnce (past plan moves)
@@ -49,8 +50,10 @@ pub record Proved (plan : Plan) (moves : List Move) : Type 0 where
   pub all : IsSchedule plan moves → IsClear (past plan moves).book → AcceptsAllGranted (past plan moves)
   pub keys : IsSchedule plan moves → IsClear (past plan moves).book → KeysAgree (past plan moves)
   pub counts : IsSchedule plan moves → IsClear (past plan moves).book → EachCallRaisesOnce (past plan moves)
-  -- the ends of a channel share its sequence
+  -- the ends of a channel share its sequence, and the calls on it are those of its turns: the request of each turn that
+  -- ended passed, and at most one turn is out
   pub sequences : IsSchedule plan moves → IsClear (past plan moves).book → SequencesAreShared (past plan moves)
+  pub called : IsSchedule plan moves → IsClear (past plan moves).book → TurnsAreCalled (past plan moves)
   -- the units of the bag, and which way they go
   pub marked : EachUnitIsMarked (past plan moves)
   pub ways : MarksHaveTheirWay (past plan moves)

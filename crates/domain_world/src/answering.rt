@@ -11,7 +11,7 @@ ghost use Rattle.domain_world.specs.Accepting.Carried.{CarriedCallsAreHeard, Jud
 ghost use Rattle.domain_world.specs.Accepting.KeysMade.{KeysAreFoundAsMade, MessagesAreMade, MessagesAreTakenAsSent};
 ghost use Rattle.domain_world.specs.Accepting.ReadBack.{OutcomesAreReadBack, RepliesAreReadBack, TurnsAreHeard};
 ghost use Rattle.domain_world.specs.Accepting.Runs.{IsQuiet, RunsBegin, RunsStandSo};
-ghost use Rattle.domain_world.specs.Accepting.Sequences.{CallsAreStamped, SequencesFollow, TakenCallsPass};
+ghost use Rattle.domain_world.specs.Accepting.Sequences.{CallsAreStamped, SequencesFollow, TakenCallsPass, TurnsAreCalled};
 ghost use Rattle.domain_world.specs.Accepting.Units.{RunsAreHeard, UnitsAreHeard};
 ghost use Rattle.domain_world.specs.Claims.{AcceptsAllGranted, AcceptsOnlyGranted, IsClear, KeysAgree, ShortResponsesServeOnce};
 ghost use Rattle.domain_world.specs.Claims.SharedSequences.{SequencesAreOwn, SequencesAreShared};
@@ -254,12 +254,17 @@ pub fn taken_calls_pass()
 
 /// In every schedule that is clear, where the controller of a member's plan keeps the member's open channel and no call
 /// from outside passed on it, the controller's seed is the member's, or with a turn out the one before that turn
-/// (MS-NRPC 3.1.4.5).
+/// (MS-NRPC 3.1.4.5). The calls that were made on a member's open channel are those of its turns there, in order: the
+/// request of each turn that ended passed, and at most one turn is out.
 pub fn sequences_are_shared()
-    ensures { (plan : Plan) (moves : List Move) → IsSchedule plan moves →
+    ensures shared { (plan : Plan) (moves : List Move) → IsSchedule plan moves →
         AreShortUnits (past plan moves).world.state.bag →
         HaveBytes (past plan moves).world.state.bag → IsClear (past plan moves).book →
         SequencesAreShared (past plan moves) }
+    ensures called { (plan : Plan) (moves : List Move) → IsSchedule plan moves →
+        AreShortUnits (past plan moves).world.state.bag →
+        HaveBytes (past plan moves).world.state.bag → IsClear (past plan moves).book →
+        TurnsAreCalled (past plan moves) }
 {
     // As of `answers_are_taken_in_turn` and `sequences_follow`.
     in_is_told_of_a_granted_logon();

@@ -12,7 +12,7 @@ use Rattle.channel_client.specs.declared.state.Question.TheVariants as question
 use Rattle.channel_client.specs.declared.state.Step.{Step}
 use Rattle.channel_client.specs.declared.state.Step.TheVariants as step
 use Rattle.channel_events.specs.Marks.{Calling, Opening, Plain}
-use Rattle.channel_events.specs.SoundEvents.{fresh_view}
+use Rattle.channel_events.specs.Requests.{fresh_view}
 use Rattle.step_notes.specs.ChannelNames.{passed_note}
 use Rattle.step_notes.specs.MemberNotes.{TurnNote, no_note, request_note, taking_note}
 

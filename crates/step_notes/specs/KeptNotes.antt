@@ -1,6 +1,6 @@
--- What a controller keeps of computers, as `SoundEvents` sees it, and how each call changes it (MS-NRPC 3.5.4.4.1,
--- 3.5.4.4.3, 3.5.4.5.3). So what is asked there of a server's challenge that waits, of an opening that is accepted and
--- of what is forgotten can be had from the controller's own step.
+-- What a controller keeps of computers, as `SoundEvents` sees it but for the seeds, and how each call changes it
+-- (MS-NRPC 3.5.4.4.1, 3.5.4.4.3, 3.5.4.5.3). So what is asked there of a server's challenge that waits, of an opening
+-- that is accepted and of what is forgotten can be had from the controller's own step.
 use Rattle.std.specs.Prelude.{ℕ, ◌≡◌, ◌⊎◌, Bool, true, false, List, Option, Some, None}
 use Rattle.wire_base.specs.Maps.{IsMap, lookup}
 use Rattle.wire_base.specs.Names.{SameName, same_name}

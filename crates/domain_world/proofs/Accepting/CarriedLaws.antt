@@ -26,8 +26,8 @@ use Rattle.domain_world.specs.Claims.{HasController}
 use Rattle.domain_world.specs.Claims.Replies.{IsReplyOfOne, RepliesCarryTheirJudgement}
 use Rattle.domain_world.specs.Past.{Past}
 use Rattle.channel_events.proofs.ListLaws.{some_is}
+use Rattle.channel_events.proofs.SameLaws.{one_channel}
 use Rattle.domain_world.proofs.Accepting.PlacedLaws.{all_at, all_by_place, placed}
-use Rattle.domain_world.proofs.Judgements.MovedLaws.{one_channel}
 
 -- ---- bytes are those of one whole unit alone
 

@@ -1,10 +1,10 @@
 -- How far the authenticators that passed on a channel moved its seed.
 -- It serves `carried_calls_are_heard`, `controllers_grant_who_may_log_on`, `replays_pass_by_sum` and 5 more.
-use Rattle.std.proofs.Common.{◌≡◌, ℕ, ◌+◌, Bool, true, false, List, [], ◌∷◌, ◌++◌, Option, Some, None, refl, sym, ap, ◌∙◌, arith}
+use Rattle.std.proofs.Common.{◌≡◌, ℕ, ◌+◌, Bool, true, false, List, [], ◌∷◌, ◌++◌, Option, Some, None, refl, ap, ◌∙◌, arith}
 use Rattle.wire_base.specs.Maps.{lookup}
 use Rattle.wire_base.specs.Names.{same_name}
 use Rattle.authenticators.specs.Channels.{Channel, SameChannel, same_channel}
-use Rattle.authenticators.proofs.ChannelLaws.{same_channel-Decides}
+use Rattle.channel_events.proofs.SameLaws.{fails_so, found_same, one_channel}
 use Rattle.domain_controller.specs.Channels.{ChannelState}
 use Rattle.domain_controller.specs.declared.state.Computers.{Computers}
 use Rattle.step_notes.specs.ControllerNotes.{channel_by, channel_in, channel_with, has_passed}
@@ -12,56 +12,12 @@ use Rattle.step_notes.specs.Judged.{channel_if, passed_channel}
 use Rattle.step_notes.specs.Marking.{is_channel}
 use Rattle.step_notes.specs.Records.{Judging}
 use Rattle.domain_world.specs.Claims.{moved_if, moved_on, passed_on, timestamp_of}
-use Rattle.step_notes.proofs.Controllers.ComputerLaws.{same_tests}
 
--- ---- tests
-
-fails_so : (test : Bool) → (test ≡ true → ⊥) → test ≡ false
-fails_so true none = absurd (none refl)
-fails_so false none = refl
-
--- ---- channels that are one
-
-pub same_back : (one other : Channel) → SameChannel one other → SameChannel other one
-same_back one other same = record {
-  controller = sym same.controller;
-  computer = sym same.computer;
-  secret = sym same.secret;
-  client = sym same.client;
-  server = sym same.server;
-  flags = sym same.flags;
-}
-
-pub same_on : (one other third : Channel) → SameChannel one other → SameChannel other third → SameChannel one third
-same_on one other third first second = record {
-  controller = first.controller ∙ second.controller;
-  computer = first.computer ∙ second.computer;
-  secret = first.secret ∙ second.secret;
-  client = first.client ∙ second.client;
-  server = first.server ∙ second.server;
-  flags = first.flags ∙ second.flags;
-}
-
-same_self : (one : Channel) → SameChannel one one
-same_self one = record { controller = refl; computer = refl; secret = refl; client = refl; server = refl; flags = refl }
-
-pub one_channel : (one other : Channel) → same_channel one other ≡ true → SameChannel one other
-one_channel one other is = (same_channel-Decides one other).0 is
-
-pub itself : (one : Channel) → same_channel one one ≡ true
-itself one = (same_channel-Decides one one).1 (same_self one)
-
-found_same : (found one other : Channel) → SameChannel one other → same_channel found one ≡ same_channel found other
-found_same found one other same =
-    same_tests (same_channel found one) (same_channel found other)
-    (λ is. (same_channel-Decides found other).1 (same_on found one other (one_channel found one is) same))
-    (λ is. (same_channel-Decides found one).1 (same_on found other one (one_channel found other is) (same_back one other same)))
+-- ---- how far a seed moved
 
 on_same : (found : Option Channel) (one other : Channel) → SameChannel one other → is_channel found one ≡ is_channel found other
 on_same None one other same = refl
 on_same (Some found) one other same = found_same found one other same
-
--- ---- how far a seed moved
 
 -- it is that of the channel, whatever the case of its computer's name
 pub moved_same : (one other : Channel) → SameChannel one other → (judgings : List Judging) → moved_on one judgings ≡ moved_on other judgings

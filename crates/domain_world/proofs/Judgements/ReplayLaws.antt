@@ -42,10 +42,11 @@ use Rattle.world_moves.specs.World.{first_controllers, first_world}
 use Rattle.domain_world.specs.Claims.{ReplaysBySum, moved_if, moved_on, passed_on, timestamp_of}
 use Rattle.domain_world.specs.Past.{Coming, controller_of, note_at, note_client, note_controller, note_member, note_messages, numbers_on, past}
 use Rattle.channel_events.proofs.ListLaws.{moved_none, moved_one}
+use Rattle.channel_events.proofs.SameLaws.{one_channel}
 use Rattle.step_notes.proofs.Members.RestLaws.{client_leaves_rest, member_leaves}
 use Rattle.domain_world.proofs.Frames.FrameLaws.{Fact, HoldsAfter, HoldsIn, IsQuiet, Stays, StaysWritten, run_stays}
 use Rattle.domain_world.proofs.Judgements.JudgedLaws.{AreRight, judged_rightly}
-use Rattle.domain_world.proofs.Judgements.MovedLaws.{found_in, moved_append, moved_same, one_channel}
+use Rattle.domain_world.proofs.Judgements.MovedLaws.{found_in, moved_append, moved_same}
 use Rattle.domain_world.proofs.Judgements.SeedLaws.{AreApart, AreKept, AreMoved, AreUnheard, IsMovedIn}
 use Rattle.domain_world.proofs.Judgements.SeedStepLaws.{AreKeptIf, SeedsFollow, bytes_follow, controller_put, drawn_follow, quiet_follow}
 use Rattle.domain_world.proofs.Judgements.ToldLaws.{IsNoBytes, turns_judged}

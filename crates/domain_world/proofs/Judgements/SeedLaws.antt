@@ -23,6 +23,7 @@ use Rattle.logon_stubs.specs.declared.calls.AuthCall.{AuthCall}
 use Rattle.logon_stubs.specs.declared.calls.LogonCall.{LogonCall}
 use Rattle.logon_stubs.specs.declared.info.NetworkInfo.{NetworkInfo}
 use Rattle.account_table.specs.declared.account.Account.{Account}
+use Rattle.channel_events.proofs.SameLaws.{itself}
 use Rattle.domain_controller.specs.Channels.{ChannelState, channel_by, key_of_channel, passes_on, return_by}
 use Rattle.domain_controller.specs.Laws.{KeepsComputer}
 use Rattle.domain_controller.specs.Machine.{Desk, answer_logon, channel_for, desk, judge_account, judge_channel, judge_offer, judge_pair, judge_return, open_channel, put_channel, put_pair_if, take_channel, take_pair}
@@ -38,7 +39,7 @@ use Rattle.step_notes.specs.Records.{Judging, timestamp_in}
 use Rattle.domain_world.specs.Claims.{moved_if, moved_on, passed_on, timestamp_of}
 use Rattle.step_notes.proofs.Controllers.ComputerLaws.{lookup_named, return_computers, taken_none}
 use Rattle.step_notes.proofs.Controllers.JudgedStepLaws.{told_first}
-use Rattle.domain_world.proofs.Judgements.MovedLaws.{itself, moved_past, moved_same, not_passed, passed_in}
+use Rattle.domain_world.proofs.Judgements.MovedLaws.{moved_past, moved_same, not_passed, passed_in}
 
 -- ---- what is known
 

@@ -20,6 +20,7 @@ use Rattle.channel_client.specs.Opened.{OpenState}
 use Rattle.channel_client.specs.declared.state.Standing.{Standing}
 use Rattle.channel_client.specs.declared.state.Step.{Step}
 use Rattle.channel_client.specs.declared.state.Step.TheVariants as step
+use Rattle.channel_events.specs.Seeds.{channel_seed}
 use Rattle.channel_events.proofs.ListLaws.{some_is}
 use Rattle.logon_stubs.specs.declared.calls.Call.TheVariants as call
 use Rattle.member_server.specs.Dials.{TurnsAreDialled}
@@ -44,7 +45,7 @@ use Rattle.world_moves.specs.Links.{is_accepted_by, kind_of}
 use Rattle.world_moves.specs.Moving.{renew}
 use Rattle.world_moves.specs.Ends.{EndStates, renew_client, renew_controller, renew_member, with_client, with_member}
 use Rattle.world_moves.specs.World.{first_world}
-use Rattle.domain_world.specs.Claims.SharedSequences.{SequencesAreOwn, Stands, channel_seed, timestamps_on}
+use Rattle.domain_world.specs.Claims.SharedSequences.{SequencesAreOwn, Stands, timestamps_on}
 use Rattle.domain_world.specs.Past.{controller_of, controller_of_plan, past, running_in, turns_by, turns_in}
 use Rattle.domain_world.proofs.Challenges.MessageOnceLaws.{set_cases}
 use Rattle.domain_world.proofs.Frames.DrawnRunLaws.{draws_differ}

@@ -5,11 +5,8 @@ use Rattle.std.proofs.Common.{◌≡◌, ℕ, ◌+◌, Bool, true, false, List, 
 use Rattle.std.specs.List.{AllByRecursion}
 use Rattle.std.proofs.lemmas.List.{append-nil, map-append}
 use Rattle.std.proofs.lemmas.List.Elements.{filter-append}
-use Rattle.authenticators.specs.Channels.{Channel, channel_key, same_channel}
-use Rattle.authenticators.specs.Sequences.{add_to, moved_by, next_seed}
-use Rattle.authenticators.proofs.SeedLaws.{add_to-add_to, add_to-zero}
-use Rattle.channel_keys.specs.Credentials.{cred_of}
-use Rattle.channel_keys.proofs.CredLaws.{IsBlock-cred_of}
+use Rattle.authenticators.specs.Channels.{Channel, same_channel}
+use Rattle.authenticators.specs.Sequences.{moved_by}
 use Rattle.channel_client.specs.declared.caller.Caller.{Caller}
 use Rattle.channel_client.specs.declared.state.Pending.{Pending}
 use Rattle.channel_client.specs.declared.state.Standing.{Standing}
@@ -24,15 +21,15 @@ use Rattle.channel_client.specs.Machine.{ask_of, can_start, hear, judge, lose_of
 use Rattle.channel_client.specs.State.{Requester}
 use Rattle.channel_client.proofs.EffectLaws.{steps_have_effects}
 use Rattle.channel_events.specs.RequestSteps.{IsFreshIf, drawn_if}
-use Rattle.channel_events.specs.Requests.{IsDrawn}
-use Rattle.channel_events.specs.Sound.{Holds}
+use Rattle.channel_events.specs.Requests.{Holds, IsDrawn}
+use Rattle.channel_events.specs.Seeds.{channel_seed}
+use Rattle.channel_events.proofs.ChannelSeedLaws.{first_seed, next_is}
 use Rattle.channel_events.proofs.ListLaws.{all_weaker, moved_none, moved_one, some_is}
+use Rattle.channel_events.proofs.SameLaws.{itself, one_channel}
 use Rattle.member_server.specs.Dials.{ComesUnstarted, IsNoStart}
 use Rattle.member_server.specs.Laws.{Asks, Doing, Loses, Starts, Takes, state_after}
 use Rattle.step_notes.specs.MemberNotes.{turn_of}
 use Rattle.step_notes.specs.Records.{LogonTurn}
-use Rattle.domain_world.specs.Claims.SharedSequences.{channel_seed}
-use Rattle.domain_world.proofs.Judgements.MovedLaws.{itself, one_channel}
 
 -- ---- turns
 
@@ -141,11 +138,8 @@ module _ (own : List LogonTurn) (drawn : List (List ℕ)) where
         seed = λ d is.
             let same : c ≡ d = some_is c d (sym stands ∙ is) in
             let none : stamps_on c own ≡ [] = none_on c own (turned.fresh c.client change.0) in
-            let base : List ℕ = cred_of (channel_key c) c.client in
             ap (λ (w : View). w.seed) change.1
-            ∙ ap Some (sym (add_to-zero base (IsBlock-cred_of (channel_key c) c.client)))
-            ∙ ap (λ (n : ℕ). Some (add_to base n)) (sym moved_none)
-            ∙ ap (λ (stamps : List ℕ). Some (channel_seed c stamps)) (sym none)
+            ∙ ap Some (first_seed c (stamps_on c own) none)
             ∙ ap (λ (x : Channel). Some (channel_seed x (stamps_on x own))) same;
       }
 
@@ -236,14 +230,11 @@ module _ (own : List LogonTurn) (drawn : List (List ℕ)) where
         fresh = λ challenge is. absurd (let x : None ≡ Some challenge = sym opening ∙ is in cc);
         seed = λ d is.
             let same : c ≡ d = some_is c d (sym change.1 ∙ sym stands ∙ is) in
-            let base : List ℕ = cred_of (channel_key c) c.client in
             let stamps : List ℕ = stamps_on c own in
             let before : change.0 ≡ channel_seed c stamps = some_is change.0 (channel_seed c stamps) (sym change.2 ∙ turned.seed c change.1) in
             ap (λ (w : View). w.seed) change.4
-            ∙ ap (λ (x : List ℕ). Some (next_seed x turn.timestamp)) before
-            ∙ ap Some (add_to-add_to base (moved_by stamps) (turn.timestamp + 1))
-            ∙ ap (λ (n : ℕ). Some (add_to base n)) (sym (moved_last stamps turn.timestamp))
-            ∙ ap (λ (all : List ℕ). Some (channel_seed c all)) (sym (stamps_last c turn refl))
+            ∙ ap Some (next_is c change.0 turn.timestamp stamps (stamps_on c (own ++ turn ∷ [])) before
+            (omega (arith, ap moved_by (stamps_last c turn refl), moved_last stamps turn.timestamp)))
             ∙ ap (λ (x : Channel). Some (channel_seed x (stamps_on x (own ++ turn ∷ [])))) same;
       }
 

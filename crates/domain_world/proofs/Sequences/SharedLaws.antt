@@ -7,15 +7,17 @@ use Rattle.std.specs.List.{AllByRecursion}
 use Rattle.std.specs.Prelude.{◌||◌}
 use Rattle.std.proofs.lemmas.List.{map-append}
 use Rattle.rpc_units.specs.declared.unit.Unit.{Unit as RpcUnit}
-use Rattle.authenticators.specs.Channels.{Channel, SameChannel, channel_key}
+use Rattle.authenticators.specs.Channels.{Channel, SameChannel}
 use Rattle.authenticators.specs.Sequences.{add_to, moved_by}
-use Rattle.authenticators.proofs.ChannelLaws.{channel_key-same, same_channel-Decides}
-use Rattle.channel_keys.specs.Credentials.{cred_of}
+use Rattle.authenticators.proofs.ChannelLaws.{same_channel-Decides}
 use Rattle.channel_client.specs.declared.state.Pending.{Pending}
-use Rattle.domain_controller.specs.Channels.{ChannelState, key_of_channel}
+use Rattle.domain_controller.specs.Channels.{ChannelState}
 use Rattle.domain_controller.specs.declared.state.Running.{Running as ControllerRunning}
 use Rattle.channel_events.specs.Marks.{Mark, OneOf, Plain, Opening, Opened, Calling, ReplyTo}
+use Rattle.channel_events.specs.Seeds.{channel_seed, client_credential}
+use Rattle.channel_events.proofs.ChannelSeedLaws.{same_credential}
 use Rattle.channel_events.proofs.ListLaws.{moved_none, moved_one, one_weaker, one_with, some_is}
+use Rattle.channel_events.proofs.SameLaws.{one_channel, same_back}
 use Rattle.member_server.specs.Dials.{TurnsAreDialled}
 use Rattle.member_server.specs.Laws.{AsksWhatWaits}
 use Rattle.step_notes.specs.ControllerNotes.{channel_with, has_passed}
@@ -32,7 +34,7 @@ use Rattle.domain_world.proofs.Requests.MarkWayLaws.{marks_have_their_way}
 use Rattle.domain_world.specs.Accepting.Carried.{IsAsMarked, IsJudgedAsCarried, IsNoLogon, IsPlain, IsWholeAsMarked, JudgedAsCarried, MarkedUnitsAreWhole, call_carried}
 use Rattle.domain_world.specs.Accepting.Sequences.{HavePassed, CallsAreStamped, CallsOfTurns, HasPassed, IsMadeOn, IsPassedIn, SequencesFollow, TakenCallsPass, TurnsAreCalled, stamps_of}
 use Rattle.domain_world.specs.Claims.{IsClear, moved_on, passed_on, same_unit, timestamp_of}
-use Rattle.domain_world.specs.Claims.SharedSequences.{IsBeforeTurn, Keeps, SequencesAreOwn, SequencesAreShared, any_foreign, channel_seed, is_foreign, timestamps_on}
+use Rattle.domain_world.specs.Claims.SharedSequences.{IsBeforeTurn, Keeps, SequencesAreOwn, SequencesAreShared, any_foreign, is_foreign, timestamps_on}
 use Rattle.domain_world.specs.Past.{Past, past}
 use Rattle.domain_world.proofs.Accepting.AnsweredLaws.{AreInUnit, IsMade, StandsFor, both_true, channel_there, in_unit, made_at, no_twice, passed_of, right_at, unit_same}
 use Rattle.domain_world.proofs.Accepting.AnsweredRunLaws.{is_proved}
@@ -40,7 +42,7 @@ use Rattle.domain_world.proofs.Accepting.CarriedLaws.{answered as taken_answered
 use Rattle.domain_world.proofs.Accepting.UnitLaws.{heard_in}
 use Rattle.domain_world.proofs.Sequences.OwnRunLaws.{sequences_own}
 use Rattle.domain_world.proofs.Accepting.PlacedLaws.{Placed, all_at, placed}
-use Rattle.domain_world.proofs.Judgements.MovedLaws.{moved_same, one_channel, same_back}
+use Rattle.domain_world.proofs.Judgements.MovedLaws.{moved_same}
 use Rattle.domain_world.proofs.Frames.DrawnRunLaws.{draws_differ}
 use Rattle.domain_world.proofs.Judgements.ReplayLaws.{on_if, seeds_kept}
 use Rattle.domain_world.proofs.Judgements.SeedStepLaws.{AreKeptIf, SeedsFollow}
@@ -184,7 +186,7 @@ module _ (past : Past) (known : IsProved past) (heard : AnswersAreHeard past) (c
   -- ---- so far the seed moved
 
   abbrev base : List ℕ
-  base = cred_of (channel_key channel) channel.client
+  base = client_credential channel
 
   front_each : (some more : List (ℕ × ℕ)) → AllByRecursion (λ (one : ℕ × ℕ). IsMadeOn past channel one.0 one.1) (some ++ more) →
       AllByRecursion (λ (one : ℕ × ℕ). IsMadeOn past channel one.0 one.1) some
@@ -240,7 +242,7 @@ module _ (past : Past) (known : IsProved past) (heard : AnswersAreHeard past) (c
 -- ---- a controller's seed
 
 kept_seed : (p : Past) (controller : ℕ) (computer : List ℕ) (c : ChannelState) (left : List (List ℕ)) → SeedsFollow p.book.judged left p.world.state.ends.controllers →
-    (keeps : Keeps p.world.state controller computer c) → c.seed ≡ add_to (cred_of (key_of_channel c) c.client) (moved_on (channel_with controller computer c) p.book.judged)
+    (keeps : Keeps p.world.state controller computer c) → c.seed ≡ add_to (client_credential (channel_with controller computer c)) (moved_on (channel_with controller computer c) p.book.judged)
 kept_seed p controller computer c left follow keeps =
     let kept = subst (λ (r : Option ControllerRunning). AreKeptIf p.book.judged left controller r) keeps.runs (follow.each controller keeps.state keeps.at) in
     ((kept.each computer).channels c keeps.kept).0
@@ -251,10 +253,9 @@ sequence_shared p known heard clear units judged stamped called own left follow 
   own = λ channel o stands. own member channel o stands;
   other = λ channel o c stands keeps same none.
       let kept : Channel = channel_with channel.controller channel.computer c in
-      let seed : c.seed ≡ add_to (cred_of (channel_key channel) channel.client) (moved_on channel p.book.judged) =
+      let seed : c.seed ≡ add_to (client_credential channel) (moved_on channel p.book.judged) =
       kept_seed p channel.controller channel.computer c left follow keeps
-      ∙ ap₂ (λ (key client : List ℕ). add_to (cred_of key client) (moved_on kept p.book.judged)) (channel_key-same kept channel same) same.client
-      ∙ ap (λ (n : ℕ). add_to (cred_of (channel_key channel) channel.client) n) (moved_same kept channel same p.book.judged) in
+      ∙ ap₂ add_to (same_credential kept channel same) (moved_same kept channel same p.book.judged) in
       its_seed p known heard clear units judged stamped channel stands.turn (timestamps_on member channel p.book.turns) (called member channel o stands) none c.seed o.seed seed
       (own member channel o stands);
 }

@@ -4,13 +4,12 @@ use Rattle.std.specs.Prelude.{ℕ, ◌≡◌, ◌⊎◌, ◌==◌, ◌&&◌, Boo
 use Rattle.std.specs.List.{list_any}
 use Rattle.wire_base.specs.Maps.{lookup}
 use Rattle.wire_base.specs.Names.{same_name}
-use Rattle.channel_keys.specs.Credentials.{cred_of}
-use Rattle.authenticators.specs.Channels.{Channel, SameChannel, channel_key, same_channel}
-use Rattle.authenticators.specs.Sequences.{add_to, moved_by}
+use Rattle.authenticators.specs.Channels.{Channel, SameChannel, same_channel}
 use Rattle.channel_client.specs.Effects.{channel_of}
 use Rattle.channel_client.specs.Opened.{OpenState}
 use Rattle.channel_client.specs.declared.state.Standing.TheVariants as standing
 use Rattle.channel_client.specs.declared.state.Pending.{Pending}
+use Rattle.channel_events.specs.Seeds.{channel_seed}
 use Rattle.domain_controller.specs.Channels.{ChannelState}
 use Rattle.domain_controller.specs.State.{State as ControllerState}
 use Rattle.domain_controller.specs.declared.state.Running.{Running as ControllerRunning}
@@ -31,11 +30,6 @@ is_turn_on member channel turn = (turn.member == member) && same_channel turn.ch
 -- the timestamps of its turns on the channel, in order
 abbrev pub timestamps_on : ℕ → Channel → List LogonTurn → List ℕ
 timestamps_on member channel turns = map (λ (turn : LogonTurn). turn.timestamp) (filter (is_turn_on member channel) turns)
-
--- the seed of a channel after authenticators with these timestamps: the client's credential moved by the sum of each
--- plus one
-abbrev pub channel_seed : Channel → List ℕ → List ℕ
-channel_seed channel timestamps = add_to (cred_of (channel_key channel) channel.client) (moved_by timestamps)
 
 -- a turn is out, and this is the seed before its timestamp, the last one
 pub record IsBeforeTurn (turn : Option Pending) (seed : List ℕ) (channel : Channel) (timestamps : List ℕ) : Type 0 where
@@ -79,17 +73,19 @@ any_foreign channel judgings = list_any (λ (j : Judging). is_foreign channel j.
 
 -- The seed of a member's open channel is the client's credential moved by the timestamps of its Logon turns on that
 -- channel, each plus one: the first part of the claim, which speaks of the member alone.
-abbrev pub SequencesAreOwn : Past → Type 0
-SequencesAreOwn past =
-    (member : ℕ) (channel : Channel) (o : OpenState) → Stands past.world.state member channel o →
+abbrev pub SequenceIsOwn : Past → ℕ → Type 0
+SequenceIsOwn past member =
+    (channel : Channel) (o : OpenState) → Stands past.world.state member channel o →
     o.seed ≡ channel_seed channel (timestamps_on member channel past.book.turns)
 
--- The seed of a member's open channel is the client's credential moved by the timestamps of its Logon turns on that
--- channel, each plus one. Where the controller of its plan has the same channel, and no authenticator from outside
+-- each member's is
+abbrev pub SequencesAreOwn : Past → Type 0
+SequencesAreOwn past = (member : ℕ) → SequenceIsOwn past member
+
+-- Its sequence is its own so. Where the controller of its plan has the same channel, and no authenticator from outside
 -- passed on it, the controller's seed is the member's, or with a turn out the one before that turn.
 pub record SequenceIsShared (past : Past) (member : ℕ) : Type 0 where
-  pub own : (channel : Channel) (o : OpenState) → Stands past.world.state member channel o →
-      o.seed ≡ channel_seed channel (timestamps_on member channel past.book.turns)
+  pub own : SequenceIsOwn past member
   pub other : (channel : Channel) (o : OpenState) (c : ChannelState) → (stands : Stands past.world.state member channel o) →
       Keeps past.world.state channel.controller channel.computer c →
       SameChannel (channel_with channel.controller channel.computer c) channel →

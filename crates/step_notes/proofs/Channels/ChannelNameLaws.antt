@@ -9,7 +9,7 @@ use Rattle.wire_base.specs.Names.{same_name}
 use Rattle.wire_base.specs.declared.authenticator.Authenticator.{Authenticator}
 use Rattle.wire_base.proofs.MapLaws.{lookup-put_same, put_others, taken_others}
 use Rattle.wire_base.proofs.NameLaws.{IsSameness-same_name}
-use Rattle.authenticators.specs.Channels.{Channel, SameChannel}
+use Rattle.authenticators.specs.Channels.{Channel}
 use Rattle.authenticators.proofs.ChannelLaws.{same_channel-Decides}
 use Rattle.ntlm_flags.specs.Flags.{has_flag}
 use Rattle.channel_keys.specs.Credentials.{cred_of}
@@ -61,6 +61,7 @@ use Rattle.domain_controller.specs.declared.state.Pending.{Pending as Pair}
 use Rattle.domain_controller.specs.declared.state.Talk.{Talk}
 use Rattle.domain_controller.specs.declared.state.Work.{Work}
 use Rattle.channel_events.specs.Marks.{Calling, Opening}
+use Rattle.channel_events.proofs.SameLaws.{same_self}
 use Rattle.step_notes.specs.ChannelNames.{AreFramesOf, CallsAreNamedAlike, ChallengesAreShared, ChannelsAreNamedAlike, ChannelsStandAsAsked, ExchangesHaveNoClash, Expects, HasChannel, IsOfOther, OpeningsAreNamedAlike, OwnUnitsAreNoClash, StandsOrGoes, WillAsk, WillCall, WillOpen, frames_sent, opened_call, opened_unit, channel_marked, passed_note, place_answered, standing_channel}
 use Rattle.step_notes.specs.ControllerNotes.{Answered, channel_by, channel_in, channel_with, has_passed, judging_by, opened_account, opened_by, opened_if, opened_offer, opened_pair, opening, passing}
 use Rattle.step_notes.specs.Marking.{clashes, is_channel}
@@ -685,13 +686,10 @@ own_units channel other unit sent is same =
 
 -- ---- no clash
 
-same_itself : (channel : Channel) → SameChannel channel channel
-same_itself channel = record { controller = refl; computer = refl; secret = refl; client = refl; server = refl; flags = refl }
-
 -- a credential passes on the channel that the unit was made for
 own_passes : (channel : Channel) (number : Option ℕ) (sent : List Sent) → channel_marked number sent ≡ Some channel → clashes (Some channel) number sent ≡ false
 own_passes channel None sent is = refl
-own_passes channel (Some unit) sent is = own_units channel channel unit sent is (same_itself channel)
+own_passes channel (Some unit) sent is = own_units channel channel unit sent is (same_self channel)
 
 opened_clear : (controller : ℕ) (s : Requester) (taking : Taking) (client server : List ℕ) (number : Option ℕ) (sent : List Sent) → s.standing ≡ standing.Half client server → IsOpenedAsAsked controller s taking →
     channel_marked number sent ≡ Some (half_channel controller s client server) → clashes (taking_note (Some taking) controller s).checked number sent ≡ false
