@@ -1,0 +1,137 @@
+-- Near misses of the claim on sequences (this project's own choice): runs that differ in one thing from one that meets
+-- it. Seeds are written by the ciphers of MS-NRPC 3.1.4.4 and 3.1.4.5 and not by the claim's own words, so that a claim
+-- on another seed is told apart.
+use Rattle.std.specs.Prelude.{ℕ, List, [], ◌∷◌, replicate, Option, Some, None, codes}
+use Rattle.outside.specs.declared.action.Judged.TheVariants as judged
+use Rattle.channel_keys.specs.Credentials.{cred_of}
+use Rattle.channel_keys.specs.SessionKeys.{key_of}
+use Rattle.authenticators.specs.Channels.{Channel}
+use Rattle.authenticators.specs.Sequences.{add_to}
+use Rattle.channel_client.specs.Opened.{OpenState}
+use Rattle.channel_client.specs.declared.state.Pending.{Pending}
+use Rattle.channel_client.specs.declared.state.Standing.TheVariants as standing
+use Rattle.domain_controller.specs.Channels.{ChannelState}
+use Rattle.domain_controller.specs.State.{State as ControllerState}
+use Rattle.member_server.specs.State.{State as MemberState}
+use Rattle.member_server.specs.declared.plan.MemberPlan.{MemberPlan}
+use Rattle.member_server.specs.declared.state.Running.{Running as MemberRunning}
+use Rattle.step_notes.specs.ControllerNotes.{channel_with}
+use Rattle.step_notes.specs.Records.{Book, Judging, LogonTurn, blank}
+use Rattle.world_moves.specs.World.{World}
+use Rattle.domain_world.specs.Claims.SharedSequences.{SequencesAreOwn, SequencesAreShared}
+use Rattle.domain_world.specs.Past.{Past}
+use Rattle.claim_examples.specs.ClaimExamples.{elsewhere, judged_as, on_channel, open_channel, open_member, open_running, run_in, run_open, small_challenge, small_channel, small_member, small_name, small_seed, small_table, small_world, turn_out}
+
+-- ---- a channel with challenges of 8 bytes
+
+abbrev pub server_challenge : List ℕ
+server_challenge = replicate 8 8
+
+abbrev pub channel_secret : List ℕ
+channel_secret = replicate 16 5
+
+abbrev pub open_whole : List ℕ → OpenState
+open_whole seed =
+    record { secret = channel_secret; client = small_challenge; server = server_challenge; flags = 3; seed = seed; awaited = None }
+
+abbrev pub kept_whole : List ℕ → ChannelState
+kept_whole seed = record { secret = channel_secret; client = small_challenge; server = server_challenge; flags = 3; seed = seed }
+
+abbrev pub whole_name : Channel
+whole_name = channel_with 0 (codes "FILE1") (kept_whole [])
+
+-- the client's credential, moved so far
+abbrev pub moved_seed : ℕ → List ℕ
+moved_seed moved = add_to (cred_of (key_of channel_secret small_challenge server_challenge 3) small_challenge) moved
+
+-- ---- worlds and books
+
+-- the ends, and the plans of the members
+abbrev pub world_by : List MemberPlan → List MemberState → List ControllerState → World
+world_by plans members controllers =
+    let w : World = small_world in
+    record w {
+      state = record w.state {
+        ends = record w.state.ends { members = members; controllers = controllers };
+        member_plans = plans;
+      };
+    }
+
+-- the member's channel is this one, and this turn is out
+abbrev pub member_on : Option Pending → OpenState → MemberState
+member_on turn o =
+    let running : MemberRunning = open_running turn [] in
+    record {
+      running = Some (record running {
+        logons = record running.logons { channel = record running.logons.channel { standing = standing.Open o } };
+      });
+    }
+
+-- the controller keeps that channel, under that name
+abbrev pub controller_on : List ℕ → ChannelState → ControllerState
+controller_on name c = record {
+  table = small_table;
+  name = codes "PDC";
+  running = Some (record { computers = record { pending = []; channels = (name, c) ∷ [] }; links = [] });
+}
+
+-- one member and one controller
+abbrev pub run_by : Book → Option Pending → OpenState → List ℕ → ChannelState → Past
+run_by book turn o name c =
+    run_in (world_by (small_member ∷ []) (member_on turn o ∷ []) (controller_on name c ∷ [])) book
+
+-- both ends of the channel with these seeds
+abbrev pub run_whole : Book → Option Pending → List ℕ → List ℕ → Past
+run_whole book turn seed other = run_by book turn (open_whole seed) (codes "FILE1") (kept_whole other)
+
+abbrev pub turn_at : ℕ → Channel → ℕ → LogonTurn
+turn_at member channel timestamp = record { member = member; channel = channel; timestamp = timestamp }
+
+-- the member had turns on the channel with the timestamps 5 and 7; between them are one of another member, and one on
+-- another channel
+abbrev pub mixed_turns : Book
+mixed_turns = record blank {
+  turns = turn_at 0 whole_name 5 ∷ turn_at 1 whole_name 100 ∷ turn_at 0 small_name 200 ∷ turn_at 0 whole_name 7 ∷ [];
+}
+
+-- a call came from outside
+abbrev pub judged_outside : Judging → Book
+judged_outside j = record blank { judged = record j { unit = None } ∷ [] }
+
+-- two members, of which the second has that seed
+abbrev pub run_second : List ℕ → Past
+run_second seed =
+    run_in
+    (world_by (small_member ∷ small_member ∷ []) (open_member None small_seed ∷ open_member None seed ∷ [])
+    (controller_on (codes "FILE1") (small_channel small_seed) ∷ []))
+    blank
+
+-- the member's controller is the second one, which has that seed
+abbrev pub run_other : List ℕ → Past
+run_other seed =
+    run_in
+    (world_by (record small_member { controller = 1 ∷ [] } ∷ []) (open_member None small_seed ∷ [])
+    (controller_on (codes "FILE1") (small_channel small_seed) ∷ controller_on (codes "FILE1") (small_channel seed) ∷ []))
+    blank
+
+-- ---- the claim
+
+-- Shared sequences: both seeds are the client's credential moved by 5 and 7, each plus one, and so by 14. With a turn
+-- out the controller's may be moved by 6; not by 8, which leaves the other turn out, and the member's own not by 12. A
+-- controller that keeps another channel is passed over. The claim isn't met where the seed of the second member is
+-- another, or that of a second controller, or of a channel that is kept under the name in other letters; nor where
+-- seeds differ and a call from outside was barred, or passed on another channel.
+pub record OfSequenceMisses : Type 0 where
+  pub alike : SequencesAreShared (run_whole mixed_turns None (moved_seed 14) (moved_seed 14))
+  pub behind : SequencesAreShared (run_whole mixed_turns (Some turn_out) (moved_seed 14) (moved_seed 6))
+  pub fails_first : SequencesAreShared (run_whole mixed_turns (Some turn_out) (moved_seed 14) (moved_seed 8)) → ⊥
+  pub fails_out : SequencesAreShared (run_whole mixed_turns (Some turn_out) (moved_seed 12) (moved_seed 12)) → ⊥
+  pub other_channel : SequencesAreShared (run_by mixed_turns None (open_whole (moved_seed 14)) (codes "FILE1") (record (kept_whole []) { server = [] }))
+  pub fails_second : SequencesAreShared (run_second (1 ∷ [])) → ⊥
+  pub fails_controller : SequencesAreShared (run_other (1 ∷ [])) → ⊥
+  pub fails_name : SequencesAreShared (run_by blank None (open_channel small_seed) (codes "file1") (small_channel (1 ∷ []))) → ⊥
+  pub fails_barred : SequencesAreShared (run_open (judged_outside (judged_as judged.Barred (on_channel 0))) None small_seed (1 ∷ [])) → ⊥
+  pub fails_elsewhere : SequencesAreShared (run_open (judged_outside (elsewhere (on_channel 0))) None small_seed (1 ∷ [])) → ⊥
+  -- of the member alone: whatever the controller has
+  pub own : SequencesAreOwn (run_whole mixed_turns None (moved_seed 14) [])
+  pub fails_own : SequencesAreOwn (run_whole mixed_turns None (moved_seed 12) []) → ⊥
