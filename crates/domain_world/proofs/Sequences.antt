@@ -5,6 +5,7 @@ pub mod CallTurnLaws
 pub mod CalledLaws
 pub mod DialCountLaws
 pub mod DialWalkLaws
+pub mod OneTurnLaws
 pub mod OwnCarryLaws
 pub mod OwnEndLaws
 pub mod OwnFrameLaws

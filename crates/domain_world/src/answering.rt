@@ -11,10 +11,10 @@ ghost use Rattle.domain_world.specs.Accepting.Carried.{CarriedCallsAreHeard, Jud
 ghost use Rattle.domain_world.specs.Accepting.KeysMade.{KeysAreFoundAsMade, MessagesAreMade, MessagesAreTakenAsSent};
 ghost use Rattle.domain_world.specs.Accepting.ReadBack.{OutcomesAreReadBack, RepliesAreReadBack, TurnsAreHeard};
 ghost use Rattle.domain_world.specs.Accepting.Runs.{IsQuiet, RunsBegin, RunsStandSo};
-ghost use Rattle.domain_world.specs.Accepting.Sequences.{CallsAreStamped, SequencesFollow, TakenCallsPass};
+ghost use Rattle.domain_world.specs.Accepting.Sequences.{CallsAreStamped, SequencesFollow, TakenCallsPass, TurnsAreCalled};
 ghost use Rattle.domain_world.specs.Accepting.Units.{RunsAreHeard, UnitsAreHeard};
 ghost use Rattle.domain_world.specs.Claims.{AcceptsAllGranted, AcceptsOnlyGranted, IsClear, KeysAgree, ShortResponsesServeOnce};
-ghost use Rattle.domain_world.specs.Claims.SharedSequences.{SequencesAreOwn, SequencesAreShared};
+ghost use Rattle.domain_world.specs.Claims.SharedSequences.{OneTurnIsOut, SequencesAreOwn, SequencesAreShared};
 ghost use Rattle.domain_world.specs.Past.{Past, past};
 
 use channel_events::{calls_stay_apart, requesters_keep_calls_apart};
@@ -252,6 +252,34 @@ pub fn taken_calls_pass()
     ensures { TakenCallsPass }
 {}
 
+/// After every run at most one turn is out at each member (this project's own choice): one of its dials waits at most,
+/// which is that of the turn, and then no link of a turn is open.
+pub fn members_have_one_turn_out()
+    ensures { (plan : Plan) (moves : List Move) → OneTurnIsOut (past plan moves) }
+{
+    // As of `sequences_are_own`.
+    what_is_kept_waits();
+    turns_are_dialled();
+}
+
+/// In every schedule that is clear the calls that were made on a member's open channel are those of its Logon turns
+/// there, in their order and with their timestamps, each in a unit of its own. Each passed but for one that is out.
+pub fn turns_are_called()
+    ensures { (plan : Plan) (moves : List Move) → IsSchedule plan moves →
+        AreShortUnits (past plan moves).world.state.bag →
+        HaveBytes (past plan moves).world.state.bag → IsClear (past plan moves).book →
+        TurnsAreCalled (past plan moves) }
+{
+    // As of `answers_are_taken_in_turn`, and how a member's turns start.
+    in_is_told_of_a_granted_logon();
+    requesters_keep_calls_apart();
+    calls_stay_apart();
+    channel_steps_are_known();
+    what_is_kept_waits();
+    turns_are_dialled();
+    schedules_are_heard();
+}
+
 /// In every schedule that is clear, where the controller of a member's plan keeps the member's open channel and no call
 /// from outside passed on it, the controller's seed is the member's, or with a turn out the one before that turn
 /// (MS-NRPC 3.1.4.5).
@@ -261,12 +289,9 @@ pub fn sequences_are_shared()
         HaveBytes (past plan moves).world.state.bag → IsClear (past plan moves).book →
         SequencesAreShared (past plan moves) }
 {
-    // As of `answers_are_taken_in_turn` and `sequences_follow`.
-    in_is_told_of_a_granted_logon();
-    requesters_keep_calls_apart();
-    calls_stay_apart();
-    channel_steps_are_known();
+    // As of `sequences_follow`.
     what_is_kept_waits();
     turns_are_dialled();
     schedules_are_heard();
+    turns_are_called();
 }

@@ -2,6 +2,4 @@ use Rattle.domain_world.proofs.Sequences.SharedRunLaws.{sequences_shared}
 use Rattle.domain_world.proofs.answering.sequences_are_shared.Goals as goal
 
 pub returns : goal.returns
-returns c =
-    sequences_shared c.in_is_told_of_a_granted_logon.ensures c.requesters_keep_calls_apart.ensures c.calls_stay_apart.ensures c.channel_steps_are_known.ensures c.turns_are_dialled.ensures
-    c.what_is_kept_waits.ensures c.schedules_are_heard.ensures
+returns c = sequences_shared c.turns_are_dialled.ensures c.what_is_kept_waits.ensures c.schedules_are_heard.ensures c.turns_are_called.ensures
