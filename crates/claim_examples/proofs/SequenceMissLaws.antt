@@ -1,6 +1,6 @@
--- Near misses of the claim on sequences.
+-- Near misses of the claim on sequences, and of what it rests on.
 -- It serves `sequences_tell_apart`.
-use Rattle.std.proofs.Common.{◌≡◌, ℕ, zero, suc, true, false, List, [], ◌∷◌, ◌++◌, inl, inr, Option, Some, None, refl, sym, ap, ◌∙◌, subst, arith, slice_get}
+use Rattle.std.proofs.Common.{◌≡◌, ℕ, zero, suc, true, false, List, [], ◌∷◌, ◌++◌, length, inl, inr, Option, Some, None, refl, sym, ap, ◌∙◌, subst, arith, slice_get}
 use Rattle.std.specs.Prelude.{◌%◌, ◌^◌, codes, ◌⊎◌}
 use Rattle.wire_base.specs.Maps.{lookup}
 use Rattle.wire_base.specs.Names.{same_name}
@@ -19,13 +19,18 @@ use Rattle.domain_controller.specs.State.{State as ControllerState}
 use Rattle.domain_controller.specs.declared.state.Running.{Running as ControllerRunning}
 use Rattle.member_server.specs.State.{State as MemberState}
 use Rattle.member_server.specs.declared.state.Running.{Running as MemberRunning}
-use Rattle.step_notes.specs.ControllerNotes.{channel_with}
-use Rattle.step_notes.specs.Records.{Book, blank}
-use Rattle.domain_world.specs.Claims.SharedSequences.{IsBeforeTurn, Keeps, SequencesAreOwn, SequencesAreShared, Stands, any_foreign, channel_seed, timestamps_on}
-use Rattle.domain_world.specs.Past.{controller_of}
-use Rattle.claim_examples.specs.ClaimExamples.{elsewhere, judged_as, on_channel, open_channel, open_member, open_running, run_open, small_channel, small_member, small_name, small_seed, turn_out}
-use Rattle.claim_examples.specs.SequenceMisses.{OfSequenceMisses, controller_on, judged_outside, kept_whole, member_on, mixed_turns, moved_seed, open_whole, run_by, run_other, run_second, run_whole, whole_name, world_by}
-use Rattle.claim_examples.proofs.SequenceLaws.{no_turn, not_one_byte, same_small, shared_small}
+use Rattle.channel_events.specs.Marks.{Calling, OneOf}
+use Rattle.channel_events.proofs.ListLaws.{one_weaker}
+use Rattle.step_notes.specs.ControllerNotes.{channel_with, has_passed}
+use Rattle.step_notes.specs.Records.{Book, Judging, LogonTurn, Sent, blank}
+use Rattle.world_moves.specs.declared.links.EndId.TheVariants.{Member, Client}
+use Rattle.world_moves.specs.declared.state.State.{State}
+use Rattle.domain_world.specs.Accepting.Sequences.{AreSoFar, CallsOfTurns, HavePassed, IsPassedIn, TurnsAreCalled, stamps_of}
+use Rattle.domain_world.specs.Claims.SharedSequences.{HasOneTurnOut, IsBeforeTurn, Keeps, SequencesAreOwn, SequencesAreShared, Stands, any_foreign, channel_seed, dials_of, timestamps_on}
+use Rattle.domain_world.specs.Past.{controller_of, sent_at}
+use Rattle.claim_examples.specs.ClaimExamples.{elsewhere, judged_as, on_channel, one_turn, open_channel, open_member, open_running, run_open, seed_after_one, small_channel, small_member, small_name, small_seed, small_turn, turn_out}
+use Rattle.claim_examples.specs.SequenceMisses.{OfCalls, OfOneTurn, OfSequenceMisses, SequencesTellApart, called_once, controller_on, judged_outside, kept_whole, member_on, mixed_turns, moved_seed, open_whole, run_by, run_dials, run_other, run_second, run_small, run_whole, whole_name, world_by}
+use Rattle.claim_examples.proofs.SequenceLaws.{no_turn, not_one_byte, one_stamp, same_small, shared_small}
 
 -- ---- one member, whose channel stands
 
@@ -197,7 +202,7 @@ none_here = refl
 abbrev second_name : Channel
 second_name = record small_name { controller = 1 }
 
-pub of_sequence_misses : OfSequenceMisses
+of_sequence_misses : OfSequenceMisses
 of_sequence_misses = record {
   alike = shares_by mixed_turns None (open_whole (moved_seed 14)) (codes "FILE1") (kept_whole (moved_seed 14)) (5 ∷ 7 ∷ []) whole_stamps whole_seed
       (λ d found same none. inl (kept_as (moved_seed 14) d found));
@@ -242,3 +247,97 @@ of_sequence_misses = record {
       ∙ ap (λ (all : List ℕ). channel_seed whole_name all) whole_stamps ∙ sym whole_seed in
       absurd (omega (arith, seeds_apart 12 14 is));
 }
+
+-- ---- one turn at a time
+
+the_running : (turn : Option Pending) (o : OpenState) (member : ℕ) (m : MemberState) (running : MemberRunning) → slice_get (member_on turn o ∷ []) member ≡ Some m → m.running ≡ Some running →
+    (member ≡ 0) × (running_on turn o ≡ running)
+the_running turn o member m running there runs =
+    let one = one_member turn o member m there in
+    let is : Some (running_on turn o) ≡ Some running = ap MemberState.running one.1 ∙ runs in
+    (one.0, cc)
+
+abbrev idle : MemberRunning
+idle = running_on None (open_channel small_seed)
+
+of_one_turn : OfOneTurn
+of_one_turn = record {
+  meets = λ member m running there runs.
+      let it = the_running None (open_channel small_seed) member m running there runs in
+      let s : State = (run_dials (Member 1 ∷ Client 0 ∷ [])).world.state in
+      let none : length (dials_of 0 s.dials) ≡ 0 = refl in
+      subst (λ (r : MemberRunning). HasOneTurnOut s member r) it.1
+      (subst (λ (k : ℕ). HasOneTurnOut s k idle) (sym it.0) (record { out = refl; few = omega (arith, none); waits = λ some. absurd (omega (arith, none, some)) }));
+  fails_two = λ claim.
+      let two : length (dials_of 0 (run_dials (Member 0 ∷ Client 0 ∷ Member 0 ∷ [])).world.state.dials) ≡ 2 = refl in
+      absurd (omega (arith, two, (claim 0 (member_on None (open_channel small_seed)) idle refl refl).few));
+  fails_idle = λ claim.
+      let one : length (dials_of 0 (run_dials (Member 0 ∷ [])).world.state.dials) ≡ 1 = refl in
+      (claim 0 (member_on None (open_channel small_seed)) idle refl refl).waits (omega (arith, one));
+  fails_undialled = λ claim.
+      absurd (let never : true ≡ false = (claim 0 (member_on (Some turn_out) (open_channel small_seed)) (running_on (Some turn_out) (open_channel small_seed)) refl refl).out in cc);
+}
+
+-- ---- the calls of turns
+
+abbrev o_small : OpenState
+o_small = open_channel seed_after_one
+
+abbrev stands_small : (book : Book) (turn : Option Pending) → Stands (run_small book turn).world.state 0 small_name o_small
+stands_small book turn = record { state = member_on turn o_small; running = running_on turn o_small; at = refl; runs = refl; open_so = refl; is = refl; turn = turn; is_turn = refl }
+
+-- the calls of the one channel are those of all
+calls_by : (book : Book) (turn : Option Pending) → CallsOfTurns (run_small book turn) small_name turn (timestamps_on 0 small_name book.turns) → TurnsAreCalled (run_small book turn)
+calls_by book turn calls member channel o stands =
+    let it = the_channel book turn o_small (codes "FILE1") (small_channel seed_after_one) member channel o stands in
+    subst (λ (k : ℕ). CallsOfTurns (run_small book turn) channel stands.turn (timestamps_on k channel book.turns)) (sym it.0)
+    (subst (λ (one : Channel). CallsOfTurns (run_small book turn) one stands.turn (timestamps_on 0 one book.turns)) (sym it.1)
+    (subst (λ (t : Option Pending). CallsOfTurns (run_small book turn) small_name t (timestamps_on 0 small_name book.turns)) (sym it.3) calls))
+
+-- the one call is that of unit 0
+only_call : (n number timestamp : ℕ) (sent : Sent) (other : Channel) → slice_get (sent_at 0 (Calling small_name 3 0) ∷ []) n ≡ Some sent → sent.mark ≡ Calling other number timestamp → OneOf (λ (one : ℕ × ℕ). one.0 ≡ n) ((0, 0) ∷ [])
+only_call zero number timestamp sent other there mark = inl refl
+only_call (suc n) number timestamp sent other there mark = absurd (let none : None ≡ Some sent = there in cc)
+
+once : (judged : List Judging) (turn : Option Pending) → AreSoFar (run_small (called_once judged) turn) turn ((0, 0) ∷ []) (0 ∷ []) →
+    CallsOfTurns (run_small (called_once judged) turn) small_name turn (timestamps_on 0 small_name (called_once judged).turns)
+once judged turn far = record {
+  made = (0, 0) ∷ [];
+  each = (record { sent = sent_at 0 (Calling small_name 3 0); there = refl; number = 3; mark = refl }, tt);
+  apart = (tt, tt);
+  every = λ n number timestamp sent other there mark client. only_call n number timestamp sent other there mark;
+  far = subst (λ (stamps : List ℕ). AreSoFar (run_small (called_once judged) turn) turn ((0, 0) ∷ []) stamps) (sym one_stamp) far;
+}
+
+-- where no turn is out, each call passed; so there is one that passed
+one_passed : (book : Book) → book.turns ≡ small_turn ∷ [] → TurnsAreCalled (run_small book None) → OneOf (λ (j : Judging). has_passed j.how ≡ true) book.judged
+one_passed book turns claim =
+    let calls : CallsOfTurns (run_small book None) small_name None (timestamps_on 0 small_name book.turns) = claim 0 small_name o_small (stands_small book None) in
+    let stamps : timestamps_on 0 small_name book.turns ≡ 0 ∷ [] = ap (λ (all : List LogonTurn). timestamps_on 0 small_name all) turns ∙ one_stamp in
+    elim calls.far [
+      | inl quiet ↦ its_call calls.made (sym stamps ∙ quiet.0) quiet.1
+      | inr rest ↦ elim rest [
+        | inl bind ↦ absurd (let none : None ≡ Some bind.pending = bind.is_out in cc)
+        | inr out ↦ absurd (let none : None ≡ Some out.pending = out.is_out in cc)
+      ]
+    ]
+  where
+    its_call : (made : List (ℕ × ℕ)) → 0 ∷ [] ≡ stamps_of made → HavePassed (run_small book None) made → OneOf (λ (j : Judging). has_passed j.how ≡ true) book.judged
+    its_call [] is passed = absurd cc
+    its_call (one ∷ made) is passed = one_weaker (IsPassedIn one.0) (λ (j : Judging). has_passed j.how ≡ true) book.judged (λ j so. so.0) passed.0
+
+of_calls : OfCalls
+of_calls = record {
+  meets = calls_by (called_once (record (on_channel 0) { unit = Some 0 } ∷ [])) None (once (record (on_channel 0) { unit = Some 0 } ∷ []) None (inl (refl, (inl (refl, refl), tt))));
+  out = calls_by (called_once []) (Some turn_out)
+      (once [] (Some turn_out) (inr (inr (record { pending = turn_out; is_out = refl; earlier = []; last = (0, 0); split = refl; all = refl; passed = tt }))));
+  fails_unjudged = λ claim. one_passed (called_once []) refl claim;
+  fails_barred = λ claim. elim (one_passed (called_once (record (judged_as judged.Barred (on_channel 0)) { unit = Some 0 } ∷ [])) refl claim) [
+    | inl never ↦ absurd (let is : false ≡ true = never in cc)
+    | inr none ↦ none
+  ];
+  fails_uncalled = λ claim. one_passed one_turn refl claim;
+}
+
+pub sequences_apart : SequencesTellApart
+sequences_apart = record { shared = of_sequence_misses; one_turn = of_one_turn; calls = of_calls }

@@ -1,7 +1,7 @@
 -- Near misses of the claim on sequences (this project's own choice): runs that differ in one thing from one that meets
 -- it. Seeds are written by the ciphers of MS-NRPC 3.1.4.4 and 3.1.4.5 and not by the claim's own words, so that a claim
 -- on another seed is told apart.
-use Rattle.std.specs.Prelude.{ℕ, List, [], ◌∷◌, replicate, Option, Some, None, codes}
+use Rattle.std.specs.Prelude.{ℕ, List, [], ◌∷◌, map, replicate, Option, Some, None, codes}
 use Rattle.outside.specs.declared.action.Judged.TheVariants as judged
 use Rattle.channel_keys.specs.Credentials.{cred_of}
 use Rattle.channel_keys.specs.SessionKeys.{key_of}
@@ -15,12 +15,16 @@ use Rattle.domain_controller.specs.State.{State as ControllerState}
 use Rattle.member_server.specs.State.{State as MemberState}
 use Rattle.member_server.specs.declared.plan.MemberPlan.{MemberPlan}
 use Rattle.member_server.specs.declared.state.Running.{Running as MemberRunning}
+use Rattle.channel_events.specs.Marks.{Calling}
 use Rattle.step_notes.specs.ControllerNotes.{channel_with}
 use Rattle.step_notes.specs.Records.{Book, Judging, LogonTurn, blank}
+use Rattle.world_moves.specs.declared.links.EndId.{EndId}
+use Rattle.world_moves.specs.declared.links.EndId.TheVariants.{Member, Client}
 use Rattle.world_moves.specs.World.{World}
-use Rattle.domain_world.specs.Claims.SharedSequences.{SequencesAreOwn, SequencesAreShared}
-use Rattle.domain_world.specs.Past.{Past}
-use Rattle.claim_examples.specs.ClaimExamples.{elsewhere, judged_as, on_channel, open_channel, open_member, open_running, run_in, run_open, small_challenge, small_channel, small_member, small_name, small_seed, small_table, small_world, turn_out}
+use Rattle.domain_world.specs.Accepting.Sequences.{TurnsAreCalled}
+use Rattle.domain_world.specs.Claims.SharedSequences.{OneTurnIsOut, SequencesAreOwn, SequencesAreShared}
+use Rattle.domain_world.specs.Past.{Past, sent_at}
+use Rattle.claim_examples.specs.ClaimExamples.{elsewhere, judged_as, on_channel, one_turn, open_channel, open_member, open_running, run_in, run_open, small_challenge, small_channel, small_member, small_name, small_seed, small_table, small_world, seed_after_one, turn_out}
 
 -- ---- a channel with challenges of 8 bytes
 
@@ -135,3 +139,48 @@ pub record OfSequenceMisses : Type 0 where
   -- of the member alone: whatever the controller has
   pub own : SequencesAreOwn (run_whole mixed_turns None (moved_seed 14) [])
   pub fails_own : SequencesAreOwn (run_whole mixed_turns None (moved_seed 12) []) → ⊥
+
+-- ---- one turn at a time
+
+-- these dials wait
+abbrev pub run_dials : List EndId → Past
+run_dials ends =
+    let run : Past = run_by blank None (open_channel small_seed) (codes "FILE1") (small_channel small_seed) in
+    record run {
+      world = record run.world {
+        state = record run.world.state { dials = map (λ (end : EndId). record { end = end; peer = [] }) ends };
+      };
+    }
+
+-- One turn is out: dials of others don't count; not where two dials of the member wait, where one does for which no
+-- turn waits, or where a turn is out that wasn't dialled.
+pub record OfOneTurn : Type 0 where
+  pub meets : OneTurnIsOut (run_dials (Member 1 ∷ Client 0 ∷ []))
+  pub fails_two : OneTurnIsOut (run_dials (Member 0 ∷ Client 0 ∷ Member 0 ∷ [])) → ⊥
+  pub fails_idle : OneTurnIsOut (run_dials (Member 0 ∷ [])) → ⊥
+  pub fails_undialled : OneTurnIsOut (run_by blank (Some turn_out) (open_channel small_seed) (codes "FILE1") (small_channel small_seed)) → ⊥
+
+-- ---- the calls of turns
+
+-- one turn, whose call went out in unit 0; and that call was judged so
+abbrev pub called_once : List Judging → Book
+called_once judged = record one_turn { sent = sent_at 0 (Calling small_name 3 0) ∷ []; judged = judged }
+
+abbrev pub run_small : Book → Option Pending → Past
+run_small book turn = run_by book turn (open_channel seed_after_one) (codes "FILE1") (small_channel seed_after_one)
+
+-- The calls of turns: the call of the one turn passed, or is out. Not where it didn't pass and isn't out, where it was
+-- barred, or where no call went out.
+pub record OfCalls : Type 0 where
+  pub meets : TurnsAreCalled (run_small (called_once (record (on_channel 0) { unit = Some 0 } ∷ [])) None)
+  pub out : TurnsAreCalled (run_small (called_once []) (Some turn_out))
+  pub fails_unjudged : TurnsAreCalled (run_small (called_once []) None) → ⊥
+  pub fails_barred : TurnsAreCalled (run_small (called_once (record (judged_as judged.Barred (on_channel 0)) { unit = Some 0 } ∷ [])) None) → ⊥
+  pub fails_uncalled : TurnsAreCalled (run_small one_turn None) → ⊥
+
+-- ---- all of them
+
+pub record SequencesTellApart : Type 0 where
+  pub shared : OfSequenceMisses
+  pub one_turn : OfOneTurn
+  pub calls : OfCalls

@@ -8,7 +8,7 @@ ghost use Rattle.claim_examples.specs.LetInExamples.{OfLettingIn};
 ghost use Rattle.claim_examples.specs.NearMisses.{NearMissesTellApart};
 ghost use Rattle.claim_examples.specs.OwnChallengeExamples.{OfOwnChallenges};
 ghost use Rattle.claim_examples.specs.ReplyExamples.{OfReplies};
-ghost use Rattle.claim_examples.specs.SequenceMisses.{OfSequenceMisses};
+ghost use Rattle.claim_examples.specs.SequenceMisses.{SequencesTellApart};
 
 use domain_world::{claims_hold_of_runs, members_let_in_who_asked};
 
@@ -57,9 +57,9 @@ pub fn near_misses_tell_apart()
 
 /// The claim on sequences is met by a run whose seeds are written by the standard's ciphers, and not by others, each of
 /// which differs from one that meets it in one thing. So it is of its part on members alone, which holds of every run.
-#[tactic(auto, using(crate::proofs::SequenceMissLaws::of_sequence_misses))]
+#[tactic(auto, using(crate::proofs::SequenceMissLaws::sequences_apart))]
 pub fn sequences_tell_apart()
-    ensures { OfSequenceMisses }
+    ensures { SequencesTellApart }
 {}
 
 /// Of runs that a world made itself: the first logon in a world, of whatever plan, where it is granted, is clear, and

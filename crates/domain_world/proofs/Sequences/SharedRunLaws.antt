@@ -1,5 +1,5 @@
--- In every schedule that is clear the calls on an open channel are those of its turns, and both ends share its sequence.
--- It serves `turns_are_called`, `sequences_are_shared`.
+-- In every schedule that is clear the calls on an open channel are those of its turns, and both ends share its
+-- sequence. It serves `turns_are_called`, `sequences_are_shared`.
 use Rattle.std.proofs.Common.{ℕ, List}
 use Rattle.channel_events.specs.RequestSteps.{RequestersKeepCallsApart}
 use Rattle.channel_events.specs.Requests.{CallsStayApart}

@@ -34,8 +34,8 @@ use Rattle.domain_world.specs.Past.{Past, controller_of}
 abbrev pub dials_of : ℕ → List Waiting → List Waiting
 dials_of member dials = filter (λ (dial : Waiting). same_end dial.end (Member member)) dials
 
--- A turn is out exactly where its dial waits or its link is open. One dial of the member waits at most, which is that of
--- its turn: no link of a turn is open then.
+-- A turn is out exactly where its dial waits or its link is open. One dial of the member waits at most, which is that
+-- of its turn: no link of a turn is open then.
 pub record HasOneTurnOut (s : State) (member : ℕ) (running : MemberRunning) : Type 0 where
   pub out : is_out running.logons.channel ≡ is_dialled running.dialling
   pub few : length (dials_of member s.dials) ≤ 1
