@@ -13,6 +13,7 @@ mod OwnChallengeExampleLaws
 mod ReplyExampleLaws
 mod SequenceLaws
 mod SequenceMissLaws
+mod SharedChannelLaws
 mod TakenOnceLaws
 mod ToldLaws
 mod TurnTrailLaws
