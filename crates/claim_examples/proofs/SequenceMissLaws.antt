@@ -19,17 +19,17 @@ use Rattle.domain_controller.specs.State.{State as ControllerState}
 use Rattle.domain_controller.specs.declared.state.Running.{Running as ControllerRunning}
 use Rattle.member_server.specs.State.{State as MemberState}
 use Rattle.member_server.specs.declared.state.Running.{Running as MemberRunning}
-use Rattle.channel_events.specs.Marks.{Calling, OneOf}
-use Rattle.channel_events.proofs.ListLaws.{one_weaker}
+use Rattle.channel_events.specs.Marks.{Calling, OneOf, ReplyTo}
+use Rattle.channel_events.proofs.ListLaws.{got_nothing, one_weaker, some_is}
 use Rattle.step_notes.specs.ControllerNotes.{channel_with, has_passed}
 use Rattle.step_notes.specs.Records.{Book, Judging, LogonTurn, Sent, blank}
 use Rattle.world_moves.specs.declared.links.EndId.TheVariants.{Member, Client}
 use Rattle.world_moves.specs.declared.state.State.{State}
-use Rattle.domain_world.specs.Accepting.Sequences.{AreSoFar, CallsOfTurns, HavePassed, IsPassedIn, TurnsAreCalled, stamps_of}
+use Rattle.domain_world.specs.Accepting.Sequences.{AnswersCall, AreSoFar, CallsOfTurns, HavePassed, IsPassedIn, TurnsAreCalled, stamps_of}
 use Rattle.domain_world.specs.Claims.SharedSequences.{HasOneTurnOut, IsBeforeTurn, Keeps, SequencesAreOwn, SequencesAreShared, Stands, any_foreign, channel_seed, dials_of, timestamps_on}
 use Rattle.domain_world.specs.Past.{controller_of, sent_at}
 use Rattle.claim_examples.specs.ClaimExamples.{elsewhere, judged_as, on_channel, one_turn, open_channel, open_member, open_running, run_open, seed_after_one, small_channel, small_member, small_name, small_seed, small_turn, turn_out}
-use Rattle.claim_examples.specs.SequenceMisses.{OfCalls, OfOneTurn, OfSequenceMisses, SequencesTellApart, called_once, controller_on, judged_outside, kept_whole, member_on, mixed_turns, moved_seed, open_whole, run_by, run_dials, run_other, run_second, run_small, run_whole, whole_name, world_by}
+use Rattle.claim_examples.specs.SequenceMisses.{OfCalls, OfOneTurn, OfReplyCalls, OfSequenceMisses, SequencesTellApart, called_once, controller_on, empty_unit, judged_outside, kept_whole, member_on, mixed_turns, moved_seed, open_whole, passed_then, replied, run_by, run_dials, run_other, run_second, run_small, run_whole, whole_name, world_by}
 use Rattle.claim_examples.proofs.SequenceLaws.{no_turn, not_one_byte, one_stamp, same_small, shared_small}
 
 -- ---- one member, whose channel stands
@@ -339,5 +339,47 @@ of_calls = record {
   fails_uncalled = λ claim. one_passed one_turn refl claim;
 }
 
+-- ---- replies to calls
+
+the_reply : (n : ℕ) (one : Sent) (channel : Channel) (number request : ℕ) → slice_get (replied 3 (passed_then ∷ [])).book.sent n ≡ Some one → one.mark ≡ ReplyTo channel number request →
+    (1 ≡ n) × (small_name ≡ channel) × (3 ≡ number) × (0 ≡ request)
+the_reply zero one channel number request there mark =
+    let is : Some (sent_at 0 (Calling small_name 3 0)) ≡ Some one = there in
+    absurd (let never : Calling small_name 3 0 ≡ ReplyTo channel number request = ap Sent.mark (some_is (sent_at 0 (Calling small_name 3 0)) one is) ∙ mark in cc)
+the_reply (suc zero) one channel number request there mark =
+    let is : ReplyTo small_name 3 0 ≡ ReplyTo channel number request = ap Sent.mark (some_is (sent_at 0 (ReplyTo small_name 3 0)) one there) ∙ mark in
+    (refl, cc, cc, cc)
+the_reply (suc (suc n)) one channel number request there mark = absurd (got_nothing n one there)
+
+answers_small : AnswersCall (replied 3 (passed_then ∷ [])) small_name 3 0 1
+answers_small = record { sent = sent_at 0 (Calling small_name 3 0); there = refl; named = small_name; timestamp = 0; mark = refl; same = same_small; passed = inl ((refl, refl), refl) }
+
+numbers_alike : (one other : Channel) (number more timestamp later : ℕ) → Calling one number timestamp ≡ Calling other more later → number ≡ more
+numbers_alike one other number more timestamp later is = cc
+
+not_three : ◌≡◌ {A = ℕ} 3 4 → ⊥
+not_three is = absurd (omega (arith, is))
+
+of_reply_calls : OfReplyCalls
+of_reply_calls = record {
+  meets = λ n unit one channel number request bag there mark.
+      let it = the_reply n one channel number request there mark in
+      subst (λ (r : ℕ). AnswersCall (replied 3 (passed_then ∷ [])) channel number r n) it.3
+      (subst (λ (k : ℕ). AnswersCall (replied 3 (passed_then ∷ [])) channel k 0 n) it.2
+      (subst (λ (c : Channel). AnswersCall (replied 3 (passed_then ∷ [])) c 3 0 n) it.1 (subst (λ (m : ℕ). AnswersCall (replied 3 (passed_then ∷ [])) small_name 3 0 m) it.0 answers_small)));
+  fails_number = λ claim.
+      let it : AnswersCall (replied 4 (passed_then ∷ [])) small_name 4 0 1 = claim 1 empty_unit (sent_at 0 (ReplyTo small_name 4 0)) small_name 4 0 refl refl refl in
+      let is : Calling small_name 3 0 ≡ Calling it.named 4 it.timestamp = ap Sent.mark (some_is (sent_at 0 (Calling small_name 3 0)) it.sent it.there) ∙ it.mark in
+      not_three (numbers_alike small_name it.named 3 4 0 it.timestamp is);
+  fails_barred = λ claim. elim (claim 1 empty_unit (sent_at 0 (ReplyTo small_name 3 0)) small_name 3 0 refl refl refl).passed [
+    | inl so ↦ absurd (let never : false ≡ true = so.0.0 in cc)
+    | inr none ↦ none
+  ];
+  fails_elsewhere = λ claim. elim (claim 1 empty_unit (sent_at 0 (ReplyTo small_name 3 0)) small_name 3 0 refl refl refl).passed [
+    | inl so ↦ absurd (let two : Some 2 ≡ Some 1 = so.1 in cc)
+    | inr none ↦ none
+  ];
+}
+
 pub sequences_apart : SequencesTellApart
-sequences_apart = record { shared = of_sequence_misses; one_turn = of_one_turn; calls = of_calls }
+sequences_apart = record { shared = of_sequence_misses; one_turn = of_one_turn; calls = of_calls; replies = of_reply_calls }

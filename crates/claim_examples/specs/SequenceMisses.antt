@@ -1,7 +1,7 @@
 -- Near misses of the claim on sequences (this project's own choice): runs that differ in one thing from one that meets
 -- it. Seeds are written by the ciphers of MS-NRPC 3.1.4.4 and 3.1.4.5 and not by the claim's own words, so that a claim
 -- on another seed is told apart.
-use Rattle.std.specs.Prelude.{ℕ, List, [], ◌∷◌, map, replicate, Option, Some, None, codes}
+use Rattle.std.specs.Prelude.{ℕ, true, List, [], ◌∷◌, map, replicate, Option, Some, None, codes}
 use Rattle.outside.specs.declared.action.Judged.TheVariants as judged
 use Rattle.channel_keys.specs.Credentials.{cred_of}
 use Rattle.channel_keys.specs.SessionKeys.{key_of}
@@ -15,16 +15,18 @@ use Rattle.domain_controller.specs.State.{State as ControllerState}
 use Rattle.member_server.specs.State.{State as MemberState}
 use Rattle.member_server.specs.declared.plan.MemberPlan.{MemberPlan}
 use Rattle.member_server.specs.declared.state.Running.{Running as MemberRunning}
-use Rattle.channel_events.specs.Marks.{Calling}
+use Rattle.channel_events.specs.Marks.{Calling, ReplyTo}
 use Rattle.step_notes.specs.ControllerNotes.{channel_with}
 use Rattle.step_notes.specs.Records.{Book, Judging, LogonTurn, blank}
+use Rattle.world_moves.specs.declared.bag.BagUnit.{BagUnit}
 use Rattle.world_moves.specs.declared.links.EndId.{EndId}
 use Rattle.world_moves.specs.declared.links.EndId.TheVariants.{Member, Client}
+use Rattle.world_moves.specs.declared.links.LinkKind.TheVariants as kind
 use Rattle.world_moves.specs.World.{World}
-use Rattle.domain_world.specs.Accepting.Sequences.{TurnsAreCalled}
+use Rattle.domain_world.specs.Accepting.Sequences.{RepliesAnswerCalls, TurnsAreCalled}
 use Rattle.domain_world.specs.Claims.SharedSequences.{OneTurnIsOut, SequencesAreOwn, SequencesAreShared}
 use Rattle.domain_world.specs.Past.{Past, sent_at}
-use Rattle.claim_examples.specs.ClaimExamples.{elsewhere, judged_as, on_channel, one_turn, open_channel, open_member, open_running, run_in, run_open, small_challenge, small_channel, small_member, small_name, small_seed, small_table, small_world, seed_after_one, turn_out}
+use Rattle.claim_examples.specs.ClaimExamples.{elsewhere, judged_as, on_channel, one_turn, open_channel, open_member, open_running, run_in, run_open, small_challenge, small_channel, small_member, small_name, small_run, small_seed, small_table, small_world, seed_after_one, turn_out}
 
 -- ---- a channel with challenges of 8 bytes
 
@@ -178,9 +180,31 @@ pub record OfCalls : Type 0 where
   pub fails_barred : TurnsAreCalled (run_small (called_once (record (judged_as judged.Barred (on_channel 0)) { unit = Some 0 } ∷ [])) None) → ⊥
   pub fails_uncalled : TurnsAreCalled (run_small one_turn None) → ⊥
 
+-- ---- replies to calls
+
+-- unit 0 was made as a call, and unit 1 as the reply to a call of that number in unit 0; the call was judged so
+abbrev pub empty_unit : BagUnit
+empty_unit = record { bytes = []; link = 0; kind = kind.ToController; back = true; is_settled = true }
+
+abbrev pub replied : ℕ → List Judging → Past
+replied number judged =
+    let run : Past = small_run (record blank { sent = sent_at 0 (Calling small_name 3 0) ∷ sent_at 0 (ReplyTo small_name number 0) ∷ []; judged = judged }) in
+    record run { world = record run.world { state = record run.world.state { bag = empty_unit ∷ empty_unit ∷ [] } } }
+
+abbrev pub passed_then : Judging
+passed_then = record (on_channel 0) { unit = Some 0; reply = Some 1 }
+
+-- Replies to calls: not where the number is another, the call was barred, or its reply is another unit.
+pub record OfReplyCalls : Type 0 where
+  pub meets : RepliesAnswerCalls (replied 3 (passed_then ∷ []))
+  pub fails_number : RepliesAnswerCalls (replied 4 (passed_then ∷ [])) → ⊥
+  pub fails_barred : RepliesAnswerCalls (replied 3 (judged_as judged.Barred passed_then ∷ [])) → ⊥
+  pub fails_elsewhere : RepliesAnswerCalls (replied 3 (record passed_then { reply = Some 2 } ∷ [])) → ⊥
+
 -- ---- all of them
 
 pub record SequencesTellApart : Type 0 where
   pub shared : OfSequenceMisses
   pub one_turn : OfOneTurn
   pub calls : OfCalls
+  pub replies : OfReplyCalls

@@ -19,6 +19,7 @@ pub mod OwnTakenLaws
 pub mod OwnTurnLaws
 pub mod OwnWalkLaws
 pub mod OwnWholeLaws
+pub mod ReplyCallLaws
 pub mod SeedTurnLaws
 pub mod SharedLaws
 pub mod SharedRunLaws

@@ -1,6 +1,6 @@
 //! What a run's answers rest on.
 
-ghost use Rattle.std.specs.Prelude.{List};
+ghost use Rattle.std.specs.Prelude.{◌≡◌, false, List};
 ghost use Rattle.world_moves.specs.declared.moves.Move.{Move};
 ghost use Rattle.world_moves.specs.declared.plan.Plan.{Plan};
 ghost use Rattle.world_moves.specs.Bag.{AreShortUnits, HaveBytes};
@@ -11,7 +11,7 @@ ghost use Rattle.domain_world.specs.Accepting.Carried.{CarriedCallsAreHeard, Jud
 ghost use Rattle.domain_world.specs.Accepting.KeysMade.{KeysAreFoundAsMade, MessagesAreMade, MessagesAreTakenAsSent};
 ghost use Rattle.domain_world.specs.Accepting.ReadBack.{OutcomesAreReadBack, RepliesAreReadBack, TurnsAreHeard};
 ghost use Rattle.domain_world.specs.Accepting.Runs.{IsQuiet, RunsBegin, RunsStandSo};
-ghost use Rattle.domain_world.specs.Accepting.Sequences.{CallsAreStamped, SequencesFollow, TakenCallsPass, TurnsAreCalled};
+ghost use Rattle.domain_world.specs.Accepting.Sequences.{CallsAreStamped, RepliesAnswerCalls, SequencesFollow, TakenCallsPass, TurnsAreCalled};
 ghost use Rattle.domain_world.specs.Accepting.Units.{RunsAreHeard, UnitsAreHeard};
 ghost use Rattle.domain_world.specs.Claims.{AcceptsAllGranted, AcceptsOnlyGranted, IsClear, KeysAgree, ShortResponsesServeOnce};
 ghost use Rattle.domain_world.specs.Claims.SharedSequences.{OneTurnIsOut, SequencesAreOwn, SequencesAreShared};
@@ -245,6 +245,17 @@ pub fn calls_are_stamped()
         AreShortUnits (past plan moves).world.state.bag →
         HaveBytes (past plan moves).world.state.bag → CallsAreStamped (past plan moves) }
 {}
+
+/// In every schedule without a clash each unit that was made as the reply to a call answers one that was made on its
+/// channel, in the unit of the mark and with its number, which passed at the step that sent the reply.
+pub fn replies_answer_calls()
+    ensures { (plan : Plan) (moves : List Move) → IsSchedule plan moves →
+        AreShortUnits (past plan moves).world.state.bag →
+        HaveBytes (past plan moves).world.state.bag → (past plan moves).book.clash ≡ false →
+        RepliesAnswerCalls (past plan moves) }
+{
+    schedules_are_heard();
+}
 
 /// In a run without a clash a call whose answer a member took passed, where each unit is heard whole.
 #[tactic(auto, using(crate::proofs::Sequences::SharedLaws::taken_pass))]
