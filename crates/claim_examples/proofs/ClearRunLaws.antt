@@ -87,11 +87,12 @@ use Rattle.logon_runs.proofs.StayingLaws.{both_same, connects_same}
 use Rattle.logon_runs.proofs.TurnSceneLaws.{heard_back}
 use Rattle.logon_runs.proofs.WaitingLaws.{waiting_comes}
 use Rattle.logon_runs.proofs.TwoLinkLaws.{turns_have_links}
-use Rattle.claim_examples.specs.ClearRuns.{FirstLogonsAreClear, IsLetIn, LetsInClearly}
+use Rattle.claim_examples.specs.ClearRuns.{FirstLogonsAreClear, HasSharedChannel, IsLetIn, LetsInClearly}
 use Rattle.claim_examples.proofs.LogonTrailLaws.{FineSo, logon_trail}
 use Rattle.claim_examples.proofs.NotedLaws.{Fine, Leads, Trail, then_on, world_at}
 use Rattle.domain_world.proofs.Completeness.UnitNotedLaws.{comes_so}
 use Rattle.claim_examples.proofs.SequenceLaws.{one_apart}
+use Rattle.claim_examples.proofs.SharedChannelLaws.{shared_channel}
 use Rattle.claim_examples.proofs.ToldLaws.{LetsIn, lets_in, stays_told}
 use Rattle.claim_examples.proofs.TurnTrailLaws.{challenge_trail, names_stay, opening_trail}
 use Rattle.claim_examples.proofs.UnitComesLaws.{Names, client_comes, connect_fine, dial_leads, meeting_leads, start_fine}
@@ -369,15 +370,36 @@ ann_rests =
     subst (λ (silent : Bool). IsQuiet (run (logon_moves 0 silent) (first_world ann_plan))) (ann_echoes can)
     (rests_so (run (logon_moves 0 (can.task.echo == 0)) (first_world ann_plan)) _ refl refl an_example_logs_on.comes.rests)
 
+ann_clear : ((plan : Plan) (moves : List Move) → LetsInWhoAsked (past plan moves)) → LetsInClearly (past ann_plan ann_moves)
+ann_clear asked =
+    let can : CanComeIn ann_plan 0 0 0 = an_example_logs_on.can in
+    subst (λ (silent : Bool). LetsInClearly (past ann_plan (logon_moves 0 silent))) (ann_echoes can)
+    (lets_in_clearly ann_plan 0 0 0 can an_example_logs_on.schedule.start an_example_logs_on.schedule.forms 0 refl (ann_arrives can) (asked ann_plan (logon_moves 0 (can.task.echo == 0))))
+
+ann_channel : HasSharedChannel (past ann_plan ann_moves)
+ann_channel =
+    let can : CanComeIn ann_plan 0 0 0 = an_example_logs_on.can in
+    subst (λ (silent : Bool). HasSharedChannel (past ann_plan (logon_moves 0 silent))) (ann_echoes can)
+    (shared_channel ann_plan 0 0 0 0 an_example_logs_on.schedule.start an_example_logs_on.schedule.forms refl can (ann_arrives can))
+
 pub first_logons_are_clear : ((plan : Plan) (moves : List Move) → LetsInWhoAsked (past plan moves)) → FirstLogonsAreClear
 first_logons_are_clear asked = record {
   first = λ plan client member controller number is forms chosen can arrives.
       lets_in_clearly plan client member controller can is forms number chosen arrives (asked plan (logon_moves number (can.task.echo == 0)));
+  stands = λ plan client member controller number is forms chosen can arrives. shared_channel plan client member controller number is forms chosen can arrives;
   schedule = an_example_logs_on.schedule;
-  ann =
-      let can : CanComeIn ann_plan 0 0 0 = an_example_logs_on.can in
-      subst (λ (silent : Bool). LetsInClearly (past ann_plan (logon_moves 0 silent))) (ann_echoes can)
-      (lets_in_clearly ann_plan 0 0 0 can an_example_logs_on.schedule.start an_example_logs_on.schedule.forms 0 refl (ann_arrives can) (asked ann_plan (logon_moves 0 (can.task.echo == 0))));
+  ann = ann_clear asked;
+  ann_stands = ann_channel;
+  claimed = λ proved.
+      let clear = (ann_clear asked).clear in
+      let schedule = an_example_logs_on.schedule in
+      record {
+        only = proved.only schedule clear;
+        all = proved.all schedule clear;
+        keys = proved.keys schedule clear;
+        counts = proved.counts schedule clear;
+        sequences = proved.sequences schedule clear;
+      };
   plain = (tt, (tt, (tt, (tt, (tt, (tt, (tt, (tt, (tt, (tt, (tt, (tt, (tt, (tt, (tt, (tt, (tt, (tt, (tt, (tt, (tt, (tt, (tt, (tt, tt))))))))))))))))))))))));
   once = one_apart (λ (one other : ℕ). one ≢ other) 0;
   quiet = (record { dials = refl; units = refl }, later_quiet (drop 1 ann_moves) (happens (first_world ann_plan) (move.Start 0)) (tt, (tt, (tt, (tt, (tt, (tt, (tt, (tt, (tt, (tt, (tt, (tt, (tt, (tt, (tt, (tt, (tt, (tt, (tt, (tt, (tt, (tt, (tt, tt))))))))))))))))))))))) ann_rests);

@@ -12,6 +12,8 @@ mod NotedOnLaws
 mod OwnChallengeExampleLaws
 mod ReplyExampleLaws
 mod SequenceLaws
+mod SequenceMissLaws
+mod SharedChannelLaws
 mod TakenOnceLaws
 mod ToldLaws
 mod TurnTrailLaws

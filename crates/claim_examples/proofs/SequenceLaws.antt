@@ -116,12 +116,12 @@ shares_by book turn seed other timestamps are own each member = record {
 }
 
 -- what is said of it then
-shared_small : (book : Book) (turn : Option Pending) (seed other : List ℕ) → SequencesAreShared (run_open book turn seed other) → any_foreign small_name book.judged ≡ false →
+pub shared_small : (book : Book) (turn : Option Pending) (seed other : List ℕ) → SequencesAreShared (run_open book turn seed other) → any_foreign small_name book.judged ≡ false →
     (other ≡ seed) ⊎ IsBeforeTurn turn other small_name (timestamps_on 0 small_name book.turns)
 shared_small book turn seed other claim none = (claim 0).other small_name (open_channel seed) (small_channel other) (stands_small turn seed other) (keeps_small turn seed other) same_small none
 
 -- a seed has 8 bytes
-not_one_byte : 1 ∷ [] ≡ small_seed → ⊥
+pub not_one_byte : 1 ∷ [] ≡ small_seed → ⊥
 not_one_byte is = absurd (let none : 1 ≡ 8 = ap length is ∙ (IsBlock-add_to _ (moved_by []) (IsBlock-cred_of _ _)).eight in cc)
 
 -- a turn moves a seed
@@ -142,7 +142,7 @@ none_one is = absurd (omega (arith, moved_none, moved_zero, seeds_apart [] (0 �
 none_two : small_seed ≡ seed_after_two → ⊥
 none_two is = absurd (omega (arith, moved_none, moved_two, seeds_apart [] (0 ∷ 0 ∷ []) is))
 
-no_turn : (seed timestamps : List ℕ) → IsBeforeTurn None seed small_name timestamps → ⊥
+pub no_turn : (seed timestamps : List ℕ) → IsBeforeTurn None seed small_name timestamps → ⊥
 no_turn seed timestamps before = absurd (let none : None ≡ Some before.pending = before.is_out in cc)
 
 pub one_stamp : timestamps_on 0 small_name (small_turn ∷ []) ≡ 0 ∷ []

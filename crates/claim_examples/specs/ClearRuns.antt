@@ -2,7 +2,11 @@
 -- is let in, so that the claims on such runs speak of them (this project's own choice).
 use Rattle.std.specs.Prelude.{ℕ, ◌≡◌, ◌≢◌, ◌==◌, true, length, Some, AllPairs}
 use Rattle.std.specs.List.{AllByRecursion}
+use Rattle.authenticators.specs.Channels.{Channel, SameChannel}
+use Rattle.channel_client.specs.Opened.{OpenState}
+use Rattle.domain_controller.specs.Channels.{ChannelState}
 use Rattle.channel_events.specs.Marks.{OneOf}
+use Rattle.step_notes.specs.ControllerNotes.{channel_with}
 use Rattle.step_notes.specs.Records.{OutcomeTold}
 use Rattle.world_moves.specs.declared.plan.Plan.{Plan}
 use Rattle.world_moves.specs.Choosing.{chosen_place}
@@ -11,9 +15,12 @@ use Rattle.world_moves.specs.Forms.{HasForms, IsSchedule}
 use Rattle.world_moves.specs.World.{IsPlan, first_world}
 use Rattle.logon_runs.specs.ExampleLogon.{ann_moves, ann_plan}
 use Rattle.logon_runs.specs.FirstWorlds.{CanComeIn, FirstKeyArrives, logon_moves}
-use Rattle.domain_world.specs.Claims.{AcceptsOnlyGranted, IsAccepted, IsClear}
+use Rattle.domain_world.specs.Claims.{AcceptsAllGranted, AcceptsOnlyGranted, IsAccepted, IsClear, KeysAgree}
 use Rattle.domain_world.specs.Claims.Completeness.{IsPlainMove, OneAtATime, started_in}
+use Rattle.domain_world.specs.Claims.Counts.{EachCallRaisesOnce}
 use Rattle.domain_world.specs.Claims.LetIn.{IsLetInBy}
+use Rattle.domain_world.specs.Claims.SharedSequences.{Keeps, SequencesAreShared, Stands}
+use Rattle.domain_world.specs.Headline.{Proved}
 use Rattle.domain_world.specs.Past.{Past, past}
 
 -- a member told of a link that somebody is let in, and took his message on that link, and a unit as the answer to it
@@ -28,13 +35,38 @@ pub record LetsInClearly (run : Past) : Type 0 where
   pub told : OneOf (IsLetIn run) run.book.told
   pub accepted : AcceptsOnlyGranted run → OneOf (IsAccepted run) run.book.messages
 
+-- A channel stands at a member of the run, the controller of its plan keeps it, and both have one seed. That no call
+-- from outside passed on it isn't said.
+pub record HasSharedChannel (run : Past) : Type 0 where
+  pub member : ℕ
+  pub channel : Channel
+  pub o : OpenState
+  pub c : ChannelState
+  pub stands : Stands run.world.state member channel o
+  pub keeps : Keeps run.world.state channel.controller channel.computer c
+  pub same : SameChannel (channel_with channel.controller channel.computer c) channel
+  pub seed : c.seed ≡ o.seed
+
+-- what is claimed of clear schedules
+pub record MeetsClearClaims (run : Past) : Type 0 where
+  pub only : AcceptsOnlyGranted run
+  pub all : AcceptsAllGranted run
+  pub keys : KeysAgree run
+  pub counts : EachCallRaisesOnce run
+  pub sequences : SequencesAreShared run
+
 -- It is so of the first logon in a world, of whatever plan, where it comes in; and of the example, which is a schedule
--- whose one client is started where nothing is under way, and at whose end nothing is.
+-- whose one client is started where nothing is under way, and at whose end nothing is. A channel stands at both ends
+-- then. What is proved of clear schedules holds of the example with no premise left.
 pub record FirstLogonsAreClear : Type 0 where
   pub first : (plan : Plan) (client member controller number : ℕ) → IsPlan plan → HasForms plan → chosen_place number (length plan.clients) ≡ Some client →
       (can : CanComeIn plan client member controller) → FirstKeyArrives plan client member controller can → LetsInClearly (past plan (logon_moves number (can.task.echo == 0)))
+  pub stands : (plan : Plan) (client member controller number : ℕ) → IsPlan plan → HasForms plan → chosen_place number (length plan.clients) ≡ Some client →
+      (can : CanComeIn plan client member controller) → FirstKeyArrives plan client member controller can → HasSharedChannel (past plan (logon_moves number (can.task.echo == 0)))
   pub schedule : IsSchedule ann_plan ann_moves
   pub ann : LetsInClearly (past ann_plan ann_moves)
+  pub ann_stands : HasSharedChannel (past ann_plan ann_moves)
+  pub claimed : Proved ann_plan ann_moves → MeetsClearClaims (past ann_plan ann_moves)
   pub plain : AllByRecursion IsPlainMove ann_moves
   pub once : AllPairs (λ (one other : ℕ). one ≢ other) (started_in ann_moves (length ann_plan.clients))
   pub quiet : OneAtATime ann_moves (first_world ann_plan)

@@ -8,6 +8,7 @@ ghost use Rattle.claim_examples.specs.LetInExamples.{OfLettingIn};
 ghost use Rattle.claim_examples.specs.NearMisses.{NearMissesTellApart};
 ghost use Rattle.claim_examples.specs.OwnChallengeExamples.{OfOwnChallenges};
 ghost use Rattle.claim_examples.specs.ReplyExamples.{OfReplies};
+ghost use Rattle.claim_examples.specs.SequenceMisses.{SequencesTellApart};
 
 use domain_world::{claims_hold_of_runs, members_let_in_who_asked};
 
@@ -52,6 +53,13 @@ pub fn own_challenges_tell_apart()
 #[tactic(auto, using(crate::proofs::NearMissLaws::near_misses))]
 pub fn near_misses_tell_apart()
     ensures { NearMissesTellApart }
+{}
+
+/// The claim on sequences is met by a run whose seeds are written by the standard's ciphers, and not by others, each of
+/// which differs from one that meets it in one thing. So it is of its part on members alone, which holds of every run.
+#[tactic(auto, using(crate::proofs::SequenceMissLaws::sequences_apart))]
+pub fn sequences_tell_apart()
+    ensures { SequencesTellApart }
 {}
 
 /// Of runs that a world made itself: the first logon in a world, of whatever plan, where it is granted, is clear, and

@@ -1,16 +1,16 @@
 -- What is proved of every run, gathered.
 -- It serves `claims_hold_of_runs`, and so `drive`.
-use Rattle.std.proofs.Common.{List}
+use Rattle.std.proofs.Common.{◌≡◌, false, List}
 use Rattle.world_moves.specs.Bag.{AreShortUnits, HaveBytes}
 use Rattle.world_moves.specs.declared.moves.Move.{Move}
 use Rattle.world_moves.specs.declared.plan.Plan.{Plan}
 use Rattle.world_moves.specs.Forms.{IsSchedule}
-use Rattle.domain_world.specs.Accepting.Sequences.{TurnsAreCalled}
+use Rattle.domain_world.specs.Accepting.Sequences.{RepliesAnswerCalls, TurnsAreCalled}
 use Rattle.domain_world.specs.Accepting.Units.{UnitsAreHeard}
 use Rattle.domain_world.specs.Claims.{IsClear}
 use Rattle.domain_world.specs.Claims.AskedFor.{MembersAskForMessages, SendsAskForMessages}
 use Rattle.domain_world.specs.Claims.LetIn.{LetsInWhoAsked}
-use Rattle.domain_world.specs.Claims.SharedSequences.{SequencesAreShared}
+use Rattle.domain_world.specs.Claims.SharedSequences.{OneTurnIsOut, SequencesAreOwn, SequencesAreShared}
 use Rattle.domain_world.specs.Claims.WrittenDown.{MembersAreWrittenDown}
 use Rattle.domain_world.specs.Headline.{Proved}
 use Rattle.domain_world.specs.Past.{Past, past}
@@ -44,9 +44,25 @@ OfSchedules Holds =
 abbrev pub IfClear : (Past → Type 0) → Past → Type 0
 IfClear Holds past = IsClear past.book → Holds past
 
-pub all_proved : OfRuns LetsInWhoAsked → OfRuns MembersAreWrittenDown → OfRuns MembersAskForMessages → OfRuns SendsAskForMessages → OfSchedules UnitsAreHeard → OfSchedules (IfClear SequencesAreShared) → OfSchedules (IfClear TurnsAreCalled) → (plan : Plan) (moves : List Move) →
-    AreShortUnits (past plan moves).world.state.bag → HaveBytes (past plan moves).world.state.bag → Proved plan moves
-all_proved let_in written asked sends heard shared called plan moves short bytes = record {
+-- where no credential passed on a unit that was made for another channel or for none
+abbrev pub IfNoClash : (Past → Type 0) → Past → Type 0
+IfNoClash Holds past = past.book.clash ≡ false → Holds past
+
+-- what laws of their own give
+pub record Laws : Type 0 where
+  pub let_in : OfRuns LetsInWhoAsked
+  pub written : OfRuns MembersAreWrittenDown
+  pub asked : OfRuns MembersAskForMessages
+  pub sends : OfRuns SendsAskForMessages
+  pub heard : OfSchedules UnitsAreHeard
+  pub answered : OfSchedules (IfNoClash RepliesAnswerCalls)
+  pub one_turn : OfRuns OneTurnIsOut
+  pub own : OfRuns SequencesAreOwn
+  pub shared : OfSchedules (IfClear SequencesAreShared)
+  pub called : OfSchedules (IfClear TurnsAreCalled)
+
+pub all_proved : Laws → (plan : Plan) (moves : List Move) → AreShortUnits (past plan moves).world.state.bag → HaveBytes (past plan moves).world.state.bag → Proved plan moves
+all_proved laws plan moves short bytes = record {
   challenges = record { draws = draws_differ plan moves; messages = messages_once plan moves };
   messages = messages_own plan moves (draws_differ plan moves);
   responses = short_responses plan moves (draws_differ plan moves) (draws_are_blocks plan moves);
@@ -58,17 +74,20 @@ all_proved let_in written asked sends heard shared called plan moves short bytes
   grants = grants_who_may plan moves;
   tables = tables_follow plan moves;
   replies = replies_carry plan moves;
+  answered = λ schedule calm. laws.answered plan moves schedule short bytes calm;
   kept = members_ask plan moves;
-  asked = asked plan moves;
-  sends = sends plan moves;
-  let_in = let_in plan moves;
-  written = written plan moves;
-  only = λ schedule clear. runs_heard.only plan moves (heard plan moves schedule short bytes) (draws_differ plan moves) clear;
-  all = λ schedule clear. runs_heard.all plan moves (heard plan moves schedule short bytes) (draws_differ plan moves) clear;
-  keys = λ schedule clear. runs_heard.keys plan moves (heard plan moves schedule short bytes) (draws_differ plan moves) clear;
-  counts = λ schedule clear. runs_heard.counts plan moves (heard plan moves schedule short bytes) (draws_differ plan moves) clear;
-  sequences = λ schedule clear. shared plan moves schedule short bytes clear;
-  called = λ schedule clear. called plan moves schedule short bytes clear;
+  asked = laws.asked plan moves;
+  sends = laws.sends plan moves;
+  let_in = laws.let_in plan moves;
+  written = laws.written plan moves;
+  only = λ schedule clear. runs_heard.only plan moves (laws.heard plan moves schedule short bytes) (draws_differ plan moves) clear;
+  all = λ schedule clear. runs_heard.all plan moves (laws.heard plan moves schedule short bytes) (draws_differ plan moves) clear;
+  keys = λ schedule clear. runs_heard.keys plan moves (laws.heard plan moves schedule short bytes) (draws_differ plan moves) clear;
+  counts = λ schedule clear. runs_heard.counts plan moves (laws.heard plan moves schedule short bytes) (draws_differ plan moves) clear;
+  one_turn = laws.one_turn plan moves;
+  own = laws.own plan moves;
+  sequences = λ schedule clear. laws.shared plan moves schedule short bytes clear;
+  called = λ schedule clear. laws.called plan moves schedule short bytes clear;
   marked = each_marked plan moves;
   ways = marks_have_their_way plan moves;
   complete = each_succeeds plan moves;

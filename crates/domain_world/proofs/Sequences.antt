@@ -5,6 +5,7 @@ pub mod CallTurnLaws
 pub mod CalledLaws
 pub mod DialCountLaws
 pub mod DialWalkLaws
+pub mod OneTurnLaws
 pub mod OwnCarryLaws
 pub mod OwnEndLaws
 pub mod OwnFrameLaws
@@ -18,6 +19,7 @@ pub mod OwnTakenLaws
 pub mod OwnTurnLaws
 pub mod OwnWalkLaws
 pub mod OwnWholeLaws
+pub mod ReplyCallLaws
 pub mod SeedTurnLaws
 pub mod SharedLaws
 pub mod SharedRunLaws

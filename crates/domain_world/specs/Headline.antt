@@ -1,11 +1,11 @@
 -- The whole claim of a run, in one record: what is proved of every run (this project's own choice).
-use Rattle.std.specs.Prelude.{◌≡◌, List, ◌++◌}
+use Rattle.std.specs.Prelude.{◌≡◌, List, ◌++◌, false}
 use Rattle.world_moves.specs.declared.moves.Move.{Move}
 use Rattle.world_moves.specs.declared.plan.Plan.{Plan}
 use Rattle.world_moves.specs.Forms.{IsSchedule}
 use Rattle.world_moves.specs.World.{World, first_world, run}
 use Rattle.domain_world.specs.Accepting.Answered.{MarksHaveTheirWay, MessagesAreApart, PassesAreUnclashed}
-use Rattle.domain_world.specs.Accepting.Sequences.{TurnsAreCalled}
+use Rattle.domain_world.specs.Accepting.Sequences.{RepliesAnswerCalls, TurnsAreCalled}
 use Rattle.domain_world.specs.Claims.{AcceptsAllGranted, AcceptsOnlyGranted, ChallengesServeOnce, IsClear, KeysAgree, PassesTheNextCredential, ReplaysBySum, ShortResponsesServeOnce, TellsOfCallsAlone}
 use Rattle.domain_world.specs.Claims.AskedFor.{MembersAskForKept, MembersAskForMessages, SendsAskForMessages}
 use Rattle.domain_world.specs.Claims.Completeness.{EachSucceeds}
@@ -15,7 +15,7 @@ use Rattle.domain_world.specs.Claims.LetIn.{LetsInWhoAsked}
 use Rattle.domain_world.specs.Claims.MarkedUnits.{EachUnitIsMarked}
 use Rattle.domain_world.specs.Claims.OwnChallenges.{MessagesHaveOwnChallenges}
 use Rattle.domain_world.specs.Claims.Replies.{RepliesCarryTheirJudgement}
-use Rattle.domain_world.specs.Claims.SharedSequences.{SequencesAreShared}
+use Rattle.domain_world.specs.Claims.SharedSequences.{OneTurnIsOut, SequencesAreOwn, SequencesAreShared}
 use Rattle.domain_world.specs.Claims.Tables.{TablesFollowVerdicts}
 use Rattle.domain_world.specs.Claims.WrittenDown.{MembersAreWrittenDown}
 use Rattle.domain_world.specs.Past.{past}
@@ -38,6 +38,7 @@ pub record Proved (plan : Plan) (moves : List Move) : Type 0 where
   pub grants : GrantsWhoMayLogOn (past plan moves)
   pub tables : TablesFollowVerdicts (past plan moves)
   pub replies : RepliesCarryTheirJudgement (past plan moves)
+  pub answered : IsSchedule plan moves → (past plan moves).book.clash ≡ false → RepliesAnswerCalls (past plan moves)
   -- what members ask, and whom they let in
   pub kept : MembersAskForKept (past plan moves)
   pub asked : MembersAskForMessages (past plan moves)
@@ -50,8 +51,10 @@ pub record Proved (plan : Plan) (moves : List Move) : Type 0 where
   pub all : IsSchedule plan moves → IsClear (past plan moves).book → AcceptsAllGranted (past plan moves)
   pub keys : IsSchedule plan moves → IsClear (past plan moves).book → KeysAgree (past plan moves)
   pub counts : IsSchedule plan moves → IsClear (past plan moves).book → EachCallRaisesOnce (past plan moves)
-  -- the ends of a channel share its sequence, and the calls on it are those of its turns: the request of each turn that
-  -- ended passed, and at most one turn is out
+  -- at most one turn is out at a member, and its channel's seed is moved by its turns; the ends of a channel share its
+  -- sequence, and the calls on it are those of its turns, of which each that ended passed
+  pub one_turn : OneTurnIsOut (past plan moves)
+  pub own : SequencesAreOwn (past plan moves)
   pub sequences : IsSchedule plan moves → IsClear (past plan moves).book → SequencesAreShared (past plan moves)
   pub called : IsSchedule plan moves → IsClear (past plan moves).book → TurnsAreCalled (past plan moves)
   -- the units of the bag, and which way they go

@@ -1,6 +1,6 @@
 //! What a run's answers rest on.
 
-ghost use Rattle.std.specs.Prelude.{List};
+ghost use Rattle.std.specs.Prelude.{◌≡◌, false, List};
 ghost use Rattle.world_moves.specs.declared.moves.Move.{Move};
 ghost use Rattle.world_moves.specs.declared.plan.Plan.{Plan};
 ghost use Rattle.world_moves.specs.Bag.{AreShortUnits, HaveBytes};
@@ -11,10 +11,10 @@ ghost use Rattle.domain_world.specs.Accepting.Carried.{CarriedCallsAreHeard, Jud
 ghost use Rattle.domain_world.specs.Accepting.KeysMade.{KeysAreFoundAsMade, MessagesAreMade, MessagesAreTakenAsSent};
 ghost use Rattle.domain_world.specs.Accepting.ReadBack.{OutcomesAreReadBack, RepliesAreReadBack, TurnsAreHeard};
 ghost use Rattle.domain_world.specs.Accepting.Runs.{IsQuiet, RunsBegin, RunsStandSo};
-ghost use Rattle.domain_world.specs.Accepting.Sequences.{CallsAreStamped, SequencesFollow, TakenCallsPass, TurnsAreCalled};
+ghost use Rattle.domain_world.specs.Accepting.Sequences.{CallsAreStamped, RepliesAnswerCalls, SequencesFollow, TakenCallsPass, TurnsAreCalled};
 ghost use Rattle.domain_world.specs.Accepting.Units.{RunsAreHeard, UnitsAreHeard};
 ghost use Rattle.domain_world.specs.Claims.{AcceptsAllGranted, AcceptsOnlyGranted, IsClear, KeysAgree, ShortResponsesServeOnce};
-ghost use Rattle.domain_world.specs.Claims.SharedSequences.{SequencesAreOwn, SequencesAreShared};
+ghost use Rattle.domain_world.specs.Claims.SharedSequences.{OneTurnIsOut, SequencesAreOwn, SequencesAreShared};
 ghost use Rattle.domain_world.specs.Past.{Past, past};
 
 use channel_events::{calls_stay_apart, requesters_keep_calls_apart};
@@ -246,27 +246,42 @@ pub fn calls_are_stamped()
         HaveBytes (past plan moves).world.state.bag → CallsAreStamped (past plan moves) }
 {}
 
+/// In every schedule without a clash each unit that was made as the reply to a call answers one that was made on its
+/// channel, in the unit of the mark and with its number, which passed at the step that sent the reply.
+pub fn replies_answer_calls()
+    ensures { (plan : Plan) (moves : List Move) → IsSchedule plan moves →
+        AreShortUnits (past plan moves).world.state.bag →
+        HaveBytes (past plan moves).world.state.bag → (past plan moves).book.clash ≡ false →
+        RepliesAnswerCalls (past plan moves) }
+{
+    schedules_are_heard();
+}
+
 /// In a run without a clash a call whose answer a member took passed, where each unit is heard whole.
 #[tactic(auto, using(crate::proofs::Sequences::SharedLaws::taken_pass))]
 pub fn taken_calls_pass()
     ensures { TakenCallsPass }
 {}
 
-/// In every schedule that is clear, where the controller of a member's plan keeps the member's open channel and no call
-/// from outside passed on it, the controller's seed is the member's, or with a turn out the one before that turn
-/// (MS-NRPC 3.1.4.5). The calls that were made on a member's open channel are those of its turns there, in order: the
-/// request of each turn that ended passed, and at most one turn is out.
-pub fn sequences_are_shared()
-    ensures shared { (plan : Plan) (moves : List Move) → IsSchedule plan moves →
-        AreShortUnits (past plan moves).world.state.bag →
-        HaveBytes (past plan moves).world.state.bag → IsClear (past plan moves).book →
-        SequencesAreShared (past plan moves) }
-    ensures called { (plan : Plan) (moves : List Move) → IsSchedule plan moves →
+/// After every run at most one turn is out at each member (this project's own choice): one of its dials waits at most,
+/// which is that of the turn, and then no link of a turn is open.
+pub fn members_have_one_turn_out()
+    ensures { (plan : Plan) (moves : List Move) → OneTurnIsOut (past plan moves) }
+{
+    // As of `sequences_are_own`.
+    what_is_kept_waits();
+    turns_are_dialled();
+}
+
+/// In every schedule that is clear the calls that were made on a member's open channel are those of its Logon turns
+/// there, in their order and with their timestamps, each in a unit of its own. Each passed but for one that is out.
+pub fn turns_are_called()
+    ensures { (plan : Plan) (moves : List Move) → IsSchedule plan moves →
         AreShortUnits (past plan moves).world.state.bag →
         HaveBytes (past plan moves).world.state.bag → IsClear (past plan moves).book →
         TurnsAreCalled (past plan moves) }
 {
-    // As of `answers_are_taken_in_turn` and `sequences_follow`.
+    // As of `answers_are_taken_in_turn`, and how a member's turns start.
     in_is_told_of_a_granted_logon();
     requesters_keep_calls_apart();
     calls_stay_apart();
@@ -274,4 +289,20 @@ pub fn sequences_are_shared()
     what_is_kept_waits();
     turns_are_dialled();
     schedules_are_heard();
+}
+
+/// In every schedule that is clear, where the controller of a member's plan keeps the member's open channel and no call
+/// from outside passed on it, the controller's seed is the member's, or with a turn out the one before that turn
+/// (MS-NRPC 3.1.4.5).
+pub fn sequences_are_shared()
+    ensures { (plan : Plan) (moves : List Move) → IsSchedule plan moves →
+        AreShortUnits (past plan moves).world.state.bag →
+        HaveBytes (past plan moves).world.state.bag → IsClear (past plan moves).book →
+        SequencesAreShared (past plan moves) }
+{
+    // As of `sequences_follow`.
+    what_is_kept_waits();
+    turns_are_dialled();
+    schedules_are_heard();
+    turns_are_called();
 }

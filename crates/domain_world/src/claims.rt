@@ -19,7 +19,10 @@ ghost use Rattle.domain_world.specs.Claims.WrittenDown.{MembersAreWrittenDown};
 ghost use Rattle.domain_world.specs.Headline.{Proved};
 ghost use Rattle.domain_world.specs.Past.{past};
 
-use crate::answering::{schedules_are_heard, sequences_are_shared};
+use crate::answering::{
+    members_have_one_turn_out, replies_answer_calls, schedules_are_heard, sequences_are_own,
+    sequences_are_shared, turns_are_called,
+};
 use member_server::in_is_told_of_a_granted_logon;
 
 /// In every run, over all moves from a plan on, whatever a controller tells of a Logon call is told of one that it
@@ -167,11 +170,15 @@ pub fn claims_hold_of_runs()
     ensures { (plan : Plan) (moves : List Move) → AreShortUnits (past plan moves).world.state.bag →
         HaveBytes (past plan moves).world.state.bag → Proved plan moves }
 {
-    // These have what a member tells at a step, which is a law of its own.
+    // These rest on laws of the ends and of channels.
     members_let_in_who_asked();
     members_are_written_down();
     members_ask_for_messages();
     sends_ask_for_messages();
     schedules_are_heard();
+    replies_answer_calls();
+    members_have_one_turn_out();
+    sequences_are_own();
     sequences_are_shared();
+    turns_are_called();
 }

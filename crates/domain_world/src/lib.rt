@@ -9,11 +9,12 @@ mod driving;
 pub use answering::{
     answers_are_taken_in_turn, calls_are_judged_as_carried, calls_are_stamped,
     carried_calls_are_heard, draws_of_runs_differ, keys_are_found_as_made, marked_units_are_whole,
-    marks_have_their_way, messages_are_apart, messages_are_called, messages_are_made,
-    messages_are_taken_as_sent, outcomes_are_read_back, passes_are_unclashed,
-    replies_are_read_back, runs_are_heard, runs_are_proved, runs_begin, runs_stand_so,
-    schedules_are_heard, schedules_stand_quiet, sequences_are_own, sequences_are_shared,
-    sequences_follow, short_responses_serve_once, taken_calls_pass, what_is_heard_is_accepted,
+    marks_have_their_way, members_have_one_turn_out, messages_are_apart, messages_are_called,
+    messages_are_made, messages_are_taken_as_sent, outcomes_are_read_back, passes_are_unclashed,
+    replies_answer_calls, replies_are_read_back, runs_are_heard, runs_are_proved, runs_begin,
+    runs_stand_so, schedules_are_heard, schedules_stand_quiet, sequences_are_own,
+    sequences_are_shared, sequences_follow, short_responses_serve_once, taken_calls_pass,
+    turns_are_called, what_is_heard_is_accepted,
 };
 pub use claims::{
     claims_hold_of_runs, controllers_grant_who_may_log_on, controllers_pass_the_next,

@@ -160,7 +160,7 @@ module _ (past : Past) where
         requested_by one.mark one channel j request number is refl there (not_false (is_channel (mark_channel one.mark) channel) on)
         (λ isn't. whole request is.carrier one is.there there isn't) numbered
 
-    requested : (k : ℕ) (channel : Channel) (j : Judging) (request number : ℕ) (bytes : List ℕ) → slice_get past.book.judged k ≡ Some j → IsReplyOfCall channel number request j bytes →
+    pub requested : (k : ℕ) (channel : Channel) (j : Judging) (request number : ℕ) (bytes : List ℕ) → slice_get past.book.judged k ≡ Some j → IsReplyOfCall channel number request j bytes →
         IsRequested channel number request
     requested k channel j request number bytes at reply =
         let free : clashes (passed_channel j) j.unit past.book.sent ≡ false =

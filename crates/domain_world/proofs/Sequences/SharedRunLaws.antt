@@ -1,5 +1,5 @@
--- In every schedule that is clear the calls on a member's open channel are those of its turns, and both ends of a
--- channel share its sequence. It serves `sequences_are_shared`.
+-- In every schedule that is clear the calls on an open channel are those of its turns, and both ends share its
+-- sequence. It serves `turns_are_called`, `sequences_are_shared`.
 use Rattle.std.proofs.Common.{ℕ, List}
 use Rattle.channel_events.specs.RequestSteps.{RequestersKeepCallsApart}
 use Rattle.channel_events.specs.Requests.{CallsStayApart}
@@ -21,19 +21,19 @@ use Rattle.domain_world.proofs.Sequences.OwnWholeLaws.{own_comes}
 use Rattle.domain_world.proofs.Sequences.SharedLaws.{sequences_follow}
 use Rattle.domain_world.proofs.Sequences.StampLaws.{calls_stamped}
 
--- each unit is heard whole, of every schedule
-abbrev AreHeard : Type 0
-AreHeard =
-    (plan : Plan) (moves : List Move) → IsSchedule plan moves → AreShortUnits (past plan moves).world.state.bag → HaveBytes (past plan moves).world.state.bag → UnitsAreHeard (past plan moves)
+pub calls_of_turns : LetsInTheGranted → RequestersKeepCallsApart → CallsStayApart ℕ → ChannelStepsKnown → TurnsAreDialled → AsksWhatWaits →
+    ((plan : Plan) (moves : List Move) → IsSchedule plan moves → AreShortUnits (past plan moves).world.state.bag → HaveBytes (past plan moves).world.state.bag → UnitsAreHeard (past plan moves)) →
+    (plan : Plan) (moves : List Move) → IsSchedule plan moves → AreShortUnits (past plan moves).world.state.bag → HaveBytes (past plan moves).world.state.bag → IsClear (past plan moves).book →
+    TurnsAreCalled (past plan moves)
+calls_of_turns law requesters events steps dialled asks heard plan moves schedule short bytes clear =
+    let laws : CallLaws = record { keep = requesters; events = events; steps = steps } in
+    turns_are_called law requesters events steps dialled asks plan (own_comes law laws dialled steps asks plan) moves schedule short bytes (heard plan moves schedule short bytes) clear
 
-module _ (law : LetsInTheGranted) (requesters : RequestersKeepCallsApart) (events : CallsStayApart ℕ) (steps : ChannelStepsKnown) (dialled : TurnsAreDialled) (asks : AsksWhatWaits) (heard : AreHeard)
-    (plan : Plan) (moves : List Move) (schedule : IsSchedule plan moves) (short : AreShortUnits (past plan moves).world.state.bag) (bytes : HaveBytes (past plan moves).world.state.bag)
-    (clear : IsClear (past plan moves).book) where
-  pub calls_are_turns : TurnsAreCalled (past plan moves)
-  calls_are_turns =
-      let laws : CallLaws = record { keep = requesters; events = events; steps = steps } in
-      turns_are_called law requesters events steps dialled asks plan (own_comes law laws dialled steps asks plan) moves schedule short bytes (heard plan moves schedule short bytes) clear
-
-  pub sequences_shared : SequencesAreShared (past plan moves)
-  sequences_shared =
-      sequences_follow asks dialled plan moves (heard plan moves schedule short bytes) (calls_stamped plan moves schedule short bytes) calls_are_turns clear
+pub sequences_shared : TurnsAreDialled → AsksWhatWaits →
+    ((plan : Plan) (moves : List Move) → IsSchedule plan moves → AreShortUnits (past plan moves).world.state.bag → HaveBytes (past plan moves).world.state.bag → UnitsAreHeard (past plan moves)) →
+    ((plan : Plan) (moves : List Move) → IsSchedule plan moves → AreShortUnits (past plan moves).world.state.bag → HaveBytes (past plan moves).world.state.bag → IsClear (past plan moves).book →
+    TurnsAreCalled (past plan moves)) →
+    (plan : Plan) (moves : List Move) → IsSchedule plan moves → AreShortUnits (past plan moves).world.state.bag → HaveBytes (past plan moves).world.state.bag → IsClear (past plan moves).book →
+    SequencesAreShared (past plan moves)
+sequences_shared dialled asks heard called plan moves schedule short bytes clear =
+    sequences_follow asks dialled plan moves (heard plan moves schedule short bytes) (calls_stamped plan moves schedule short bytes) (called plan moves schedule short bytes clear) clear

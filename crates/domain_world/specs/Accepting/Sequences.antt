@@ -2,10 +2,10 @@
 -- for it: the calls of a requester's turns, and that each has the timestamp of its turn.
 use Rattle.std.specs.Prelude.{ℕ, ◌≡◌, ◌≢◌, ◌⊎◌, true, false, List, [], ◌∷◌, ◌++◌, map, Option, Some, slice_get}
 use Rattle.std.specs.List.{AllByRecursion}
-use Rattle.authenticators.specs.Channels.{Channel}
+use Rattle.authenticators.specs.Channels.{Channel, SameChannel}
 use Rattle.channel_client.specs.Opened.{OpenState}
 use Rattle.channel_client.specs.declared.state.Pending.{Pending}
-use Rattle.channel_events.specs.Marks.{Calling, OneOf}
+use Rattle.channel_events.specs.Marks.{Calling, OneOf, ReplyTo}
 use Rattle.logon_stubs.specs.declared.calls.Call.TheVariants as call
 use Rattle.logon_stubs.specs.declared.calls.LogonCall.{LogonCall}
 use Rattle.step_notes.specs.ControllerNotes.{has_passed}
@@ -101,6 +101,25 @@ abbrev pub TurnsAreCalled : Past → Type 0
 TurnsAreCalled past =
     (member : ℕ) (channel : Channel) (o : OpenState) → (stands : Stands past.world.state member channel o) →
     CallsOfTurns past channel stands.turn (timestamps_on member channel past.book.turns)
+
+-- ---- replies
+
+-- The unit `request` was made as a call on the channel, with that number; and it passed at the step that sent unit n as
+-- its reply.
+pub record AnswersCall (past : Past) (channel : Channel) (number request n : ℕ) : Type 0 where
+  pub sent : Sent
+  pub there : slice_get past.book.sent request ≡ Some sent
+  pub named : Channel
+  pub timestamp : ℕ
+  pub mark : sent.mark ≡ Calling named number timestamp
+  pub same : SameChannel named channel
+  pub passed : OneOf (λ (j : Judging). IsPassedIn request j × (j.reply ≡ Some n)) past.book.judged
+
+-- so it is of each unit that was made as the reply to a call
+abbrev pub RepliesAnswerCalls : Past → Type 0
+RepliesAnswerCalls past =
+    (n : ℕ) (unit : BagUnit) (one : Sent) (channel : Channel) (number request : ℕ) → slice_get past.world.state.bag n ≡ Some unit →
+    slice_get past.book.sent n ≡ Some one → one.mark ≡ ReplyTo channel number request → AnswersCall past channel number request n
 
 -- ---- the laws
 

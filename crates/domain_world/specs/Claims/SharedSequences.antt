@@ -1,25 +1,50 @@
 -- How the two ends of a secure channel stand to each other in a run (MS-NRPC 3.1.4.5; that one turn is out at a time is
 -- this project's own choice).
-use Rattle.std.specs.Prelude.{ℕ, ◌≡◌, ◌⊎◌, ◌==◌, ◌&&◌, Bool, false, List, [], ◌∷◌, ◌++◌, filter, map, Option, Some, None, slice_get}
+use Rattle.std.specs.Prelude.{ℕ, ◌≡◌, ◌≤◌, ◌⊎◌, ◌==◌, ◌&&◌, Bool, false, List, [], ◌∷◌, ◌++◌, filter, length, map, Option, Some, None, slice_get}
 use Rattle.std.specs.List.{list_any}
 use Rattle.wire_base.specs.Maps.{lookup}
 use Rattle.wire_base.specs.Names.{same_name}
 use Rattle.authenticators.specs.Channels.{Channel, SameChannel, same_channel}
 use Rattle.channel_client.specs.Effects.{channel_of}
 use Rattle.channel_client.specs.Opened.{OpenState}
+use Rattle.channel_client.specs.Turns.{is_out}
 use Rattle.channel_client.specs.declared.state.Standing.TheVariants as standing
 use Rattle.channel_client.specs.declared.state.Pending.{Pending}
 use Rattle.channel_events.specs.Seeds.{channel_seed}
 use Rattle.domain_controller.specs.Channels.{ChannelState}
 use Rattle.domain_controller.specs.State.{State as ControllerState}
 use Rattle.domain_controller.specs.declared.state.Running.{Running as ControllerRunning}
+use Rattle.member_server.specs.Dials.{IsWaiting}
+use Rattle.member_server.specs.Laws.{is_dialled}
 use Rattle.member_server.specs.State.{State as MemberState}
 use Rattle.member_server.specs.declared.state.Running.{Running as MemberRunning}
 use Rattle.step_notes.specs.ControllerNotes.{channel_with}
 use Rattle.step_notes.specs.Records.{Judging, LogonTurn}
+use Rattle.world_moves.specs.declared.links.EndId.TheVariants.{Member}
 use Rattle.world_moves.specs.declared.state.State.{State}
+use Rattle.world_moves.specs.declared.state.Waiting.{Waiting}
+use Rattle.world_moves.specs.Links.{same_end}
 use Rattle.domain_world.specs.Claims.{passed_on}
 use Rattle.domain_world.specs.Past.{Past, controller_of}
+
+-- ---- one turn at a time
+
+-- the dials of that member that wait
+abbrev pub dials_of : ℕ → List Waiting → List Waiting
+dials_of member dials = filter (λ (dial : Waiting). same_end dial.end (Member member)) dials
+
+-- A turn is out exactly where its dial waits or its link is open. One dial of the member waits at most, which is that
+-- of its turn: no link of a turn is open then.
+pub record HasOneTurnOut (s : State) (member : ℕ) (running : MemberRunning) : Type 0 where
+  pub out : is_out running.logons.channel ≡ is_dialled running.dialling
+  pub few : length (dials_of member s.dials) ≤ 1
+  pub waits : 1 ≤ length (dials_of member s.dials) → IsWaiting running.dialling
+
+-- at most one turn is out at each member
+abbrev pub OneTurnIsOut : Past → Type 0
+OneTurnIsOut past =
+    (member : ℕ) (m : MemberState) (running : MemberRunning) → slice_get past.world.state.ends.members member ≡ Some m → m.running ≡ Some running →
+    HasOneTurnOut past.world.state member running
 
 -- ---- the member's side
 
@@ -92,6 +117,6 @@ pub record SequenceIsShared (past : Past) (member : ℕ) : Type 0 where
       any_foreign channel past.book.judged ≡ false →
       (c.seed ≡ o.seed) ⊎ IsBeforeTurn stands.turn c.seed channel (timestamps_on member channel past.book.turns)
 
--- each member's is. At most one turn is out at a member: what it keeps has room for one
+-- each member's is
 abbrev pub SequencesAreShared : Past → Type 0
 SequencesAreShared past = (member : ℕ) → SequenceIsShared past member

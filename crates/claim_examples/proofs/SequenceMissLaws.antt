@@ -1,0 +1,385 @@
+-- Near misses of the claim on sequences, and of what it rests on.
+-- It serves `sequences_tell_apart`.
+use Rattle.std.proofs.Common.{◌≡◌, ℕ, zero, suc, true, false, List, [], ◌∷◌, ◌++◌, length, inl, inr, Option, Some, None, refl, sym, ap, ◌∙◌, subst, arith, slice_get}
+use Rattle.std.specs.Prelude.{◌%◌, ◌^◌, codes, ◌⊎◌}
+use Rattle.wire_base.specs.Maps.{lookup}
+use Rattle.wire_base.specs.Names.{same_name}
+use Rattle.wire_base.specs.Names as names
+use Rattle.outside.specs.declared.action.Judged.TheVariants as judged
+use Rattle.authenticators.specs.Channels.{Channel, SameChannel}
+use Rattle.authenticators.specs.Sequences.{moved_by}
+use Rattle.authenticators.proofs.SeedLaws.{add_to-same}
+use Rattle.channel_client.specs.Effects.{channel_of}
+use Rattle.channel_client.specs.Opened.{OpenState}
+use Rattle.channel_client.specs.declared.state.Pending.{Pending}
+use Rattle.channel_client.specs.declared.state.Standing.{Standing}
+use Rattle.channel_client.specs.declared.state.Standing.TheVariants as standing
+use Rattle.domain_controller.specs.Channels.{ChannelState}
+use Rattle.domain_controller.specs.State.{State as ControllerState}
+use Rattle.domain_controller.specs.declared.state.Running.{Running as ControllerRunning}
+use Rattle.member_server.specs.State.{State as MemberState}
+use Rattle.member_server.specs.declared.state.Running.{Running as MemberRunning}
+use Rattle.channel_events.specs.Marks.{Calling, OneOf, ReplyTo}
+use Rattle.channel_events.proofs.ListLaws.{got_nothing, one_weaker, some_is}
+use Rattle.step_notes.specs.ControllerNotes.{channel_with, has_passed}
+use Rattle.step_notes.specs.Records.{Book, Judging, LogonTurn, Sent, blank}
+use Rattle.world_moves.specs.declared.links.EndId.TheVariants.{Member, Client}
+use Rattle.world_moves.specs.declared.state.State.{State}
+use Rattle.domain_world.specs.Accepting.Sequences.{AnswersCall, AreSoFar, CallsOfTurns, HavePassed, IsPassedIn, TurnsAreCalled, stamps_of}
+use Rattle.domain_world.specs.Claims.SharedSequences.{HasOneTurnOut, IsBeforeTurn, Keeps, SequencesAreOwn, SequencesAreShared, Stands, any_foreign, channel_seed, dials_of, timestamps_on}
+use Rattle.domain_world.specs.Past.{controller_of, sent_at}
+use Rattle.claim_examples.specs.ClaimExamples.{elsewhere, judged_as, on_channel, one_turn, open_channel, open_member, open_running, run_open, seed_after_one, small_channel, small_member, small_name, small_seed, small_turn, turn_out}
+use Rattle.claim_examples.specs.SequenceMisses.{OfCalls, OfOneTurn, OfReplyCalls, OfSequenceMisses, SequencesTellApart, called_once, controller_on, empty_unit, judged_outside, kept_whole, member_on, mixed_turns, moved_seed, open_whole, passed_then, replied, run_by, run_dials, run_other, run_second, run_small, run_whole, whole_name, world_by}
+use Rattle.claim_examples.proofs.SequenceLaws.{no_turn, not_one_byte, one_stamp, same_small, shared_small}
+
+-- ---- one member, whose channel stands
+
+abbrev running_on : Option Pending → OpenState → MemberRunning
+running_on turn o =
+    let running : MemberRunning = open_running turn [] in
+    record running { logons = record running.logons { channel = record running.logons.channel { standing = standing.Open o } } }
+
+one_member : (turn : Option Pending) (o : OpenState) (member : ℕ) (state : MemberState) → slice_get (member_on turn o ∷ []) member ≡ Some state → (member ≡ 0) × (member_on turn o ≡ state)
+one_member turn o zero state at = (refl, cc)
+one_member turn o (suc member) state at = absurd cc
+
+module _ (book : Book) (turn : Option Pending) (o : OpenState) (name : List ℕ) (c : ChannelState) where
+  -- the channel that stands at the member is this one
+  abbrev its_name : Channel
+  its_name = channel_of 0 (codes "FILE1") o
+
+  the_channel : (member : ℕ) (channel : Channel) (p : OpenState) → (stands : Stands (run_by book turn o name c).world.state member channel p) →
+      (member ≡ 0) × (channel ≡ its_name) × (o ≡ p) × (stands.turn ≡ turn)
+  the_channel member channel p stands =
+      let one = one_member turn o member stands.state stands.at in
+      let runs : Some (running_on turn o) ≡ Some stands.running = ap MemberState.running one.1 ∙ stands.runs in
+      let running : running_on turn o ≡ stands.running = cc in
+      let open_so : standing.Open o ≡ standing.Open p = ap (λ (r : MemberRunning). r.logons.channel.standing) running ∙ stands.open_so in
+      let state : o ≡ p = cc in (
+        one.0,
+        stands.is
+            ∙ ap (λ (r : MemberRunning). channel_of (controller_of member (run_by book turn o name c).world.state) r.logons.channel.caller.computer p) (sym running)
+            ∙ ap (λ (m : ℕ). channel_of (controller_of m (run_by book turn o name c).world.state) (codes "FILE1") p) one.0
+            ∙ ap (λ (s : OpenState). channel_of (controller_of 0 (run_by book turn o name c).world.state) (codes "FILE1") s) (sym state),
+        state,
+        sym (ap (λ (r : MemberRunning). r.logons.channel.turn) running ∙ stands.is_turn),
+      )
+
+  its_own : SequencesAreOwn (run_by book turn o name c) → o.seed ≡ channel_seed its_name (timestamps_on 0 its_name book.turns)
+  its_own claim = claim 0 its_name o (record { state = member_on turn o; running = running_on turn o; at = refl; runs = refl; open_so = refl; is = refl; turn = turn; is_turn = refl })
+
+  own_by : o.seed ≡ channel_seed its_name (timestamps_on 0 its_name book.turns) → SequencesAreOwn (run_by book turn o name c)
+  own_by own member channel p stands =
+      let it = the_channel member channel p stands in
+      ap OpenState.seed (sym it.2)
+      ∙ own
+      ∙ ap (λ (one : Channel). channel_seed one (timestamps_on 0 one book.turns)) (sym it.1)
+      ∙ ap (λ (m : ℕ). channel_seed channel (timestamps_on m channel book.turns)) (sym it.0)
+
+  -- what is kept of it at the controller
+  the_kept : (channel : Channel) (d : ChannelState) → channel ≡ its_name → Keeps (run_by book turn o name c).world.state channel.controller channel.computer d →
+      lookup same_name (codes "FILE1") ((name, c) ∷ []) ≡ Some d
+  the_kept channel d is keeps =
+      let kept : Keeps (run_by book turn o name c).world.state 0 (codes "FILE1") d =
+      subst (λ (one : Channel). Keeps (run_by book turn o name c).world.state one.controller one.computer d) is keeps in
+      let at : Some (controller_on name c) ≡ Some kept.state = kept.at in
+      let state : controller_on name c ≡ kept.state = cc in
+      let runs : (controller_on name c).running ≡ Some kept.running = ap ControllerState.running state ∙ kept.runs in
+      let running : (record { computers = record { pending = []; channels = (name, c) ∷ [] }; links = [] }) ≡ kept.running = cc in
+      ap (λ (r : ControllerRunning). lookup same_name (codes "FILE1") r.computers.channels) running ∙ kept.kept
+
+  -- the run shares its sequence where its one channel does
+  shares_by : (timestamps : List ℕ) → timestamps_on 0 its_name book.turns ≡ timestamps → o.seed ≡ channel_seed its_name timestamps →
+      ((d : ChannelState) → lookup same_name (codes "FILE1") ((name, c) ∷ []) ≡ Some d → SameChannel (channel_with 0 (codes "FILE1") d) its_name →
+      any_foreign its_name book.judged ≡ false → (d.seed ≡ o.seed) ⊎ IsBeforeTurn turn d.seed its_name timestamps) → SequencesAreShared (run_by book turn o name c)
+  shares_by timestamps are own each member = record {
+    own = λ channel p stands. own_by (own ∙ ap (λ (all : List ℕ). channel_seed its_name all) (sym are)) member channel p stands;
+    other = λ channel p d stands keeps same none.
+        let it = the_channel member channel p stands in
+        let same_its : SameChannel (channel_with 0 (codes "FILE1") d) its_name = subst (λ (one : Channel). SameChannel (channel_with one.controller one.computer d) one) it.1 same in
+        elim (each d (the_kept channel d it.1 keeps) same_its (ap (λ (one : Channel). any_foreign one book.judged) (sym it.1) ∙ none)) [
+          | inl is ↦ inl (is ∙ ap OpenState.seed it.2)
+          | inr before ↦ inr (record {
+            pending = before.pending;
+            is_out = it.3 ∙ before.is_out;
+            earlier = before.earlier;
+            last = before.last;
+            all = ap (λ (m : ℕ). timestamps_on m channel book.turns) it.0 ∙ ap (λ (one : Channel). timestamps_on 0 one book.turns) it.1 ∙ are ∙ before.all;
+            seed_before = before.seed_before ∙ ap (λ (one : Channel). channel_seed one before.earlier) (sym it.1);
+          })
+        ];
+  }
+
+  -- what is said of it then
+  shared : SequencesAreShared (run_by book turn o name c) → lookup same_name (codes "FILE1") ((name, c) ∷ []) ≡ Some c → SameChannel (channel_with 0 (codes "FILE1") c) its_name →
+      any_foreign its_name book.judged ≡ false → (c.seed ≡ o.seed) ⊎ IsBeforeTurn turn c.seed its_name (timestamps_on 0 its_name book.turns)
+  shared claim kept same none =
+      (claim 0).other its_name o c
+      (record { state = member_on turn o; running = running_on turn o; at = refl; runs = refl; open_so = refl; is = refl; turn = turn; is_turn = refl })
+      (record { state = controller_on name c; running = record { computers = record { pending = []; channels = (name, c) ∷ [] }; links = [] }; at = refl; runs = refl; kept = kept })
+      same none
+
+-- ---- the channel with two turns
+
+-- turns of another member, or on another channel, are none of its own
+whole_stamps : timestamps_on 0 whole_name mixed_turns.turns ≡ 5 ∷ 7 ∷ []
+unfolding same_name names.upper_of
+whole_stamps = refl
+
+moved_both : moved_by (5 ∷ 7 ∷ []) ≡ 14
+unfolding moved_by
+moved_both = refl
+
+moved_first : moved_by (5 ∷ []) ≡ 6
+unfolding moved_by
+moved_first = refl
+
+whole_seed : moved_seed 14 ≡ channel_seed whole_name (5 ∷ 7 ∷ [])
+whole_seed = ap moved_seed (sym moved_both)
+
+before_seed : moved_seed 6 ≡ channel_seed whole_name (5 ∷ [])
+before_seed = ap moved_seed (sym moved_first)
+
+whole_kept : (seed : List ℕ) → lookup same_name (codes "FILE1") ((codes "FILE1", kept_whole seed) ∷ []) ≡ Some (kept_whole seed)
+unfolding same_name names.upper_of
+whole_kept seed = refl
+
+kept_as : (seed : List ℕ) (d : ChannelState) → lookup same_name (codes "FILE1") ((codes "FILE1", kept_whole seed) ∷ []) ≡ Some d → d.seed ≡ seed
+kept_as seed d found =
+    let one : Some (kept_whole seed) ≡ Some d = sym (whole_kept seed) ∙ found in
+    let is : kept_whole seed ≡ d = cc in
+    ap ChannelState.seed (sym is)
+
+same_whole : SameChannel whole_name whole_name
+same_whole = record { controller = refl; computer = refl; secret = refl; client = refl; server = refl; flags = refl }
+
+seeds_apart : (one other : ℕ) → moved_seed one ≡ moved_seed other → one % 2 ^ 32 ≡ other % 2 ^ 32
+seeds_apart one other is = add_to-same _ one other is
+
+not_nothing : (earlier : List ℕ) (last : ℕ) → [] ≡ earlier ++ last ∷ [] → ⊥
+not_nothing [] last is = absurd cc
+not_nothing (one ∷ earlier) last is = absurd cc
+
+the_earlier : (earlier : List ℕ) (last : ℕ) → 5 ∷ 7 ∷ [] ≡ earlier ++ last ∷ [] → earlier ≡ 5 ∷ []
+the_earlier [] last is = absurd cc
+the_earlier (one ∷ []) last is = cc
+the_earlier (one ∷ two ∷ earlier) last is = absurd (not_nothing earlier last (let rest : [] ≡ earlier ++ last ∷ [] = cc in rest))
+
+-- moved by 8, the controller is before no turn that is out
+not_before : IsBeforeTurn (Some turn_out) (moved_seed 8) whole_name (timestamps_on 0 whole_name mixed_turns.turns) → ⊥
+not_before before =
+    let earlier : before.earlier ≡ 5 ∷ [] = the_earlier before.earlier before.last (sym whole_stamps ∙ before.all) in
+    let is : moved_seed 8 ≡ moved_seed 6 = before.seed_before ∙ ap (λ (all : List ℕ). channel_seed whole_name all) earlier ∙ sym before_seed in
+    absurd (omega (arith, seeds_apart 8 6 is))
+
+-- ---- a channel that isn't the member's
+
+no_server : (c : ChannelState) → lookup same_name (codes "FILE1") ((codes "FILE1", record (kept_whole []) { server = [] }) ∷ []) ≡ Some c → c.server ≡ []
+unfolding same_name names.upper_of
+no_server c found =
+    let one : Some (record (kept_whole []) { server = [] }) ≡ Some c = found in
+    let is : record (kept_whole []) { server = [] } ≡ c = cc in
+    ap ChannelState.server (sym is)
+
+-- ---- a channel without challenges
+
+named_small : (seed : List ℕ) → lookup same_name (codes "FILE1") ((codes "file1", small_channel seed) ∷ []) ≡ Some (small_channel seed)
+unfolding same_name names.upper_of
+named_small seed = refl
+
+kept_small : (seed : List ℕ) → lookup same_name (codes "FILE1") ((codes "FILE1", small_channel seed) ∷ []) ≡ Some (small_channel seed)
+unfolding same_name names.upper_of
+kept_small seed = refl
+
+none_passed : any_foreign small_name (judged_outside (judged_as judged.Barred (on_channel 0))).judged ≡ false
+unfolding same_name names.upper_of
+none_passed = refl
+
+none_here : any_foreign small_name (judged_outside (elsewhere (on_channel 0))).judged ≡ false
+unfolding same_name names.upper_of
+none_here = refl
+
+abbrev second_name : Channel
+second_name = record small_name { controller = 1 }
+
+of_sequence_misses : OfSequenceMisses
+of_sequence_misses = record {
+  alike = shares_by mixed_turns None (open_whole (moved_seed 14)) (codes "FILE1") (kept_whole (moved_seed 14)) (5 ∷ 7 ∷ []) whole_stamps whole_seed
+      (λ d found same none. inl (kept_as (moved_seed 14) d found));
+  behind = shares_by mixed_turns (Some turn_out) (open_whole (moved_seed 14)) (codes "FILE1") (kept_whole (moved_seed 6)) (5 ∷ 7 ∷ []) whole_stamps whole_seed
+      (λ d found same none. inr (record { pending = turn_out; is_out = refl; earlier = 5 ∷ []; last = 7; all = refl; seed_before = kept_as (moved_seed 6) d found ∙ before_seed }));
+  fails_first = λ claim. elim (shared mixed_turns (Some turn_out) (open_whole (moved_seed 14)) (codes "FILE1") (kept_whole (moved_seed 8)) claim (whole_kept (moved_seed 8)) same_whole refl) [
+    | inl is ↦ absurd (omega (arith, seeds_apart 8 14 is))
+    | inr before ↦ not_before before
+  ];
+  fails_out = λ claim.
+      let is : moved_seed 12 ≡ moved_seed 14 = its_own mixed_turns (Some turn_out) (open_whole (moved_seed 12)) (codes "FILE1") (kept_whole (moved_seed 12)) (λ member channel o stands. (claim member).own channel o stands)
+      ∙ ap (λ (all : List ℕ). channel_seed whole_name all) whole_stamps ∙ sym whole_seed in
+      absurd (omega (arith, seeds_apart 12 14 is));
+  other_channel = shares_by mixed_turns None (open_whole (moved_seed 14)) (codes "FILE1") (record (kept_whole []) { server = [] }) (5 ∷ 7 ∷ []) whole_stamps whole_seed
+      (λ d found same none. absurd (let never : [] ≡ whole_name.server = sym (no_server d found) ∙ same.server in cc));
+  fails_second = λ claim.
+      not_one_byte ((claim 1).own small_name (open_channel (1 ∷ []))
+      (record { state = open_member None (1 ∷ []); running = open_running None (1 ∷ []); at = refl; runs = refl; open_so = refl; is = refl; turn = None; is_turn = refl }));
+  fails_controller = λ claim. elim
+      ((claim 0).other second_name (open_channel small_seed) (small_channel (1 ∷ []))
+      (record { state = open_member None small_seed; running = open_running None small_seed; at = refl; runs = refl; open_so = refl; is = refl; turn = None; is_turn = refl })
+      (record { state = controller_on (codes "FILE1") (small_channel (1 ∷ [])); running = record { computers = record { pending = []; channels = (codes "FILE1", small_channel (1 ∷ [])) ∷ [] }; links = [] }; at = refl; runs = refl; kept = kept_small (1 ∷ []) })
+      (record { controller = refl; computer = refl; secret = refl; client = refl; server = refl; flags = refl }) refl) [
+        | inl is ↦ not_one_byte is
+        | inr before ↦ absurd (let none : None ≡ Some before.pending = before.is_out in cc)
+      ];
+  fails_name = λ claim. elim (shared blank None (open_channel small_seed) (codes "file1") (small_channel (1 ∷ [])) claim (named_small (1 ∷ [])) same_small refl) [
+    | inl is ↦ not_one_byte is
+    | inr before ↦ no_turn _ _ before
+  ];
+  fails_barred = λ claim. elim (shared_small (judged_outside (judged_as judged.Barred (on_channel 0))) None small_seed (1 ∷ []) claim none_passed) [
+    | inl is ↦ not_one_byte is
+    | inr before ↦ no_turn _ _ before
+  ];
+  fails_elsewhere = λ claim. elim (shared_small (judged_outside (elsewhere (on_channel 0))) None small_seed (1 ∷ []) claim none_here) [
+    | inl is ↦ not_one_byte is
+    | inr before ↦ no_turn _ _ before
+  ];
+  own = own_by mixed_turns None (open_whole (moved_seed 14)) (codes "FILE1") (kept_whole []) (whole_seed ∙ ap (λ (all : List ℕ). channel_seed whole_name all) (sym whole_stamps));
+  fails_own = λ claim.
+      let is : moved_seed 12 ≡ moved_seed 14 = its_own mixed_turns None (open_whole (moved_seed 12)) (codes "FILE1") (kept_whole []) claim
+      ∙ ap (λ (all : List ℕ). channel_seed whole_name all) whole_stamps ∙ sym whole_seed in
+      absurd (omega (arith, seeds_apart 12 14 is));
+}
+
+-- ---- one turn at a time
+
+the_running : (turn : Option Pending) (o : OpenState) (member : ℕ) (m : MemberState) (running : MemberRunning) → slice_get (member_on turn o ∷ []) member ≡ Some m → m.running ≡ Some running →
+    (member ≡ 0) × (running_on turn o ≡ running)
+the_running turn o member m running there runs =
+    let one = one_member turn o member m there in
+    let is : Some (running_on turn o) ≡ Some running = ap MemberState.running one.1 ∙ runs in
+    (one.0, cc)
+
+abbrev idle : MemberRunning
+idle = running_on None (open_channel small_seed)
+
+of_one_turn : OfOneTurn
+of_one_turn = record {
+  meets = λ member m running there runs.
+      let it = the_running None (open_channel small_seed) member m running there runs in
+      let s : State = (run_dials (Member 1 ∷ Client 0 ∷ [])).world.state in
+      let none : length (dials_of 0 s.dials) ≡ 0 = refl in
+      subst (λ (r : MemberRunning). HasOneTurnOut s member r) it.1
+      (subst (λ (k : ℕ). HasOneTurnOut s k idle) (sym it.0) (record { out = refl; few = omega (arith, none); waits = λ some. absurd (omega (arith, none, some)) }));
+  fails_two = λ claim.
+      let two : length (dials_of 0 (run_dials (Member 0 ∷ Client 0 ∷ Member 0 ∷ [])).world.state.dials) ≡ 2 = refl in
+      absurd (omega (arith, two, (claim 0 (member_on None (open_channel small_seed)) idle refl refl).few));
+  fails_idle = λ claim.
+      let one : length (dials_of 0 (run_dials (Member 0 ∷ [])).world.state.dials) ≡ 1 = refl in
+      (claim 0 (member_on None (open_channel small_seed)) idle refl refl).waits (omega (arith, one));
+  fails_undialled = λ claim.
+      absurd (let never : true ≡ false = (claim 0 (member_on (Some turn_out) (open_channel small_seed)) (running_on (Some turn_out) (open_channel small_seed)) refl refl).out in cc);
+}
+
+-- ---- the calls of turns
+
+abbrev o_small : OpenState
+o_small = open_channel seed_after_one
+
+abbrev stands_small : (book : Book) (turn : Option Pending) → Stands (run_small book turn).world.state 0 small_name o_small
+stands_small book turn = record { state = member_on turn o_small; running = running_on turn o_small; at = refl; runs = refl; open_so = refl; is = refl; turn = turn; is_turn = refl }
+
+-- the calls of the one channel are those of all
+calls_by : (book : Book) (turn : Option Pending) → CallsOfTurns (run_small book turn) small_name turn (timestamps_on 0 small_name book.turns) → TurnsAreCalled (run_small book turn)
+calls_by book turn calls member channel o stands =
+    let it = the_channel book turn o_small (codes "FILE1") (small_channel seed_after_one) member channel o stands in
+    subst (λ (k : ℕ). CallsOfTurns (run_small book turn) channel stands.turn (timestamps_on k channel book.turns)) (sym it.0)
+    (subst (λ (one : Channel). CallsOfTurns (run_small book turn) one stands.turn (timestamps_on 0 one book.turns)) (sym it.1)
+    (subst (λ (t : Option Pending). CallsOfTurns (run_small book turn) small_name t (timestamps_on 0 small_name book.turns)) (sym it.3) calls))
+
+-- the one call is that of unit 0
+only_call : (n number timestamp : ℕ) (sent : Sent) (other : Channel) → slice_get (sent_at 0 (Calling small_name 3 0) ∷ []) n ≡ Some sent → sent.mark ≡ Calling other number timestamp → OneOf (λ (one : ℕ × ℕ). one.0 ≡ n) ((0, 0) ∷ [])
+only_call zero number timestamp sent other there mark = inl refl
+only_call (suc n) number timestamp sent other there mark = absurd (let none : None ≡ Some sent = there in cc)
+
+once : (judged : List Judging) (turn : Option Pending) → AreSoFar (run_small (called_once judged) turn) turn ((0, 0) ∷ []) (0 ∷ []) →
+    CallsOfTurns (run_small (called_once judged) turn) small_name turn (timestamps_on 0 small_name (called_once judged).turns)
+once judged turn far = record {
+  made = (0, 0) ∷ [];
+  each = (record { sent = sent_at 0 (Calling small_name 3 0); there = refl; number = 3; mark = refl }, tt);
+  apart = (tt, tt);
+  every = λ n number timestamp sent other there mark client. only_call n number timestamp sent other there mark;
+  far = subst (λ (stamps : List ℕ). AreSoFar (run_small (called_once judged) turn) turn ((0, 0) ∷ []) stamps) (sym one_stamp) far;
+}
+
+-- where no turn is out, each call passed; so there is one that passed
+one_passed : (book : Book) → book.turns ≡ small_turn ∷ [] → TurnsAreCalled (run_small book None) → OneOf (λ (j : Judging). has_passed j.how ≡ true) book.judged
+one_passed book turns claim =
+    let calls : CallsOfTurns (run_small book None) small_name None (timestamps_on 0 small_name book.turns) = claim 0 small_name o_small (stands_small book None) in
+    let stamps : timestamps_on 0 small_name book.turns ≡ 0 ∷ [] = ap (λ (all : List LogonTurn). timestamps_on 0 small_name all) turns ∙ one_stamp in
+    elim calls.far [
+      | inl quiet ↦ its_call calls.made (sym stamps ∙ quiet.0) quiet.1
+      | inr rest ↦ elim rest [
+        | inl bind ↦ absurd (let none : None ≡ Some bind.pending = bind.is_out in cc)
+        | inr out ↦ absurd (let none : None ≡ Some out.pending = out.is_out in cc)
+      ]
+    ]
+  where
+    its_call : (made : List (ℕ × ℕ)) → 0 ∷ [] ≡ stamps_of made → HavePassed (run_small book None) made → OneOf (λ (j : Judging). has_passed j.how ≡ true) book.judged
+    its_call [] is passed = absurd cc
+    its_call (one ∷ made) is passed = one_weaker (IsPassedIn one.0) (λ (j : Judging). has_passed j.how ≡ true) book.judged (λ j so. so.0) passed.0
+
+of_calls : OfCalls
+of_calls = record {
+  meets = calls_by (called_once (record (on_channel 0) { unit = Some 0 } ∷ [])) None (once (record (on_channel 0) { unit = Some 0 } ∷ []) None (inl (refl, (inl (refl, refl), tt))));
+  out = calls_by (called_once []) (Some turn_out)
+      (once [] (Some turn_out) (inr (inr (record { pending = turn_out; is_out = refl; earlier = []; last = (0, 0); split = refl; all = refl; passed = tt }))));
+  fails_unjudged = λ claim. one_passed (called_once []) refl claim;
+  fails_barred = λ claim. elim (one_passed (called_once (record (judged_as judged.Barred (on_channel 0)) { unit = Some 0 } ∷ [])) refl claim) [
+    | inl never ↦ absurd (let is : false ≡ true = never in cc)
+    | inr none ↦ none
+  ];
+  fails_uncalled = λ claim. one_passed one_turn refl claim;
+}
+
+-- ---- replies to calls
+
+the_reply : (n : ℕ) (one : Sent) (channel : Channel) (number request : ℕ) → slice_get (replied 3 (passed_then ∷ [])).book.sent n ≡ Some one → one.mark ≡ ReplyTo channel number request →
+    (1 ≡ n) × (small_name ≡ channel) × (3 ≡ number) × (0 ≡ request)
+the_reply zero one channel number request there mark =
+    let is : Some (sent_at 0 (Calling small_name 3 0)) ≡ Some one = there in
+    absurd (let never : Calling small_name 3 0 ≡ ReplyTo channel number request = ap Sent.mark (some_is (sent_at 0 (Calling small_name 3 0)) one is) ∙ mark in cc)
+the_reply (suc zero) one channel number request there mark =
+    let is : ReplyTo small_name 3 0 ≡ ReplyTo channel number request = ap Sent.mark (some_is (sent_at 0 (ReplyTo small_name 3 0)) one there) ∙ mark in
+    (refl, cc, cc, cc)
+the_reply (suc (suc n)) one channel number request there mark = absurd (got_nothing n one there)
+
+answers_small : AnswersCall (replied 3 (passed_then ∷ [])) small_name 3 0 1
+answers_small = record { sent = sent_at 0 (Calling small_name 3 0); there = refl; named = small_name; timestamp = 0; mark = refl; same = same_small; passed = inl ((refl, refl), refl) }
+
+numbers_alike : (one other : Channel) (number more timestamp later : ℕ) → Calling one number timestamp ≡ Calling other more later → number ≡ more
+numbers_alike one other number more timestamp later is = cc
+
+not_three : ◌≡◌ {A = ℕ} 3 4 → ⊥
+not_three is = absurd (omega (arith, is))
+
+of_reply_calls : OfReplyCalls
+of_reply_calls = record {
+  meets = λ n unit one channel number request bag there mark.
+      let it = the_reply n one channel number request there mark in
+      subst (λ (r : ℕ). AnswersCall (replied 3 (passed_then ∷ [])) channel number r n) it.3
+      (subst (λ (k : ℕ). AnswersCall (replied 3 (passed_then ∷ [])) channel k 0 n) it.2
+      (subst (λ (c : Channel). AnswersCall (replied 3 (passed_then ∷ [])) c 3 0 n) it.1 (subst (λ (m : ℕ). AnswersCall (replied 3 (passed_then ∷ [])) small_name 3 0 m) it.0 answers_small)));
+  fails_number = λ claim.
+      let it : AnswersCall (replied 4 (passed_then ∷ [])) small_name 4 0 1 = claim 1 empty_unit (sent_at 0 (ReplyTo small_name 4 0)) small_name 4 0 refl refl refl in
+      let is : Calling small_name 3 0 ≡ Calling it.named 4 it.timestamp = ap Sent.mark (some_is (sent_at 0 (Calling small_name 3 0)) it.sent it.there) ∙ it.mark in
+      not_three (numbers_alike small_name it.named 3 4 0 it.timestamp is);
+  fails_barred = λ claim. elim (claim 1 empty_unit (sent_at 0 (ReplyTo small_name 3 0)) small_name 3 0 refl refl refl).passed [
+    | inl so ↦ absurd (let never : false ≡ true = so.0.0 in cc)
+    | inr none ↦ none
+  ];
+  fails_elsewhere = λ claim. elim (claim 1 empty_unit (sent_at 0 (ReplyTo small_name 3 0)) small_name 3 0 refl refl refl).passed [
+    | inl so ↦ absurd (let two : Some 2 ≡ Some 1 = so.1 in cc)
+    | inr none ↦ none
+  ];
+}
+
+pub sequences_apart : SequencesTellApart
+sequences_apart = record { shared = of_sequence_misses; one_turn = of_one_turn; calls = of_calls; replies = of_reply_calls }

@@ -1,0 +1,210 @@
+-- Near misses of the claim on sequences (this project's own choice): runs that differ in one thing from one that meets
+-- it. Seeds are written by the ciphers of MS-NRPC 3.1.4.4 and 3.1.4.5 and not by the claim's own words, so that a claim
+-- on another seed is told apart.
+use Rattle.std.specs.Prelude.{ℕ, true, List, [], ◌∷◌, map, replicate, Option, Some, None, codes}
+use Rattle.outside.specs.declared.action.Judged.TheVariants as judged
+use Rattle.channel_keys.specs.Credentials.{cred_of}
+use Rattle.channel_keys.specs.SessionKeys.{key_of}
+use Rattle.authenticators.specs.Channels.{Channel}
+use Rattle.authenticators.specs.Sequences.{add_to}
+use Rattle.channel_client.specs.Opened.{OpenState}
+use Rattle.channel_client.specs.declared.state.Pending.{Pending}
+use Rattle.channel_client.specs.declared.state.Standing.TheVariants as standing
+use Rattle.domain_controller.specs.Channels.{ChannelState}
+use Rattle.domain_controller.specs.State.{State as ControllerState}
+use Rattle.member_server.specs.State.{State as MemberState}
+use Rattle.member_server.specs.declared.plan.MemberPlan.{MemberPlan}
+use Rattle.member_server.specs.declared.state.Running.{Running as MemberRunning}
+use Rattle.channel_events.specs.Marks.{Calling, ReplyTo}
+use Rattle.step_notes.specs.ControllerNotes.{channel_with}
+use Rattle.step_notes.specs.Records.{Book, Judging, LogonTurn, blank}
+use Rattle.world_moves.specs.declared.bag.BagUnit.{BagUnit}
+use Rattle.world_moves.specs.declared.links.EndId.{EndId}
+use Rattle.world_moves.specs.declared.links.EndId.TheVariants.{Member, Client}
+use Rattle.world_moves.specs.declared.links.LinkKind.TheVariants as kind
+use Rattle.world_moves.specs.World.{World}
+use Rattle.domain_world.specs.Accepting.Sequences.{RepliesAnswerCalls, TurnsAreCalled}
+use Rattle.domain_world.specs.Claims.SharedSequences.{OneTurnIsOut, SequencesAreOwn, SequencesAreShared}
+use Rattle.domain_world.specs.Past.{Past, sent_at}
+use Rattle.claim_examples.specs.ClaimExamples.{elsewhere, judged_as, on_channel, one_turn, open_channel, open_member, open_running, run_in, run_open, small_challenge, small_channel, small_member, small_name, small_run, small_seed, small_table, small_world, seed_after_one, turn_out}
+
+-- ---- a channel with challenges of 8 bytes
+
+abbrev pub server_challenge : List ℕ
+server_challenge = replicate 8 8
+
+abbrev pub channel_secret : List ℕ
+channel_secret = replicate 16 5
+
+abbrev pub open_whole : List ℕ → OpenState
+open_whole seed =
+    record { secret = channel_secret; client = small_challenge; server = server_challenge; flags = 3; seed = seed; awaited = None }
+
+abbrev pub kept_whole : List ℕ → ChannelState
+kept_whole seed = record { secret = channel_secret; client = small_challenge; server = server_challenge; flags = 3; seed = seed }
+
+abbrev pub whole_name : Channel
+whole_name = channel_with 0 (codes "FILE1") (kept_whole [])
+
+-- the client's credential, moved so far
+abbrev pub moved_seed : ℕ → List ℕ
+moved_seed moved = add_to (cred_of (key_of channel_secret small_challenge server_challenge 3) small_challenge) moved
+
+-- ---- worlds and books
+
+-- the ends, and the plans of the members
+abbrev pub world_by : List MemberPlan → List MemberState → List ControllerState → World
+world_by plans members controllers =
+    let w : World = small_world in
+    record w {
+      state = record w.state {
+        ends = record w.state.ends { members = members; controllers = controllers };
+        member_plans = plans;
+      };
+    }
+
+-- the member's channel is this one, and this turn is out
+abbrev pub member_on : Option Pending → OpenState → MemberState
+member_on turn o =
+    let running : MemberRunning = open_running turn [] in
+    record {
+      running = Some (record running {
+        logons = record running.logons { channel = record running.logons.channel { standing = standing.Open o } };
+      });
+    }
+
+-- the controller keeps that channel, under that name
+abbrev pub controller_on : List ℕ → ChannelState → ControllerState
+controller_on name c = record {
+  table = small_table;
+  name = codes "PDC";
+  running = Some (record { computers = record { pending = []; channels = (name, c) ∷ [] }; links = [] });
+}
+
+-- one member and one controller
+abbrev pub run_by : Book → Option Pending → OpenState → List ℕ → ChannelState → Past
+run_by book turn o name c =
+    run_in (world_by (small_member ∷ []) (member_on turn o ∷ []) (controller_on name c ∷ [])) book
+
+-- both ends of the channel with these seeds
+abbrev pub run_whole : Book → Option Pending → List ℕ → List ℕ → Past
+run_whole book turn seed other = run_by book turn (open_whole seed) (codes "FILE1") (kept_whole other)
+
+abbrev pub turn_at : ℕ → Channel → ℕ → LogonTurn
+turn_at member channel timestamp = record { member = member; channel = channel; timestamp = timestamp }
+
+-- the member had turns on the channel with the timestamps 5 and 7; between them are one of another member, and one on
+-- another channel
+abbrev pub mixed_turns : Book
+mixed_turns = record blank {
+  turns = turn_at 0 whole_name 5 ∷ turn_at 1 whole_name 100 ∷ turn_at 0 small_name 200 ∷ turn_at 0 whole_name 7 ∷ [];
+}
+
+-- a call came from outside
+abbrev pub judged_outside : Judging → Book
+judged_outside j = record blank { judged = record j { unit = None } ∷ [] }
+
+-- two members, of which the second has that seed
+abbrev pub run_second : List ℕ → Past
+run_second seed =
+    run_in
+    (world_by (small_member ∷ small_member ∷ []) (open_member None small_seed ∷ open_member None seed ∷ [])
+    (controller_on (codes "FILE1") (small_channel small_seed) ∷ []))
+    blank
+
+-- the member's controller is the second one, which has that seed
+abbrev pub run_other : List ℕ → Past
+run_other seed =
+    run_in
+    (world_by (record small_member { controller = 1 ∷ [] } ∷ []) (open_member None small_seed ∷ [])
+    (controller_on (codes "FILE1") (small_channel small_seed) ∷ controller_on (codes "FILE1") (small_channel seed) ∷ []))
+    blank
+
+-- ---- the claim
+
+-- Shared sequences: both seeds are the client's credential moved by 5 and 7, each plus one, and so by 14. With a turn
+-- out the controller's may be moved by 6; not by 8, which leaves the other turn out, and the member's own not by 12. A
+-- controller that keeps another channel is passed over. The claim isn't met where the seed of the second member is
+-- another, or that of a second controller, or of a channel that is kept under the name in other letters; nor where
+-- seeds differ and a call from outside was barred, or passed on another channel.
+pub record OfSequenceMisses : Type 0 where
+  pub alike : SequencesAreShared (run_whole mixed_turns None (moved_seed 14) (moved_seed 14))
+  pub behind : SequencesAreShared (run_whole mixed_turns (Some turn_out) (moved_seed 14) (moved_seed 6))
+  pub fails_first : SequencesAreShared (run_whole mixed_turns (Some turn_out) (moved_seed 14) (moved_seed 8)) → ⊥
+  pub fails_out : SequencesAreShared (run_whole mixed_turns (Some turn_out) (moved_seed 12) (moved_seed 12)) → ⊥
+  pub other_channel : SequencesAreShared (run_by mixed_turns None (open_whole (moved_seed 14)) (codes "FILE1") (record (kept_whole []) { server = [] }))
+  pub fails_second : SequencesAreShared (run_second (1 ∷ [])) → ⊥
+  pub fails_controller : SequencesAreShared (run_other (1 ∷ [])) → ⊥
+  pub fails_name : SequencesAreShared (run_by blank None (open_channel small_seed) (codes "file1") (small_channel (1 ∷ []))) → ⊥
+  pub fails_barred : SequencesAreShared (run_open (judged_outside (judged_as judged.Barred (on_channel 0))) None small_seed (1 ∷ [])) → ⊥
+  pub fails_elsewhere : SequencesAreShared (run_open (judged_outside (elsewhere (on_channel 0))) None small_seed (1 ∷ [])) → ⊥
+  -- of the member alone: whatever the controller has
+  pub own : SequencesAreOwn (run_whole mixed_turns None (moved_seed 14) [])
+  pub fails_own : SequencesAreOwn (run_whole mixed_turns None (moved_seed 12) []) → ⊥
+
+-- ---- one turn at a time
+
+-- these dials wait
+abbrev pub run_dials : List EndId → Past
+run_dials ends =
+    let run : Past = run_by blank None (open_channel small_seed) (codes "FILE1") (small_channel small_seed) in
+    record run {
+      world = record run.world {
+        state = record run.world.state { dials = map (λ (end : EndId). record { end = end; peer = [] }) ends };
+      };
+    }
+
+-- One turn is out: dials of others don't count; not where two dials of the member wait, where one does for which no
+-- turn waits, or where a turn is out that wasn't dialled.
+pub record OfOneTurn : Type 0 where
+  pub meets : OneTurnIsOut (run_dials (Member 1 ∷ Client 0 ∷ []))
+  pub fails_two : OneTurnIsOut (run_dials (Member 0 ∷ Client 0 ∷ Member 0 ∷ [])) → ⊥
+  pub fails_idle : OneTurnIsOut (run_dials (Member 0 ∷ [])) → ⊥
+  pub fails_undialled : OneTurnIsOut (run_by blank (Some turn_out) (open_channel small_seed) (codes "FILE1") (small_channel small_seed)) → ⊥
+
+-- ---- the calls of turns
+
+-- one turn, whose call went out in unit 0; and that call was judged so
+abbrev pub called_once : List Judging → Book
+called_once judged = record one_turn { sent = sent_at 0 (Calling small_name 3 0) ∷ []; judged = judged }
+
+abbrev pub run_small : Book → Option Pending → Past
+run_small book turn = run_by book turn (open_channel seed_after_one) (codes "FILE1") (small_channel seed_after_one)
+
+-- The calls of turns: the call of the one turn passed, or is out. Not where it didn't pass and isn't out, where it was
+-- barred, or where no call went out.
+pub record OfCalls : Type 0 where
+  pub meets : TurnsAreCalled (run_small (called_once (record (on_channel 0) { unit = Some 0 } ∷ [])) None)
+  pub out : TurnsAreCalled (run_small (called_once []) (Some turn_out))
+  pub fails_unjudged : TurnsAreCalled (run_small (called_once []) None) → ⊥
+  pub fails_barred : TurnsAreCalled (run_small (called_once (record (judged_as judged.Barred (on_channel 0)) { unit = Some 0 } ∷ [])) None) → ⊥
+  pub fails_uncalled : TurnsAreCalled (run_small one_turn None) → ⊥
+
+-- ---- replies to calls
+
+-- unit 0 was made as a call, and unit 1 as the reply to a call of that number in unit 0; the call was judged so
+abbrev pub empty_unit : BagUnit
+empty_unit = record { bytes = []; link = 0; kind = kind.ToController; back = true; is_settled = true }
+
+abbrev pub replied : ℕ → List Judging → Past
+replied number judged =
+    let run : Past = small_run (record blank { sent = sent_at 0 (Calling small_name 3 0) ∷ sent_at 0 (ReplyTo small_name number 0) ∷ []; judged = judged }) in
+    record run { world = record run.world { state = record run.world.state { bag = empty_unit ∷ empty_unit ∷ [] } } }
+
+abbrev pub passed_then : Judging
+passed_then = record (on_channel 0) { unit = Some 0; reply = Some 1 }
+
+-- Replies to calls: not where the number is another, the call was barred, or its reply is another unit.
+pub record OfReplyCalls : Type 0 where
+  pub meets : RepliesAnswerCalls (replied 3 (passed_then ∷ []))
+  pub fails_number : RepliesAnswerCalls (replied 4 (passed_then ∷ [])) → ⊥
+  pub fails_barred : RepliesAnswerCalls (replied 3 (judged_as judged.Barred passed_then ∷ [])) → ⊥
+  pub fails_elsewhere : RepliesAnswerCalls (replied 3 (record passed_then { reply = Some 2 } ∷ [])) → ⊥
+
+-- ---- all of them
+
+pub record SequencesTellApart : Type 0 where
+  pub shared : OfSequenceMisses
+  pub one_turn : OfOneTurn
+  pub calls : OfCalls
+  pub replies : OfReplyCalls

@@ -1,0 +1,55 @@
+-- At most one turn is out at each member after every run.
+-- It serves `members_have_one_turn_out`.
+use Rattle.std.proofs.Common.{◌≡◌, ℕ, ◌+◌, Bool, true, false, List, [], ◌∷◌, length, Option, None, refl, ap, subst, ◌∙◌, arith, if◌then◌else◌}
+use Rattle.member_server.specs.Dials.{TurnsAreDialled}
+use Rattle.member_server.specs.Laws.{AsksWhatWaits}
+use Rattle.member_server.specs.declared.state.Running.{Running}
+use Rattle.step_notes.specs.Records.{blank}
+use Rattle.world_moves.specs.declared.links.EndId.{EndId}
+use Rattle.world_moves.specs.declared.links.EndId.TheVariants.{Controller, Member, Client}
+use Rattle.world_moves.specs.declared.moves.Move.{Move}
+use Rattle.world_moves.specs.declared.plan.Plan.{Plan}
+use Rattle.world_moves.specs.declared.state.State.{State}
+use Rattle.world_moves.specs.declared.state.Waiting.{Waiting}
+use Rattle.world_moves.specs.Links.{same_end}
+use Rattle.world_moves.specs.World.{first_world}
+use Rattle.domain_world.specs.Claims.SharedSequences.{OneTurnIsOut, dials_of}
+use Rattle.domain_world.specs.Past.{controller_of, past}
+use Rattle.domain_world.proofs.Frames.DrawnRunLaws.{draws_differ}
+use Rattle.domain_world.proofs.Sequences.DialCountLaws.{is_member, one_if, waiting_dials}
+use Rattle.domain_world.proofs.Sequences.DialWalkLaws.{AtState, run_part}
+use Rattle.domain_world.proofs.Sequences.OwnFrameLaws.{TurnsHold, TurnsKnown}
+use Rattle.domain_world.proofs.Sequences.OwnRunLaws.{first_known, turns_keep}
+use Rattle.domain_world.proofs.Sequences.OwnTurnLaws.{TurnsIf, TurnsOf}
+
+-- ---- the dials of a member are as many as are counted
+
+same_is : (k : ℕ) (end : EndId) → same_end end (Member k) ≡ is_member k end
+same_is k (Controller at) = refl
+same_is k (Member at) = refl
+same_is k (Client at) = refl
+
+one_more : (hit : Bool) (dial : Waiting) (dials : List Waiting) (n : ℕ) → length dials ≡ n → length (if hit then dial ∷ dials else dials) ≡ one_if hit + n
+one_more true dial dials n is = omega (arith, is)
+one_more false dial dials n is = omega (arith, is)
+
+dials_count : (k : ℕ) (dials : List Waiting) → length (dials_of k dials) ≡ waiting_dials k dials
+dials_count k [] = refl
+dials_count k (dial ∷ dials) =
+    ap (λ (hit : Bool). length (if hit then dial ∷ dials_of k dials else dials_of k dials)) (same_is k dial.end)
+    ∙ one_more (is_member k dial.end) dial (dials_of k dials) (waiting_dials k dials) (dials_count k dials)
+
+-- ---- of every run
+
+pub one_turn : AsksWhatWaits → TurnsAreDialled → (plan : Plan) (moves : List Move) → OneTurnIsOut (past plan moves)
+one_turn asks dialled plan moves member m running there runs =
+    let s : State = (past plan moves).world.state in
+    let known : AtState TurnsKnown None [] s [] (past plan moves).book.turns = run_part TurnsKnown (turns_keep asks dialled) moves (first_world plan) blank (first_known asks plan) in
+    let holds : TurnsHold None [] s.member_plans s.ends s.dials s.chances.drawn [] (past plan moves).book.turns = known (draws_differ plan moves) in
+    let its : TurnsOf member (controller_of member s) None [] s.dials s.chances.drawn [] (past plan moves).book.turns running =
+    subst (λ (r : Option Running). TurnsIf member (controller_of member s) None [] s.dials s.chances.drawn [] (past plan moves).book.turns r) runs (holds.members member m there) in
+    record {
+      out = its.order.out;
+      few = omega (arith, its.out_once, dials_count member s.dials);
+      waits = λ some. its.out_waits (omega (arith, some, dials_count member s.dials));
+    }
