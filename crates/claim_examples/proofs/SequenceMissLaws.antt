@@ -26,7 +26,8 @@ use Rattle.step_notes.specs.Records.{Book, Judging, LogonTurn, Sent, blank}
 use Rattle.world_moves.specs.declared.links.EndId.TheVariants.{Member, Client}
 use Rattle.world_moves.specs.declared.state.State.{State}
 use Rattle.domain_world.specs.Accepting.Sequences.{AnswersCall, AreSoFar, CallsOfTurns, HavePassed, IsPassedIn, TurnsAreCalled, stamps_of}
-use Rattle.domain_world.specs.Claims.SharedSequences.{HasOneTurnOut, IsBeforeTurn, Keeps, SequencesAreOwn, SequencesAreShared, Stands, any_foreign, channel_seed, dials_of, timestamps_on}
+use Rattle.channel_events.specs.Seeds.{channel_seed}
+use Rattle.domain_world.specs.Claims.SharedSequences.{HasOneTurnOut, IsBeforeTurn, Keeps, SequencesAreOwn, SequencesAreShared, Stands, any_foreign, dials_of, timestamps_on}
 use Rattle.domain_world.specs.Past.{controller_of, sent_at}
 use Rattle.claim_examples.specs.ClaimExamples.{elsewhere, judged_as, on_channel, one_turn, open_channel, open_member, open_running, run_open, seed_after_one, small_channel, small_member, small_name, small_seed, small_turn, turn_out}
 use Rattle.claim_examples.specs.SequenceMisses.{OfCalls, OfOneTurn, OfReplyCalls, OfSequenceMisses, SequencesTellApart, called_once, controller_on, empty_unit, judged_outside, kept_whole, member_on, mixed_turns, moved_seed, open_whole, passed_then, replied, run_by, run_dials, run_other, run_second, run_small, run_whole, whole_name, world_by}
