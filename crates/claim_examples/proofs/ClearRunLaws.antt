@@ -1,7 +1,7 @@
 -- The first logon in a world is clear, and somebody is let in.
 -- It serves `a_run_is_clear`.
 use Rattle.std.proofs.Common.{◌≡◌, ◌≢◌, ℕ, ◌+◌, ◌≤◌, arith, Bool, true, false, List, [], ◌∷◌, ◌++◌, length, Some, refl, sym, ap, subst, ◌∙◌}
-use Rattle.std.specs.Prelude.{◌==◌, drop}
+use Rattle.std.specs.Prelude.{◌==◌, drop, AllPairs}
 use Rattle.std.specs.List.{AllByRecursion}
 use Rattle.std.proofs.lemmas.List.{length-append}
 use Rattle.wire_base.specs.Names.{same_name}
@@ -45,7 +45,7 @@ use Rattle.world_moves.specs.Choosing.{chosen_place}
 use Rattle.world_moves.specs.Forms.{HasForms}
 use Rattle.world_moves.specs.World.{IsPlan, World, first_world, happens, run}
 use Rattle.domain_world.specs.Claims.{AcceptsOnlyGranted, IsAccepted, Wraps}
-use Rattle.domain_world.specs.Claims.Completeness.{IsQuiet, OneAtATime}
+use Rattle.domain_world.specs.Claims.Completeness.{IsQuiet, OneAtATime, IsPlainMove, started_in}
 use Rattle.domain_world.specs.Claims.LetIn.{IsLetInBy, LetsInWhoAsked}
 use Rattle.domain_world.specs.Past.{Past, book, note, past}
 use Rattle.logon_steps.specs.Answering.{pair_of}
@@ -369,6 +369,16 @@ ann_rests =
     subst (λ (silent : Bool). IsQuiet (run (logon_moves 0 silent) (first_world ann_plan))) (ann_echoes can)
     (rests_so (run (logon_moves 0 (can.task.echo == 0)) (first_world ann_plan)) _ refl refl an_example_logs_on.comes.rests)
 
+-- the example's moves start one client, where nothing is under way
+pub ann_plain : AllByRecursion IsPlainMove ann_moves
+ann_plain = (tt, (tt, (tt, (tt, (tt, (tt, (tt, (tt, (tt, (tt, (tt, (tt, (tt, (tt, (tt, (tt, (tt, (tt, (tt, (tt, (tt, (tt, (tt, (tt, tt))))))))))))))))))))))))
+
+pub ann_once : AllPairs (λ (one other : ℕ). one ≢ other) (started_in ann_moves (length ann_plan.clients))
+ann_once = one_apart (λ (one other : ℕ). one ≢ other) 0
+
+pub ann_quiet : OneAtATime ann_moves (first_world ann_plan)
+ann_quiet = (record { dials = refl; units = refl }, later_quiet (drop 1 ann_moves) (happens (first_world ann_plan) (move.Start 0)) (tt, (tt, (tt, (tt, (tt, (tt, (tt, (tt, (tt, (tt, (tt, (tt, (tt, (tt, (tt, (tt, (tt, (tt, (tt, (tt, (tt, (tt, (tt, tt))))))))))))))))))))))) ann_rests)
+
 pub first_logons_are_clear : ((plan : Plan) (moves : List Move) → LetsInWhoAsked (past plan moves)) → FirstLogonsAreClear
 first_logons_are_clear asked = record {
   first = λ plan client member controller number is forms chosen can arrives.
@@ -378,7 +388,7 @@ first_logons_are_clear asked = record {
       let can : CanComeIn ann_plan 0 0 0 = an_example_logs_on.can in
       subst (λ (silent : Bool). LetsInClearly (past ann_plan (logon_moves 0 silent))) (ann_echoes can)
       (lets_in_clearly ann_plan 0 0 0 can an_example_logs_on.schedule.start an_example_logs_on.schedule.forms 0 refl (ann_arrives can) (asked ann_plan (logon_moves 0 (can.task.echo == 0))));
-  plain = (tt, (tt, (tt, (tt, (tt, (tt, (tt, (tt, (tt, (tt, (tt, (tt, (tt, (tt, (tt, (tt, (tt, (tt, (tt, (tt, (tt, (tt, (tt, (tt, tt))))))))))))))))))))))));
-  once = one_apart (λ (one other : ℕ). one ≢ other) 0;
-  quiet = (record { dials = refl; units = refl }, later_quiet (drop 1 ann_moves) (happens (first_world ann_plan) (move.Start 0)) (tt, (tt, (tt, (tt, (tt, (tt, (tt, (tt, (tt, (tt, (tt, (tt, (tt, (tt, (tt, (tt, (tt, (tt, (tt, (tt, (tt, (tt, (tt, tt))))))))))))))))))))))) ann_rests);
+  plain = ann_plain;
+  once = ann_once;
+  quiet = ann_quiet;
 }
