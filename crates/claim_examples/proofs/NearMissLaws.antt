@@ -1,7 +1,25 @@
 -- Near misses that were written down by hand.
 -- It serves `near_misses_tell_apart`.
-use Rattle.std.proofs.Common.{◌≡◌, ◌≢◌, ◌+◌, ℕ, zero, suc, Bool, true, false, List, [], ◌∷◌, length, inl, inr, Some, None, refl, sym, ap, ◌∙◌, subst, arith, slice_get, replicate}
+use Rattle.std.proofs.Common.{◌≡◌, ◌≢◌, ◌+◌, ℕ, zero, suc, Bool, true, false, List, [], ◌∷◌, length, inl, inr, Some, None, refl, sym, ap, ◌∙◌, subst, arith, slice_get, replicate, ◌<◌, Option, if◌then◌else◌, codes}
 use Rattle.std.specs.Prelude.{◌%◌, ◌^◌}
+use Rattle.std.proofs.lemmas.Bool.{eqb-true}
+use Rattle.wire_base.specs.Maps.{lookup, same_number}
+use Rattle.end_links.specs.Links.{LinkState}
+use Rattle.account_table.specs.AccountTable.{AccountTable}
+use Rattle.account_table.specs.declared.account.Account.{Account}
+use Rattle.channel_client.specs.Machine.{fresh_requester}
+use Rattle.domain_controller.specs.State.{State as ControllerState}
+use Rattle.domain_controller.specs.Step.{first_state}
+use Rattle.member_server.specs.Machine.{caller_of}
+use Rattle.member_server.specs.State.{State as MemberState}
+use Rattle.member_server.specs.declared.state.Dialling.TheVariants as dialling
+use Rattle.member_server.specs.declared.state.Bound.{Bound}
+use Rattle.member_server.specs.declared.state.Logon.{Logon}
+use Rattle.member_server.specs.declared.state.Phase.TheVariants as phase
+use Rattle.member_server.specs.declared.state.Running.{Running as MemberRunning}
+use Rattle.member_server.specs.declared.state.Talk.{Talk}
+use Rattle.domain_world.specs.Claims.Tables.{accounts_after}
+use Rattle.domain_world.specs.Claims.WrittenDown.{IsChallengeOf, IsMessageOf, MembersAreWrittenDown}
 use Rattle.std.proofs.lemmas.List.Elements.{All-from_recursion}
 use Rattle.wire_base.specs.Names.{same_name}
 use Rattle.wire_base.specs.Names as names
@@ -23,7 +41,7 @@ use Rattle.step_notes.proofs.Members.CallLogonLaws.{calls_carry}
 use Rattle.domain_world.specs.Claims.AskedFor.{AsksForItsMessage, IsForItsMessage, IsOfMessage, MembersAskForKept}
 use Rattle.channel_events.specs.Marks.{OneOf, Calling, Mark, Opened, Opening, Plain, ReplyTo}
 use Rattle.channel_events.proofs.ListLaws.{got_nothing, some_is}
-use Rattle.step_notes.specs.Records.{Judging, MessageTaken, Sent}
+use Rattle.step_notes.specs.Records.{Judging, MessageTaken, Sent, blank}
 use Rattle.world_moves.specs.declared.bag.BagUnit.{BagUnit}
 use Rattle.world_moves.specs.declared.links.Route.TheVariants.{ToMember}
 use Rattle.world_moves.specs.Forms.{HasMoveForm, IsByte}
@@ -31,10 +49,10 @@ use Rattle.world_moves.specs.World.{IsMove}
 use Rattle.domain_world.specs.Accepting.Answered.{IsItsWay, MarksHaveTheirWay, PassesAreUnclashed}
 use Rattle.domain_world.specs.Claims.{IsAccepted, IsClear, IsGrantedBy, IsItsControllersAnswer, IsPlainlyAccepted, passed_on, timestamp_of}
 use Rattle.domain_world.specs.Claims.Counts.{RaisesCount}
-use Rattle.domain_world.specs.Past.{sent_at}
-use Rattle.claim_examples.specs.ClaimExamples.{elsewhere, extended_flags, judged_as, judging, last_timestamp, message, message_of_link, on_channel, one_logon, small_account, small_challenge, small_hash, small_logon, small_member, small_name, small_run}
+use Rattle.domain_world.specs.Past.{Past, sent_at}
+use Rattle.claim_examples.specs.ClaimExamples.{challenge_on, elsewhere, extended_flags, judged_as, judging, last_timestamp, message, message_of_link, on_channel, one_logon, open_running, small_account, small_challenge, small_hash, small_logon, small_member, small_name, small_plan, small_run, small_table, small_world}
 use Rattle.claim_examples.specs.GrantExamples.{wrong_call}
-use Rattle.claim_examples.specs.NearMisses.{NearMissesTellApart, OfAcceptingAll, OfAcceptingOnly, OfAsking, OfClearRuns, OfCounts, OfKeys, OfSchedules, OfShortResponses, OfUnits, at_two_members, barred_again, bob, each_move, extended_taken, foreign, half_timestamp, judged_two, keeping, long_taken, passed_for, sent_one, taking, untold, wrong_among}
+use Rattle.claim_examples.specs.NearMisses.{NearMissesTellApart, OfAcceptingAll, OfAcceptingOnly, OfAsking, OfClearRuns, OfCounts, OfKeys, OfSchedules, OfShortResponses, OfTables, OfTelling, OfUnits, OfWritingDown, at_two_members, barred_again, bob, each_move, extended_taken, foreign, half_timestamp, judged_by, judged_two, keeping, locking_table, long_taken, noting, passed_for, sent_one, small_bound, taking, ten_keeping, untold, waiting_on, wrong_among}
 use Rattle.claim_examples.proofs.ClaimLaws.{its_controller, moved_by_one, of_wraps, the_two}
 use Rattle.claim_examples.proofs.CompletenessLaws.{lost_schedule}
 use Rattle.claim_examples.proofs.LogonLaws.{extended_pair, free_small, granted_small, only_draw, plain_small, stored_small, this_step}
@@ -302,6 +320,143 @@ of_asking = record {
       all.0);
 }
 
+-- ---- what is written down of members, and what controllers tell
+
+-- of a run with one member, whose number is 0
+module _ (run : Past) (r : MemberRunning) (only : run.world.state.ends.members ≡ record { running = Some r } ∷ []) where
+  there_is : (member : ℕ) (m : MemberState) (running : MemberRunning) → slice_get run.world.state.ends.members member ≡ Some m → m.running ≡ Some running → (member ≡ 0) × (running ≡ r)
+  there_is zero m running at runs =
+      let one : MemberState = record { running = Some r } in
+      let first : slice_get (one ∷ []) 0 ≡ Some m = subst (λ (members : List MemberState). slice_get members 0 ≡ Some m) only at in
+      let same : one ≡ m = cc in
+      let both : Some r ≡ Some running = ap (λ (x : MemberState). x.running) same ∙ runs in
+      let running_is : r ≡ running = cc in
+      (refl, sym running_is)
+  there_is (suc k) m running at runs =
+      absurd (let never : ◌≡◌ {A = Option MemberState} None (Some m) = subst (λ (members : List MemberState). slice_get members (suc k) ≡ Some m) only at in cc)
+
+  written_by : ((place : ℕ) (logon : Logon) → lookup same_number place r.logons.asked ≡ Some logon → OneOf (IsMessageOf run 0 place logon) run.book.messages) →
+      ((number : ℕ) (link : LinkState Talk) (bound : Bound) (challenge : List ℕ) (flags : ℕ) → lookup same_number number r.links ≡ Some link →
+      link.talk.phase ≡ phase.Challenged bound challenge flags → OneOf (IsChallengeOf number challenge) run.book.challenges) → MembersAreWrittenDown run
+  written_by kept waited = record {
+    logons = λ member m running place logon at runs there.
+        let is = there_is member m running at runs in
+        subst (λ (n : ℕ). OneOf (IsMessageOf run n place logon) run.book.messages) (sym is.0)
+        (kept place logon (subst (λ (x : MemberRunning). lookup same_number place x.logons.asked ≡ Some logon) is.1 there));
+    challenges = λ member m running number link bound challenge flags at runs there waits.
+        let is = there_is member m running at runs in
+        waited number link bound challenge flags (subst (λ (x : MemberRunning). lookup same_number number x.links ≡ Some link) is.1 there) waits;
+  }
+
+-- the one that is kept under a number is that one
+only_one : {V : Type 0} (hit : Bool) (key at : ℕ) (kept value : V) → same_number key at ≡ hit → (if hit then Some kept else None) ≡ Some value → (key ≡ at) × (kept ≡ value)
+only_one true key at kept value is there = (eqb-true key at is, cc)
+only_one false key at kept value is there = absurd (let never : ◌≡◌ {A = Option _} None (Some value) = there in cc)
+
+abbrev fresh_running : MemberRunning
+fresh_running = record {
+  logons = record { plan = small_member; channel = fresh_requester (caller_of small_member); asked = [] };
+  links = [];
+  dialling = dialling.Nothing;
+}
+
+abbrev ten_running : ℕ → MemberRunning
+ten_running place = let running : MemberRunning = open_running None [] in record running { logons = record running.logons { asked = (place, small_logon 3) ∷ [] } }
+
+abbrev waiting_running : ℕ → List ℕ → MemberRunning
+waiting_running link challenge =
+    let running : MemberRunning = open_running None [] in
+    record running { links = (link, record { rest = []; talk = record { joiner = None; phase = phase.Challenged small_bound challenge 0 } }) ∷ [] }
+
+kept_message : (place : ℕ) (logon : Logon) → (0 ≡ place) × (small_logon 3 ≡ logon) → IsMessageOf (noting (ten_keeping 0) (message_of_link 3 ∷ []) []) 0 place logon (message_of_link 3)
+kept_message place logon is = record { same_member = refl; same_place = is.0; same_logon = is.1; link = ap (λ (l : Logon). l.link) is.1; before = omega arith }
+
+waited_challenge : (number : ℕ) (link : LinkState Talk) (bound : Bound) (challenge : List ℕ) (flags : ℕ) → (number ≡ 3) × (record { rest = []; talk = record { joiner = None; phase = phase.Challenged small_bound small_challenge 0 } } ≡ link) →
+    link.talk.phase ≡ phase.Challenged bound challenge flags → IsChallengeOf number challenge (challenge_on 3)
+waited_challenge number link bound challenge flags is waits =
+    let same : phase.Challenged small_bound small_challenge 0 ≡ phase.Challenged bound challenge flags = ap (λ (l : LinkState Talk). l.talk.phase) is.1 ∙ waits in
+    let both : small_challenge ≡ challenge = cc in
+    (sym is.0, both)
+
+of_written : OfWritingDown
+of_written = record {
+  meets = written_by (small_run blank) fresh_running refl (λ place logon there. absurd (let never : ◌≡◌ {A = Option Logon} None (Some logon) = there in cc))
+      (λ number link bound challenge flags there waits. absurd (let never : ◌≡◌ {A = Option (LinkState Talk)} None (Some link) = there in cc));
+  meets_kept = written_by (noting (ten_keeping 0) (message_of_link 3 ∷ []) []) (ten_running 0) refl
+      (λ place logon there. let is = only_one (same_number place 0) place 0 (small_logon 3) logon refl there in inl (kept_message place logon (sym is.0, is.1)))
+      (λ number link bound challenge flags there waits. absurd (let never : ◌≡◌ {A = Option (LinkState Talk)} None (Some link) = there in cc));
+  fails = λ claim. claim.logons 0 (record { running = Some (ten_running 0) }) (ten_running 0) 0 (small_logon 3) refl refl refl;
+  fails_place = λ claim. elim (claim.logons 0 (record { running = Some (ten_running 1) }) (ten_running 1) 1 (small_logon 3) refl refl refl) [
+    | inl is ↦ absurd (let never : 0 ≡ 1 = is.same_place in omega (arith, never))
+    | inr none ↦ none
+  ];
+  fails_link = λ claim. elim (claim.logons 0 (record { running = Some (ten_running 0) }) (ten_running 0) 0 (small_logon 3) refl refl refl) [
+    | inl is ↦ absurd (let never : 4 ≡ 3 = is.link in omega (arith, never))
+    | inr none ↦ none
+  ];
+  fails_logon = λ claim. elim (claim.logons 0 (record { running = Some (ten_running 0) }) (ten_running 0) 0 (small_logon 3) refl refl refl) [
+    | inl is ↦ absurd (let never : 4 ≡ 3 = ap (λ (l : Logon). l.link) is.same_logon in omega (arith, never))
+    | inr none ↦ none
+  ];
+  fails_member = λ claim. elim (claim.logons 0 (record { running = Some (ten_running 0) }) (ten_running 0) 0 (small_logon 3) refl refl refl) [
+    | inl is ↦ absurd (let never : 1 ≡ 0 = is.same_member in omega (arith, never))
+    | inr none ↦ none
+  ];
+  fails_later = λ claim. elim (claim.logons 0 (record { running = Some (ten_running 0) }) (ten_running 0) 0 (small_logon 3) refl refl refl) [
+    | inl is ↦ absurd (let never : 10 < 10 = is.before in omega (arith, never))
+    | inr none ↦ none
+  ];
+  meets_challenge = written_by (noting (waiting_on 3 small_challenge) [] (challenge_on 3 ∷ [])) (waiting_running 3 small_challenge) refl
+      (λ place logon there. absurd (let never : ◌≡◌ {A = Option Logon} None (Some logon) = there in cc))
+      (λ number link bound challenge flags there waits. inl (waited_challenge number link bound challenge flags
+      (only_one (same_number number 3) number 3 (record { rest = []; talk = record { joiner = None; phase = phase.Challenged small_bound small_challenge 0 } }) link refl there) waits));
+  fails_challenge = λ claim. claim.challenges 0 (record { running = Some (waiting_running 3 small_challenge) }) (waiting_running 3 small_challenge) 3 _ small_bound small_challenge 0 refl refl refl refl;
+  fails_elsewhere = λ claim. elim (claim.challenges 0 (record { running = Some (waiting_running 3 small_challenge) }) (waiting_running 3 small_challenge) 3 _ small_bound small_challenge 0 refl refl refl refl) [
+    | inl is ↦ absurd (let never : 4 ≡ 3 = is.0 in omega (arith, never))
+    | inr none ↦ none
+  ];
+  fails_other = λ claim. elim (claim.challenges 0 (record { running = Some (waiting_running 3 []) }) (waiting_running 3 []) 3 _ small_bound [] 0 refl refl refl refl) [
+    | inl is ↦ absurd (let never : 8 ≡ 0 = ap (λ (c : List ℕ). length c) is.1 in omega (arith, never))
+    | inr none ↦ none
+  ];
+}
+
+of_telling : OfTelling
+of_telling = record { meets = (refl, tt); fails = λ claim. absurd (let never : false ≡ true = claim.0 in cc) }
+
+-- ---- the accounts of controllers
+
+-- the plan has one table
+one_planned : (controller : ℕ) (planned : AccountTable) → slice_get small_plan.tables controller ≡ Some planned → planned ≡ small_table
+one_planned zero planned is = cc
+one_planned (suc k) planned is = absurd (let never : ◌≡◌ {A = Option AccountTable} None (Some planned) = is in cc)
+
+first_controller : (controller : ℕ) (c : ControllerState) → slice_get small_world.state.ends.controllers controller ≡ Some c → (controller ≡ 0) × (c.table ≡ small_table)
+first_controller zero c is =
+    let same : first_state small_table (codes "PDC") ≡ c = cc in (refl, sym (ap (λ (x : ControllerState). x.table) same))
+first_controller (suc k) c is = absurd (let never : ◌≡◌ {A = Option ControllerState} None (Some c) = is in cc)
+
+abbrev first_count : List Account → ℕ
+first_count [] = 0
+first_count (account ∷ accounts) = account.bad_count
+
+-- those accounts are others
+others_differ : locking_table ≡ small_table → ⊥
+others_differ is = absurd (let never : 5 ≡ 0 = ap (λ (t : AccountTable). first_count t.accounts) is in omega (arith, never))
+
+of_tables : OfTables
+of_tables = record {
+  meets = record {
+    judged = (λ planned is. refl, (λ planned is. sym (one_planned 0 planned is), tt));
+    stands = λ controller c at planned is.
+        let first = first_controller controller c at in
+        first.1 ∙ subst (λ (k : ℕ). small_table ≡ accounts_after planned k (judged_by small_table ∷ judged_by small_table ∷ [])) (sym first.0) refl;
+  };
+  fails = λ claim. others_differ (claim.judged.0 small_table refl);
+  fails_second = λ claim. others_differ (claim.judged.0 small_table refl);
+  fails_standing = λ claim. others_differ (claim.stands 0 (first_state locking_table (codes "PDC")) refl small_table refl);
+}
+
 -- ---- schedules
 
 of_schedules : OfSchedules
@@ -327,5 +482,8 @@ near_misses = record {
   counts = of_counts;
   units = of_units;
   asking = of_asking;
+  written = of_written;
+  telling = of_telling;
+  tables = of_tables;
   schedules = of_schedules;
 }

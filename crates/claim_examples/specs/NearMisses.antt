@@ -2,33 +2,42 @@
 -- that meets a claim, so that a claim which leaves that thing out, or which asks it besides, is told apart. Responses
 -- are the values of their functions.
 use Rattle.std.specs.Prelude.{ℕ, ◌≡◌, ◌-◌, ◌^◌, Bool, true, false, List, [], ◌∷◌, ◌++◌, replicate, Some, None, codes, slice_get}
+use Rattle.outside.specs.declared.action.Judged.{Judged}
 use Rattle.outside.specs.declared.action.Judged.TheVariants as judged
 use Rattle.ntlm_responses.specs.Hashes.{key_v2_of}
 use Rattle.ntlm_responses.specs.Responses.{proof_of}
+use Rattle.account_table.specs.AccountTable.{AccountTable}
 use Rattle.account_table.specs.declared.account.Account.{Account}
+use Rattle.domain_controller.specs.Step.{first_state}
 use Rattle.logon_client.specs.declared.plan.AuthKind.TheVariants as auth
 use Rattle.authenticators.specs.Channels.{Channel}
+use Rattle.end_links.specs.Binding.{binding_of}
+use Rattle.member_server.specs.Binds.{memo_syntax}
 use Rattle.member_server.specs.State.{State as MemberState}
 use Rattle.member_server.specs.declared.state.AtTurn.{AtTurn}
+use Rattle.member_server.specs.declared.state.Bound.{Bound}
 use Rattle.member_server.specs.declared.state.Logon.{Logon}
+use Rattle.member_server.specs.declared.state.Phase.TheVariants as phase
 use Rattle.member_server.specs.declared.state.Running.{Running as MemberRunning}
 use Rattle.member_server.specs.declared.state.TurnTalk.{TurnTalk}
 use Rattle.step_notes.specs.MemberNotes.{turn_note, turn_units}
 use Rattle.step_notes.specs.Served.{ServedUnit}
 use Rattle.domain_world.specs.Claims.AskedFor.{MembersAskForKept, MembersAskForMessages}
 use Rattle.channel_events.specs.Marks.{Calling, Mark, Opened, Opening, Plain, ReplyTo}
-use Rattle.step_notes.specs.Records.{Book, Judging, MessageMade, MessageTaken, blank}
+use Rattle.step_notes.specs.Records.{Book, ChallengeSent, Judging, MessageMade, MessageTaken, blank}
 use Rattle.world_moves.specs.declared.links.LinkKind.TheVariants as kind
 use Rattle.world_moves.specs.declared.links.Route.TheVariants.{ToController, ToMember}
 use Rattle.world_moves.specs.declared.moves.Move.{Move}
 use Rattle.world_moves.specs.declared.moves.Move.TheVariants as move
 use Rattle.world_moves.specs.Forms.{IsSchedule}
 use Rattle.domain_world.specs.Accepting.Answered.{MarksHaveTheirWay, MessagesAreApart, PassesAreUnclashed}
-use Rattle.domain_world.specs.Claims.{AcceptsAllGranted, AcceptsOnlyGranted, IsClear, KeysAgree, ShortResponsesServeOnce, taken_answer_on}
+use Rattle.domain_world.specs.Claims.{AcceptsAllGranted, AcceptsOnlyGranted, IsClear, KeysAgree, ShortResponsesServeOnce, TellsOfCallsAlone, taken_answer_on}
 use Rattle.domain_world.specs.Claims.Counts.{EachCallRaisesOnce, RaisesCount}
 use Rattle.domain_world.specs.Claims.MarkedUnits.{EachUnitIsMarked}
+use Rattle.domain_world.specs.Claims.Tables.{TablesFollowVerdicts}
+use Rattle.domain_world.specs.Claims.WrittenDown.{MembersAreWrittenDown}
 use Rattle.domain_world.specs.Past.{Past, sent_at}
-use Rattle.claim_examples.specs.ClaimExamples.{client_plan, elsewhere, extended_flags, extended_message, judged_as, judging, last_timestamp, made_as, made_keeping, message, message_of_link, on_channel, one_logon, open_running, small_logon, run_in, small_account, small_challenge, small_hash, small_member, small_name, small_plan, small_run, small_table, small_world, taken_as, told_of_link, two_logons, with_response, world_of}
+use Rattle.claim_examples.specs.ClaimExamples.{challenge_on, client_plan, elsewhere, extended_flags, extended_message, judged_as, judging, last_timestamp, made_as, made_keeping, message, message_of_link, on_channel, one_logon, open_running, run_in, small_account, small_challenge, small_hash, small_logon, small_member, small_name, small_plan, small_run, small_table, small_world, taken_as, told_of_link, two_logons, with_response, world_of}
 use Rattle.claim_examples.specs.CompletenessExamples.{lost_plan}
 use Rattle.claim_examples.specs.GrantExamples.{judged_all, wrong_call}
 
@@ -216,6 +225,91 @@ pub record OfAsking : Type 0 where
       slice_get run.world.state.ends.members member ≡ Some m → run.book.messages ≡ [] → turn_units m number piece now left ≡ unit ∷ more →
       (turn_note controller unit).mark ≡ Calling channel call timestamp → MembersAskForMessages run → ⊥
 
+-- ---- what is written down of members, and what controllers tell
+
+-- with this book
+abbrev pub noting : Past → List MessageTaken → List ChallengeSent → Past
+noting run messages challenges = record run { book = record blank { messages = messages; challenges = challenges } }
+
+abbrev pub small_bound : Bound
+small_bound = record { binding = binding_of memo_syntax 5840 []; level = 2; context = 0 }
+
+-- a member waits on this link for the answer to this challenge
+abbrev pub waiting_on : ℕ → List ℕ → Past
+waiting_on link challenge =
+    let running : MemberRunning = open_running None [] in
+    run_in
+    (record small_world {
+      state = record small_world.state {
+        ends = record small_world.state.ends {
+          members = record {
+            running = Some (record running {
+              links = (link, record { rest = []; talk = record { joiner = None; phase = phase.Challenged small_bound challenge 0 } }) ∷ [];
+            });
+          } ∷ [];
+        };
+      };
+    })
+    blank
+
+-- the logon is kept by a run that made ten moves
+abbrev pub ten_keeping : ℕ → Past
+ten_keeping place = let run : Past = keeping ((place, small_logon 3) ∷ []) in record run { world = record run.world { moves = 10 } }
+
+-- A logon that is kept is that of a message that is written down: not where none is, or one of another place, another
+-- link, another logon or another member, or one that was taken later. A challenge that is waited on is written down:
+-- not where none is, or one of another link, or another challenge.
+pub record OfWritingDown : Type 0 where
+  pub meets : MembersAreWrittenDown (small_run blank)
+  pub meets_kept : MembersAreWrittenDown (noting (ten_keeping 0) (message_of_link 3 ∷ []) [])
+  pub fails : MembersAreWrittenDown (ten_keeping 0) → ⊥
+  pub fails_place : MembersAreWrittenDown (noting (ten_keeping 1) (message_of_link 3 ∷ []) []) → ⊥
+  pub fails_link : MembersAreWrittenDown (noting (ten_keeping 0) (record (message_of_link 3) { link = 4 } ∷ []) []) → ⊥
+  pub fails_logon : MembersAreWrittenDown (noting (ten_keeping 0) (record (message_of_link 3) { logon = small_logon 4 } ∷ []) []) → ⊥
+  pub fails_member : MembersAreWrittenDown (noting (ten_keeping 0) (record (message_of_link 3) { member = 1 } ∷ []) []) → ⊥
+  pub fails_later : MembersAreWrittenDown (noting (ten_keeping 0) (record (message_of_link 3) { at = 10 } ∷ []) []) → ⊥
+  pub meets_challenge : MembersAreWrittenDown (noting (waiting_on 3 small_challenge) [] (challenge_on 3 ∷ []))
+  pub fails_challenge : MembersAreWrittenDown (waiting_on 3 small_challenge) → ⊥
+  pub fails_elsewhere : MembersAreWrittenDown (noting (waiting_on 3 small_challenge) [] (challenge_on 4 ∷ [])) → ⊥
+  pub fails_other : MembersAreWrittenDown (noting (waiting_on 3 []) [] (challenge_on 3 ∷ [])) → ⊥
+
+-- What is told judges a call: not what came of a logon that was asked of another controller.
+abbrev pub telling : Judged → Past
+telling how = small_run (record blank { judgements = record { at = 6; controller = 0; how = how } ∷ [] })
+
+pub record OfTelling : Type 0 where
+  pub meets : TellsOfCallsAlone (telling judged.Barred)
+  pub fails : TellsOfCallsAlone (telling (judged.Answered 0)) → ⊥
+
+-- ---- the accounts of controllers
+
+-- a call that found no channel, and so leaves the accounts by which it was judged
+abbrev pub judged_by : AccountTable → Judging
+judged_by table = record judging { table = table; how = Some judged.NoChannel }
+
+-- another count of bad passwords
+abbrev pub locking_table : AccountTable
+locking_table = record small_table { accounts = record small_account { bad_count = 5 } ∷ [] }
+
+-- the controller has these accounts
+abbrev pub standing_with : AccountTable → Past
+standing_with table =
+    run_in
+    (record small_world {
+      state = record small_world.state {
+        ends = record small_world.state.ends { controllers = first_state table (codes "PDC") ∷ [] };
+      };
+    })
+    blank
+
+-- A call is judged by the accounts of the plan, or as the call before it left them, and the controller has what the
+-- last one left: not where a call was judged by others, or the controller has others.
+pub record OfTables : Type 0 where
+  pub meets : TablesFollowVerdicts (small_run (record blank { judged = judged_by small_table ∷ judged_by small_table ∷ [] }))
+  pub fails : TablesFollowVerdicts (small_run (record blank { judged = judged_by locking_table ∷ [] })) → ⊥
+  pub fails_second : TablesFollowVerdicts (small_run (record blank { judged = judged_by locking_table ∷ judged_by small_table ∷ [] })) → ⊥
+  pub fails_standing : TablesFollowVerdicts (standing_with locking_table) → ⊥
+
 -- ---- schedules
 
 -- one of each kind
@@ -250,4 +344,7 @@ pub record NearMissesTellApart : Type 0 where
   pub counts : OfCounts
   pub units : OfUnits
   pub asking : OfAsking
+  pub written : OfWritingDown
+  pub telling : OfTelling
+  pub tables : OfTables
   pub schedules : OfSchedules

@@ -24,7 +24,8 @@ use Rattle.domain_world.proofs.Frames.DrawnRunLaws.{draws_are_blocks, draws_diff
 use Rattle.domain_world.proofs.Judgements.GrantLaws.{grants_who_may}
 use Rattle.domain_world.proofs.Judgements.ReplayLaws.{replays_by_sum}
 use Rattle.domain_world.proofs.Judgements.ReplyLaws.{replies_carry}
-use Rattle.domain_world.proofs.Judgements.ToldLaws.{passes_the_next}
+use Rattle.domain_world.proofs.Judgements.TableLaws.{tables_follow}
+use Rattle.domain_world.proofs.Judgements.ToldLaws.{passes_the_next, tells_of_calls}
 use Rattle.domain_world.proofs.Judgements.UnclashedLaws.{passes_unclashed}
 use Rattle.domain_world.proofs.Requests.KeptAskLaws.{members_ask}
 use Rattle.domain_world.proofs.Requests.MarkWayLaws.{marks_have_their_way}
@@ -50,9 +51,11 @@ all_proved let_in written asked sends heard shared plan moves short bytes = reco
   responses = short_responses plan moves (draws_differ plan moves) (draws_are_blocks plan moves);
   apart = messages_apart plan moves;
   credentials = passes_the_next plan moves;
+  alone = tells_of_calls plan moves;
   replays = replays_by_sum plan moves;
   unclashed = passes_unclashed plan moves;
   grants = grants_who_may plan moves;
+  tables = tables_follow plan moves;
   replies = replies_carry plan moves;
   kept = members_ask plan moves;
   asked = asked plan moves;

@@ -6,5 +6,6 @@ pub mod ReplayLaws
 pub mod ReplyLaws
 pub mod SeedLaws
 pub mod SeedStepLaws
+pub mod TableLaws
 pub mod ToldLaws
 pub mod UnclashedLaws

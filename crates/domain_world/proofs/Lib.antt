@@ -1,6 +1,7 @@
 mod Accepting
 mod Challenges
 pub mod Completeness
+mod DrivingLaws
 pub mod Frames
 mod HeadlineLaws
 pub mod Judgements

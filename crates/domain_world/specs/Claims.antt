@@ -16,6 +16,7 @@ pub mod NamedLinks
 pub mod OwnChallenges
 pub mod Replies
 pub mod SharedSequences
+pub mod Tables
 pub mod WrittenDown
 use Rattle.std.specs.Prelude.{ℕ, ◌≡◌, ◌≢◌, ◌+◌, ◌%◌, ◌^◌, ◌==◌, ◌&&◌, ◌↔◌, Bool, true, false, List, [], ◌∷◌, ◌++◌, length, replicate, count_by, filter, find, Option, Some, None, slice_get, AllPairs}
 use Rattle.std.specs.List.{AllByRecursion}
@@ -76,7 +77,7 @@ pub record Wraps (judgings : List Judging) : Type 0 where
   pub around : moved_on channel (between ++ first ∷ []) % 2 ^ 32 ≡ 0
 
 -- the run is one of which the claims on answers speak: no credential passed on a unit that was made for another
--- channel, and no seed came round
+-- channel or for none, and no seed came round
 pub record IsClear (book : Book) : Type 0 where
   pub apart : book.clash ≡ false
   pub onward : Wraps book.judged → ⊥
@@ -242,6 +243,11 @@ AreRightlyTold told judgings = AreTheirJudgements (judgements_of_calls told) jud
 -- each such call has one, in their order, and it is right.
 abbrev pub PassesTheNextCredential : Past → Type 0
 PassesTheNextCredential past = AreRightlyTold past.book.judgements past.book.judged
+
+-- And it told of nothing else: what it told judges a call. No controller asks another one yet, which could then tell of
+-- what came of a call that was judged before.
+abbrev pub TellsOfCallsAlone : Past → Type 0
+TellsOfCallsAlone past = AllByRecursion (λ (one : JudgementTold). judges_call one.how ≡ true) past.book.judgements
 
 -- ---- further claims
 

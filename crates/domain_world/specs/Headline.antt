@@ -5,7 +5,7 @@ use Rattle.world_moves.specs.declared.plan.Plan.{Plan}
 use Rattle.world_moves.specs.Forms.{IsSchedule}
 use Rattle.world_moves.specs.World.{World, first_world, run}
 use Rattle.domain_world.specs.Accepting.Answered.{MarksHaveTheirWay, MessagesAreApart, PassesAreUnclashed}
-use Rattle.domain_world.specs.Claims.{AcceptsAllGranted, AcceptsOnlyGranted, ChallengesServeOnce, IsClear, KeysAgree, PassesTheNextCredential, ReplaysBySum, ShortResponsesServeOnce}
+use Rattle.domain_world.specs.Claims.{AcceptsAllGranted, AcceptsOnlyGranted, ChallengesServeOnce, IsClear, KeysAgree, PassesTheNextCredential, ReplaysBySum, ShortResponsesServeOnce, TellsOfCallsAlone}
 use Rattle.domain_world.specs.Claims.AskedFor.{MembersAskForKept, MembersAskForMessages, SendsAskForMessages}
 use Rattle.domain_world.specs.Claims.Completeness.{EachSucceeds}
 use Rattle.domain_world.specs.Claims.Counts.{EachCallRaisesOnce}
@@ -15,6 +15,7 @@ use Rattle.domain_world.specs.Claims.MarkedUnits.{EachUnitIsMarked}
 use Rattle.domain_world.specs.Claims.OwnChallenges.{MessagesHaveOwnChallenges}
 use Rattle.domain_world.specs.Claims.Replies.{RepliesCarryTheirJudgement}
 use Rattle.domain_world.specs.Claims.SharedSequences.{SequencesAreShared}
+use Rattle.domain_world.specs.Claims.Tables.{TablesFollowVerdicts}
 use Rattle.domain_world.specs.Claims.WrittenDown.{MembersAreWrittenDown}
 use Rattle.domain_world.specs.Past.{past}
 
@@ -30,9 +31,11 @@ pub record Proved (plan : Plan) (moves : List Move) : Type 0 where
   pub apart : MessagesAreApart (past plan moves)
   -- what controllers judge, grant and answer
   pub credentials : PassesTheNextCredential (past plan moves)
+  pub alone : TellsOfCallsAlone (past plan moves)
   pub replays : ReplaysBySum (past plan moves)
   pub unclashed : PassesAreUnclashed (past plan moves)
   pub grants : GrantsWhoMayLogOn (past plan moves)
+  pub tables : TablesFollowVerdicts (past plan moves)
   pub replies : RepliesCarryTheirJudgement (past plan moves)
   -- what members ask, and whom they let in
   pub kept : MembersAskForKept (past plan moves)

@@ -1,5 +1,6 @@
 pub mod Accepting
 pub mod Claims
+pub mod Driving
 pub mod Headline
 pub mod Past
 pub use Rattle.world_moves.specs.Generator

@@ -226,10 +226,9 @@ pub fn sequences_are_own()
     turns_are_dialled();
 }
 
-/// After every run that is clear the controller's seed of a member's open channel is the member's, or with a turn out
-/// the one before that turn (MS-NRPC 3.1.4.5), where each unit is heard whole, each call that was made carries the
-/// timestamp of its turn, and the calls on the channel are those of the member's turns, each passed but for one that is
-/// out.
+/// That both ends of a channel share its sequence (MS-NRPC 3.1.4.5) follows in a clear run where each unit is heard
+/// whole, each call that was made and carries a Logon call has the timestamp of its turn, and the calls on the channel
+/// are those of the member's turns, each passed but for one that is out.
 pub fn sequences_follow()
     ensures { SequencesFollow }
 {
@@ -238,8 +237,8 @@ pub fn sequences_follow()
     turns_are_dialled();
 }
 
-/// In every schedule a unit that was made as a call on a secure channel carries a Logon call that has the timestamp
-/// which is written down.
+/// In every schedule the Logon call that a unit carries which was made as a call on a secure channel, if it carries
+/// one, has the timestamp that is written down.
 #[tactic(auto, using(crate::proofs::Sequences::StampLaws::calls_stamped))]
 pub fn calls_are_stamped()
     ensures { (plan : Plan) (moves : List Move) → IsSchedule plan moves →
@@ -247,14 +246,15 @@ pub fn calls_are_stamped()
         HaveBytes (past plan moves).world.state.bag → CallsAreStamped (past plan moves) }
 {}
 
-/// In a run without a clash a call whose answer a member took passed at its controller, where each unit is heard whole.
+/// In a run without a clash a call whose answer a member took passed, where each unit is heard whole.
 #[tactic(auto, using(crate::proofs::Sequences::SharedLaws::taken_pass))]
 pub fn taken_calls_pass()
     ensures { TakenCallsPass }
 {}
 
-/// In every schedule that is clear the controller's seed of a member's open channel is the member's, or with a turn out
-/// the one before that turn (MS-NRPC 3.1.4.5).
+/// In every schedule that is clear, where the controller of a member's plan keeps the member's open channel and no call
+/// from outside passed on it, the controller's seed is the member's, or with a turn out the one before that turn
+/// (MS-NRPC 3.1.4.5).
 pub fn sequences_are_shared()
     ensures { (plan : Plan) (moves : List Move) → IsSchedule plan moves →
         AreShortUnits (past plan moves).world.state.bag →

@@ -5,7 +5,7 @@ ghost use Rattle.world_moves.specs.declared.moves.Move.{Move};
 ghost use Rattle.world_moves.specs.declared.plan.Plan.{Plan};
 ghost use Rattle.world_moves.specs.Bag.{AreShortUnits, HaveBytes};
 ghost use Rattle.world_moves.specs.Draws.{DrawsDiffer};
-ghost use Rattle.domain_world.specs.Claims.{PassesTheNextCredential, ReplaysBySum};
+ghost use Rattle.domain_world.specs.Claims.{PassesTheNextCredential, ReplaysBySum, TellsOfCallsAlone};
 ghost use Rattle.domain_world.specs.Claims.AskedFor.{MembersAskForKept, MembersAskForMessages, SendsAskForMessages};
 ghost use Rattle.domain_world.specs.Claims.Completeness.{EachSucceeds};
 ghost use Rattle.domain_world.specs.Claims.Grants.{GrantsWhoMayLogOn};
@@ -14,6 +14,7 @@ ghost use Rattle.domain_world.specs.Claims.MarkedUnits.{EachUnitIsMarked};
 ghost use Rattle.domain_world.specs.Claims.OwnChallenges.{MessagesHaveOwnChallenges};
 ghost use Rattle.domain_world.specs.Claims.Replies.{RepliesCarryTheirJudgement};
 ghost use Rattle.domain_world.specs.Claims.NamedLinks.{LinksReachTheNamed};
+ghost use Rattle.domain_world.specs.Claims.Tables.{TablesFollowVerdicts};
 ghost use Rattle.domain_world.specs.Claims.WrittenDown.{MembersAreWrittenDown};
 ghost use Rattle.domain_world.specs.Headline.{Proved};
 ghost use Rattle.domain_world.specs.Past.{past};
@@ -29,6 +30,12 @@ pub fn controllers_pass_the_next()
     ensures { (plan : Plan) (moves : List Move) → PassesTheNextCredential (past plan moves) }
 {}
 
+/// In every run, over all moves from a plan on, a controller tells of nothing but the calls that it heard.
+#[tactic(auto, using(crate::proofs::Judgements::ToldLaws::tells_of_calls))]
+pub fn controllers_tell_of_calls_alone()
+    ensures { (plan : Plan) (moves : List Move) → TellsOfCallsAlone (past plan moves) }
+{}
+
 /// In every run, over all moves from a plan on, a controller tells of a Logon call that it passed with status 0, which
 /// is a grant, exactly where its authenticator is the next one of its channel, it asks for validation level 2 or 3, the
 /// account may log on at that moment, and the response is the written function of the stored hash (MS-NRPC 3.5.4.5.3),
@@ -37,6 +44,14 @@ pub fn controllers_pass_the_next()
 #[tactic(auto, using(crate::proofs::Judgements::GrantLaws::grants_who_may))]
 pub fn controllers_grant_who_may_log_on()
     ensures { (plan : Plan) (moves : List Move) → GrantsWhoMayLogOn (past plan moves) }
+{}
+
+/// In every run, over all moves from a plan on, a controller's accounts change by the verdicts on the Logon calls that
+/// passed there, one after another (MS-NRPC 3.5.4.5.3), and by nothing else: each call is judged by the accounts as the
+/// earlier ones left them, from those of the plan on, and the controller has what the last one left.
+#[tactic(auto, using(crate::proofs::Judgements::TableLaws::tables_follow))]
+pub fn tables_follow_verdicts()
+    ensures { (plan : Plan) (moves : List Move) → TablesFollowVerdicts (past plan moves) }
 {}
 
 /// In every run, over all moves from a plan on, each unit of the bag that is marked as a reply carries what its
@@ -66,8 +81,8 @@ pub fn members_let_in_who_asked()
 }
 
 /// After every run, over all moves from a plan on, each logon that a member keeps is that of an AUTHENTICATE which is
-/// written down as taken (MS-NLMP 3.2.5.1.2). Each link on which a member waits for one has its CHALLENGE written down as
-/// sent (MS-NLMP 3.2.5.1.1).
+/// written down as taken (MS-NLMP 3.2.5.1.2). Each link on which a member waits for one has its CHALLENGE written down
+/// as sent (MS-NLMP 3.2.5.1.1).
 pub fn members_are_written_down()
     ensures { (plan : Plan) (moves : List Move) → MembersAreWrittenDown (past plan moves) }
 {

@@ -6,6 +6,7 @@ ghost use Rattle.world_moves.specs.declared.plan.Plan.{Plan};
 ghost use Rattle.world_moves.specs.Counting.{AreCounted};
 ghost use Rattle.world_moves.specs.Forms.{IsSchedule};
 ghost use Rattle.world_moves.specs.World.{IsMove, IsPlan, actions_of_run, first_world, move_limit, report_of, report_of_run, run, run_of};
+ghost use Rattle.domain_world.specs.Driving.{IsCutShort};
 ghost use Rattle.domain_world.specs.Headline.{OfItsRun, Proved};
 
 use crate::claims::claims_hold_of_runs;
@@ -44,7 +45,9 @@ fn no_memory_for_run(why: WorldRefused) -> NoMemory
 
 /// Makes the moves in their order, and gives what was counted since the plan.
 ///
-/// `Memory` where a move found no memory, and `Stopped` exactly where the world had stopped before.
+/// `Memory` where a move found no memory, and `Stopped` exactly where the world had stopped before. The world then
+/// reports the moves that were made.
+#[tactic(auto, using(crate::proofs::DrivingLaws::cut_short, crate::proofs::DrivingLaws::not_begun))]
 pub fn drive(alloc: Global, world: &mut World, moves: &Moves) -> Result<Report, WorldRefused>
     requires few { world.old.moves + length moves.now ≤ move_limit }
     requires given { All IsMove moves.now }
@@ -54,6 +57,8 @@ pub fn drive(alloc: Global, world: &mut World, moves: &Moves) -> Result<Report, 
     ensures stopped { (result ≡ Err WorldRefused.Stopped) ↔ IsTrue world.old.stopped }
     ensures stops { OnErr result (world.new.stopped ≡ true) }
     ensures goes_on { OnOk result (world.new.stopped ≡ false) }
+    // Of moves that are cut short those that were made are counted.
+    ensures kept { OnErr result (IsCutShort moves.now world.old world.new) }
     // So from a plan on the world is that of all moves, the earlier ones and these, and what was counted are the
     // actions that its ends gave.
     ensures from_plan { OnOk result ((plan : Plan) (earlier : List Move) →

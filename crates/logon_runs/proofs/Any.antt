@@ -6,5 +6,6 @@ pub mod AnyRunLaws
 pub mod AnyStartLaws
 pub mod AnyTurnLaws
 pub mod ControllerAnswerLaws
+pub mod JudgingLaws
 pub mod RestAgainLaws
 pub mod UnreachedLaws

@@ -153,7 +153,7 @@ failings_are_seen = record {
       let outcome_so = fault_outcome (status == rpc_s_server_unavailable) status in
       subst (λ (opened : OpenMap). Shows (onward s).state (record (rest_scene g (client_ended g.task outcome_so) g.links left moment []) { opened = opened })) (none_left g)
       (scenes_turn.client_closes s _ (unit_down g (who_fault status)) [] _ _ left g.link close.CallDone [] shows
-      (heard_down g (client_phase.Asked terms client_question.Who) talk (who_fault status) [] left moment (unit_comes (fault_of 2 0 status) (fault_sends status known)))
+      (heard_down g (client_phase.Asked terms client_question.Who) talk (who_fault status) [] left moment (unit_comes (fault_of 2 0 status) (fault_sends 2 status (omega arith) known)))
       (closes_own g (client_phase.Asked terms client_question.Who) talk (unit_down g (who_fault status) ∷ []) left moment) tt
       (failings_step.faulted g.task terms g.link moment status left known)
       (links_step.closed g.plan g.caller g.how g.place g.number g.link moment talk left));

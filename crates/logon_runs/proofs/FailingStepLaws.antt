@@ -98,11 +98,11 @@ held_work plan channel task how logon place status most one other first who out 
 
 -- ---- a fault can be sent
 
-pub fault_sends : (status : ℕ) → status < 2 ^ 32 → IsSendable (fault_of 2 0 status)
-fault_sends status known = record {
+pub fault_sends : (call status : ℕ) → call < 2 ^ 32 → status < 2 ^ 32 → IsSendable (fault_of call 0 status)
+fault_sends call status below known = record {
   writable = record { pieces = (refl, refl); counts = tt; value = tt };
-  range = record { call = omega arith; body = (omega arith, omega arith, known); trailer = tt };
-  short = written_short (fault_of 2 0 status) refl tt;
+  range = record { call = below; body = (omega arith, omega arith, known); trailer = tt };
+  short = written_short (fault_of call 0 status) refl tt;
 }
 
 pub failings_step : FailingsStep
@@ -141,7 +141,7 @@ failings_step = record {
       (drawless (stay (send_unit at (fault_of 2 0 status)) (out_talk task status)) left) tt who.read
       (ap (λ (s : Served). drawless s left) (who_faulted task at most status one other who));
   faulted = λ task terms link now status left known.
-      link_hears task link now (client_phase.Asked terms client_question.Who) (who_fault status) (fault_of 2 0 status) left _ (read_again (fault_of 2 0 status) (fault_sends status known))
+      link_hears task link now (client_phase.Asked terms client_question.Who) (who_fault status) (fault_of 2 0 status) left _ (read_again (fault_of 2 0 status) (fault_sends 2 status (omega arith) known))
       (ap (λ (unit : Result RpcUnit UnitRefused). client.serve_heard (client.hear_unit unit (who_fault status) (client.talk_on link None (client_phase.Asked terms client_question.Who)) (client.work_of task now)) left)
-      (read_again (fault_of 2 0 status) (fault_sends status known)));
+      (read_again (fault_of 2 0 status) (fault_sends 2 status (omega arith) known)));
 }

@@ -1,12 +1,10 @@
 -- A world between two logons, and that a granted one leads from one to another.
 -- Of `logons_come_to_rest`.
-use Rattle.std.proofs.Common.{◌≡◌, ℕ, zero, suc, refl, sym, ap, subst, ◌∙◌, List, [], ◌∷◌, length, Some, arith, inl, inr, slice_get}
+use Rattle.std.proofs.Common.{◌≡◌, ℕ, refl, sym, ap, subst, ◌∙◌, List, [], length, Some, arith, inl, inr, slice_get}
 use Rattle.std.specs.Prelude.{◌⊎◌}
-use Rattle.wire_base.specs.Maps.{lookup}
-use Rattle.wire_base.specs.Names.{IsName, same_name}
-use Rattle.account_table.specs.AccountTable.{AccountTable}
+use Rattle.std.proofs.lemmas.Option.{slice_get_within}
 use Rattle.account_table.specs.Changes.{with_count}
-use Rattle.account_table.specs.LookUps.{machine_name, place_in}
+use Rattle.account_table.specs.LookUps.{place_in}
 use Rattle.account_table.specs.Ranges.{InRangeAccount}
 use Rattle.account_table.specs.declared.account.Account.{Account}
 use Rattle.account_table.proofs.ChangeLaws.{differs-none}
@@ -14,47 +12,30 @@ use Rattle.channel_client.specs.declared.state.Standing.{Standing}
 use Rattle.channel_client.specs.declared.state.Standing.TheVariants as standing
 use Rattle.channel_client.specs.Opened.{OpenState}
 use Rattle.logon_steps.specs.Answering.{IsInStep}
-use Rattle.channel_client.specs.declared.caller.Caller.{Caller}
-use Rattle.domain_controller.specs.declared.state.Computers.{Computers}
 use Rattle.logon_client.specs.Machine.{fresh_client}
-use Rattle.logon_client.specs.Plans.{CanLogOn}
 use Rattle.logon_client.specs.declared.plan.ClientPlan.{ClientPlan}
-use Rattle.member_server.specs.Machine.{caller_of, fresh_member}
+use Rattle.member_server.specs.Machine.{fresh_member}
 use Rattle.world_moves.specs.declared.plan.Plan.{Plan}
 use Rattle.world_moves.specs.declared.state.State.{State}
 use Rattle.world_moves.specs.Choosing.{chosen_place}
-use Rattle.world_moves.specs.Forms.{HasForms, IsClientPlan, IsMemberPlan, IsTable}
+use Rattle.world_moves.specs.Forms.{HasForms, IsTable}
 use Rattle.world_moves.specs.World.{IsPlan, first_world}
 use Rattle.world_moves.proofs.RangeLaws.{table_in_range}
-use Rattle.logon_steps.specs.ControllerTurns.{controller_at}
 use Rattle.logon_steps.specs.Knowing.{StandsLater}
-use Rattle.logon_steps.proofs.CallingLaws.{calls_can_go}
 use Rattle.logon_steps.proofs.KnowingLaws.{computers_are_known}
-use Rattle.logon_runs.specs.LinkScenes.{Meeting}
 use Rattle.logon_runs.specs.Others.{OthersStay}
 use Rattle.logon_runs.specs.Phases.{Coming}
-use Rattle.logon_runs.specs.Rests.{AtRest, CanBeGranted, CanCome, ClientRests, ControllerRests, HasBegun, HasCome, HasOwnComputer, IsInStepAt, LogonsComeToRest, MemberRests, StandsWell, coming_at, three_of}
+use Rattle.logon_runs.specs.Rests.{AtRest, CanBeGranted, CanCome, ClientRests, ControllerRests, HasBegun, HasCome, LogonsComeToRest, coming_at, three_of}
 use Rattle.logon_runs.specs.Runs.{StandsInStep}
 use Rattle.logon_runs.specs.TurnedAway.{HasEnded, Settled, settled_in}
-use Rattle.logon_runs.specs.Any.AnyPhases.{MayStand}
-use Rattle.logon_runs.specs.Any.AnyStarts.{AreThree}
-use Rattle.logon_runs.proofs.FirstWorldLaws.{are_units, at_place, got_controller, got_mapped, item_has}
+use Rattle.logon_runs.specs.Any.AnyPhases.{HasSecret, IsAble, IsOwn, KeepsInStep, MayStand}
+use Rattle.logon_runs.specs.Any.AnyStarts.{AreThree, coming_from}
+use Rattle.logon_runs.proofs.FirstWorldLaws.{at_place, got_controller, got_mapped, item_has}
 use Rattle.logon_runs.proofs.PhaseLaws.{phases_go_on}
-use Rattle.logon_runs.proofs.Any.RestAgainLaws.{computers_same, rests_again}
+use Rattle.logon_runs.proofs.Any.AnyBeginLaws.{able_so, has_secret, rests_seen}
+use Rattle.logon_runs.proofs.Any.RestAgainLaws.{HasItem, item_at, rests_again}
 
--- ---- lists
-
-record HasItem {T : Type 0} (items : List T) (at : ℕ) : Type 0 where
-  item : T
-  is : slice_get items at ≡ Some item
-
-got_any : {A B : Type 0} (ones : List A) (others : List B) (at : ℕ) (one : A) → length ones ≡ length others → slice_get ones at ≡ Some one → HasItem others at
-got_any [] others at one same is = absurd cc
-got_any (first ∷ ones) [] at one same is = absurd (omega (arith, same))
-got_any (first ∷ ones) (other ∷ others) zero one same is = record { item = other; is = refl }
-got_any (first ∷ ones) (other ∷ others) (suc at) one same is =
-    let rest : HasItem others at = got_any ones others at one (omega (arith, same)) is in
-    record { item = rest.item; is = rest.is }
+-- ---- how a channel stands
 
 open_same : (one other : OpenState) → standing.Open one ≡ standing.Open other → one ≡ other
 open_same one other is = cc
@@ -77,7 +58,7 @@ first_so plan is forms = record {
   units = refl;
   plans = refl;
   controllers = λ at planned is_table.
-      let named : HasItem plan.controllers at = got_any plan.tables plan.controllers at planned is.tables is_table in
+      let named : HasItem plan.controllers at = item_at plan.controllers at (omega (arith, is.tables, slice_get_within plan.tables at planned is_table)) in
       record {
         name = named.item;
         is_name = named.is;
@@ -105,65 +86,52 @@ first_so plan is forms = record {
 
 -- ---- a logon starts
 
+-- a member with its own computer is one of three
+abbrev three_for : (plan : Plan) (client member controller : ℕ) → CanCome plan client member controller → AreThree plan client member controller
+three_for plan client member controller can = record {
+  task = can.task;
+  is_task = can.is_task;
+  member_plan = can.member_plan;
+  is_member_plan = can.is_member_plan;
+  table = can.computer.table;
+  is_table = can.computer.is_table;
+}
+
 -- the channel stands in step, or there is none
-stands_by : (plan : Plan) (s : State) (at : ℕ) (g : Meeting) (table : AccountTable) (name : List ℕ) (computers : Computers) (controller : ℕ) (how : Standing) →
-    slice_get s.ends.controllers controller ≡ Some (controller_at table name computers []) → HasOwnComputer plan at g.plan controller → g.caller ≡ caller_of g.plan → g.how ≡ how →
-    StandsWell plan s at g.plan how → (g.how ≡ standing.Nothing) ⊎ StandsInStep g computers
-stands_by plan s at g table name computers controller standing.Nothing rests own is_caller is well = inl is
-stands_by plan s at g table name computers controller (standing.Half one other) rests own is_caller is well = absurd well
-stands_by plan s at g table name computers controller (standing.Open o) rests own is_caller is well =
-    let there : IsInStepAt s controller g.plan o = well controller own in
-    let same : there.computers ≡ computers = computers_same _ there.table table there.name name there.computers computers there.rests rests in
-    inr (record {
-      member = o;
-      stands = is;
-      controller = there.channel;
-      channel = subst (λ (caller : Caller). lookup same_name caller.computer computers.channels ≡ Some there.channel) (sym is_caller)
-          (subst (λ (k : Computers). lookup same_name g.plan.computer k.channels ≡ Some there.channel) same there.keeps);
-      in_step = there.in_step;
-    })
+stands_by : (plan : Plan) (p : Coming) (how : Standing) → p.meeting.how ≡ how → IsOwn plan p → MayStand plan p p.computers how → (p.meeting.how ≡ standing.Nothing) ⊎ StandsInStep p.meeting p.computers
+stands_by plan p standing.Nothing is is_own stands = inl is
+stands_by plan p (standing.Half one other) is is_own stands = absurd stands
+stands_by plan p (standing.Open o) is is_own stands =
+    let step_so : KeepsInStep p p.computers o = stands is_own in
+    inr (record { member = o; stands = is; controller = step_so.channel; channel = step_so.keeps; in_step = step_so.in_step })
 
 comes_so : (plan : Plan) (s : State) (rest : AtRest plan s) (client member controller : ℕ) (can : CanCome plan client member controller) (account : Account) (number : ℕ) → IsPlan plan →
     HasForms plan → InRangeAccount account → chosen_place number (length s.ends.clients) ≡ Some client → HasCome plan s rest client member controller can account number
 comes_so plan s rest client member controller can account number is forms account_so chosen =
-    let mr : MemberRests plan s member can.member_plan = rest.members member can.member_plan can.is_member_plan in
-    let cr : ControllerRests plan s controller can.computer.table = rest.controllers controller can.computer.table can.computer.is_table in
+    let three : AreThree plan client member controller = three_for plan client member controller can in
+    let secret : HasSecret (coming_from plan s rest client member controller three account account) = has_secret plan s rest client member controller three account account can.computer in
+    let coming : Coming = coming_at plan s rest client member controller can account secret.machine in
+    let able : IsAble plan coming = able_so plan s rest client member controller three account secret.machine is forms in
     let lr : ClientRests s client can.task = rest.clients client can.task can.is_task in
-    let machine : StandsLater cr.table (machine_name can.member_plan.computer) can.computer.machine =
-    computers_are_known.stands can.computer.table cr.table (machine_name can.member_plan.computer) can.computer.machine cr.differs can.computer.machine_found in
-    let machine_now : Account = with_count machine.count can.computer.machine in
-    let coming : Coming = coming_at plan s rest client member controller can account machine_now in
-    let is_work : IsMemberPlan can.member_plan = item_has IsMemberPlan plan.members member can.member_plan forms.members can.is_member_plan in
-    let is_task : IsClientPlan can.task = item_has IsClientPlan plan.clients client can.task forms.clients can.is_task in
     record {
-      machine = machine_now;
+      machine = secret.machine;
       known = record {
-        can = item_has CanLogOn plan.clients client can.task is.clients can.is_task;
-        units = record { domain = are_units can.task.domain is_task.domain; user = are_units can.task.user is_task.user; workstation = are_units can.task.workstation is_task.workstation };
-        names = record { domain = is_work.domain.0; computer = is_work.computer.0 };
-        caller = calls_can_go.caller can.member_plan is_work.computer;
-        place_below = mr.place_below;
-        number_below = mr.number_below;
-        stands = stands_by plan s member coming.meeting cr.table cr.name cr.computers controller mr.how cr.rests can.computer refl refl mr.stands;
-        knows = computers_are_known.knows cr.table can.member_plan.computer machine_now machine.found can.computer.kind;
-        machine_found = λ one other. computers_are_known.machine cr.table can.member_plan one other machine_now machine.found can.computer.kind can.computer.enabled;
-        secret = can.computer.secret;
-        ranged = cr.ranged;
-        named = item_has IsName plan.controllers controller cr.name forms.controllers cr.is_name;
+        can = able.can;
+        units = able.units;
+        names = able.names;
+        caller = able.caller;
+        place_below = able.place_below;
+        number_below = able.number_below;
+        stands = stands_by plan coming coming.meeting.how refl can.computer able.stands;
+        knows = secret.knows;
+        machine_found = secret.found;
+        secret = secret.secret;
+        ranged = able.ranged;
+        named = able.named;
         account_so = account_so;
       };
       under_way = phases_go_on.begins coming s number lr.client s.chances.left s.moment chosen (ap (λ (plans : List ClientPlan). slice_get plans client) rest.plans ∙ can.is_task)
-          (record {
-            client = lr.rests;
-            member = mr.rests;
-            controller = cr.rests;
-            links = refl;
-            opened = rest.opened;
-            units = rest.units;
-            dials = rest.dials;
-            left = refl;
-            moment = refl;
-          });
+          (rests_seen plan s rest client member controller three account secret.machine);
     }
 
 begins_so : (plan : Plan) (s : State) (rest : AtRest plan s) (client member controller : ℕ) (can : CanBeGranted plan client member controller) (number : ℕ) → IsPlan plan → HasForms plan →
@@ -182,17 +150,6 @@ begins_so plan s rest client member controller can number is forms chosen =
     }
 
 -- ---- a logon is over
-
--- a member with its own computer is one of three
-abbrev three_for : (plan : Plan) (client member controller : ℕ) → CanCome plan client member controller → AreThree plan client member controller
-three_for plan client member controller can = record {
-  task = can.task;
-  is_task = can.is_task;
-  member_plan = can.member_plan;
-  is_member_plan = can.is_member_plan;
-  table = can.computer.table;
-  is_table = can.computer.is_table;
-}
 
 may_stand : (plan : Plan) (p : Coming) (e : Settled) (how : Standing) → e.how ≡ how → (e.how ≡ standing.Nothing) ⊎ StandsInStep (settled_in p e) e.computers → MayStand plan p e.computers how
 may_stand plan p e standing.Nothing is stands = tt

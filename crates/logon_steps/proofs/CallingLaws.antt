@@ -49,7 +49,7 @@ are_units bytes all place =
 cred_block : (key input : List ℕ) → IsBlock 8 (cred_of key input)
 cred_block key input = ((IsBlock-cred_of key input).eight, are_bytes (cred_of key input) (IsBlock-cred_of key input).bytes)
 
-zeros_block : IsBlock 8 (replicate 8 0)
+pub zeros_block : IsBlock 8 (replicate 8 0)
 zeros_block = (
   refl,
   are_bytes (replicate 8 0)

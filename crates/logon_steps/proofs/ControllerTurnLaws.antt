@@ -35,11 +35,11 @@ use Rattle.logon_steps.proofs.TurningLaws.{request_joins, request_sends, turn_bi
 
 -- ---- the one link
 
-abbrev running : Computers → LinkMap → Running
+abbrev pub running : Computers → LinkMap → Running
 running computers links = record { computers = computers; links = links }
 
 -- what an event's part makes of the controller
-abbrev stepped : AccountTable → List ℕ → Computers → LinkMap → List (List ℕ) → StepPart → Stepped State
+abbrev pub stepped : AccountTable → List ℕ → Computers → LinkMap → List (List ℕ) → StepPart → Stepped State
 stepped table name computers links left part =
     step_by (λ (after : Desk × LinkMap). after.0.work.actions) (λ (after : Desk × LinkMap). state_after (controller_at table name computers links) after) (halted (controller_at table name computers links)) left
     (then_part part (λ after rest. start_turn after rest))
@@ -55,7 +55,8 @@ on_link table name computers link now talk piece left part served rest =
     (serve_on (if found then Some here else None) link piece name now (first_desk table (running computers (one_link link talk))) (if found then [] else one_link link talk) left)) (same link)
     ∙ ap₂ (λ (p : ServedPart Desk Talk) (r : List ℕ). stepped table name computers (one_link link talk) left (after_units p r link [])) served rest
 
-asked_steps : (table : AccountTable) (name : List ℕ) (computers : Computers) (link now number : ℕ) (c : Call) (left : List (List ℕ)) → number < 2 ^ 32 → IsTurnCall c →
+-- a call comes on it, and is answered
+pub asked_steps : (table : AccountTable) (name : List ℕ) (computers : Computers) (link now number : ℕ) (c : Call) (left : List (List ℕ)) → number < 2 ^ 32 → IsTurnCall c →
     step_of (controller_at table name computers (turn_link link)) (event.Bytes link (bytes_of_call (turn_request number c) 5840)) now left
     ≡ stepped table name computers (turn_link link) left
     (after_units (by_call c (record { link = link; call = number; context = 0; limit = 5840 }) (bound_talk None turn_agreed) name now (first_desk table (running computers (turn_link link))) left) [] link [])

@@ -1,5 +1,5 @@
 -- The plan of a drill and its moves.
-use Rattle.std.proofs.Common.{◌≡◌, ◌⊎◌, inl, inr, ◌≤◌, ℕ, zero, suc, ◌+◌, ◌%◌, Bool, true, false, List, [], ◌++◌, length, codes, nat_le, IfOk, Result, Ok, Err, if◌then◌else◌, refl, sym, ap, ◌∙◌, arith}
+use Rattle.std.proofs.Common.{◌≡◌, ◌⊎◌, inl, inr, ◌≤◌, ℕ, zero, suc, ◌%◌, Bool, true, false, List, length, codes, nat_le, IfOk, Result, Ok, Err, if◌then◌else◌, refl, sym, ap, ◌∙◌, arith}
 use Rattle.std.specs.List.{All}
 use Rattle.std.proofs.lemmas.Bool.{leb-true}
 use Rattle.std.specs.Str.{chars, is_utf8}
@@ -16,7 +16,7 @@ use Rattle.logon_client.specs.Plans.{CanLogOn, is_level}
 use Rattle.logon_client.specs.declared.plan.AuthKind.{AuthKind}
 use Rattle.logon_client.specs.declared.plan.AuthKind.TheVariants.{V1}
 use Rattle.domain_world.specs.Generator.{Making, made, move_by, moves_of, next_seed, rare_by, value_of}
-use Rattle.domain_world.specs.World.{IsMove, IsPlan, World, first_world, report_of_run, run}
+use Rattle.domain_world.specs.World.{IsMove, IsPlan, report_of_run, run}
 use Rattle.world_moves.specs.declared.counting.Report.{Report}
 use Rattle.world_moves.specs.declared.moves.Move.{Move}
 use Rattle.world_moves.specs.declared.plan.Plan.{Plan}
@@ -91,18 +91,17 @@ moves_counted : (count seed : ℕ) → length (moves_of count seed) ≡ count
 moves_counted zero seed = refl
 moves_counted (suc count) seed = ap suc (moves_counted count (made seed).after)
 
-pub moves_few : (count seed most : ℕ) → count ≤ most → 0 + length (moves_of count seed) ≤ most
+pub moves_few : (count seed most : ℕ) → count ≤ most → length (moves_of count seed) ≤ most
 moves_few count seed most few = let n = moves_counted count seed in omega (arith, n, few)
 
 -- what is put of the report of a run from the plan
-pub lines_of_run : {E : Type 0} (number count : ℕ) (moves : List Move) (report : Report) (world : World) (plan : Plan) (result : Result (List ℕ) E) →
-    moves ≡ moves_of count number → plan ≡ drill_plan → world ≡ first_world plan →
-    ((of : Plan) (earlier : List Move) → world ≡ run earlier (first_world of) → report ≡ report_of_run of (earlier ++ moves)) →
+pub lines_of_run : {E : Type 0} (number count : ℕ) (moves : List Move) (report : Report) (plan : Plan) (result : Result (List ℕ) E) →
+    moves ≡ moves_of count number → plan ≡ drill_plan → report ≡ report_of_run plan moves →
     IfOk result (λ lines. lines ≡ report_text report) → IfOk result (λ lines. lines ≡ drill_text number count)
 unfolding drill_text
-lines_of_run number count moves report world plan (Ok lines) made planned first counted put =
-    put ∙ ap report_text (counted drill_plan [] (first ∙ ap first_world planned) ∙ ap (λ (m : List Move). report_of_run drill_plan m) made)
-lines_of_run number count moves report world plan (Err why) made planned first counted put = tt
+lines_of_run number count moves report plan (Ok lines) made planned counted put =
+    put ∙ ap report_text (counted ∙ ap (λ (p : Plan). report_of_run p moves) planned ∙ ap (λ (m : List Move). report_of_run drill_plan m) made)
+lines_of_run number count moves report plan (Err why) made planned counted put = tt
 
 pub ruleset driving = (plan_is, moves_few, moves_given)
 

@@ -292,7 +292,7 @@ stands_written plan = record { stays = stands_so plan; bytes = bytes_stand plan;
 
 -- ---- at first
 
-first_planned : (tables : List AccountTable) (names : List (List ℕ)) (at : ℕ) (c : ControllerState) → slice_get (first_controllers tables names) at ≡ Some c →
+pub first_planned : (tables : List AccountTable) (names : List (List ℕ)) (at : ℕ) (c : ControllerState) → slice_get (first_controllers tables names) at ≡ Some c →
     (slice_get tables at ≡ Some c.table) × (slice_get names at ≡ Some c.name)
 first_planned [] names at c there = absurd cc
 first_planned (table ∷ tables) [] at c there = absurd cc

@@ -1,6 +1,7 @@
 -- What controllers told in a run are the judgements of the Logon calls that they heard, in their order.
 -- It serves `controllers_pass_the_next`.
 use Rattle.std.proofs.Common.{◌≡◌, ℕ, Bool, true, false, cond, List, [], ◌∷◌, ◌++◌, length, map, Option, Some, None, Ok, Err, refl, sym, ap, ◌∙◌, subst, slice_get}
+use Rattle.std.specs.List.{AllByRecursion}
 use Rattle.std.specs.Prelude.{flat_map, nat_le}
 use Rattle.std.proofs.lemmas.List.{append_assoc, append-nil}
 use Rattle.std.proofs.lemmas.List.Concat.{flat_map-append}
@@ -75,7 +76,7 @@ use Rattle.world_moves.specs.Ends.{EndStates, actions_by, acceptors_in, controll
 use Rattle.world_moves.specs.Links.{acceptor_of, handed_links, hearer_of, hearer_on, links_of, other_hearer}
 use Rattle.world_moves.specs.Moving.{act, answer_by, answered_link, begun, come_by, come_on_own, connect_by, connect_first, deliver_by, deliver_on, deliver_unit, end_of_peer, fail_first, hand_on, onward_by, open_link, route_to, settle, shut_at, shut_by, start_at, start_by, stranger_at, stranger_by, with_link, without_first}
 use Rattle.world_moves.specs.World.{World, first_world, happens}
-use Rattle.domain_world.specs.Claims.{AreRightlyTold, AreTheirJudgements, PassesTheNextCredential, judgements_of_calls}
+use Rattle.domain_world.specs.Claims.{AreRightlyTold, AreTheirJudgements, PassesTheNextCredential, TellsOfCallsAlone, judgements_of_calls}
 use Rattle.domain_world.specs.Past.{Coming, answers_of, book, controller_of, first_of, judged_of, judgement_by, judgements_in, later_of, note, note_at, note_chosen, note_client, note_coming, note_controller, note_deliver, note_hand, note_member, note_messages, note_on, note_onward, note_own, note_pieces, note_turn, note_turns, note_unit, numbers_on, onto, past, with_reply}
 use Rattle.step_notes.proofs.Controllers.JudgedStepLaws.{Told, by_names, how_is}
 use Rattle.domain_world.proofs.Judgements.JudgedLaws.{AreRight, judged_rightly}
@@ -615,6 +616,17 @@ one_rightly (Some how) j more judgings is right rest =
     subst (λ (told : List JudgementTold). AreTheirJudgements told (j ∷ judgings)) (sym (call_first how one more refl (right_judges how j.computers j.logon of)))
     (record { at = refl; controller = refl; how = sym is; right = right }, rest)
 
+-- nothing else was told
+one_judges : (how : Option Judged) (j : Judging) (more : List JudgementTold) → j.how ≡ how → IsJudgedRight j → AllByRecursion (λ (one : JudgementTold). judges_call one.how ≡ true) more →
+    AllByRecursion (λ (one : JudgementTold). judges_call one.how ≡ true) (telling_by j.at j.controller how ++ more)
+one_judges None j more is right all = absurd (none_right j is right)
+one_judges (Some how) j more is right all =
+    (right_judges how j.computers j.logon (subst (λ (told : Option Judged). IsRightOf told j.computers j.logon) is right), all)
+
+all_judge : (judgings : List Judging) → AreRight judgings → AllByRecursion (λ (one : JudgementTold). judges_call one.how ≡ true) (tellings judgings)
+all_judge [] right = tt
+all_judge (j ∷ judgings) right = one_judges j.how j (tellings judgings) refl right.0 (all_judge judgings right.1)
+
 all_rightly : (judgings : List Judging) → AreRight judgings → AreRightlyTold (tellings judgings) judgings
 all_rightly [] right = tt
 all_rightly (j ∷ judgings) right = one_rightly j.how j (tellings judgings) judgings refl right.0 (all_rightly judgings right.1)
@@ -624,3 +636,9 @@ pub passes_the_next : (plan : Plan) (moves : List Move) → PassesTheNextCredent
 passes_the_next plan moves =
     subst (λ told. AreRightlyTold told (past plan moves).book.judged) (book_told moves (first_world plan) blank refl)
     (all_rightly (past plan moves).book.judged (judged_rightly plan moves))
+
+-- and it tells of calls alone
+pub tells_of_calls : (plan : Plan) (moves : List Move) → TellsOfCallsAlone (past plan moves)
+tells_of_calls plan moves =
+    subst (λ told. AllByRecursion (λ (one : JudgementTold). judges_call one.how ≡ true) told) (book_told moves (first_world plan) blank refl)
+    (all_judge (past plan moves).book.judged (judged_rightly plan moves))

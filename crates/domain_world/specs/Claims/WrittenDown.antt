@@ -1,6 +1,6 @@
 -- That what is written down of members leaves nothing out of what they took and sent on their clients' links (MS-NLMP
--- 3.2.5.1.1, 3.2.5.1.2; what the claim says is this project's own choice). A book only grows: what is written down after
--- some moves is so ever after.
+-- 3.2.5.1.1, 3.2.5.1.2; what the claim says is this project's own choice). A book only grows: what is written down
+-- after some moves is so ever after.
 use Rattle.std.specs.Prelude.{ℕ, ◌≡◌, ◌<◌, List, Some, slice_get}
 use Rattle.wire_base.specs.Maps.{lookup, same_number}
 use Rattle.end_links.specs.Links.{LinkState}

@@ -1,6 +1,6 @@
 -- A logon of any client at any member, from its start at rest.
 -- Of `any_logons_start`.
-use Rattle.std.proofs.Common.{◌≡◌, ℕ, refl, sym, ap, subst, ◌∙◌, List, length, Some, slice_get}
+use Rattle.std.proofs.Common.{◌≡◌, ℕ, refl, sym, ap, subst, ◌∙◌, List, length, Some, slice_get, []}
 use Rattle.wire_base.specs.Maps.{lookup}
 use Rattle.wire_base.specs.Names.{IsName, same_name}
 use Rattle.account_table.specs.AccountTable.{AccountTable}
@@ -22,8 +22,10 @@ use Rattle.world_moves.specs.World.{IsPlan}
 use Rattle.logon_steps.specs.Knowing.{StandsLater}
 use Rattle.logon_steps.proofs.CallingLaws.{calls_can_go}
 use Rattle.logon_steps.proofs.KnowingLaws.{computers_are_known}
-use Rattle.logon_runs.specs.Phases.{Coming, Dials, with_its_controller}
-use Rattle.logon_runs.specs.Rests.{AtRest, ClientRests, ControllerRests, HasOwnComputer, IsInStepAt, MemberRests, StandsWell}
+use Rattle.logon_runs.specs.LinkScenes.{rest_scene}
+use Rattle.logon_runs.specs.Phases.{Coming, Dials, scene_of, with_its_controller}
+use Rattle.logon_runs.specs.Rests.{AtRest, ControllerRests, HasOwnComputer, IsInStepAt, MemberRests, StandsWell}
+use Rattle.logon_runs.specs.Scenes.{Shows}
 use Rattle.logon_runs.specs.Any.AnyPhases.{HasSecret, IsAble, MayStand, On}
 use Rattle.logon_runs.specs.Any.AnyStarts.{AnyLogonsStart, AreThree, HasStarted, coming_from}
 use Rattle.logon_runs.proofs.FirstWorldLaws.{are_units, item_has}
@@ -54,7 +56,7 @@ module _ (plan : Plan) (s : State) (rest : AtRest plan s) (client member control
       }
 
   -- its controller knows it
-  has_secret : HasOwnComputer plan member work controller → HasSecret coming
+  pub has_secret : HasOwnComputer plan member work controller → HasSecret coming
   has_secret is_own =
       let same : is_own.table ≡ three.table = some_same _ _ (sym is_own.is_table ∙ three.is_table) in
       let differs : DifferInCounts is_own.table desk.table = subst (λ (table : AccountTable). DifferInCounts table desk.table) (sym same) desk.differs in
@@ -86,31 +88,31 @@ module _ (plan : Plan) (s : State) (rest : AtRest plan s) (client member control
         own_secret = has_secret;
       }
 
+  -- nothing is open and nothing waits, and the three ends rest
+  pub rests_seen : Shows s (rest_scene (with_its_controller coming coming.meeting) (rest.clients client three.task three.is_task).client s.links s.chances.left s.moment [])
+  rests_seen = record {
+    client = (rest.clients client three.task three.is_task).rests;
+    member = (rest.members member work three.is_member_plan).rests;
+    controller = desk.rests;
+    links = refl;
+    opened = rest.opened;
+    units = rest.units;
+    dials = rest.dials;
+    left = refl;
+    moment = refl;
+  }
+
+  -- the client dials
+  pub begins_seen : (number : ℕ) → chosen_place number (length s.ends.clients) ≡ Some client → Shows (start number s).state (scene_of coming Dials s.chances.left s.moment)
+  begins_seen number chosen =
+      starts_are_seen.starts s (with_its_controller coming coming.meeting) number (rest.clients client three.task three.is_task).client s.links s.chances.left s.moment chosen
+      (ap (λ (plans : List ClientPlan). slice_get plans client) rest.plans ∙ three.is_task) rests_seen
+
   starts_so : (number : ℕ) → IsPlan plan → HasForms plan → chosen_place number (length s.ends.clients) ≡ Some client → HasStarted plan coming (start number s).state
-  starts_so number is forms chosen =
-      let lr : ClientRests s client three.task = rest.clients client three.task three.is_task in
-      record {
-        able = able_so is forms;
-        at = record {
-          phase = On Dials;
-          left = s.chances.left;
-          moment = s.moment;
-          fits = tt;
-          shows = starts_are_seen.starts s (with_its_controller coming coming.meeting) number lr.client s.links s.chances.left s.moment chosen
-              (ap (λ (plans : List ClientPlan). slice_get plans client) rest.plans ∙ three.is_task)
-              (record {
-                client = lr.rests;
-                member = (rest.members member work three.is_member_plan).rests;
-                controller = desk.rests;
-                links = refl;
-                opened = rest.opened;
-                units = rest.units;
-                dials = rest.dials;
-                left = refl;
-                moment = refl;
-              });
-        };
-      }
+  starts_so number is forms chosen = record {
+    able = able_so is forms;
+    at = record { phase = On Dials; left = s.chances.left; moment = s.moment; fits = tt; shows = begins_seen number chosen };
+  }
 
 pub any_logons_start : AnyLogonsStart
 any_logons_start = record {

@@ -1,6 +1,6 @@
 -- A logon of any client, from rest to rest.
 -- Of `logons_rest`.
-use Rattle.std.proofs.Common.{◌≡◌, ℕ, zero, suc, ◌+◌, ◌-◌, ◌<◌, ◌≤◌, Bool, true, false, refl, ap, subst, List, [], ◌∷◌, length, Option, None, Some, arith, inl, inr, slice_get, if◌then◌else◌}
+use Rattle.std.proofs.Common.{◌≡◌, ℕ, suc, ◌+◌, ◌-◌, ◌<◌, ◌≤◌, Bool, true, false, refl, ap, subst, List, [], ◌∷◌, length, Option, None, Some, arith, inl, inr, slice_get, if◌then◌else◌}
 use Rattle.std.specs.List.{AllByRecursion}
 use Rattle.std.specs.Prelude.{map, nat_lt}
 use Rattle.std.proofs.lemmas.Bool.{ltb-false, ltb-true}
@@ -27,20 +27,10 @@ use Rattle.logon_runs.specs.Staying.{HasSameEnds}
 use Rattle.logon_runs.specs.Waiting.{waiting}
 use Rattle.logon_runs.specs.Any.AnyStarts.{AreThree, IsReachedOrNot}
 use Rattle.logon_runs.proofs.Any.AnyRunLaws.{reached_rests}
+use Rattle.logon_runs.proofs.Any.RestAgainLaws.{HasItem, item_at}
 use Rattle.logon_runs.proofs.Any.UnreachedLaws.{unreached_rests}
 
 -- ---- an end that an address reaches is there
-
-record HasItem {T : Type 0} (items : List T) (at : ℕ) : Type 0 where
-  item : T
-  is : slice_get items at ≡ Some item
-
-item_at : {T : Type 0} (items : List T) (at : ℕ) → at < length items → HasItem items at
-item_at [] at inside = absurd (omega (arith, inside))
-item_at (item ∷ items) zero inside = record { item = item; is = refl }
-item_at (item ∷ items) (suc at) inside =
-    let rest : HasItem items at = item_at items at (omega (arith, inside)) in
-    record { item = rest.item; is = rest.is }
 
 -- the end is one of so many controllers, members and clients
 IsWithin : ℕ → ℕ → ℕ → Option EndId → Type 0

@@ -7,18 +7,15 @@ use Rattle.std.proofs.lemmas.Bool.Decides.{Decides-eqb}
 use Rattle.std.proofs.lemmas.Slice.Eq.{bytes_eq-Decides}
 use Rattle.wire_base.specs.Maps.{lookup, take_out}
 use Rattle.wire_base.specs.Names.{same_name}
-use Rattle.wire_base.specs.declared.authenticator.Authenticator.{Authenticator}
 use Rattle.wire_base.proofs.MapLaws.{lookup-put_same}
 use Rattle.outside.specs.declared.action.DropCause.{DropCause}
 use Rattle.outside.specs.declared.action.DropCause.TheVariants as drop_cause
 use Rattle.outside.specs.Machine.{Stepped}
 use Rattle.rpc_units.specs.Numbers.{error_access_denied, rpc_s_server_unavailable}
 use Rattle.logon_stubs.specs.Ranges.{IsBlock}
-use Rattle.logon_stubs.specs.Status.{access_denied}
 use Rattle.logon_stubs.specs.declared.calls.Reply.{Reply}
 use Rattle.logon_stubs.specs.declared.calls.Reply.TheVariants as reply
 use Rattle.logon_stubs.specs.declared.info.NetworkInfo.{NetworkInfo}
-use Rattle.logon_stubs.specs.declared.info.SamInfo.{SamInfo}
 use Rattle.logon_stubs.specs.declared.info.Verdict.TheVariants as verdict
 use Rattle.account_table.specs.AccountTable.{AccountTable}
 use Rattle.account_table.specs.Changes.{DifferInCounts}
@@ -30,8 +27,8 @@ use Rattle.channel_client.specs.declared.state.Question.TheVariants as question
 use Rattle.channel_client.specs.declared.state.Standing.{Standing}
 use Rattle.channel_client.specs.declared.state.Standing.TheVariants as standing
 use Rattle.channel_client.specs.declared.state.Step.TheVariants as step
-use Rattle.channel_client.specs.Machine.{after, auth_call, challenge_call, judge, judge_auth, judge_awaited, judge_credential, judge_level, judge_logon, judge_return, judge_status, level_asked, logon_call, offered_flags, server_credential}
-use Rattle.channel_client.specs.Opened.{OpenState, after_call, after_return, first_state, is_awaited}
+use Rattle.channel_client.specs.Machine.{after, auth_call, challenge_call, judge, judge_auth, judge_credential, logon_call, offered_flags, server_credential}
+use Rattle.channel_client.specs.Opened.{OpenState, after_call, after_return, first_state}
 use Rattle.domain_controller.specs.Channels.{ChannelState}
 use Rattle.domain_controller.specs.Machine.{channel_for}
 use Rattle.domain_controller.specs.State.{State as ControllerState}
@@ -72,6 +69,7 @@ use Rattle.logon_runs.proofs.TurnSceneLaws.{turns_are_seen}
 use Rattle.logon_runs.proofs.TwoLinkLaws.{turns_have_links}
 use Rattle.logon_runs.proofs.Any.AnyStartLaws.{leads, leads_less, no_channel}
 use Rattle.logon_runs.proofs.Any.ControllerAnswerLaws.{controllers_answer}
+use Rattle.logon_runs.proofs.Any.JudgingLaws.{IsLogonJudged, info_in, logon_judged}
 
 -- ---- what a controller keeps after a step
 
@@ -82,48 +80,6 @@ computers_by (Some running) = running.computers
 -- the same step leaves the same
 same_computers : (one : Stepped ControllerState) (first second : Stepped ControllerState) → one ≡ first → one ≡ second → computers_by first.state.running ≡ computers_by second.state.running
 same_computers one first second is that = ap (λ (stepped : Stepped ControllerState). computers_by stepped.state.running) (sym is ∙ that)
-
--- ---- how the reply to a logon's call is judged
-
--- it is dropped, or answers the logon, and the channel's state is that after the return
-IsLogonJudged : OpenState → ChannelJudgement → Type 0
-IsLogonJudged o (judgement.Half client server) = ⊥
-IsLogonJudged o (judgement.Opened state) = ⊥
-IsLogonJudged o (judgement.Answer state v) = state ≡ after_return true o
-IsLogonJudged o (judgement.Drop cause) = Unit {0}
-
-level_judged : (same : Bool) (info : Option SamInfo) (o : OpenState) → IsLogonJudged o (judge_level same info (after_return true o))
-unfolding IsLogonJudged
-level_judged false info o = tt
-level_judged true None o = tt
-level_judged true (Some info) o = refl
-
-status_judged : (zeroed : Bool) (status level : ℕ) (info : Option SamInfo) (o : OpenState) → IsLogonJudged o (judge_status zeroed status level info (after_return true o))
-unfolding IsLogonJudged
-status_judged false status level info o = refl
-status_judged true status level info o = level_judged (level == level_asked) info o
-
-awaited_judged : (awaited : Bool) (status level : ℕ) (info : Option SamInfo) (o : OpenState) → IsLogonJudged o (judge_awaited awaited status level info o)
-unfolding IsLogonJudged
-awaited_judged false status level info o = tt
-awaited_judged true status level info o = status_judged (status == 0) status level info o
-
-return_judged : (returned : Option Authenticator) (status level : ℕ) (info : Option SamInfo) (o : OpenState) → IsLogonJudged o (judge_return returned status level info o)
-unfolding IsLogonJudged
-return_judged None status level info o = tt
-return_judged (Some returned) status level info o = awaited_judged (is_awaited o.awaited returned.credential) status level info o
-
-denied_judged : (denied : Bool) (returned : Option Authenticator) (status level : ℕ) (info : Option SamInfo) (o : OpenState) → IsLogonJudged o (judge_logon denied (standing.Open o) returned status level info)
-unfolding IsLogonJudged
-denied_judged true returned status level info o = tt
-denied_judged false returned status level info o = return_judged returned status level info o
-
-logon_judged : (answer : Reply) (o : OpenState) (secret : List ℕ) → IsLogonJudged o (judge question.Logon answer (standing.Open o) secret)
-unfolding IsLogonJudged
-logon_judged (reply.Logon r) o secret = denied_judged (r.status == access_denied) r.returned r.status r.level r.info o
-logon_judged (reply.Logoff r) o secret = tt
-logon_judged (reply.Challenge r) o secret = tt
-logon_judged (reply.Authenticate r) o secret = tt
 
 module _ (plan : Plan) (p : Coming) (s : State) where
   -- ---- the bind, the answer and the call
@@ -383,9 +339,8 @@ module _ (plan : Plan) (p : Coming) (s : State) where
   -- by how the reply to the logon's call is judged: the client is refused, or let in
   module _ (a : Asked) (who : WhoAsked p a) (v : TurnAt) (o : OpenState) (c : ChannelState) (timestamp : ℕ) (accounts : AccountTable) (answer : Reply) (left : List (List ℕ)) (moment : ℕ)
       (fits : IsJudgedBy plan p a v o timestamp accounts answer) (shows : Shows s (judged_scene p a who v o c timestamp accounts answer left moment)) where
-    judged_on : (found : ChannelJudgement) → judge question.Logon answer (standing.Open (after_call o timestamp)) p.meeting.caller.secret ≡ found → IsLogonJudged (after_call o timestamp) found →
+    judged_on : (found : ChannelJudgement) → judge question.Logon answer (standing.Open (after_call o timestamp)) p.meeting.caller.secret ≡ found → IsLogonJudged (info_in answer) (after_call o timestamp) found →
         IsOnward plan p s (onward s).state ⊎ IsLetIn plan p s
-    unfolding IsLogonJudged
     judged_on (judgement.Half client server) judged is = absurd is
     judged_on (judgement.Opened state) judged is = absurd is
     judged_on (judgement.Drop cause) judged is =
@@ -406,7 +361,7 @@ module _ (plan : Plan) (p : Coming) (s : State) where
       left = left;
       moment = moment;
       fits = fits;
-      judged = judged ∙ ap (λ (state : OpenState). judgement.Answer state (verdict.Granted sam)) is;
+      judged = judged ∙ ap (λ (state : OpenState). judgement.Answer state (verdict.Granted sam)) is.0;
       shows = shows;
     })
 

@@ -1,10 +1,9 @@
 -- What a controller answers to the calls of a member's turn, whatever it keeps.
 -- Of `controllers_answer`.
-use Rattle.std.proofs.Common.{◌≡◌, ℕ, zero, suc, ◌<◌, ◌^◌, Bool, true, false, List, [], ◌∷◌, ◌++◌, length-append, Option, Some, None, refl, ap, ap₂, subst, ◌∙◌, arith, inr, if◌then◌else◌}
-use Rattle.std.specs.Prelude.{◌==◌, bytes_eq, replicate}
+use Rattle.std.proofs.Common.{◌≡◌, ℕ, zero, suc, ◌<◌, ◌≤◌, ◌^◌, Bool, true, false, List, [], ◌∷◌, ◌++◌, length-append, Option, Some, None, refl, subst, ◌∙◌, arith, inr, length, sym}
+use Rattle.std.specs.Prelude.{bytes_eq, replicate}
 use Rattle.wire_base.specs.Maps.{lookup, put}
 use Rattle.wire_base.specs.Names.{IsName, same_name}
-use Rattle.wire_base.specs.Numbers.{AreBytes}
 use Rattle.wire_base.specs.Units.{AreUnits}
 use Rattle.wire_base.specs.declared.authenticator.Authenticator.{Authenticator}
 use Rattle.wire_base.proofs.MapLaws.{put_others, taken_others}
@@ -13,14 +12,11 @@ use Rattle.channel_keys.specs.Credentials.{cred_of}
 use Rattle.authenticators.specs.Sequences.{authenticator_of, return_of}
 use Rattle.outside.specs.declared.action.Judged.TheVariants as judged
 use Rattle.outside.specs.declared.event.Event.TheVariants as event
-use Rattle.outside.specs.Machine.{Stepped, step_by, then_part}
+use Rattle.outside.specs.Machine.{Stepped}
 use Rattle.rpc_units.specs.Calls.{bytes_of_call}
-use Rattle.rpc_units.specs.Stream.{Cut, cut_stream}
-use Rattle.rpc_units.proofs.CuttingLaws.{call_heard}
 use Rattle.logon_stubs.specs.Ranges.{InRangeReply, InRangeSamInfo, HasShortTexts, IsBlock}
 use Rattle.logon_stubs.specs.Status.{access_denied}
 use Rattle.logon_stubs.specs.Writing.{CanWriteReply}
-use Rattle.logon_stubs.specs.declared.calls.Call.{Call}
 use Rattle.logon_stubs.specs.declared.calls.Reply.{Reply}
 use Rattle.logon_stubs.specs.declared.calls.Reply.TheVariants as reply
 use Rattle.logon_stubs.specs.declared.info.NetworkInfo.{NetworkInfo}
@@ -35,23 +31,18 @@ use Rattle.account_table.specs.declared.account.Account.{Account}
 use Rattle.account_table.proofs.ChangeLaws.{differs-none}
 use Rattle.sam_logon.specs.Verdict.{IfGranted, judgement_of}
 use Rattle.sam_logon.proofs.GrantedLaws.{granting-CanWrite, granting-InRange}
-use Rattle.end_links.specs.Links.{LinkState}
-use Rattle.end_links.specs.Serving.{ServedPart, served_cut}
+use Rattle.end_links.specs.Serving.{ServedPart}
 use Rattle.channel_client.specs.Hidden.{crypt_key, is_zero}
 use Rattle.channel_client.specs.declared.caller.Caller.{Caller}
-use Rattle.channel_client.specs.declared.judging.Judgement.{Judgement as ChannelJudgement}
-use Rattle.channel_client.specs.declared.judging.Judgement.TheVariants as judgement
 use Rattle.channel_client.specs.declared.state.Question.TheVariants as question
-use Rattle.channel_client.specs.declared.state.Standing.{Standing}
-use Rattle.channel_client.specs.declared.state.Standing.TheVariants as standing
-use Rattle.channel_client.specs.Machine.{auth_call, challenge_call, judge_awaited, judge_level, judge_logon, judge_return, judge_status, level_asked, logon_call, offered_flags}
-use Rattle.channel_client.specs.Opened.{OpenState, after_return, is_awaited, open_key}
+use Rattle.channel_client.specs.Machine.{auth_call, challenge_call, level_asked, logon_call, offered_flags}
+use Rattle.channel_client.specs.Opened.{OpenState, open_key}
 use Rattle.channel_client.proofs.WholeLaws.{cred_block}
 use Rattle.domain_controller.specs.Channels.{ChannelState, channel_by, key_of_channel, passes_on, return_by}
 use Rattle.domain_controller.specs.Hearing.{bound_talk}
-use Rattle.domain_controller.specs.Machine.{Desk, account_for, by_call, channel_for, controller_server, desk, goes_on, judge_account, judge_channel, judge_info, judge_pair, judge_return as return_judged, open_channel, put_channel, put_pair_if, reply_info, send_reply, status_of, take_channel, take_pair}
+use Rattle.domain_controller.specs.Machine.{Desk, account_for, channel_for, desk, goes_on, judge_account, judge_channel, judge_info, judge_pair, judge_return as return_judged, open_channel, put_channel, put_pair_if, reply_info, send_reply, status_of, take_channel, take_pair}
 use Rattle.domain_controller.specs.State.{State}
-use Rattle.domain_controller.specs.Step.{LinkMap, StepPart, after_units, first_desk, halted, serve_on, start_turn, state_after, step_of}
+use Rattle.domain_controller.specs.Step.{after_units, first_desk, step_of}
 use Rattle.domain_controller.specs.Whole.{InRangeTable}
 use Rattle.domain_controller.specs.declared.line.Line.{Line}
 use Rattle.domain_controller.specs.declared.state.Computers.{Computers}
@@ -62,12 +53,13 @@ use Rattle.domain_controller.proofs.LevelLaws.{short_at}
 use Rattle.domain_controller.proofs.WholeParts.{Fits, crypt_block, judged_fits, judged_table}
 use Rattle.logon_steps.specs.Answering.{auth_value, pair_of}
 use Rattle.logon_steps.specs.ControllerTurns.{controller_at, passed_reply, turn_link}
-use Rattle.logon_steps.specs.Turning.{IsTurnCall, IsTurnReply, turn_agreed, turn_request}
+use Rattle.logon_steps.specs.Turning.{IsTurnReply, turn_agreed, turn_request}
+use Rattle.logon_steps.proofs.CallingLaws.{zeros_block}
+use Rattle.logon_steps.proofs.ControllerTurnLaws.{asked_steps, running, stepped}
 use Rattle.logon_steps.proofs.KnowingLaws.{computers_are_known}
-use Rattle.logon_steps.proofs.StreamLaws.{same}
-use Rattle.logon_steps.proofs.TurningLaws.{request_joins, request_sends, turns_go_through}
 use Rattle.logon_runs.specs.Any.ControllerAnswers.{ControllersAnswer, KeepsBut, TellsShort, ToldChallenge, ToldLogon, ToldProof}
 use Rattle.logon_runs.specs.Any.GrantRests.{HasShortName}
+use Rattle.logon_runs.proofs.Any.JudgingLaws.{IsLogonJudged, IsNamedIn, info_in, logon_judged}
 use Rattle.logon_runs.proofs.TurnedAwayLaws.{IsRefusalOf, verdict_refuses}
 
 -- ---- a call comes on the one link
@@ -81,33 +73,11 @@ talk_at = bound_talk None turn_agreed
 
 -- the desk before it
 abbrev desk_at : AccountTable → Computers → ℕ → Desk
-desk_at table computers link = first_desk table (record { computers = computers; links = turn_link link })
+desk_at table computers link = first_desk table (running computers (turn_link link))
 
 -- what an answer makes of the controller
 abbrev answered : AccountTable → List ℕ → Computers → ℕ → List (List ℕ) → ServedPart Desk Talk → Stepped State
-answered table name computers link left part =
-    step_by (λ (after : Desk × LinkMap). after.0.work.actions) (λ (after : Desk × LinkMap). state_after (controller_at table name computers (turn_link link)) after)
-    (halted (controller_at table name computers (turn_link link))) left
-    (then_part (after_units part [] link []) (λ after rest. start_turn after rest))
-
-on_link : (table : AccountTable) (name : List ℕ) (computers : Computers) (link now : ℕ) (piece : List ℕ) (left : List (List ℕ)) (part : ServedPart Desk Talk) →
-    served_cut (controller_server name now link) (cut_stream piece) (desk_at table computers link) talk_at left ≡ part → (cut_stream piece).rest ≡ [] →
-    step_of (controller_at table name computers (turn_link link)) (event.Bytes link piece) now left ≡ answered table name computers link left part
-on_link table name computers link now piece left part served rest =
-    let here : LinkState Talk = record { rest = []; talk = talk_at } in
-    let stepped = λ (found : StepPart).
-    step_by (λ (after : Desk × LinkMap). after.0.work.actions) (λ (after : Desk × LinkMap). state_after (controller_at table name computers (turn_link link)) after)
-    (halted (controller_at table name computers (turn_link link))) left (then_part found (λ after rest. start_turn after rest)) in
-    ap (λ (found : Bool). stepped (serve_on (if found then Some here else None) link piece name now (desk_at table computers link) (if found then [] else turn_link link) left)) (same link)
-    ∙ ap₂ (λ (p : ServedPart Desk Talk) (r : List ℕ). stepped (after_units p r link [])) served rest
-
-call_comes : (table : AccountTable) (name : List ℕ) (computers : Computers) (link now number : ℕ) (c : Call) (left : List (List ℕ)) → number < 2 ^ 32 → IsTurnCall c →
-    step_of (controller_at table name computers (turn_link link)) (event.Bytes link (bytes_of_call (turn_request number c) 5840)) now left
-    ≡ answered table name computers link left (by_call c (line_at link number) talk_at name now (desk_at table computers link) left)
-call_comes table name computers link now number c left below is =
-    on_link table name computers link now (bytes_of_call (turn_request number c) 5840) left _
-    (turns_go_through.hears.call name now link number c (desk_at table computers link) left below is)
-    (ap Cut.rest (call_heard (turn_request number c) 5840 (request_sends number c below is) (request_joins number c is)).stream)
+answered table name computers link left part = stepped table name computers (turn_link link) left (after_units part [] link [])
 
 -- ---- NetrServerReqChallenge
 
@@ -132,14 +102,6 @@ proof_goes credential status block small =
     let r : Reply = reply.Authenticate (record { credential = credential; flags = offered_flags; status = status }) in
     let range : InRangeReply r = record { credential = block; flags = omega arith; status = small } in
     record { opnum = refl; writes = tt; range = range; short = omega (arith, written_reply-few r tt range tt) }
-
-zeros_below : (count : ℕ) → AreBytes (replicate count 0)
-zeros_below zero place = omega arith
-zeros_below (suc count) zero = omega arith
-zeros_below (suc count) (suc place) = zeros_below count place
-
-zeros_block : IsBlock 8 (replicate 8 0)
-zeros_block = (refl, zeros_below 8)
 
 module _ (table : AccountTable) (name : List ℕ) (computers : Computers) (link now number : ℕ) (caller : Caller) (client server : List ℕ) (left : List (List ℕ)) where
   -- the computer's challenges are taken out
@@ -215,51 +177,16 @@ abbrev IsShortIfThere : Option SamInfo → Type 0
 IsShortIfThere None = Unit {0}
 IsShortIfThere (Some info) = HasShortName info
 
--- what is granted by a judgement, if something is
-IsShortGrant : ChannelJudgement → Type 0
-IsShortGrant (judgement.Answer o (verdict.Granted sam)) = HasShortName sam
-IsShortGrant (judgement.Answer o (verdict.Status status)) = Unit {0}
-IsShortGrant (judgement.Half client server) = Unit {0}
-IsShortGrant (judgement.Opened o) = Unit {0}
-IsShortGrant (judgement.Drop cause) = Unit {0}
+short_from : (info : Option SamInfo) (sam : SamInfo) → IsShortIfThere info → IsNamedIn info sam → HasShortName sam
+short_from info sam is named =
+    let told : HasShortName named.told = subst IsShortIfThere named.is is in
+    record {
+      short = subst (λ (name : List ℕ). length name ≤ 129) (sym named.name) told.short;
+      units = subst AreUnits (sym named.name) told.units;
+    }
 
-grant_from : (found : ChannelJudgement) (o : OpenState) (sam : SamInfo) → IsShortGrant found → found ≡ judgement.Answer o (verdict.Granted sam) → HasShortName sam
-unfolding IsShortGrant
-grant_from found o sam is same = subst IsShortGrant same is
-
-level_short : (same : Bool) (info : Option SamInfo) (o : OpenState) → IsShortIfThere info → IsShortGrant (judge_level same info o)
-unfolding IsShortGrant
-level_short false info o is = tt
-level_short true None o is = tt
-level_short true (Some info) o is = record { short = is.short; units = is.units }
-
-status_short : (zeroed : Bool) (status level : ℕ) (info : Option SamInfo) (o : OpenState) → IsShortIfThere info → IsShortGrant (judge_status zeroed status level info o)
-unfolding IsShortGrant
-status_short false status level info o is = tt
-status_short true status level info o is = level_short (level == level_asked) info o is
-
-awaited_short : (awaited : Bool) (status level : ℕ) (info : Option SamInfo) (o : OpenState) → IsShortIfThere info → IsShortGrant (judge_awaited awaited status level info o)
-unfolding IsShortGrant
-awaited_short false status level info o is = tt
-awaited_short true status level info o is = status_short (status == 0) status level info (after_return true o) is
-
-return_short : (returned : Option Authenticator) (status level : ℕ) (info : Option SamInfo) (o : OpenState) → IsShortIfThere info → IsShortGrant (judge_return returned status level info o)
-unfolding IsShortGrant
-return_short None status level info o is = tt
-return_short (Some returned) status level info o is = awaited_short (is_awaited o.awaited returned.credential) status level info o is
-
-logon_short : (denied : Bool) (how : Standing) (returned : Option Authenticator) (status level : ℕ) (info : Option SamInfo) → IsShortIfThere info →
-    IsShortGrant (judge_logon denied how returned status level info)
-unfolding IsShortGrant
-logon_short true how returned status level info is = tt
-logon_short false standing.Nothing returned status level info is = tt
-logon_short false (standing.Half client server) returned status level info is = tt
-logon_short false (standing.Open o) returned status level info is = return_short returned status level info o is
-
-tells_short : (returned : Option Authenticator) (level authoritative status : ℕ) (info : Option SamInfo) → IsShortIfThere info →
-    TellsShort (reply.Logon (record { returned = returned; level = level; info = info; authoritative = authoritative; status = status }))
-tells_short returned level authoritative status info is = λ how secret o sam same.
-    grant_from (judge_logon (status == access_denied) how returned status level info) o sam (logon_short (status == access_denied) how returned status level info is) same
+tells_short : (answer : Reply) → IsShortIfThere (info_in answer) → TellsShort answer
+tells_short answer is = λ o state secret sam same. short_from (info_in answer) sam is (subst (IsLogonJudged (info_in answer) o) same (logon_judged answer o secret)).1
 
 -- the replies
 
@@ -279,7 +206,7 @@ passed_goes key credential (verdict.Status status) block fits refuses =
     let range : InRangeReply r = record { returned = record { credential = block; timestamp = omega arith }; level = omega arith; info = tt; authoritative = omega arith; status = refuses.small } in
     record {
       is = record { opnum = refl; writes = tt; range = range; short = omega (arith, written_reply-few r tt range tt) };
-      names = tells_short (Some (record { credential = credential; timestamp = 0 })) level_asked 1 status None tt;
+      names = tells_short r tt;
     }
 passed_goes key credential (verdict.Granted info) block fits refuses =
     let r : Reply = passed_reply key credential (verdict.Granted info) in
@@ -291,7 +218,7 @@ passed_goes key credential (verdict.Granted info) block fits refuses =
     let short : HasShortTexts (reply_info level_asked key info) = short_at level_asked key info (inr refl) fits.short in
     record {
       is = record { opnum = refl; writes = writes; range = range; short = omega (arith, written_reply-few r writes range short) };
-      names = tells_short returned level_asked 1 0 (Some (reply_info level_asked key info)) (name_so (reply_info level_asked key info) short range.info);
+      names = tells_short r (name_so (reply_info level_asked key info) short range.info);
     }
 
 module _ (table : AccountTable) (name : List ℕ) (computers : Computers) (link now number timestamp : ℕ) (caller : Caller) (o : OpenState) (info : NetworkInfo) (left : List (List ℕ))
@@ -336,7 +263,7 @@ module _ (table : AccountTable) (name : List ℕ) (computers : Computers) (link 
     how = judged.Barred;
     answer = refusal_reply;
     is = refusal_goes;
-    names = tells_short None level_asked 1 access_denied None tt;
+    names = tells_short refusal_reply tt;
     steps = is;
   }
   return_told true channel is =
@@ -368,7 +295,7 @@ module _ (table : AccountTable) (name : List ℕ) (computers : Computers) (link 
     how = judged.NoChannel;
     answer = refusal_reply;
     is = refusal_goes;
-    names = tells_short None level_asked 1 access_denied None tt;
+    names = tells_short refusal_reply tt;
     steps = is;
   }
   channel_told (Some channel) is = return_told (passes_on channel given) channel is
@@ -377,11 +304,11 @@ pub controllers_answer : ControllersAnswer
 controllers_answer = record {
   challenge = λ table name computers link now number caller client server left below is.
       challenge_told (knows_in table.accounts caller.computer) table name computers link now number caller client server left
-      (call_comes table name computers link now number (challenge_call caller client) (server ∷ left) below is);
+      (asked_steps table name computers link now number (challenge_call caller client) (server ∷ left) below is);
   proof = λ table name computers link now number caller client server left below is.
       account_told table name computers link now number caller client server left (account_for table (auth_value caller client server)) (lookup same_name caller.computer computers.pending)
-      (call_comes table name computers link now number (auth_call caller client server) left below is);
+      (asked_steps table name computers link now number (auth_call caller client server) left below is);
   logon = λ table name computers link now number timestamp caller o info left below is ranged is_name moment.
       channel_told table name computers link now number timestamp caller o info left ranged is_name moment (lookup same_name caller.computer computers.channels)
-      (call_comes table name computers link now number (logon_call caller o timestamp info) left below is);
+      (asked_steps table name computers link now number (logon_call caller o timestamp info) left below is);
 }

@@ -1,6 +1,7 @@
 -- A world rests again once a logon is over, at any member.
 -- Of `any_logons_start` and `logons_come_to_rest`.
-use Rattle.std.proofs.Common.{◌≡◌, ◌≢◌, ℕ, zero, suc, false, refl, sym, ap, subst, ◌∙◌, List, [], Option, Some, None, inl, inr, slice_get}
+use Rattle.std.proofs.Common.{◌≡◌, ◌≢◌, ℕ, zero, suc, false, refl, sym, ap, subst, ◌∙◌, List, [], Option, Some, None, inl, inr, slice_get, ◌<◌, length, arith}
+use Rattle.std.proofs.lemmas.Option.{slice_get_cases}
 use Rattle.std.specs.Prelude.{◌⊎◌}
 use Rattle.wire_base.specs.Maps.{lookup}
 use Rattle.wire_base.specs.Names.{same_name}
@@ -38,6 +39,18 @@ same_or_not (suc one) (suc other) =
     elim (same_or_not one other) [
       | inl is ↦ inl (ap suc is)
       | inr apart ↦ inr (λ is. apart cc)
+    ]
+
+-- an item at a place of a list
+pub record HasItem {T : Type 0} (items : List T) (at : ℕ) : Type 0 where
+  pub item : T
+  pub is : slice_get items at ≡ Some item
+
+pub item_at : {T : Type 0} (items : List T) (at : ℕ) → at < length items → HasItem items at
+item_at items at inside =
+    elim (slice_get_cases items at).1 [
+      | inl there ↦ record { item = there.0; is = there.2 }
+      | inr past ↦ absurd (omega (arith, inside, past.0))
     ]
 
 pub some_same : {T : Type 0} (one other : T) → Some one ≡ Some other → one ≡ other

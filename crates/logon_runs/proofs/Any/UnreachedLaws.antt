@@ -33,6 +33,7 @@ use Rattle.logon_runs.proofs.RestStayLaws.{rest_with}
 use Rattle.logon_runs.proofs.StartLaws.{starts_are_seen}
 use Rattle.logon_runs.proofs.StayingLaws.{both_same, ends_stay, starts_same}
 use Rattle.logon_runs.proofs.TurningSceneLaws.{scenes_turn}
+use Rattle.logon_runs.proofs.Any.AnyBeginLaws.{begins_seen}
 use Rattle.logon_runs.proofs.Any.AnyRunLaws.{none_up_to, route_still}
 use Rattle.logon_runs.proofs.Any.RestAgainLaws.{same_or_not, some_same}
 
@@ -107,21 +108,7 @@ unreached_rests plan s rest client member controller three account number same c
     let p : Coming = coming_from plan s rest client member controller three account account in
     let first : State = (start number s).state in
     let after : State = moved_by moves first in
-    let lr : ClientRests s client three.task = rest.clients client three.task three.is_task in
-    let begun : Shows first (scene_of p Dials s.chances.left s.moment) =
-    starts_are_seen.starts s (with_its_controller p p.meeting) number lr.client s.links s.chances.left s.moment chosen
-    (ap (λ (plans : List ClientPlan). slice_get plans client) rest.plans ∙ three.is_task)
-    (record {
-      client = lr.rests;
-      member = (rest.members member three.member_plan three.is_member_plan).rests;
-      controller = (rest.controllers controller three.table three.is_table).rests;
-      links = refl;
-      opened = rest.opened;
-      units = rest.units;
-      dials = rest.dials;
-      left = refl;
-      moment = refl;
-    }) in
+    let begun : Shows first (scene_of p Dials s.chances.left s.moment) = begins_seen plan s rest client member controller three account account number chosen in
     let calling : IsCalling p s.chances.left s after =
     calls_on p s.chances.left s (route_still (Client client) three.task.server (first_world plan).state s same ∙ nobody) moves first steps
     (record { moment = s.moment; others = others_are_left.starts (three_in p) s number chosen rest.opened; same = starts_same number s; shows = inl begun }) in

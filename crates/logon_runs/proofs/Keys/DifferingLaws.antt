@@ -15,7 +15,6 @@ use Rattle.rpc_units.specs.Calls.{CanBeSent, bytes_of_call}
 use Rattle.rpc_units.specs.Joining.{answer_by, joined_by, joined_of}
 use Rattle.rpc_units.specs.Reading.{unit_of}
 use Rattle.rpc_units.specs.Writing.{IsSendable, written}
-use Rattle.rpc_units.proofs.ShortLaws.{written_short}
 use Rattle.rpc_units.proofs.WritingLaws.{length_written}
 use Rattle.end_links.specs.Agreed.{accepts}
 use Rattle.end_links.specs.Binding.{limit_of as unit_limit}
@@ -54,6 +53,7 @@ use Rattle.logon_steps.proofs.MemoCallLaws.{one_bytes, one_fragment, one_sends, 
 use Rattle.logon_steps.proofs.SecuringLaws.{units_travel}
 use Rattle.logon_steps.proofs.StreamLaws.{read_again}
 use Rattle.logon_runs.specs.Keys.Differing.{AreTerms, AsksEcho, HasItsOutcome, HasSent, Hears, IsLetIn, IsReplied, IsRequest, IsShut, IsSingle, KeysMayDiffer, single_unit}
+use Rattle.logon_runs.proofs.FailingStepLaws.{fault_sends}
 use Rattle.logon_runs.proofs.Keys.EchoSizeLaws.{echo_fits, echo_reply_size}
 use Rattle.logon_runs.proofs.Keys.OpeningLaws.{client_opens, member_opens, mirror, mirrored}
 
@@ -97,13 +97,6 @@ closes task sent cause = inl (record { cause = cause; shuts = λ at. refl })
 AnswerFits : Answer → Type 0
 AnswerFits (answer.Fault status) = status < 2 ^ 32
 AnswerFits (answer.Stub stub) = length stub ≤ 5792
-
-fault_sends : (call status : ℕ) → call < 2 ^ 32 → status < 2 ^ 32 → IsSendable (fault_of call 0 status)
-fault_sends call status below known = record {
-  writable = record { pieces = (refl, refl); counts = tt; value = tt };
-  range = record { call = below; body = (omega arith, omega arith, known); trailer = tt };
-  short = written_short (fault_of call 0 status) refl tt;
-}
 
 -- what is written of a unit that can be sent
 written_single : (call : ℕ) (body : Body) (trailer : Option Trailer) → IsSendable (single_unit call body trailer) → IsSingle (written (single_unit call body trailer))

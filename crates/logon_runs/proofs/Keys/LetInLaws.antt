@@ -21,6 +21,7 @@ use Rattle.channel_client.specs.declared.state.Step.TheVariants as step
 use Rattle.channel_client.specs.Machine.{judge}
 use Rattle.channel_client.specs.Opened.{OpenState}
 use Rattle.domain_controller.specs.declared.state.Computers.{Computers}
+use Rattle.logon_client.specs.declared.outcome.ClientOutcome.{ClientOutcome}
 use Rattle.logon_client.specs.declared.outcome.ClientOutcome.TheVariants.{NoAnswer}
 use Rattle.logon_client.specs.declared.outcome.NoAnswerCause.TheVariants as no_answer
 use Rattle.logon_client.specs.declared.securing.Sending.{Sending}
@@ -75,6 +76,7 @@ use Rattle.logon_runs.proofs.Keys.DifferingLaws.{Asks as AsksBy, asks_by, keys_m
 use Rattle.logon_runs.proofs.Keys.LetInStepLaws.{granted_replies, granted_shuts, let_in_replies, let_in_shuts}
 use Rattle.logon_runs.proofs.LinkSceneLaws.{closes_own, found_here, heard_down, heard_up, none_left, sent_down, sent_up}
 use Rattle.logon_runs.proofs.PhaseEndLaws.{sent_same}
+use Rattle.logon_runs.proofs.PhaseLaws.{one_waits}
 use Rattle.logon_runs.proofs.SceneLaws.{scenes_go_on}
 use Rattle.logon_runs.proofs.StartLaws.{starts_are_seen}
 use Rattle.logon_runs.proofs.TurnSceneLaws.{closes_turn, heard_back}
@@ -94,9 +96,9 @@ closes_back g how talk units left moment = record {
   side = other_side g;
 }
 
-ended : (g : Meeting) (left : List (List ℕ)) (s after : State) (opened : OpenMap) (moment : ℕ) (outcome : _) → opened ≡ [] →
+ended : (g : Meeting) (left : List (List ℕ)) (after : State) (opened : OpenMap) (moment : ℕ) (outcome : ClientOutcome) → opened ≡ [] →
     Shows after (record (rest_scene g (client_ended g.task outcome) g.links left moment []) { opened = opened }) → HasEndedAt g left after
-ended g left s after opened moment outcome none shows = record {
+ended g left after opened moment outcome none shows = record {
   outcome = outcome;
   moment = moment;
   shows = subst (λ (o : OpenMap). Shows after (record (rest_scene g (client_ended g.task outcome) g.links left moment []) { opened = o })) none shows;
@@ -109,7 +111,7 @@ asked_on : (g : Meeting) (left : List (List ℕ)) (s : State) (terms : Terms) (q
     Shows s (let_in_scene g (Asks terms question on bytes) left moment) → GoesOn g left (onward s).state
 asked_on g left s terms question on bytes moment can joined fits (inl is) shows =
     let phase : ClientPhase = client_phase.Asked terms question in
-    inr (ended g left s (onward s).state (take_out same_number g.link (its_link g)) moment (NoAnswer no_answer.LinkClosed) (none_left g)
+    inr (ended g left (onward s).state (take_out same_number g.link (its_link g)) moment (NoAnswer no_answer.LinkClosed) (none_left g)
     (member_shuts s _ (unit_up g bytes) [] _ _ left g.link is.cause [] shows
     (heard_up g phase (talk_in None on) bytes [] left moment (record { some = fits.0.some; short = omega (arith, fits.0.short) }))
     (closes_back g phase (talk_in None on) (unit_up g bytes ∷ []) left moment) tt
@@ -138,7 +140,7 @@ has_outcome : (g : Meeting) (left : List (List ℕ)) (s : State) (terms : Terms)
     HasItsOutcome g.task terms question bytes → Shows s (let_in_scene g (Hears terms question on bytes) left moment) → GoesOn g left (onward s).state
 has_outcome g left s terms question on bytes moment single is shows =
     let phase : ClientPhase = client_phase.Asked terms question in
-    inr (ended g left s (onward s).state (take_out same_number g.link (its_link g)) moment is.outcome (none_left g)
+    inr (ended g left (onward s).state (take_out same_number g.link (its_link g)) moment is.outcome (none_left g)
     (scenes_turn.client_closes s _ (unit_down g bytes) [] _ _ left g.link close.CallDone [] shows
     (heard_down g phase (talk_in None on) bytes [] left moment (record { some = single.some; short = omega (arith, single.short) }))
     (closes_own g phase (talk_in None on) (unit_down g bytes ∷ []) left moment) tt
@@ -229,12 +231,9 @@ rests_so g left s (move.Hand link back bytes) steps at = absurd steps
 rests_so g left s (move.Shut number) steps at = absurd steps
 rests_so g left s (move.Restart number) steps at = absurd steps
 
-one_waits : {T : Type 0} (items : List T) (one : T) → items ≡ one ∷ [] → items ≡ [] → ⊥
-one_waits items one are none = absurd cc
-
 waits_so : (g : Meeting) (left : List (List ℕ)) (s : State) (phase : LetInPhase) (moment : ℕ) → Shows s (let_in_scene g phase left moment) → waiting s.bag ≡ [] → ⊥
-waits_so g left s (Asks terms question on bytes) moment shows none = one_waits (waiting s.bag) _ shows.units none
-waits_so g left s (Hears terms question on bytes) moment shows none = one_waits (waiting s.bag) _ shows.units none
+waits_so g left s (Asks terms question on bytes) moment shows none = one_waits (waiting s.bag) _ [] shows.units none
+waits_so g left s (Hears terms question on bytes) moment shows none = one_waits (waiting s.bag) _ [] shows.units none
 
 alone_so : (g : Meeting) (left : List (List ℕ)) (s : State) (phase : LetInPhase) (moment : ℕ) → Shows s (let_in_scene g phase left moment) →
     AreAmong (three_of g.at_client g.at_member g.at_controller) s.open_links × (s.dials ≡ [])
@@ -275,9 +274,9 @@ module _ (s : State) (g : Meeting) (terms : Terms) (info : NetworkInfo) (challen
   logon_asked = logon_for g.link g.task challenge message
 
   -- the links after the turn's own
-  behind : (talk : Talk) → take_out same_number link opened ≡ its_link g →
+  behind : take_out same_number link opened ≡ its_link g →
       ClosesTo (shut_in link (turn_scene its_turn next number (step.Reply q) computers (turn_link link) (unit_back its_turn (reply_bytes number r) ∷ []) left moment)) (Member g.at_member) (Client g.at_client) g.link
-  behind talk taken = record {
+  behind taken = record {
     there = record { route = ToMember g.at_client g.at_member; dialler = true; acceptor = true };
     found = ap (λ (o : OpenMap). lookup same_number g.link o) taken ∙ found_here g;
     side = other_side g;
@@ -288,12 +287,12 @@ module _ (s : State) (g : Meeting) (terms : Terms) (info : NetworkInfo) (challen
       IsShut (let_in g.task sam logon_asked) bytes ⊎ IsReplied g.task 0 (let_in g.task sam logon_asked) bytes →
       Shows s (turn_scene its_turn next number (step.Reply q) computers (turn_link link) (unit_back its_turn (reply_bytes number r) ∷ []) left moment) → GoesOn after_it left (onward s).state
   granted_on can are below between reply_is granted joined taken (inl is) shows =
-      inr (ended after_it left s (onward s).state (take_out same_number g.link (take_out same_number link opened)) moment (NoAnswer no_answer.LinkClosed)
+      inr (ended after_it left (onward s).state (take_out same_number g.link (take_out same_number link opened)) moment (NoAnswer no_answer.LinkClosed)
       (ap (λ (o : OpenMap). take_out same_number g.link o) taken ∙ none_left g)
       (member_shuts_both s _ (unit_back its_turn (reply_bytes number r)) [] _ _ _ left link g.link close.CallDone is.cause g.link (outcome_of (ending.Granted sam) logon_asked) shows
       (heard_back its_turn (reply_bytes number r) next number (step.Reply q) computers (turn_link link) left moment between (response_comes number q r reply_is))
       (closes_turn its_turn next number (step.Reply q) computers (unit_back its_turn (reply_bytes number r) ∷ []) left moment between)
-      (behind (talk_in None (let_in g.task sam logon_asked)) taken)
+      (behind taken)
       (granted_shuts g.plan g.caller how o info g.place next number link moment q r sam logon_asked g.task bytes left below reply_is granted is)
       (controllers_step.closed table name computers link moment _ left)
       (clients_step.closed g.task g.link moment (client_phase.Asked terms client_question.Who) left)))
@@ -332,7 +331,7 @@ asked_so p a who =
 
 pub grants_go_on : GrantsGoOn
 grants_go_on = record {
-  asked = λ p a who can. asked_so p a who;
+  asked = asked_so;
   granted = λ s g terms info challenge message bytes table name how o links opened link next number q r sam computers left moment can request are short units below between is granted joined taken shows.
       granted_on s g terms info challenge message bytes table name how o links opened link next number q r sam computers left moment can are below between is granted joined taken
       (keys_may_differ.answers g.task 0 2 0 (let_in g.task sam (logon_for g.link g.task challenge message)) bytes (omega arith) (omega arith) request (let_in_new g challenge message sam short units)) shows;

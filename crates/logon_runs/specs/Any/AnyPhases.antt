@@ -1,5 +1,6 @@
--- The phases of a logon at any member, whatever its controller answers: each move leads from one to another, to the end,
--- or to the member that lets the client in (MS-NLMP 3.2.5.1.2; MS-NRPC 3.1.4.1 to 3.1.4.5; the order of moves is any).
+-- The phases of a logon at any member, whatever its controller answers. Each move leads from one to another, to the
+-- end, or to where the member lets the client in (MS-NLMP 3.2.5.1.2; MS-NRPC 3.1.4.1 to 3.1.4.5; the order of moves is
+-- any).
 use Rattle.std.specs.Prelude.{ℕ, ◌≡◌, ◌<◌, ◌^◌, ◌⊎◌, true, false, List, [], ◌∷◌, length, None, Some}
 use Rattle.wire_base.specs.Maps.{lookup}
 use Rattle.wire_base.specs.Names.{IsName, same_name}

@@ -1,5 +1,5 @@
--- What a controller answers to the calls of a member's turn, whatever it keeps of that computer: each is answered by one
--- reply, and what is kept of other computers stays (MS-NRPC 3.5.4.4.1, 3.5.4.4.3, 3.5.4.5.3).
+-- What a controller answers to the calls of a member's turn, whatever it keeps of that computer. Each is answered by
+-- one reply, and what is kept of other computers stays (MS-NRPC 3.5.4.4.1, 3.5.4.4.3, 3.5.4.5.3).
 use Rattle.std.specs.Prelude.{ℕ, ◌≡◌, ◌<◌, ◌^◌, false, List, [], ◌∷◌}
 use Rattle.wire_base.specs.Maps.{lookup}
 use Rattle.wire_base.specs.Names.{IsName, same_name}
@@ -18,7 +18,7 @@ use Rattle.account_table.specs.Changes.{DifferInCounts}
 use Rattle.channel_client.specs.declared.caller.Caller.{Caller}
 use Rattle.channel_client.specs.declared.judging.Judgement.TheVariants as judgement
 use Rattle.channel_client.specs.declared.state.Question.TheVariants as question
-use Rattle.channel_client.specs.declared.state.Standing.{Standing}
+use Rattle.channel_client.specs.declared.state.Standing.TheVariants as standing
 use Rattle.channel_client.specs.Machine.{auth_call, challenge_call, judge, logon_call, offered_flags}
 use Rattle.channel_client.specs.Opened.{OpenState}
 use Rattle.domain_controller.specs.Step.{step_of}
@@ -54,7 +54,8 @@ pub record ToldProof (table : AccountTable) (name : List ℕ) (computers : Compu
 
 -- where the channel's end takes it as granted, the name that is told fits
 abbrev pub TellsShort : Reply → Type 0
-TellsShort r = (how : Standing) (secret : List ℕ) (o : OpenState) (sam : SamInfo) → judge question.Logon r how secret ≡ judgement.Answer o (verdict.Granted sam) → HasShortName sam
+TellsShort r =
+    (o state : OpenState) (secret : List ℕ) (sam : SamInfo) → judge question.Logon r (standing.Open o) secret ≡ judgement.Answer state (verdict.Granted sam) → HasShortName sam
 
 -- the logon is judged, or not; of the accounts counts of bad passwords change alone
 pub record ToldLogon (table : AccountTable) (name : List ℕ) (computers : Computers) (link now number timestamp : ℕ) (caller : Caller) (o : OpenState) (info : NetworkInfo) (left : List (List ℕ)) : Type 0 where

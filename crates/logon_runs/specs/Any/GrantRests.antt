@@ -1,4 +1,4 @@
--- A logon that a member was answered as granted, with whatever information and whatever key: where it leads once nothing
+-- Where a logon leads that a member was answered as granted, with whatever information and whatever key, once nothing
 -- waits (this project's own choice).
 use Rattle.std.specs.List.{AllByRecursion}
 use Rattle.std.specs.Prelude.{ℕ, ◌≡◌, ◌≤◌, ◌<◌, ◌^◌, List, [], ◌∷◌, length}

@@ -100,7 +100,7 @@ GoesOn g left s = IsOnLink g left s ⊎ HasEndedAt g left s
 
 pub record GrantsGoOn : Type 0 where
   -- what a client sent and its terms since
-  pub asked : (p : Coming) (a : Asked) (who : WhoAsked p a) → CanLogOn p.meeting.task →
+  pub asked : (p : Coming) (a : Asked) (who : WhoAsked p a) →
       IsRequest client.who_number client.who_opnum who.sent × AreTerms 1 (record (terms_at p a) { session = who.later })
   -- the turn's reply comes, and the member takes it as one that grants the logon, with whatever key
   pub granted : (s : State) (g : Meeting) (terms : Terms) (info : NetworkInfo) (challenge : List ℕ) (message : Authenticate) (bytes : List ℕ) (table : AccountTable) (name : List ℕ)

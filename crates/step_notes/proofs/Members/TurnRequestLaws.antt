@@ -1,5 +1,5 @@
--- The request that is heard to go out at a member is that of the call of its turn, and a Logon call of a turn is for the
--- first logon that the member keeps.
+-- The request that is heard to go out at a member is that of the call of its turn, and a Logon call of a turn is for
+-- the first logon that the member keeps.
 -- It serves `calls_carry_their_logon`, and laws of runs that speak of what goes out.
 use Rattle.std.proofs.Common.{◌≡◌, ℕ, ◌==◌, Bool, true, false, List, [], ◌∷◌, map, Option, Some, None, Result, Ok, Err, refl, sym, ap, ◌∙◌, if◌then◌else◌, ◌≤◌}
 use Rattle.wire_base.specs.Maps.{lookup, same_number}

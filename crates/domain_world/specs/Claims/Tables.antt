@@ -1,0 +1,43 @@
+-- How the accounts of a controller change in a run: by the verdicts on the Logon calls that passed there, one after
+-- another, and by nothing else (MS-NRPC 3.5.4.5.3; that counts of bad passwords are kept is this project's own choice).
+-- So nobody is locked out but by calls that passed, and a restart of a controller leaves its accounts as they are.
+use Rattle.std.specs.Prelude.{ℕ, ◌≡◌, ◌==◌, Bool, true, false, List, [], ◌∷◌, Some, slice_get}
+use Rattle.account_table.specs.AccountTable.{AccountTable}
+use Rattle.domain_controller.specs.Machine.{judge_info}
+use Rattle.domain_controller.specs.State.{State as ControllerState}
+use Rattle.step_notes.specs.ControllerNotes.{has_passed}
+use Rattle.step_notes.specs.Records.{Judging}
+use Rattle.world_moves.specs.declared.plan.Plan.{Plan}
+use Rattle.domain_world.specs.Past.{Past}
+
+-- the accounts behind a judged call; the argument: whether it passed
+abbrev pub left_if : Bool → Judging → AccountTable
+left_if false j = j.table
+left_if true j = (judge_info j.table j.name j.moment j.logon.info j.logon.validation).table
+
+-- those that its verdict leaves, where it passed, and else those before it
+abbrev pub left_by : Judging → AccountTable
+left_by j = left_if (has_passed j.how) j
+
+abbrev pub accounts_if : Bool → Judging → AccountTable → AccountTable
+accounts_if false j before = before
+accounts_if true j before = left_by j
+
+-- the accounts of that controller behind these judged calls, the newest first, from those that the plan gives it
+abbrev pub accounts_after : AccountTable → ℕ → List Judging → AccountTable
+accounts_after planned controller [] = planned
+accounts_after planned controller (j ∷ earlier) = accounts_if (j.controller == controller) j (accounts_after planned controller earlier)
+
+-- these are its accounts behind those calls
+abbrev pub IsLeft : Plan → ℕ → List Judging → AccountTable → Type 0
+IsLeft plan controller judgings table = (planned : AccountTable) → slice_get plan.tables controller ≡ Some planned → table ≡ accounts_after planned controller judgings
+
+-- each call was judged by the accounts as the earlier calls left them
+abbrev pub AreByEarlier : Plan → List Judging → Type 0
+AreByEarlier plan [] = Unit {0}
+AreByEarlier plan (j ∷ earlier) = IsLeft plan j.controller earlier j.table × AreByEarlier plan earlier
+
+-- So it is of each call that is written down as judged, and of each controller after the run.
+pub record TablesFollowVerdicts (run : Past) : Type 0 where
+  pub judged : AreByEarlier run.plan run.book.judged
+  pub stands : (controller : ℕ) (c : ControllerState) → slice_get run.world.state.ends.controllers controller ≡ Some c → IsLeft run.plan controller run.book.judged c.table
