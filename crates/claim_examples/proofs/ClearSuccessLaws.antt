@@ -1,4 +1,5 @@
--- The client of the example can succeed: her account may log on in each state of the run.
+-- The client of the example can succeed: her account may log on in each state of the run; and she does, since no key of
+-- the run travels as zeros.
 -- It serves `ann_can_succeed`.
 use Rattle.std.proofs.Common.{◌≡◌, ℕ, ◌≤◌, arith, false, List, [], length, Option, Some, refl, sym, subst, inl, inr}
 use Rattle.std.specs.Prelude.{◌==◌, codes, IsSomeAnd}
@@ -19,12 +20,13 @@ use Rattle.world_moves.specs.declared.state.State.{State}
 use Rattle.world_moves.specs.Choosing.{chosen_place}
 use Rattle.world_moves.specs.Forms.{HasForms}
 use Rattle.world_moves.specs.World.{IsPlan, first_world}
-use Rattle.domain_world.specs.Claims.Completeness.{InEachState, MayLogOnIn, info_planned}
+use Rattle.domain_world.specs.Claims.Completeness.{CanSucceed, ComesOneAtATime, InEachState, MayLogOnIn, info_planned}
+use Rattle.domain_world.specs.Past.{past}
 use Rattle.logon_steps.specs.Granting.{cleared}
 use Rattle.logon_steps.specs.MemoCalls.{ReplyGoes, RequestGoes}
 use Rattle.logon_steps.proofs.ClientStepLaws.{echo_are, echo_length}
 use Rattle.logon_steps.proofs.MemoCallLaws.{memo_calls_go}
-use Rattle.logon_runs.specs.ExampleLogon.{ann, ann_plan, ann_task, corp, file1, file1_plan}
+use Rattle.logon_runs.specs.ExampleLogon.{ann, ann_moves, ann_plan, ann_task, corp, file1, file1_plan}
 use Rattle.logon_runs.specs.FirstLogonRuns.{ComesInFirst, after_first, first_turns}
 use Rattle.logon_runs.specs.FirstWorlds.{CanComeIn, FirstKeyArrives, IsLoggedOn, draw, first_asked, first_meeting, left_then, logon_moves, no_computers}
 use Rattle.logon_runs.specs.LinkScenes.{IsJoined, Meeting}
@@ -33,7 +35,10 @@ use Rattle.logon_runs.proofs.ExampleLogonLaws.{an_example_logs_on, ann_can, ann_
 use Rattle.logon_runs.proofs.FirstLogonRunLaws.{joined_still}
 use Rattle.logon_runs.proofs.FirstWorldLaws.{comes_first, first_shows, first_worlds_run}
 use Rattle.logon_runs.proofs.LinkSceneLaws.{meetings_are_seen}
+use Rattle.domain_world.proofs.Completeness.SuccessLaws.{each_succeeds}
 use Rattle.claim_examples.specs.ClearSuccess.{AnnCanSucceed}
+use Rattle.claim_examples.proofs.ClearRunLaws.{ann_once, ann_plain, ann_quiet, keys_arrive}
+use Rattle.claim_examples.proofs.ExampleKeyLaws.{ann_key_arrives}
 use Rattle.claim_examples.proofs.SequenceLaws.{one_apart}
 
 may_here : (info : NetworkInfo) (s : State) (v : Scene) → Shows s v → MayLogOn v.controller.table info v.moment → MayLogOnIn v.at_controller info s
@@ -160,25 +165,39 @@ ann_may = record {
   taken_response = inl refl;
 }
 
+ann_can_so : CanSucceed ann_plan ann_moves 0
+ann_can_so = record {
+  task = ann_task;
+  is_task = refl;
+  member = 0;
+  is_member = refl;
+  member_plan = file1_plan;
+  is_member_plan = refl;
+  controller = 0;
+  is_controller = refl;
+  table = corp;
+  is_table = refl;
+  apart = one_apart (λ (one other : MemberPlan). SameName one.computer other.computer → ⊥) file1_plan;
+  computer = record { account = file1; found = file1_found; kind = refl; enabled = refl; secret = refl };
+  account = ann;
+  found = ann_found;
+  hash = refl;
+  may = may_each ann_plan 0 0 0 ann_can an_example_logs_on.schedule.start an_example_logs_on.schedule.forms 0 refl (λ signed. absurd cc) refl (info_planned ann_task) ann_may
+      (subst (λ (table : AccountTable). MayLogOn table (info_planned ann_task) 0) (sym same_accounts) ann_may);
+}
+
+ann_comes : ComesOneAtATime (past ann_plan ann_moves) ann_moves
+ann_comes = record {
+  schedule = an_example_logs_on.schedule;
+  plain = ann_plain;
+  once = ann_once;
+  quiet = ann_quiet;
+  keys = keys_arrive ann_plan 0 0 0 ann_can an_example_logs_on.schedule.start an_example_logs_on.schedule.forms 0 refl (λ signed. absurd cc) ann_key_arrives;
+}
+
 pub ann_can_succeed : AnnCanSucceed
 ann_can_succeed = record {
-  can = record {
-    task = ann_task;
-    is_task = refl;
-    member = 0;
-    is_member = refl;
-    member_plan = file1_plan;
-    is_member_plan = refl;
-    controller = 0;
-    is_controller = refl;
-    table = corp;
-    is_table = refl;
-    apart = one_apart (λ (one other : MemberPlan). SameName one.computer other.computer → ⊥) file1_plan;
-    computer = record { account = file1; found = file1_found; kind = refl; enabled = refl; secret = refl };
-    account = ann;
-    found = ann_found;
-    hash = refl;
-    may = may_each ann_plan 0 0 0 ann_can an_example_logs_on.schedule.start an_example_logs_on.schedule.forms 0 refl (λ signed. absurd cc) refl (info_planned ann_task) ann_may
-        (subst (λ (table : AccountTable). MayLogOn table (info_planned ann_task) 0) (sym same_accounts) ann_may);
-  };
+  can = ann_can_so;
+  comes = ann_comes;
+  succeeds = (each_succeeds ann_plan ann_moves ann_comes).0 ann_can_so;
 }

@@ -1,12 +1,10 @@
 -- What is written down of one move: a unit comes on its own link in one piece, at a client, at a member or at a
 -- controller, and no credential passes in it on another channel.
 -- It serves `a_run_is_clear`.
-use Rattle.std.proofs.Common.{◌≡◌, ℕ, zero, suc, ◌+◌, ◌-◌, ◌≤◌, ◌<◌, Bool, true, false, List, [], ◌∷◌, ◌++◌, length, map, Option, Some, None, refl, ap, ◌∙◌, arith, slice_get}
+use Rattle.std.proofs.Common.{◌≡◌, ℕ, zero, suc, ◌+◌, ◌-◌, ◌≤◌, Bool, true, false, List, [], ◌∷◌, ◌++◌, length, map, Option, Some, None, refl, ap, ◌∙◌, arith, slice_get}
 use Rattle.std.specs.Prelude.{◌||◌, drop, replicate}
 use Rattle.std.specs.List.{AllByRecursion}
 use Rattle.std.proofs.lemmas.List.{length-append}
-use Rattle.wire_base.specs.Maps.{lookup, same_number}
-use Rattle.outside.specs.declared.event.Event.TheVariants as event
 use Rattle.domain_controller.specs.State.{State as ControllerState}
 use Rattle.logon_client.specs.State.{State as ClientState}
 use Rattle.member_server.specs.State.{State as MemberState}
@@ -18,21 +16,13 @@ use Rattle.step_notes.specs.Marking.{answered_marks, clashes, mark_channel, turn
 use Rattle.step_notes.specs.MemberNotes.{turn_note, turn_units}
 use Rattle.step_notes.specs.Records.{Book, Sent}
 use Rattle.step_notes.specs.Served.{ServedUnit}
-use Rattle.world_moves.specs.declared.bag.BagUnit.{BagUnit}
-use Rattle.world_moves.specs.declared.links.EndId.{EndId}
-use Rattle.world_moves.specs.declared.links.OpenLink.{OpenLink}
 use Rattle.world_moves.specs.declared.moves.Move.{Move}
-use Rattle.world_moves.specs.declared.moves.Move.TheVariants as move
 use Rattle.world_moves.specs.declared.state.State.{State}
-use Rattle.world_moves.specs.Acting.{Given, hears, hears_if}
-use Rattle.world_moves.specs.Bag.{first_waiting, settle_at, settled}
-use Rattle.world_moves.specs.Links.{hearer_of, hearer_on}
-use Rattle.world_moves.specs.Moving.{act, onward, settle}
+use Rattle.world_moves.specs.Acting.{Given}
+use Rattle.world_moves.specs.Bag.{first_waiting}
+use Rattle.world_moves.specs.Moving.{act}
 use Rattle.world_moves.specs.World.{World}
-use Rattle.logon_runs.specs.Scenes.{HasFirst, Scene, Shows}
-use Rattle.logon_runs.specs.Waiting.{IsOldest, waiting}
-use Rattle.logon_runs.proofs.WaitingLaws.{comes_by, one_piece, set_there, settled_by, waiting_comes}
-use Rattle.domain_world.specs.Past.{Coming, answers_of, any_clash, book, controller_of, judged_of, marks_of, note, note_at, note_client, note_controller, note_coming, note_given, note_member, note_messages, note_onward, note_own, note_pieces, note_turn, note_turns, note_unit, numbers_on, onto, sent_at}
+use Rattle.domain_world.specs.Past.{Coming, answers_of, any_clash, book, controller_of, judged_of, marks_of, note, note_client, note_controller, note_given, note_member, note_messages, note_turn, note_turns, numbers_on, onto, sent_at}
 use Rattle.domain_world.proofs.Frames.ComingLaws.{act_still}
 use Rattle.domain_world.proofs.Frames.MarkPlaceLaws.{no_longer}
 
