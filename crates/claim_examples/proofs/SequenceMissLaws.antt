@@ -2,6 +2,7 @@
 -- It serves `sequences_tell_apart`.
 use Rattle.std.proofs.Common.{◌≡◌, ℕ, zero, suc, true, false, List, [], ◌∷◌, ◌++◌, length, inl, inr, Option, Some, None, refl, sym, ap, ◌∙◌, subst, arith, slice_get}
 use Rattle.std.specs.Prelude.{◌%◌, ◌^◌, codes, ◌⊎◌}
+use Rattle.std.specs.List.{AllByRecursion}
 use Rattle.wire_base.specs.Maps.{lookup}
 use Rattle.wire_base.specs.Names.{same_name}
 use Rattle.wire_base.specs.Names as names
@@ -19,18 +20,18 @@ use Rattle.domain_controller.specs.State.{State as ControllerState}
 use Rattle.domain_controller.specs.declared.state.Running.{Running as ControllerRunning}
 use Rattle.member_server.specs.State.{State as MemberState}
 use Rattle.member_server.specs.declared.state.Running.{Running as MemberRunning}
-use Rattle.channel_events.specs.Marks.{Calling, OneOf, ReplyTo}
+use Rattle.channel_events.specs.Marks.{Calling, OneOf, Plain, ReplyTo}
 use Rattle.channel_events.proofs.ListLaws.{got_nothing, one_weaker, some_is}
 use Rattle.step_notes.specs.ControllerNotes.{channel_with, has_passed}
 use Rattle.step_notes.specs.Records.{Book, Judging, LogonTurn, Sent, blank}
 use Rattle.world_moves.specs.declared.links.EndId.TheVariants.{Member, Client}
 use Rattle.world_moves.specs.declared.state.State.{State}
-use Rattle.domain_world.specs.Accepting.Sequences.{AnswersCall, AreSoFar, CallsOfTurns, HavePassed, IsPassedIn, TurnsAreCalled, stamps_of}
+use Rattle.domain_world.specs.Accepting.Sequences.{AnswersCall, AreSoFar, CallsOfTurns, HavePassed, IsMadeOn, IsPassedIn, TurnsAreCalled, stamps_of}
 use Rattle.channel_events.specs.Seeds.{channel_seed}
 use Rattle.domain_world.specs.Claims.SharedSequences.{HasOneTurnOut, IsBeforeTurn, Keeps, SequencesAreOwn, SequencesAreShared, Stands, any_foreign, dials_of, timestamps_on}
 use Rattle.domain_world.specs.Past.{controller_of, sent_at}
 use Rattle.claim_examples.specs.ClaimExamples.{elsewhere, judged_as, on_channel, one_turn, open_channel, open_member, open_running, run_open, seed_after_one, small_channel, small_member, small_name, small_seed, small_turn, turn_out}
-use Rattle.claim_examples.specs.SequenceMisses.{OfCalls, OfOneTurn, OfReplyCalls, OfSequenceMisses, SequencesTellApart, called_once, controller_on, empty_unit, judged_outside, kept_whole, member_on, mixed_turns, moved_seed, open_whole, passed_then, replied, run_by, run_dials, run_other, run_second, run_small, run_whole, whole_name, world_by}
+use Rattle.claim_examples.specs.SequenceMisses.{OfCalls, OfOneTurn, OfReplyCalls, OfSequenceMisses, SequencesTellApart, called_once, controller_on, empty_unit, in_unit, judged_outside, kept_whole, member_on, mixed_turns, moved_seed, open_whole, passed_then, replied, replied_for, run_by, run_dials, run_other, run_second, run_small, run_whole, sent_as, whole_name, world_by}
 use Rattle.claim_examples.proofs.SequenceLaws.{no_turn, not_one_byte, one_stamp, same_small, shared_small}
 
 -- ---- one member, whose channel stands
@@ -327,9 +328,48 @@ one_passed book turns claim =
     its_call [] is passed = absurd cc
     its_call (one ∷ made) is passed = one_weaker (IsPassedIn one.0) (λ (j : Judging). has_passed j.how ≡ true) book.judged (λ j so. so.0) passed.0
 
+-- and there is one call, of the turn's timestamp; no other was made on the channel
+record TheCall (book : Book) : Type 0 where
+  at : ℕ
+  timestamp : ℕ
+  is_zero : timestamp ≡ 0
+  on : IsMadeOn (run_small book None) small_name at timestamp
+  every : (n number stamp : ℕ) (sent : Sent) → slice_get book.sent n ≡ Some sent → sent.mark ≡ Calling small_name number stamp → at ≡ n
+
+the_call : (book : Book) → book.turns ≡ small_turn ∷ [] → TurnsAreCalled (run_small book None) → TheCall book
+the_call book turns claim =
+    let calls : CallsOfTurns (run_small book None) small_name None (timestamps_on 0 small_name book.turns) = claim 0 small_name o_small (stands_small book None) in
+    let stamps : timestamps_on 0 small_name book.turns ≡ 0 ∷ [] = ap (λ (all : List LogonTurn). timestamps_on 0 small_name all) turns ∙ one_stamp in
+    elim calls.far [
+      | inl quiet ↦ only calls.made (sym stamps ∙ quiet.0) calls.each (λ n number stamp sent there mark. calls.every n number stamp sent small_name there mark refl)
+      | inr rest ↦ elim rest [
+        | inl bind ↦ absurd (let none : None ≡ Some bind.pending = bind.is_out in cc)
+        | inr out ↦ absurd (let none : None ≡ Some out.pending = out.is_out in cc)
+      ]
+    ]
+  where
+    only : (made : List (ℕ × ℕ)) → 0 ∷ [] ≡ stamps_of made → AllByRecursion (λ (one : ℕ × ℕ). IsMadeOn (run_small book None) small_name one.0 one.1) made →
+        ((n number stamp : ℕ) (sent : Sent) → slice_get book.sent n ≡ Some sent → sent.mark ≡ Calling small_name number stamp → OneOf (λ (one : ℕ × ℕ). one.0 ≡ n) made) → TheCall book
+    only [] is each every = absurd cc
+    only (one ∷ two ∷ made) is each every = absurd cc
+    only (one ∷ []) is each every = record {
+      at = one.0;
+      timestamp = one.1;
+      is_zero = cc;
+      on = each.0;
+      every = λ n number stamp sent there mark. elim (every n number stamp sent there mark) [ inl here ↦ here | inr none ↦ absurd none ];
+    }
+
+stamps_alike : (one other : Channel) (number more timestamp later : ℕ) → Calling one number timestamp ≡ Calling other more later → timestamp ≡ later
+stamps_alike one other number more timestamp later is = cc
+
+stamp_of : (at : ℕ) (sent : Sent) (number timestamp : ℕ) → slice_get (sent_as (Calling small_name 3 5 ∷ [])).sent at ≡ Some sent → sent.mark ≡ Calling small_name number timestamp → 5 ≡ timestamp
+stamp_of zero sent number timestamp there mark = stamps_alike small_name small_name 3 number 5 timestamp (ap Sent.mark (some_is (sent_at 0 (Calling small_name 3 5)) sent there) ∙ mark)
+stamp_of (suc at) sent number timestamp there mark = absurd (got_nothing at sent there)
+
 of_calls : OfCalls
 of_calls = record {
-  meets = calls_by (called_once (record (on_channel 0) { unit = Some 0 } ∷ [])) None (once (record (on_channel 0) { unit = Some 0 } ∷ []) None (inl (refl, (inl (refl, refl), tt))));
+  meets = calls_by (called_once (in_unit ∷ [])) None (once (in_unit ∷ []) None (inl (refl, (inl (refl, refl), tt))));
   out = calls_by (called_once []) (Some turn_out)
       (once [] (Some turn_out) (inr (inr (record { pending = turn_out; is_out = refl; earlier = []; last = (0, 0); split = refl; all = refl; passed = tt }))));
   fails_unjudged = λ claim. one_passed (called_once []) refl claim;
@@ -338,6 +378,16 @@ of_calls = record {
     | inr none ↦ none
   ];
   fails_uncalled = λ claim. one_passed one_turn refl claim;
+  fails_unsent = λ claim. let it : TheCall (sent_as []) = the_call (sent_as []) refl claim in got_nothing it.at it.on.sent it.on.there;
+  fails_stamp = λ claim.
+      let it : TheCall (sent_as (Calling small_name 3 5 ∷ [])) = the_call (sent_as (Calling small_name 3 5 ∷ [])) refl claim in
+      absurd (omega (arith, it.is_zero, stamp_of it.at it.on.sent it.on.number it.timestamp it.on.there it.on.mark));
+  fails_more = λ claim.
+      let book : Book = sent_as (Calling small_name 3 0 ∷ Calling small_name 4 0 ∷ []) in
+      let it : TheCall book = the_call book refl claim in
+      let first : it.at ≡ 0 = it.every 0 3 0 (sent_at 0 (Calling small_name 3 0)) refl refl in
+      let second : it.at ≡ 1 = it.every 1 4 0 (sent_at 0 (Calling small_name 4 0)) refl refl in
+      absurd (omega (arith, first, second));
 }
 
 -- ---- replies to calls
@@ -357,6 +407,9 @@ answers_small = record { sent = sent_at 0 (Calling small_name 3 0); there = refl
 
 numbers_alike : (one other : Channel) (number more timestamp later : ℕ) → Calling one number timestamp ≡ Calling other more later → number ≡ more
 numbers_alike one other number more timestamp later is = cc
+
+named_alike : (one other : Channel) (number more timestamp later : ℕ) → Calling one number timestamp ≡ Calling other more later → one ≡ other
+named_alike one other number more timestamp later is = cc
 
 not_three : ◌≡◌ {A = ℕ} 3 4 → ⊥
 not_three is = absurd (omega (arith, is))
@@ -380,6 +433,13 @@ of_reply_calls = record {
     | inl so ↦ absurd (let two : Some 2 ≡ Some 1 = so.1 in cc)
     | inr none ↦ none
   ];
+  fails_plain = λ claim.
+      let it : AnswersCall (replied_for Plain 3 (passed_then ∷ [])) small_name 3 0 1 = claim 1 empty_unit (sent_at 0 (ReplyTo small_name 3 0)) small_name 3 0 refl refl refl in
+      absurd (let never : Plain ≡ Calling it.named 3 it.timestamp = ap Sent.mark (some_is (sent_at 0 Plain) it.sent it.there) ∙ it.mark in cc);
+  fails_channel = λ claim.
+      let it : AnswersCall (replied_for (Calling second_name 3 0) 3 (passed_then ∷ [])) small_name 3 0 1 = claim 1 empty_unit (sent_at 0 (ReplyTo small_name 3 0)) small_name 3 0 refl refl refl in
+      let is : second_name ≡ it.named = named_alike second_name it.named 3 3 0 it.timestamp (ap Sent.mark (some_is (sent_at 0 (Calling second_name 3 0)) it.sent it.there) ∙ it.mark) in
+      absurd (omega (arith, ap Channel.controller is, it.same.controller));
 }
 
 pub sequences_apart : SequencesTellApart

@@ -15,7 +15,7 @@ use Rattle.domain_controller.specs.State.{State as ControllerState}
 use Rattle.member_server.specs.State.{State as MemberState}
 use Rattle.member_server.specs.declared.plan.MemberPlan.{MemberPlan}
 use Rattle.member_server.specs.declared.state.Running.{Running as MemberRunning}
-use Rattle.channel_events.specs.Marks.{Calling, ReplyTo}
+use Rattle.channel_events.specs.Marks.{Calling, Mark, Plain, ReplyTo}
 use Rattle.step_notes.specs.ControllerNotes.{channel_with}
 use Rattle.step_notes.specs.Records.{Book, Judging, LogonTurn, blank}
 use Rattle.world_moves.specs.declared.bag.BagUnit.{BagUnit}
@@ -171,35 +171,53 @@ called_once judged = record one_turn { sent = sent_at 0 (Calling small_name 3 0)
 abbrev pub run_small : Book → Option Pending → Past
 run_small book turn = run_by book turn (open_channel seed_after_one) (codes "FILE1") (small_channel seed_after_one)
 
+-- the call in unit 0 passed
+abbrev pub in_unit : Judging
+in_unit = record (on_channel 0) { unit = Some 0 }
+
+abbrev pub sent_as : List Mark → Book
+sent_as marks = record (called_once (in_unit ∷ [])) { sent = map (sent_at 0) marks }
+
 -- The calls of turns: the call of the one turn passed, or is out. Not where it didn't pass and isn't out, where it was
--- barred, or where no call went out.
+-- barred, or where no call went out, though one passed; nor where it has another timestamp than the turn, or another
+-- call went out on the channel.
 pub record OfCalls : Type 0 where
-  pub meets : TurnsAreCalled (run_small (called_once (record (on_channel 0) { unit = Some 0 } ∷ [])) None)
+  pub meets : TurnsAreCalled (run_small (called_once (in_unit ∷ [])) None)
   pub out : TurnsAreCalled (run_small (called_once []) (Some turn_out))
   pub fails_unjudged : TurnsAreCalled (run_small (called_once []) None) → ⊥
   pub fails_barred : TurnsAreCalled (run_small (called_once (record (judged_as judged.Barred (on_channel 0)) { unit = Some 0 } ∷ [])) None) → ⊥
   pub fails_uncalled : TurnsAreCalled (run_small one_turn None) → ⊥
+  pub fails_unsent : TurnsAreCalled (run_small (sent_as []) None) → ⊥
+  pub fails_stamp : TurnsAreCalled (run_small (sent_as (Calling small_name 3 5 ∷ [])) None) → ⊥
+  pub fails_more : TurnsAreCalled (run_small (sent_as (Calling small_name 3 0 ∷ Calling small_name 4 0 ∷ [])) None) → ⊥
 
 -- ---- replies to calls
 
--- unit 0 was made as a call, and unit 1 as the reply to a call of that number in unit 0; the call was judged so
 abbrev pub empty_unit : BagUnit
 empty_unit = record { bytes = []; link = 0; kind = kind.ToController; back = true; is_settled = true }
 
-abbrev pub replied : ℕ → List Judging → Past
-replied number judged =
-    let run : Past = small_run (record blank { sent = sent_at 0 (Calling small_name 3 0) ∷ sent_at 0 (ReplyTo small_name number 0) ∷ []; judged = judged }) in
+-- unit 0 was made for this, and unit 1 as the reply to a call of that number in unit 0; the call was judged so
+abbrev pub replied_for : Mark → ℕ → List Judging → Past
+replied_for mark number judged =
+    let run : Past = small_run (record blank { sent = sent_at 0 mark ∷ sent_at 0 (ReplyTo small_name number 0) ∷ []; judged = judged }) in
     record run { world = record run.world { state = record run.world.state { bag = empty_unit ∷ empty_unit ∷ [] } } }
+
+-- as a call
+abbrev pub replied : ℕ → List Judging → Past
+replied number judged = replied_for (Calling small_name 3 0) number judged
 
 abbrev pub passed_then : Judging
 passed_then = record (on_channel 0) { unit = Some 0; reply = Some 1 }
 
--- Replies to calls: not where the number is another, the call was barred, or its reply is another unit.
+-- Replies to calls: not where the number is another, the call was barred, or its reply is another unit; nor where unit
+-- 0 was made for no channel, or for another controller's.
 pub record OfReplyCalls : Type 0 where
   pub meets : RepliesAnswerCalls (replied 3 (passed_then ∷ []))
   pub fails_number : RepliesAnswerCalls (replied 4 (passed_then ∷ [])) → ⊥
   pub fails_barred : RepliesAnswerCalls (replied 3 (judged_as judged.Barred passed_then ∷ [])) → ⊥
   pub fails_elsewhere : RepliesAnswerCalls (replied 3 (record passed_then { reply = Some 2 } ∷ [])) → ⊥
+  pub fails_plain : RepliesAnswerCalls (replied_for Plain 3 (passed_then ∷ [])) → ⊥
+  pub fails_channel : RepliesAnswerCalls (replied_for (Calling (record small_name { controller = 1 }) 3 0) 3 (passed_then ∷ [])) → ⊥
 
 -- ---- all of them
 
