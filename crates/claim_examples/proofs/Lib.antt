@@ -12,6 +12,7 @@ mod NotedOnLaws
 mod OwnChallengeExampleLaws
 mod ReplyExampleLaws
 mod SequenceLaws
+mod SuccessMissLaws
 mod TakenOnceLaws
 mod ToldLaws
 mod TurnTrailLaws

@@ -7,4 +7,5 @@ pub mod LetInExamples
 pub mod NearMisses
 pub mod OwnChallengeExamples
 pub mod ReplyExamples
+pub mod SuccessMisses
 pub mod TellApart
