@@ -1,5 +1,5 @@
 -- Logons one at a time, of which some come to something else than success.
--- It serves `claims_tell_apart`, `grants_tell_apart`, `replies_tell_apart`.
+-- It serves `claims_tell_apart`, `grants_tell_apart`, `replies_tell_apart`, `success_tells_apart`.
 use Rattle.std.proofs.Common.{◌≡◌, ◌≢◌, ℕ, List, [], ◌∷◌, length, Some, None, refl, sym, ap, ◌∙◌, subst, arith, ◌<◌, Bool, true, false, inl, inr, slice_get}
 use Rattle.std.specs.Prelude.{◌^◌, codes, ◌≤◌, AllPairs, replicate}
 use Rattle.std.specs.List.{AllByRecursion}
@@ -265,7 +265,7 @@ table_form = record {
   distinct_domains = refl;
 }
 
-client_form : IsClientPlan lost_client
+pub client_form : IsClientPlan lost_client
 client_form = record {
   server = All-from_recursion IsByte (9 ∷ []) (omega arith, tt);
   domain = All-nil (λ (unit : ℕ). unit < 2 ^ 16);
@@ -274,7 +274,7 @@ client_form = record {
   hash = small_hash_form;
 }
 
-client_follows : CanLogOn lost_client
+pub client_follows : CanLogOn lost_client
 client_follows = record {
   level = refl;
   plain = λ is. refl;

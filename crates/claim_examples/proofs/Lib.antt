@@ -16,6 +16,7 @@ mod ReplyExampleLaws
 mod SequenceLaws
 mod SequenceMissLaws
 mod SharedChannelLaws
+mod SuccessMissLaws
 mod TakenOnceLaws
 mod ToldLaws
 mod TurnTrailLaws

@@ -8,4 +8,5 @@ pub mod NearMisses
 pub mod OwnChallengeExamples
 pub mod ReplyExamples
 pub mod SequenceMisses
+pub mod SuccessMisses
 pub mod TellApart

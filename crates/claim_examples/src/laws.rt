@@ -9,6 +9,7 @@ ghost use Rattle.claim_examples.specs.NearMisses.{NearMissesTellApart};
 ghost use Rattle.claim_examples.specs.OwnChallengeExamples.{OfOwnChallenges};
 ghost use Rattle.claim_examples.specs.ReplyExamples.{OfReplies};
 ghost use Rattle.claim_examples.specs.SequenceMisses.{SequencesTellApart};
+ghost use Rattle.claim_examples.specs.SuccessMisses.{SuccessTellsApart};
 
 use domain_world::{claims_hold_of_runs, members_let_in_who_asked};
 
@@ -77,4 +78,11 @@ pub fn a_run_is_clear()
 #[tactic(auto, using(crate::proofs::ClearSuccessLaws::ann_can_succeed))]
 pub fn ann_can_succeed()
     ensures { AnnCanSucceed }
+{}
+
+/// What completeness asks and says isn't met by runs, moves and clients that differ in one thing more from those that
+/// meet it. It asks of clients and moves nothing besides, and speaks of each client that is started.
+#[tactic(auto, using(crate::proofs::SuccessMissLaws::success_misses))]
+pub fn success_tells_apart()
+    ensures { SuccessTellsApart }
 {}

@@ -1,0 +1,154 @@
+-- Near misses of completeness beside those of `CompletenessExamples` (this project's own choice): what differs in one
+-- thing more from what meets its parts, so that a part which leaves that thing out, or asks it besides, is told apart.
+use Rattle.std.specs.Prelude.{ℕ, ◌≡◌, false, List, [], ◌∷◌, length, None, Some, codes}
+use Rattle.std.specs.List.{AllByRecursion}
+use Rattle.outside.specs.declared.action.Judged.TheVariants as judged
+use Rattle.outside.specs.declared.action.Outcome.{Outcome}
+use Rattle.outside.specs.declared.action.Outcome.TheVariants as outcome
+use Rattle.logon_client.specs.declared.outcome.ClientOutcome.{ClientOutcome}
+use Rattle.logon_client.specs.declared.outcome.ClientOutcome.TheVariants as client_outcome
+use Rattle.logon_client.specs.declared.outcome.RefusedCause.TheVariants as refused
+use Rattle.logon_client.specs.declared.plan.AuthKind.{AuthKind}
+use Rattle.channel_events.specs.Marks.{OneOf}
+use Rattle.step_notes.specs.Records.{Judging, OutcomeTold}
+use Rattle.world_moves.specs.declared.links.Route.TheVariants.{ToMember}
+use Rattle.world_moves.specs.declared.moves.Move.{Move}
+use Rattle.world_moves.specs.declared.moves.Move.TheVariants as move
+use Rattle.world_moves.specs.declared.plan.Plan.{Plan}
+use Rattle.world_moves.specs.World.{outcome_of}
+use Rattle.logon_runs.specs.ExampleLogon as example
+use Rattle.domain_world.specs.Claims.{TravelsAsZeros}
+use Rattle.domain_world.specs.Claims.Completeness.{CanSucceed, ComesOneAtATime, EachSucceeds, Succeeds, started_in}
+use Rattle.domain_world.specs.Past.{Past, past}
+use Rattle.claim_examples.specs.ClaimExamples.{small_hash, told_of_link}
+use Rattle.claim_examples.specs.CompletenessExamples.{able_client, able_member, ann_plan, ann_run, ann_starts, able_table, ann_accounts, lost_client, lost_plan, machine_secret}
+
+-- ---- what a client succeeds by
+
+-- this was told of her link
+abbrev pub told_as : Outcome → List OutcomeTold
+told_as what = record (told_of_link 0) { outcome = what } ∷ []
+
+-- she has this outcome, and it was told that she is in
+abbrev pub run_ended : ClientOutcome → Past
+run_ended ended =
+    let one : Past = ann_run 16 (told_of_link 0 ∷ []) in
+    record one {
+      world = record one.world {
+        state = record one.world.state {
+          ends = record one.world.state.ends { clients = record { running = None; outcome = Some ended } ∷ [] };
+        };
+      };
+    }
+
+-- another client dialled the member too, and this was told
+abbrev pub run_of_two : List OutcomeTold → Past
+run_of_two told =
+    let one : Past = ann_run 16 told in
+    record one {
+      world = record one.world {
+        state = record one.world.state { links = ToMember 0 0 ∷ ToMember 1 0 ∷ [] };
+      };
+    }
+
+-- She succeeds where another client has a link too. She doesn't where she is in by another name or with another key, or
+-- is refused. Nor does she where the member told of her link another key, another user or another domain than hers, or
+-- that she is refused; where another member told it; or where it was told of the other client's link alone.
+pub record OfSucceeding : Type 0 where
+  pub can : CanSucceed ann_plan ann_starts 0
+  pub meets : Succeeds (run_of_two (told_of_link 1 ∷ told_of_link 0 ∷ [])) ann_starts 0 can
+  pub fails_name : Succeeds (run_ended (client_outcome.In (codes "CORP\\anna") (1 ∷ []) 16)) ann_starts 0 can → ⊥
+  pub fails_own_key : Succeeds (run_ended (client_outcome.In (codes "CORP\\ann") (2 ∷ []) 16)) ann_starts 0 can → ⊥
+  pub fails_out : Succeeds (run_ended (client_outcome.Refused (refused.Nak 0))) ann_starts 0 can → ⊥
+  pub fails_key : Succeeds (ann_run 16 (told_as (outcome.In (codes "CORP") (codes "ann") (2 ∷ [])))) ann_starts 0 can → ⊥
+  pub fails_user : Succeeds (ann_run 16 (told_as (outcome.In (codes "CORP") (codes "anna") (1 ∷ [])))) ann_starts 0 can → ⊥
+  pub fails_domain : Succeeds (ann_run 16 (told_as (outcome.In (codes "CORPS") (codes "ann") (1 ∷ [])))) ann_starts 0 can → ⊥
+  pub fails_refused : Succeeds (ann_run 16 (told_as (outcome.Out 0xC000_006A))) ann_starts 0 can → ⊥
+  pub fails_member : Succeeds (ann_run 16 (record (told_of_link 0) { member = 1 } ∷ [])) ann_starts 0 can → ⊥
+  pub fails_other_link : Succeeds (run_of_two (told_of_link 1 ∷ [])) ann_starts 0 can → ⊥
+
+-- ---- who can
+
+-- ann asks for so many bytes of Echo, at that level, by that kind of response
+abbrev pub asking_plan : ℕ → AuthKind → ℕ → Plan
+asking_plan level auth echo = record ann_plan { clients = record (able_client small_hash) { level = level; auth = auth; echo = echo } ∷ [] }
+
+-- another controller has a member of the same name
+abbrev pub beside_plan : Plan
+beside_plan = record {
+  tables = able_table ann_accounts ∷ able_table [] ∷ [];
+  controllers = codes "PDC" ∷ codes "BDC" ∷ [];
+  members = able_member machine_secret ∷ record (able_member machine_secret) { controller = 1 ∷ [] } ∷ [];
+  clients = record (able_client small_hash) { server = 2 ∷ [] } ∷ lost_client ∷ [];
+  now = 0;
+  seed = ann_plan.seed;
+}
+
+-- She can by each kind of response, at each level, with each Echo; and though a member of another controller has the
+-- name of hers, and another client none.
+pub record OfWhoCan : Type 0 where
+  pub each : (level : ℕ) (auth : AuthKind) (echo : ℕ) → CanSucceed (asking_plan level auth echo) ann_starts 0
+  pub beside : CanSucceed beside_plan ann_starts 0
+
+-- ---- moves
+
+-- two clients whose server's address names no end
+abbrev pub two_lost : Plan
+two_lost = record lost_plan { clients = lost_client ∷ lost_client ∷ [] }
+
+-- both start, time passes between, and moves find nothing to do
+abbrev pub two_moves : List Move
+two_moves = move.Start 0 ∷ move.Connect ∷ move.Tick 5 ∷ move.Start 3 ∷ move.Connect ∷ move.Onward ∷ []
+
+-- the second starts before the first has its outcome
+abbrev pub mixed_moves : List Move
+mixed_moves = move.Start 0 ∷ move.Start 1 ∷ move.Connect ∷ move.Connect ∷ []
+
+-- the first starts again, by another number
+abbrev pub again_moves : List Move
+again_moves = move.Start 0 ∷ move.Connect ∷ move.Start 2 ∷ move.Connect ∷ []
+
+-- so far the bind of ann has been sent
+abbrev pub bind_moves : List Move
+bind_moves = move.Start 0 ∷ move.Connect ∷ []
+
+-- the moves that aren't a start, an answered dial, a unit that comes, or time that passes
+abbrev pub others : List Move
+others =
+    move.Stranger 0 ∷ move.FailDial ∷ move.Lose ∷ move.Deliver 0 0 ∷ move.Hand 0 false [] ∷ move.Shut 0 ∷ move.Restart 0
+    ∷ []
+
+-- the calls that a run judged
+abbrev pub judging_as : Past → List Judging → Past
+judging_as run calls = record run { book = record run.book { judged = calls } }
+
+-- Logons come one at a time where a second client starts once the first has its outcome, and time passes between. They
+-- don't where it starts before, where the first starts again by another number, where a unit waits at the end, where a
+-- move is of another kind, or where a granted call's key travels as zeros. Of calls that weren't granted nothing is
+-- asked.
+pub record OfMoves : Type 0 where
+  pub comes : ComesOneAtATime (past two_lost two_moves) two_moves
+  pub started : started_in two_moves (length two_lost.clients) ≡ 0 ∷ 1 ∷ []
+  pub fails_mixed : ComesOneAtATime (past two_lost mixed_moves) mixed_moves → ⊥
+  pub fails_again : ComesOneAtATime (past two_lost again_moves) again_moves → ⊥
+  pub fails_unit : ComesOneAtATime (past example.ann_plan bind_moves) bind_moves → ⊥
+  pub fails_others : AllByRecursion (λ (what : Move). (run : Past) → ComesOneAtATime run (what ∷ []) → ⊥) others
+  pub fails_zeros : (run : Past) (moves : List Move) → OneOf (λ (j : Judging). (j.how ≡ Some (judged.Passed 0)) × TravelsAsZeros j j.logon.info) run.book.judged →
+      ComesOneAtATime run moves → ⊥
+  pub others_judged : (run : Past) (moves : List Move) (calls : List Judging) → AllByRecursion (λ (j : Judging). j.how ≡ Some (judged.Passed 0) → ⊥) calls →
+      ComesOneAtATime run moves → ComesOneAtATime (judging_as run calls) moves
+
+-- ---- each client
+
+-- The claim fails where the second of two clients that start can succeed and has no outcome, whatever the first can.
+pub record OfEachClient : Type 0 where
+  pub fails_second : (run : Past) (moves : List Move) (first second : ℕ) → ComesOneAtATime run moves → CanSucceed run.plan moves second →
+      started_in moves (length run.plan.clients) ≡ first ∷ second ∷ [] → outcome_of run.world second ≡ None → EachSucceeds run moves → ⊥
+
+-- ---- all of them
+
+pub record SuccessTellsApart : Type 0 where
+  pub succeeding : OfSucceeding
+  pub who : OfWhoCan
+  pub moves : OfMoves
+  pub each : OfEachClient
