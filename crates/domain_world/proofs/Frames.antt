@@ -12,3 +12,4 @@ pub mod MarkPlaceLaws
 pub mod NewUnitLaws
 pub mod OpenMadeLaws
 pub mod StepFrameLaws
+pub mod TurnFrameLaws

@@ -29,7 +29,7 @@ use Rattle.member_server.specs.declared.state.Logon.{Logon}
 use Rattle.member_server.specs.declared.state.Running.{Running}
 use Rattle.member_server.specs.declared.state.TurnTalk.{TurnTalk}
 use Rattle.channel_events.specs.Marks.{OneOf}
-use Rattle.step_notes.specs.MemberNotes.{link_units, message_note, taken_link, turn_note, turn_units, turn_units_by, turn_units_in, turn_units_on}
+use Rattle.step_notes.specs.MemberNotes.{link_units, message_note, taken_link, turn_units, turn_units_by, turn_units_in, turn_units_on}
 use Rattle.step_notes.specs.Records.{Book, MessageTaken, OutcomeTold, blank}
 use Rattle.step_notes.specs.Served.{ServedUnit, units_if_taken}
 use Rattle.world_moves.specs.declared.bag.BagUnit.{BagUnit}
@@ -50,7 +50,7 @@ use Rattle.world_moves.specs.Links.{acceptor_of, handed_links, hearer_of, links_
 use Rattle.world_moves.specs.Moving.{act, come_by, come_on_own, deliver_by, deliver_on, deliver_unit, hand_on, onward_by, settle, without_first}
 use Rattle.world_moves.specs.World.{World, first_world, happens, run}
 use Rattle.domain_world.specs.Claims.LetIn.{IsLetInBy, LetsInWhoAsked}
-use Rattle.domain_world.specs.Past.{Coming, at_member, book, controller_of, first_of, later_of, note, note_at, note_chosen, note_client, note_coming, note_controller, note_deliver, note_hand, note_member, note_messages, note_on, note_onward, note_own, note_pieces, note_turn, note_turns, note_unit, numbers_on, past, told_by, told_in}
+use Rattle.domain_world.specs.Past.{Coming, at_member, book, controller_of, note, note_at, note_chosen, note_client, note_coming, note_controller, note_deliver, note_hand, note_member, note_messages, note_on, note_onward, note_own, note_pieces, note_turns, note_unit, numbers_on, past, told_by, told_in}
 use Rattle.channel_events.proofs.ListLaws.{got_append}
 use Rattle.step_notes.proofs.Members.KeptLogonLaws.{HasFor, IfDialled, IsFor, KeptIn, bytes_keep, each_found, kept_so, one_before}
 use Rattle.step_notes.proofs.Members.TurnAnswerLaws.{HasAnswer, link_answers, none_whole}
@@ -58,6 +58,7 @@ use Rattle.step_notes.proofs.Members.UnservedLaws.{LinksIn, bytes_took, took_kno
 use Rattle.domain_world.proofs.Accepting.LetInStepLaws.{IsAcceptedBy, IsCalm, IsDialledBy, IsLasting, KeepsIn, OfLetIn, IfLetIn, all_calm, clients_tell, connect_calm, controllers_tell, fail_calm, given_append, given_so, has_so, hear_keeps, lose_keeps, member_put, messages_so, nobody_so, restart_keeps, shut_calm, start_calm, step_told, stranger_calm}
 use Rattle.domain_world.proofs.Frames.ComingLaws.{handed_outside}
 use Rattle.domain_world.proofs.Accepting.MessageNoteLaws.{AreCarried, IsAnsweredFor, for_stable, let_in_stable, notes_grow, one_so, turns_answer}
+use Rattle.domain_world.proofs.Frames.TurnFrameLaws.{turns_told}
 
 -- ---- bytes that come in no unit of the bag come on no link of a turn
 
@@ -248,11 +249,6 @@ still_goes Late most b at s kept = record { keeps = kept; let_in = tt; grows = �
 -- no bytes come
 unmoved : (b : Book) (at : ℕ) (s : State) → KeepsIn NotLate at b.messages s → Goes NotLate (at + 1) b at (record { state = s; given = [] }) b
 unmoved b at s kept = still_goes NotLate (at + 1) b at s (later_keeps NotLate at b.messages s kept)
-
-turns_told : (controller : ℕ) (units : List (ServedUnit AtTurn TurnTalk)) (unit : Option ℕ) (numbers : List ℕ) (b : Book) → (note_turns controller units unit numbers b).told ≡ b.told
-turns_told controller [] unit numbers b = refl
-turns_told controller (served ∷ units) unit numbers b =
-    turns_told controller units unit (later_of (turn_note controller served).sends numbers) (note_turn (turn_note controller served) served unit (first_of numbers) b)
 
 module _ (law : LetsInTheGranted) where
   -- an end has heard something, and does what it then does

@@ -6,19 +6,15 @@ use Rattle.std.specs.Prelude.{◌-◌, ◌≤◌, replicate}
 use Rattle.std.specs.List.{AllByRecursion}
 use Rattle.std.proofs.lemmas.List.{drop_at, length-map, length-replicate}
 use Rattle.wire_base.specs.Maps.{lookup, same_number}
-use Rattle.outside.specs.Drawing.{Drawing}
 use Rattle.outside.specs.declared.event.Event.TheVariants as event
 use Rattle.domain_controller.specs.State.{State as ControllerState}
 use Rattle.domain_controller.specs.Step.{step_of as controller_step_of}
 use Rattle.logon_client.specs.State.{State as ClientState}
 use Rattle.member_server.specs.State.{State as MemberState}
-use Rattle.member_server.specs.declared.state.AtTurn.{AtTurn}
-use Rattle.member_server.specs.declared.state.TurnTalk.{TurnTalk}
 use Rattle.channel_events.specs.Marks.{Mark, Plain}
 use Rattle.step_notes.specs.Marking.{answered_marks, turn_marks}
 use Rattle.step_notes.specs.MemberNotes.{turn_note, turn_units}
 use Rattle.step_notes.specs.Records.{Book, Sent, blank}
-use Rattle.step_notes.specs.Served.{ServedUnit}
 use Rattle.world_moves.specs.declared.bag.BagUnit.{BagUnit}
 use Rattle.world_moves.specs.declared.links.EndId.{EndId}
 use Rattle.world_moves.specs.declared.links.EndId.TheVariants.{Controller, Member, Client}
@@ -30,12 +26,12 @@ use Rattle.world_moves.specs.declared.state.State.{State}
 use Rattle.world_moves.specs.Acting.{Heard, done, heard_by, hears, hears_if, piece_comes, pieces_come}
 use Rattle.world_moves.specs.Bag.{first_waiting, pieces_of, settle_at, settled}
 use Rattle.world_moves.specs.Choosing.{chosen_in, chosen_place}
-use Rattle.world_moves.specs.Ends.{EndStates, actions_by, controller_step, member_step}
+use Rattle.world_moves.specs.Ends.{actions_by, controller_step, member_step}
 use Rattle.world_moves.specs.Links.{handed_links, hearer_of, links_of}
 use Rattle.world_moves.specs.Moving.{act, come_by, come_on_own, deliver_by, deliver_on, deliver_unit, hand_on, onward_by, settle}
 use Rattle.world_moves.specs.World.{World, first_world, given_at, happens, run}
 use Rattle.domain_world.specs.Claims.MarkedUnits.{EachUnitIsMarked}
-use Rattle.domain_world.specs.Past.{Coming, answers_of, at_controller, book, controller_of, first_of, later_of, marks_of, note, note_at, note_chosen, note_client, note_coming, note_controller, note_deliver, note_hand, note_member, note_messages, note_on, note_onward, note_own, note_pieces, note_turn, note_turns, note_unit, numbers_on, past, sent_at}
+use Rattle.domain_world.specs.Past.{Coming, answers_of, at_controller, book, controller_of, marks_of, note, note_at, note_chosen, note_client, note_coming, note_controller, note_deliver, note_hand, note_member, note_messages, note_on, note_onward, note_own, note_pieces, note_turns, note_unit, numbers_on, past, sent_at}
 use Rattle.channel_events.proofs.ListLaws.{got_append, got_nothing}
 use Rattle.world_moves.proofs.LinkFrameLaws.{HasNoBytes, IsOnLink, LinkFact, StaysAlways, actions_stay, heard_stays, move_stays}
 use Rattle.domain_world.proofs.Frames.FrameLaws.{Fact, HoldsIn, StaysWritten, end_stays, note_stays}
@@ -43,6 +39,7 @@ use Rattle.domain_world.proofs.Frames.FrontLaws.{controller_unit}
 use Rattle.domain_world.proofs.Frames.MarkPlaceLaws.{got_beside, got_later, got_map, got_replicate, got_settled, later_or, marks_length, no_longer, settled_length}
 use Rattle.domain_world.proofs.Frames.NewUnitLaws.{IsNewUnit}
 use Rattle.domain_world.proofs.Frames.OpenMadeLaws.{IsAsMade, IsAtSide, IsMore, MoreOf, OpenAsMade, as_made, goes_on, hears_side, no_more, same_side}
+use Rattle.domain_world.proofs.Frames.TurnFrameLaws.{turns_sent}
 
 -- ---- what is to hold of each unit
 
@@ -213,11 +210,6 @@ module _ {X : Type 0} (part : Book → X) (Side : X → Fact) (P : UnitFact X) (
       let more : IsMore s.links s.bag after.links after.bag = actions_stay (MoreOf s.links s.bag) (goes_on s.links s.bag) (Controller at) heard.actions heard.state (no_more s.links s.bag) in
       marked_more (part b) (part (note_controller (Some c) at w piece s after b)) s after.bag b.sent w.link true (controller_marks at c w piece s) w.at more.units more.is grows
       (λ place unit mark there marked. stays.controllers c at w piece s b is side hears before.all more.units more.is more.on place unit mark there marked) before
-
-  turns_sent : (controller : ℕ) (units : List (ServedUnit AtTurn TurnTalk)) (unit : Option ℕ) (numbers : List ℕ) (b : Book) → (note_turns controller units unit numbers b).sent ≡ b.sent
-  turns_sent controller [] unit numbers b = refl
-  turns_sent controller (served ∷ units) unit numbers b =
-      turns_sent controller units unit (later_of (turn_note controller served).sends numbers) (note_turn (turn_note controller served) served unit (first_of numbers) b)
 
   member_hears : (found : Option MemberState) (at : ℕ) (w : Coming) (piece : List ℕ) (s : State) (b : Book) → slice_get s.ends.members at ≡ found → HoldsIn (Side (part b)) s →
       IsAtSide s.links w.link w.back (Member at) → IsMarked P (part b) s.bag b.sent →

@@ -48,7 +48,8 @@ use Rattle.domain_world.proofs.Judgements.JudgedLaws.{AreRight, judged_rightly}
 use Rattle.domain_world.proofs.Judgements.MovedLaws.{found_in, moved_append, moved_same, one_channel}
 use Rattle.domain_world.proofs.Judgements.SeedLaws.{AreApart, AreKept, AreMoved, AreUnheard, IsMovedIn}
 use Rattle.domain_world.proofs.Judgements.SeedStepLaws.{AreKeptIf, SeedsFollow, bytes_follow, controller_put, drawn_follow, quiet_follow}
-use Rattle.domain_world.proofs.Judgements.ToldLaws.{IsNoBytes, turns_judged}
+use Rattle.domain_world.proofs.Judgements.ToldLaws.{IsNoBytes}
+use Rattle.domain_world.proofs.Frames.TurnFrameLaws.{turns_judged}
 
 -- ---- through the moves
 

@@ -49,11 +49,9 @@ use Rattle.domain_controller.specs.declared.state.Work.{Work}
 use Rattle.logon_client.specs.State.{State as ClientState}
 use Rattle.logon_client.specs.declared.plan.ClientPlan.{ClientPlan}
 use Rattle.member_server.specs.State.{State as MemberState}
-use Rattle.member_server.specs.declared.state.AtTurn.{AtTurn}
-use Rattle.member_server.specs.declared.state.TurnTalk.{TurnTalk}
 use Rattle.step_notes.specs.ControllerNotes.{Answered, Where, answer_on, channel_in, has_passed, heard_answer, judging_by, judging_of, opened_by, opening, passing, units_at, units_by}
 use Rattle.step_notes.specs.Judged.{IsJudgedRight, IsRightOf}
-use Rattle.step_notes.specs.MemberNotes.{turn_note, turn_units}
+use Rattle.step_notes.specs.MemberNotes.{turn_units}
 use Rattle.step_notes.specs.Records.{Book, Judging, JudgementTold, blank}
 use Rattle.step_notes.specs.Served.{ServedUnit, served_units, units_if_taken, units_on, units_then, work_after}
 use Rattle.world_moves.specs.declared.bag.BagUnit.{BagUnit}
@@ -67,7 +65,7 @@ use Rattle.world_moves.specs.declared.moves.Move.TheVariants as move
 use Rattle.world_moves.specs.declared.plan.Plan.{Plan}
 use Rattle.world_moves.specs.declared.state.State.{State}
 use Rattle.world_moves.specs.declared.state.Waiting.{Waiting}
-use Rattle.world_moves.specs.Acting.{Acted, Given, Heard as Hears, close_open, closed_at, done, forget, given_by, hears, hears_if, perform, perform_all, piece_comes, pieces_come, shut_link, then_act}
+use Rattle.world_moves.specs.Acting.{Given, Heard as Hears, close_open, closed_at, done, forget, given_by, hears, hears_if, perform, perform_all, piece_comes, pieces_come, shut_link}
 use Rattle.world_moves.specs.Acting as acting
 use Rattle.world_moves.specs.Bag.{first_waiting, pieces_of}
 use Rattle.world_moves.specs.Choosing.{chosen_in, chosen_place}
@@ -76,9 +74,10 @@ use Rattle.world_moves.specs.Links.{acceptor_of, handed_links, hearer_of, hearer
 use Rattle.world_moves.specs.Moving.{act, answer_by, answered_link, begun, come_by, come_on_own, connect_by, connect_first, deliver_by, deliver_on, deliver_unit, end_of_peer, fail_first, hand_on, onward_by, open_link, route_to, settle, shut_at, shut_by, start_at, start_by, stranger_at, stranger_by, with_link, without_first}
 use Rattle.world_moves.specs.World.{World, first_world, happens}
 use Rattle.domain_world.specs.Claims.{AreRightlyTold, AreTheirJudgements, PassesTheNextCredential, judgements_of_calls}
-use Rattle.domain_world.specs.Past.{Coming, answers_of, book, controller_of, first_of, judged_of, judgement_by, judgements_in, later_of, note, note_at, note_chosen, note_client, note_coming, note_controller, note_deliver, note_hand, note_member, note_messages, note_on, note_onward, note_own, note_pieces, note_turn, note_turns, note_unit, numbers_on, onto, past, with_reply}
+use Rattle.domain_world.specs.Past.{Coming, answers_of, book, controller_of, first_of, judged_of, judgement_by, judgements_in, later_of, note, note_at, note_chosen, note_client, note_coming, note_controller, note_deliver, note_hand, note_member, note_messages, note_on, note_onward, note_own, note_pieces, note_unit, numbers_on, onto, past, with_reply}
 use Rattle.step_notes.proofs.Controllers.JudgedStepLaws.{Told, by_names, how_is}
 use Rattle.domain_world.proofs.Judgements.JudgedLaws.{AreRight, judged_rightly}
+use Rattle.domain_world.proofs.Frames.TurnFrameLaws.{turns_judged, turns_judgements}
 
 -- ---- what is told of calls
 
@@ -418,17 +417,6 @@ found_writes (Some c) controller w piece s after b = record {
 given_writes : (at : ℕ) (given other : Given) (old new : Book) → judgements_in other at ≡ judgements_in given at → Writes at given old new → Writes at other old new
 given_writes at given other old new same writes =
     record { judged = writes.judged ∙ ap (λ told. onto told (tellings old.judged)) (sym same); judgements = writes.judgements }
-
-pub turns_judged : (controller : ℕ) (units : List (ServedUnit AtTurn TurnTalk)) (unit : Option ℕ) (numbers : List ℕ) (b : Book) → (note_turns controller units unit numbers b).judged ≡ b.judged
-turns_judged controller [] unit numbers b = refl
-turns_judged controller (served ∷ units) unit numbers b =
-    turns_judged controller units unit (later_of (turn_note controller served).sends numbers) (note_turn (turn_note controller served) served unit (first_of numbers) b)
-
-turns_judgements : (controller : ℕ) (units : List (ServedUnit AtTurn TurnTalk)) (unit : Option ℕ) (numbers : List ℕ) (b : Book) →
-    (note_turns controller units unit numbers b).judgements ≡ b.judgements
-turns_judgements controller [] unit numbers b = refl
-turns_judgements controller (served ∷ units) unit numbers b =
-    turns_judgements controller units unit (later_of (turn_note controller served).sends numbers) (note_turn (turn_note controller served) served unit (first_of numbers) b)
 
 member_writes : (found : Option MemberState) (member : ℕ) (w : Coming) (piece : List ℕ) (s after : State) (given : Given) (b : Book) → judgements_in given w.at ≡ [] →
     Writes w.at given b (note_member found member w piece s after b)
