@@ -83,7 +83,8 @@ use Rattle.domain_world.proofs.Frames.ComingLaws.{CameFrom, IsPieceOf, IsStill, 
 use Rattle.domain_world.proofs.Frames.LeftLaws.{AreBlocks, all_rest, end_rests, eights_of}
 use Rattle.domain_world.proofs.Frames.MarkPlaceLaws.{got_beside, settled_length}
 use Rattle.domain_world.proofs.Frames.OpenMadeLaws.{IsAtSide}
-use Rattle.domain_world.proofs.Frames.StepFrameLaws.{ActionFact, HasHeard, IsCalm, Keeps, NoFact, RunFact}
+use Rattle.domain_world.proofs.Frames.StepFrameLaws.{ActionFact, HasHeard, Keeps, NoFact, RunFact}
+use Rattle.domain_world.proofs.Frames.EndFrameLaws.{IsCalm}
 
 -- ---- links
 

@@ -45,7 +45,8 @@ use Rattle.domain_world.proofs.Accepting.TurnSideLaws.{TurnSide, member_comes}
 use Rattle.domain_world.proofs.Challenges.MessageApartLaws.{links_in, messages_apart}
 use Rattle.domain_world.proofs.Frames.ComingLaws.{CameFrom, StillHas, kept_same, kept_settled}
 use Rattle.domain_world.proofs.Frames.OpenMadeLaws.{IsAtSide}
-use Rattle.domain_world.proofs.Frames.StepFrameLaws.{AnyAction, all_any, ActionFact, BothFacts, BothFine, HasBytes, HasHeard, HoldsAfterRun, IsCalm, Keeps, NoFact, RunFact, join, run_keeps, with_side}
+use Rattle.domain_world.proofs.Frames.StepFrameLaws.{AnyAction, all_any, ActionFact, BothFacts, BothFine, HasBytes, HasHeard, HoldsAfterRun, Keeps, NoFact, RunFact, join, run_keeps, with_side}
+use Rattle.domain_world.proofs.Frames.EndFrameLaws.{IsCalm}
 
 -- ---- what is to hold
 

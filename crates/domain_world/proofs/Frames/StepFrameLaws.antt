@@ -19,7 +19,7 @@ use Rattle.channel_events.specs.Marks.{OneOf}
 use Rattle.step_notes.specs.Records.{Book, blank}
 use Rattle.world_moves.specs.declared.bag.BagUnit.{BagUnit}
 use Rattle.world_moves.specs.declared.links.EndId.{EndId}
-use Rattle.world_moves.specs.declared.links.EndId.TheVariants.{Controller, Member, Client}
+use Rattle.world_moves.specs.declared.links.EndId.TheVariants.{Client}
 use Rattle.world_moves.specs.declared.links.LinkKind.{LinkKind}
 use Rattle.world_moves.specs.declared.links.LinkKind.TheVariants as kind
 use Rattle.world_moves.specs.declared.links.OpenLink.{OpenLink}
@@ -36,18 +36,19 @@ use Rattle.world_moves.specs.Choosing.{chosen_in, chosen_place}
 use Rattle.world_moves.specs.Ends.{acceptors_in, count_of, end_at}
 use Rattle.world_moves.specs.Links.{accepted, acceptor_of, answered, dialler_of, handed_links, hearer_of, hearer_on, is_accepted_by, kind_of, links_of, other_hearer}
 use Rattle.world_moves.specs.Moving.{act, answer_by, answered_link, begun, come_by, come_on_own, connect_by, connect_first, deliver_by, deliver_on, deliver_unit, end_of_peer, fail_first, hand_on, lose_by, onward_by, open_link, renewed, restart_at, restart_by, route_to, settle, shut_at, shut_by, start_at, start_by, stranger_at, stranger_by, tick, with_link, without_first}
-use Rattle.world_moves.specs.World.{World, first_world, given_at, happens, run}
+use Rattle.world_moves.specs.World.{World, first_world, happens, run}
 use Rattle.domain_world.specs.Past.{Coming, book, note, note_at, note_chosen, note_coming, note_deliver, note_given, note_hand, note_on, note_onward, note_own, note_pieces, note_unit, past}
 use Rattle.channel_events.proofs.ListLaws.{got_last, got_nothing, some_is}
 use Rattle.world_moves.proofs.BagLaws.{pieces_few}
 use Rattle.world_moves.proofs.BoundLaws.{hears_links, perform_links, quiet_links}
 use Rattle.world_moves.proofs.LevelLaws.{unit_short}
-use Rattle.world_moves.proofs.LinkFrameLaws.{FitsIn, HasNoBytes, LinkFact, StaysOnLinks, closed_stays, heard_if_stays, move_stays}
+use Rattle.world_moves.proofs.LinkFrameLaws.{HasNoBytes, LinkFact, StaysOnLinks, closed_stays, heard_if_stays, move_stays}
 use Rattle.world_moves.proofs.OpenLaws.{forgotten_fewer, put_more, taken_fewer, taken_one}
 use Rattle.domain_world.proofs.Frames.BagFrameLaws.{Begins, Goes, IsServer, first_goes, no_more_of, no_part, no_side, note_begins, nothing_marked, nothing_written, piece_goes, settled_begins}
-use Rattle.domain_world.proofs.Frames.ComingLaws.{CameFrom, HaveKinds, IsFromOutside, IsLinkOf, IsPieceOf, IsStill, StillHas, StillIn, chosen_of, handed_outside, kept_on, kept_same, kept_sent, kept_settled, kept_stay, kinds_sent, kinds_stay, piece_bytes, route_dials, run_still}
+use Rattle.domain_world.proofs.Frames.ComingLaws.{CameFrom, HaveKinds, IsFromOutside, IsLinkOf, IsPieceOf, IsStill, StillHas, chosen_of, handed_outside, kept_same, kept_sent, kept_settled, kinds_sent, kinds_stay, piece_bytes, route_dials, run_still}
 use Rattle.domain_world.proofs.Frames.MarkPlaceLaws.{got_beside, settled_length}
 use Rattle.domain_world.proofs.Frames.OpenMadeLaws.{IsAtSide, hears_side}
+use Rattle.domain_world.proofs.Frames.EndFrameLaws.{IsCalm}
 
 -- ---- what is to hold
 
@@ -58,15 +59,6 @@ RunFact = ℕ → State → Given → Book → Type 0
 -- what an action of that end may be, by the links of the world
 abbrev pub ActionFact : Type 1
 ActionFact = EndId → List Route → Action → Type 0
-
--- no bytes come, no link opens and none is answered
-abbrev pub IsCalm : Event → Type 0
-IsCalm (event.Bytes link piece) = ⊥
-IsCalm (event.Opened link) = ⊥
-IsCalm (event.Dialled link) = ⊥
-IsCalm (event.Closed link) = Unit {0}
-IsCalm event.DialFailed = Unit {0}
-IsCalm event.Stop = Unit {0}
 
 -- an end has heard something, and its actions aren't done yet
 pub record HasHeard (Holds : RunFact) (Fine : ActionFact) (n : ℕ) (end : EndId) (heard : Heard) (given : Given) (b : Book) : Type 0 where

@@ -34,7 +34,7 @@ use Rattle.world_moves.specs.declared.moves.Move.{Move}
 use Rattle.world_moves.specs.declared.plan.Plan.{Plan}
 use Rattle.world_moves.specs.declared.state.State.{State}
 use Rattle.world_moves.specs.World.{first_world}
-use Rattle.domain_world.specs.Past.{Coming, answers_of, at_controller, controller_of, first_of, judged_of, later_of, note, note_at, note_client, note_controller, note_member, note_messages, numbers_on, onto, past, with_reply}
+use Rattle.domain_world.specs.Past.{Coming, answers_of, at_controller, controller_of, first_of, judged_of, later_of, note_at, note_client, note_controller, note_member, note_messages, numbers_on, onto, past, with_reply}
 use Rattle.step_notes.proofs.Controllers.JudgedStepLaws.{by_names, told_right}
 use Rattle.domain_world.proofs.Frames.TurnFrameLaws.{notes_keep}
 use Rattle.domain_world.proofs.Frames.BookFrameLaws.{book_holds}
