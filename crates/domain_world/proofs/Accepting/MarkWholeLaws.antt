@@ -73,9 +73,10 @@ use Rattle.domain_world.proofs.Frames.FrontLaws.{controller_unit}
 use Rattle.domain_world.proofs.Frames.MarkPlaceLaws.{got_beside, got_replicate, later_or, marks_length, no_longer, plain_of_none}
 use Rattle.domain_world.proofs.Frames.NewUnitLaws.{new_or_plain}
 use Rattle.domain_world.proofs.Frames.OpenMadeLaws.{IsAtSide, IsMore, MoreOf, goes_on, no_more}
-use Rattle.domain_world.proofs.Frames.StepFrameLaws.{bytes_in, HasBytes, HoldsAfterRun, run_keeps}
+use Rattle.domain_world.proofs.Frames.StepFrameLaws.{HoldsAfterRun, run_keeps}
 use Rattle.domain_world.proofs.Judgements.ReplyLaws.{replies_carry}
 use Rattle.domain_world.proofs.Frames.TurnFrameLaws.{turns_sent}
+use Rattle.domain_world.proofs.Frames.MoveFrameLaws.{bytes_in, HasBytes}
 
 -- ---- what is to hold of each unit
 

@@ -17,7 +17,7 @@ use Rattle.logon_client.specs.declared.plan.ClientPlan.{ClientPlan}
 use Rattle.member_server.specs.State.{State as MemberState}
 use Rattle.step_notes.specs.ClientNotes.{ClientAt, made_note, units_of_client}
 use Rattle.step_notes.specs.MemberNotes.{turn_units}
-use Rattle.step_notes.specs.Records.{Book, MessageMade, blank}
+use Rattle.step_notes.specs.Records.{Book, MessageMade}
 use Rattle.world_moves.specs.declared.links.EndId.{EndId}
 use Rattle.world_moves.specs.declared.links.EndId.TheVariants.{Controller, Member, Client}
 use Rattle.world_moves.specs.declared.links.Route.{Route}
@@ -170,4 +170,4 @@ pub messages_made : (plan : Plan) (moves : List Move) → IsSchedule plan moves 
 messages_made plan moves schedule =
     let names : AllByRecursion HasNames plan.clients =
     recursion_from_All HasNames plan.clients (All-weaker IsClientPlan HasNames form_names plan.clients schedule.forms.clients) in
-    (run_stays_by_plans (λ (b : Book). b.made) Answers answers_written moves (first_world plan) blank (first_answers plan names)).from
+    (run_stays_by_plans (λ (b : Book). b.made) Answers answers_written plan moves (first_answers plan names)).from

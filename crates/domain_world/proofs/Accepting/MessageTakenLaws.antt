@@ -370,7 +370,7 @@ sent_for challenges apart message its l sent there same =
 pub messages_taken : (plan : Plan) (moves : List Move) → MessagesAreTakenAsSent (past plan moves)
 messages_taken plan moves =
     let run : Past = past plan moves in
-    let kept : HoldsIn (Sends (written_of run.book)) run.world.state = run_stays written_of Sends sends_written moves (first_world plan) blank (first_sends plan) in
+    let kept : HoldsIn (Sends (written_of run.book)) run.world.state = run_stays written_of Sends sends_written plan moves (first_sends plan) in
     all_by_place (λ (message : MessageTaken). AllByRecursion (λ (sent : ChallengeSent). sent.link ≡ message.link → IsTakenAsSent message sent) run.book.challenges) run.book.messages
     (λ k message here. all_by_place (λ (sent : ChallengeSent). sent.link ≡ message.link → IsTakenAsSent message sent) run.book.challenges
     (λ l sent there same. sent_for run.book.challenges kept.apart message (all_at (IsForSent run.book.challenges) run.book.messages k message kept.messages here) l sent there same))

@@ -17,14 +17,13 @@ use Rattle.member_server.specs.declared.state.Phase.TheVariants as phase
 use Rattle.member_server.specs.declared.state.Talk.{Talk}
 use Rattle.member_server.specs.declared.state.TurnTalk.{TurnTalk}
 use Rattle.step_notes.specs.MemberNotes.{LinkAt, is_challenged, link_if, link_of_place, link_units, message_after, message_at, message_by, message_kept, message_note, taken_after, taken_by, taken_link, turn_units, TurnNote}
-use Rattle.step_notes.specs.Records.{Book, MessageTaken, blank}
+use Rattle.step_notes.specs.Records.{Book, MessageTaken}
 use Rattle.step_notes.specs.Served.{ServedUnit, work_after, talk_after}
 use Rattle.world_moves.specs.declared.links.EndId.{EndId}
 use Rattle.world_moves.specs.declared.links.EndId.TheVariants.{Controller, Member, Client}
 use Rattle.world_moves.specs.declared.moves.Move.{Move}
 use Rattle.world_moves.specs.declared.plan.Plan.{Plan}
 use Rattle.world_moves.specs.declared.state.State.{State}
-use Rattle.world_moves.specs.World.{first_world}
 use Rattle.domain_world.specs.Accepting.Answered.{MessagesAreApart}
 use Rattle.domain_world.specs.Past.{Coming, at_member, change_if, change_message, controller_of, note_at, note_client, note_controller, note_member, note_messages, note_turn, note_turns, numbers_on, past, with_answer, with_call}
 use Rattle.channel_events.proofs.ListLaws.{pairs_first}
@@ -196,4 +195,4 @@ pub messages_apart : (plan : Plan) (moves : List Move) → MessagesAreApart (pas
 messages_apart plan moves =
     let b : Book = (past plan moves).book in
     links_apart b.messages
-    (differ_among (links_in b.messages) b.taken (book_holds AreAmong end_among (λ at given after book among. among) moves (first_world plan) blank tt) (messages_once plan moves))
+    (differ_among (links_in b.messages) b.taken (book_holds AreAmong end_among (λ at given after book among. among) plan moves tt) (messages_once plan moves))

@@ -16,7 +16,7 @@ use Rattle.member_server.specs.State.{State as MemberState}
 use Rattle.member_server.specs.declared.plan.MemberPlan.{MemberPlan}
 use Rattle.member_server.specs.declared.state.Phase.{Phase}
 use Rattle.step_notes.specs.MemberNotes.{link_units, taken_link, turn_units}
-use Rattle.step_notes.specs.Records.{Book, blank}
+use Rattle.step_notes.specs.Records.{Book}
 use Rattle.world_moves.specs.declared.links.EndId.{EndId}
 use Rattle.world_moves.specs.declared.links.EndId.TheVariants.{Controller, Member, Client}
 use Rattle.world_moves.specs.declared.links.Route.{Route}
@@ -252,4 +252,4 @@ first_kept plan = record {
 
 -- in every run a link takes at most one AUTHENTICATE
 pub messages_once : (plan : Plan) (moves : List Move) → AllPairs (λ (one other : ℕ). one ≢ other) (past plan moves).book.taken
-messages_once plan moves = (run_stays (λ (b : Book). b.taken) Keeps keeps_written moves (first_world plan) blank (first_kept plan)).once
+messages_once plan moves = (run_stays (λ (b : Book). b.taken) Keeps keeps_written plan moves (first_kept plan)).once

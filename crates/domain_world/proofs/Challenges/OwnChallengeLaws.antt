@@ -391,7 +391,7 @@ apart_so challenges drawn drew differ apart i j d lt within same =
 
 -- in every run each link has its own CHALLENGE
 pub links_own : (plan : Plan) (moves : List Move) → HoldsIn (Owns (notes_of (past plan moves).book)) (past plan moves).world.state
-links_own plan moves = run_stays notes_of Owns owns_written moves (first_world plan) blank (first_owns plan)
+links_own plan moves = run_stays notes_of Owns owns_written plan moves (first_owns plan)
 
 -- in every run whose draws differ each message is for the own unused challenge of its link
 pub messages_own : (plan : Plan) (moves : List Move) → DrawsDiffer (past plan moves).world → MessagesHaveOwnChallenges (past plan moves)

@@ -98,11 +98,11 @@ act_ends end (Judged how) s = refl
 -- ---- a run
 
 module _ (Holds : EndFact) (keeps : KeepsEnds Holds) where
-  abbrev OfMoves : MoveFact
+  abbrev pub OfMoves : MoveFact
   OfMoves n p s given b = Holds p.at p.on (ends_in s) given b
 
-  ends_keep : KeepsMoves ⊥ NoSide OfMoves
-  ends_keep = record {
+  pub ends_keep : (Known : Type 0) → KeepsMoves Known NoSide OfMoves
+  ends_keep Known = record {
     closes = λ n p end link s given b work none holds. keeps.calm p.at p.on end (event.Closed link) s given b tt holds;
     opens = λ n at dial route s given b none holds. keeps.opens at route s given b holds;
     dialled = λ n at end link s given b side none holds. keeps.dialled at end link s given b side holds;
@@ -124,4 +124,4 @@ module _ (Holds : EndFact) (keeps : KeepsEnds Holds) where
   pub ends_after : (plan : Plan) (moves : List Move) → ((on : Option Coming) → Holds 0 on (ends_in (first_world plan).state) [] blank) →
       Holds (past plan moves).world.moves None (ends_in (past plan moves).world.state) [] (past plan moves).book
   ends_after plan moves holds =
-      let after : HoldsAfterMoves ⊥ OfMoves plan moves = moves_keep ⊥ OfMoves ends_keep plan moves (λ none. absurd none) holds in after.holds
+      let after : HoldsAfterMoves ⊥ OfMoves plan moves = moves_keep ⊥ OfMoves (ends_keep ⊥) plan moves (λ none. absurd none) holds in after.holds

@@ -40,7 +40,7 @@ use Rattle.channel_events.proofs.ListLaws.{got_last, got_nothing, some_is}
 use Rattle.world_moves.proofs.BagLaws.{pieces_few}
 use Rattle.world_moves.proofs.BoundLaws.{hears_links}
 use Rattle.world_moves.proofs.LevelLaws.{unit_short}
-use Rattle.world_moves.proofs.LinkFrameLaws.{HasNoBytes, LinkFact, StaysAlways, StaysOnLinks, closed_stays, heard_if_stays, move_stays}
+use Rattle.world_moves.proofs.LinkFrameLaws.{FitsIn, HasNoBytes, actions_stay, LinkFact, StaysAlways, StaysOnLinks, closed_stays, heard_if_stays, move_stays}
 use Rattle.world_moves.proofs.OpenLaws.{forgotten_fewer, put_more, taken_fewer, taken_one}
 use Rattle.domain_world.proofs.Frames.ComingLaws.{CameFrom, HaveKinds, IsFromOutside, IsLinkOf, IsPieceOf, IsStill, StillHas, chosen_of, handed_outside, kept_same, kept_sent, kept_settled, kinds_sent, kinds_stay, piece_bytes, route_dials, run_still}
 use Rattle.domain_world.proofs.Frames.MarkPlaceLaws.{got_beside, settled_length}
@@ -157,6 +157,37 @@ join_moves Known A B one other = record {
   ticks = λ n at more s b none holds. (one.ticks n at more s b tt holds.0, other.ticks n at more s b holds.0 holds.1);
   over = λ n at on next s given b none holds. (one.over n at on next s given b tt holds.0, other.over n at on next s given b holds.0 holds.1);
 }
+
+-- what rests on nothing rests on any side fact
+pub beside : (Known : Type 0) (Side Holds : MoveFact) → KeepsMoves Known NoSide Holds → KeepsMoves Known Side Holds
+beside Known Side Holds keeps = record {
+  closes = λ n p end link s given b work side holds. keeps.closes n p end link s given b work tt holds;
+  opens = λ n at dial route s given b side holds. keeps.opens n at dial route s given b tt holds;
+  dialled = λ n at end link s given b here side holds. keeps.dialled n at end link s given b here tt holds;
+  fails = λ n at end s b side holds. keeps.fails n at end s b tt holds;
+  begins = λ n at client plan s b is side holds. keeps.begins n at client plan s b is tt holds;
+  comes = λ n end w piece s given b here came bytes side holds. keeps.comes n end w piece s given b here came bytes tt holds;
+  reaches = λ n w s given b side holds. keeps.reaches n w s given b tt holds;
+  acts = λ n p end what s given b work side holds. keeps.acts n p end what s given b work tt holds;
+  shuts = λ n p link s given b work side holds. keeps.shuts n p link s given b work tt holds;
+  answers = λ n at dial link there s given b is side holds. keeps.answers n at dial link there s given b is tt holds;
+  forgets = λ n at end s b side holds. keeps.forgets n at end s b tt holds;
+  settles = λ n at on number s b side holds. keeps.settles n at on number s b tt holds;
+  dials = λ n at dial s b is side holds. keeps.dials n at dial s b is tt holds;
+  renews = λ n at end s b side holds. keeps.renews n at end s b tt holds;
+  ticks = λ n at more s b side holds. keeps.ticks n at more s b tt holds;
+  over = λ n at on next s given b side holds. keeps.over n at on next s given b tt holds;
+}
+
+-- ---- what holds of links and the bag, as an action is done
+
+pub quiet_stays : (Fits : LinkFact) → StaysOnLinks Fits → (end : EndId) (what : Action) (s : State) → FitsIn Fits s → FitsIn Fits (perform_quietly end what s)
+quiet_stays Fits stays end (Close link cause) s holds = holds
+quiet_stays Fits stays end (Keep bytes) s holds = holds
+quiet_stays Fits stays end (Send link bytes) s holds = actions_stay Fits stays end (Send link bytes ∷ []) s holds
+quiet_stays Fits stays end (Dial peer) s holds = holds
+quiet_stays Fits stays end (Told link outcome) s holds = holds
+quiet_stays Fits stays end (Judged how) s holds = holds
 
 -- ---- how many links are open
 

@@ -26,14 +26,13 @@ use Rattle.member_server.specs.State.{State as MemberState}
 use Rattle.step_notes.specs.ControllerNotes.{Answered, Where, answer_on, channel_in, has_passed, heard_answer, judging_by, judging_of, logon_answer, opened_by, opening, passing, units_at, units_by, units_of_controller}
 use Rattle.step_notes.specs.Judged.{IsJudgedRight}
 use Rattle.step_notes.specs.MemberNotes.{turn_units}
-use Rattle.step_notes.specs.Records.{Book, Judging, blank}
+use Rattle.step_notes.specs.Records.{Book, Judging}
 use Rattle.step_notes.specs.Served.{ServedUnit, served_units, units_if_taken, units_on, units_then, work_after}
 use Rattle.world_moves.specs.declared.links.EndId.{EndId}
 use Rattle.world_moves.specs.declared.links.EndId.TheVariants.{Controller, Member, Client}
 use Rattle.world_moves.specs.declared.moves.Move.{Move}
 use Rattle.world_moves.specs.declared.plan.Plan.{Plan}
 use Rattle.world_moves.specs.declared.state.State.{State}
-use Rattle.world_moves.specs.World.{first_world}
 use Rattle.domain_world.specs.Past.{Coming, answers_of, at_controller, controller_of, first_of, judged_of, later_of, note_at, note_client, note_controller, note_member, note_messages, numbers_on, onto, past, with_reply}
 use Rattle.step_notes.proofs.Controllers.JudgedStepLaws.{by_names, told_right}
 use Rattle.domain_world.proofs.Frames.TurnFrameLaws.{notes_keep}
@@ -177,4 +176,4 @@ at_right (Member at) w piece s after b was = member_right (slice_get s.ends.memb
 at_right (Client at) w piece s after b was = client_right (slice_get s.ends.clients at) at w piece s b was
 
 pub judged_rightly : (plan : Plan) (moves : List Move) → AreRight (past plan moves).book.judged
-judged_rightly plan moves = book_holds IsRight at_right (λ at given after b was. was) moves (first_world plan) blank tt
+judged_rightly plan moves = book_holds IsRight at_right (λ at given after b was. was) plan moves tt

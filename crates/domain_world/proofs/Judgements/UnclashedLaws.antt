@@ -20,14 +20,13 @@ use Rattle.step_notes.specs.ControllerNotes.{Answered, Where, answer_on, call_an
 use Rattle.step_notes.specs.Judged.{channel_if, passed_channel}
 use Rattle.step_notes.specs.Marking.{clashes, is_channel, sent_channel}
 use Rattle.step_notes.specs.MemberNotes.{turn_units}
-use Rattle.step_notes.specs.Records.{Book, Judging, Sent, blank}
+use Rattle.step_notes.specs.Records.{Book, Judging, Sent}
 use Rattle.step_notes.specs.Served.{ServedUnit, work_after}
 use Rattle.world_moves.specs.declared.links.EndId.{EndId}
 use Rattle.world_moves.specs.declared.links.EndId.TheVariants.{Controller, Member, Client}
 use Rattle.world_moves.specs.declared.moves.Move.{Move}
 use Rattle.world_moves.specs.declared.plan.Plan.{Plan}
 use Rattle.world_moves.specs.declared.state.State.{State}
-use Rattle.world_moves.specs.World.{first_world}
 use Rattle.domain_world.specs.Accepting.Answered.{PassesAreUnclashed}
 use Rattle.domain_world.specs.Past.{Coming, answers_of, any_clash, at_controller, controller_of, first_of, judged_of, later_of, note_at, note_client, note_controller, note_member, note_messages, note_turns, numbers_on, onto, past, with_reply}
 use Rattle.channel_events.proofs.ListLaws.{all_weaker, got_append}
@@ -161,4 +160,4 @@ end_unclashed (Client at) w piece s after b all = client_unclashed (slice_get s.
 -- in every run
 pub passes_unclashed : (plan : Plan) (moves : List Move) → PassesAreUnclashed (past plan moves)
 passes_unclashed plan moves =
-    book_holds AreUnclashed end_unclashed (λ at given after b all. sent_more b _ all) moves (first_world plan) blank (λ apart. tt)
+    book_holds AreUnclashed end_unclashed (λ at given after b all. sent_more b _ all) plan moves (λ apart. tt)

@@ -59,12 +59,13 @@ use Rattle.domain_world.proofs.Accepting.RunBeginLaws.{first_apart}
 use Rattle.domain_world.proofs.Frames.BagFrameLaws.{IsServer}
 use Rattle.domain_world.proofs.Frames.ComingLaws.{CameFrom}
 use Rattle.domain_world.proofs.Frames.MarkPlaceLaws.{got_map}
-use Rattle.domain_world.proofs.Frames.StepFrameLaws.{AnyAction, ActionFact, BothFacts, BothFine, HasBytes, HoldsAfterRun, Keeps, NoFact, RunFact, join, run_keeps, with_side}
+use Rattle.domain_world.proofs.Frames.StepFrameLaws.{AnyAction, ActionFact, BothFacts, BothFine, HoldsAfterRun, Keeps, NoFact, RunFact, join, run_keeps, with_side}
 use Rattle.domain_world.proofs.Requests.CallComesLaws.{IsWhole, KeptAfter, KeptIn, client_comes, controller_comes, other_comes, whole_comes}
 use Rattle.domain_world.proofs.Requests.CallHoldsLaws.{CallsHold, differ_front, link_more, marks_in, requests_at, sent_more}
 use Rattle.domain_world.proofs.Requests.CallStepLaws.{CallLaws, client_anew, client_hears, controller_anew, controller_hears, member_anew, member_hears}
 use Rattle.domain_world.proofs.Requests.LooserLaws.{NoCalls}
 use Rattle.domain_world.proofs.Requests.OutStepLaws.{IsOther, IsOutIn, MemberHolds, OutFor, none_out}
+use Rattle.domain_world.proofs.Frames.MoveFrameLaws.{HasBytes}
 
 -- ---- a unit that comes on the link of a turn is whole, and comes in one piece
 

@@ -45,7 +45,6 @@ use Rattle.step_notes.specs.Records.{MessageTaken}
 use Rattle.step_notes.specs.Served.{ServedUnit, served_units, units_if_taken, units_on, work_after}
 use Rattle.world_moves.specs.declared.moves.Move.{Move}
 use Rattle.world_moves.specs.declared.plan.Plan.{Plan}
-use Rattle.world_moves.specs.World.{run}
 use Rattle.domain_world.specs.Claims.AskedFor.{AreSentForMessage, AsksForItsMessage, IsForItsMessage, IsOfMessage, MembersAskForMessages, SendsAskForMessages}
 use Rattle.domain_world.specs.Past.{past}
 use Rattle.step_notes.proofs.Members.CallKeptLaws.{at_channel}

@@ -1,6 +1,6 @@
 -- The bytes that come at a move write down no turn.
 -- It serves `sequences_are_own`.
-use Rattle.std.proofs.Common.{◌≡◌, ℕ, false, List, Option, Some, None, slice_get, refl, ◌∙◌}
+use Rattle.std.proofs.Common.{◌≡◌, ℕ, false, List, Option, Some, None, slice_get, refl}
 use Rattle.domain_controller.specs.State.{State as ControllerState}
 use Rattle.logon_client.specs.State.{State as ClientState}
 use Rattle.member_server.specs.State.{State as MemberState}
@@ -8,10 +8,8 @@ use Rattle.step_notes.specs.MemberNotes.{turn_units}
 use Rattle.step_notes.specs.Records.{Book}
 use Rattle.world_moves.specs.declared.links.EndId.{EndId}
 use Rattle.world_moves.specs.declared.links.EndId.TheVariants.{Controller, Member, Client}
-use Rattle.world_moves.specs.declared.moves.Move.{Move}
 use Rattle.world_moves.specs.declared.state.State.{State}
-use Rattle.domain_world.specs.Past.{Coming, controller_of, note_at, note_client, note_coming, note_controller, note_member, note_messages, numbers_on}
-use Rattle.domain_world.proofs.Frames.BookFrameLaws.{coming_holds}
+use Rattle.domain_world.specs.Past.{Coming, controller_of, note_at, note_client, note_controller, note_member, note_messages, numbers_on}
 use Rattle.domain_world.proofs.Frames.TurnFrameLaws.{units_turns}
 
 controller_turns : (found : Option ControllerState) (controller : ℕ) (w : Coming) (piece : List ℕ) (s after : State) (b : Book) → (note_controller found controller w piece s after b).turns ≡ b.turns
@@ -27,11 +25,7 @@ client_turns : (found : Option ClientState) (client : ℕ) (w : Coming) (piece :
 client_turns None client w piece s b = refl
 client_turns (Some c) client w piece s b = refl
 
-bytes_turns : (end : EndId) (w : Coming) (piece : List ℕ) (s after : State) (b : Book) → (note_at (Some end) w piece s after b).turns ≡ b.turns
+pub bytes_turns : (end : EndId) (w : Coming) (piece : List ℕ) (s after : State) (b : Book) → (note_at (Some end) w piece s after b).turns ≡ b.turns
 bytes_turns (Controller at) w piece s after b = controller_turns (slice_get s.ends.controllers at) at w piece s after b
 bytes_turns (Member at) w piece s after b = member_turns (slice_get s.ends.members at) at w piece s after b
 bytes_turns (Client at) w piece s after b = client_turns (slice_get s.ends.clients at) at w piece s b
-
-pub coming_turns : (what : Move) (at : ℕ) (s : State) (b : Book) → (note_coming what at s b).turns ≡ b.turns
-coming_turns what at s b =
-    coming_holds (λ (later : Book). later.turns ≡ b.turns) (λ end w piece now after later is. bytes_turns end w piece now after later ∙ is) what at s b refl
