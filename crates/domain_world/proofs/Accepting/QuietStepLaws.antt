@@ -66,7 +66,6 @@ use Rattle.domain_world.proofs.Frames.LeftLaws.{AreBlocks, all_rest, end_rests, 
 use Rattle.domain_world.proofs.Frames.MarkPlaceLaws.{got_beside, settled_length}
 use Rattle.domain_world.proofs.Frames.OpenMadeLaws.{IsAtSide}
 use Rattle.domain_world.proofs.Frames.StepFrameLaws.{ActionFact, HasHeard, Keeps, NoFact, RunFact}
-use Rattle.domain_world.proofs.Frames.EndFrameLaws.{IsCalm}
 
 -- ---- what is to hold
 
