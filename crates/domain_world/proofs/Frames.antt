@@ -5,10 +5,13 @@ pub mod BagStepLaws
 pub mod BookFrameLaws
 pub mod ComingLaws
 pub mod DrawnRunLaws
+pub mod EndFrameLaws
 pub mod FrameLaws
 pub mod FrontLaws
 pub mod LeftLaws
 pub mod MarkPlaceLaws
+pub mod MoveFrameLaws
 pub mod NewUnitLaws
 pub mod OpenMadeLaws
 pub mod StepFrameLaws
+pub mod TurnFrameLaws

@@ -1,6 +1,6 @@
 -- In every schedule each unit of the bag that was made for a secure channel is one whole unit, and is what its mark
 -- says. It serves `marked_units_are_whole`.
-use Rattle.std.proofs.Common.{◌≡◌, ℕ, ◌-◌, ◌%◌, ◌<◌, ◌≤◌, ◌^◌, Bool, true, false, List, [], ◌∷◌, ◌++◌, drop, length, map, inl, inr, Option, Some, None, Ok, slice_get, refl, sym, ap, subst, ◌∙◌, arith, length-append}
+use Rattle.std.proofs.Common.{◌≡◌, ℕ, ◌-◌, ◌%◌, ◌<◌, ◌≤◌, ◌^◌, Bool, true, false, List, ◌++◌, drop, length, map, inl, inr, Option, Some, None, Ok, slice_get, refl, sym, ap, subst, ◌∙◌, arith, length-append}
 use Rattle.std.specs.Prelude.{replicate}
 use Rattle.std.proofs.lemmas.List.{drop_at, length-replicate}
 use Rattle.wire_base.specs.Numbers.{AreBytes}
@@ -24,9 +24,7 @@ use Rattle.domain_controller.proofs.AloneLaws.{number_fits, reply_alone}
 use Rattle.domain_controller.proofs.ReadBackLaws.{replies_are_read_back}
 use Rattle.logon_client.specs.State.{State as ClientState}
 use Rattle.member_server.specs.State.{State as MemberState}
-use Rattle.member_server.specs.declared.state.AtTurn.{AtTurn}
 use Rattle.member_server.specs.declared.state.Running.{Running}
-use Rattle.member_server.specs.declared.state.TurnTalk.{TurnTalk}
 use Rattle.end_links.specs.Sending.{request_of}
 use Rattle.logon_stubs.specs.Calls.{opnum_of_call}
 use Rattle.logon_stubs.specs.Writing.{written_call}
@@ -34,10 +32,9 @@ use Rattle.channel_client.specs.Whole.{InRangeRequester}
 use Rattle.domain_world.proofs.Accepting.CarriedLaws.{one_whole}
 use Rattle.channel_events.specs.Marks.{Mark, Plain, Opening, Opened, Calling, ReplyTo}
 use Rattle.step_notes.specs.JudgedInRange.{IsReadAsMade}
-use Rattle.step_notes.specs.MemberNotes.{turn_note, turn_units}
+use Rattle.step_notes.specs.MemberNotes.{turn_units}
 use Rattle.step_notes.specs.Records.{Book, Judging, Sent}
 use Rattle.step_notes.specs.ReplySends.{IsOpeningReply, IsReplyOfCall}
-use Rattle.step_notes.specs.Served.{ServedUnit}
 use Rattle.step_notes.proofs.Controllers.JudgedInRangeLaws.{replies_are_read}
 use Rattle.world_moves.specs.declared.bag.BagUnit.{BagUnit}
 use Rattle.world_moves.specs.declared.links.EndId.{EndId}
@@ -57,7 +54,7 @@ use Rattle.world_moves.specs.Links.{kind_of, same_kind}
 use Rattle.world_moves.proofs.LinkFrameLaws.{IsOnLink, actions_stay, heard_stays}
 use Rattle.domain_world.specs.Accepting.Carried.{IsAsMarked, IsNoAnswer, IsPlain, MarkedUnitsAreWhole, call_carried}
 use Rattle.domain_world.specs.Claims.Replies.{IsReplyOfOne}
-use Rattle.domain_world.specs.Past.{Coming, at_controller, controller_of, first_of, later_of, marks_of, note_at, note_client, note_controller, note_given, note_member, note_messages, note_turn, note_turns, numbers_on, past, sent_at}
+use Rattle.domain_world.specs.Past.{Coming, at_controller, controller_of, marks_of, note_at, note_client, note_controller, note_given, note_member, note_messages, note_turns, numbers_on, past, sent_at}
 use Rattle.channel_events.proofs.ListLaws.{got_append, got_nothing, some_is}
 use Rattle.domain_world.proofs.Accepting.HeardFrontLaws.{IsOfRequest, of_request, opens_no_logon, reply_no_call}
 use Rattle.domain_world.proofs.Accepting.HeardUnitLaws.{heard_stub}
@@ -76,8 +73,10 @@ use Rattle.domain_world.proofs.Frames.FrontLaws.{controller_unit}
 use Rattle.domain_world.proofs.Frames.MarkPlaceLaws.{got_beside, got_replicate, later_or, marks_length, no_longer, plain_of_none}
 use Rattle.domain_world.proofs.Frames.NewUnitLaws.{new_or_plain}
 use Rattle.domain_world.proofs.Frames.OpenMadeLaws.{IsAtSide, IsMore, MoreOf, goes_on, no_more}
-use Rattle.domain_world.proofs.Frames.StepFrameLaws.{bytes_in, HasBytes, HoldsAfterRun, run_keeps}
+use Rattle.domain_world.proofs.Frames.StepFrameLaws.{HoldsAfterRun, run_keeps}
 use Rattle.domain_world.proofs.Judgements.ReplyLaws.{replies_carry}
+use Rattle.domain_world.proofs.Frames.TurnFrameLaws.{turns_sent}
+use Rattle.domain_world.proofs.Frames.MoveFrameLaws.{bytes_in, HasBytes}
 
 -- ---- what is to hold of each unit
 
@@ -168,11 +167,6 @@ controller_fits (Some c) at w piece s b side same each =
         controller_sends c at w piece s new.place mark unit.bytes new.marked new.sends,
       )
     ]) each
-
-turns_sent : (controller : ℕ) (units : List (ServedUnit AtTurn TurnTalk)) (unit : Option ℕ) (numbers : List ℕ) (b : Book) → (note_turns controller units unit numbers b).sent ≡ b.sent
-turns_sent controller [] unit numbers b = refl
-turns_sent controller (served ∷ units) unit numbers b =
-    turns_sent controller units unit (later_of (turn_note controller served).sends numbers) (note_turn (turn_note controller served) served unit (first_of numbers) b)
 
 known_running : (links : List Route) (k : ℕ) (r : Option Running) (running : Running) → r ≡ Some running → MemberIsQuiet links k r →
     InRangeRequester running.logons.channel × IfOn (IsDialledBy links k) running.dialling

@@ -15,12 +15,9 @@ use Rattle.logon_client.specs.Machine.{begin_of, fresh_client, step_of as client
 use Rattle.logon_client.specs.State.{State as ClientState}
 use Rattle.logon_client.specs.declared.plan.ClientPlan.{ClientPlan}
 use Rattle.member_server.specs.State.{State as MemberState}
-use Rattle.member_server.specs.declared.state.AtTurn.{AtTurn}
-use Rattle.member_server.specs.declared.state.TurnTalk.{TurnTalk}
 use Rattle.step_notes.specs.ClientNotes.{ClientAt, made_note, units_of_client}
-use Rattle.step_notes.specs.MemberNotes.{turn_note, turn_units}
-use Rattle.step_notes.specs.Records.{Book, MessageMade, blank}
-use Rattle.step_notes.specs.Served.{ServedUnit}
+use Rattle.step_notes.specs.MemberNotes.{turn_units}
+use Rattle.step_notes.specs.Records.{Book, MessageMade}
 use Rattle.world_moves.specs.declared.links.EndId.{EndId}
 use Rattle.world_moves.specs.declared.links.EndId.TheVariants.{Controller, Member, Client}
 use Rattle.world_moves.specs.declared.links.Route.{Route}
@@ -32,7 +29,7 @@ use Rattle.world_moves.specs.Forms.{IsClientPlan, IsSchedule}
 use Rattle.world_moves.specs.Links.{acceptor_of}
 use Rattle.world_moves.specs.World.{first_world}
 use Rattle.domain_world.specs.Accepting.KeysMade.{IsMadeFrom, MessagesAreMade}
-use Rattle.domain_world.specs.Past.{Coming, controller_of, first_of, later_of, note_at, note_client, note_controller, note_member, note_messages, note_turn, note_turns, numbers_on, past}
+use Rattle.domain_world.specs.Past.{Coming, controller_of, note_at, note_client, note_controller, note_member, note_messages, numbers_on, past}
 use Rattle.domain_world.proofs.Accepting.ClientOfferLaws.{AreMadeFrom, HasNames}
 use Rattle.domain_world.proofs.Accepting.ClientPlanLaws.{NamesIn, client_made, names_stay}
 use Rattle.domain_world.proofs.Accepting.PlacedLaws.{all_at}
@@ -40,6 +37,7 @@ use Rattle.domain_world.proofs.Challenges.MessageOnceLaws.{each_put}
 use Rattle.domain_world.proofs.Challenges.OwnLinkLaws.{all_join}
 use Rattle.domain_world.proofs.Frames.FrameLaws.{HoldsAfter, HoldsByPlans, PlannedFact, StaysByPlans, StaysWrittenByPlans, run_stays_by_plans}
 use Rattle.domain_world.proofs.Frames.LeftLaws.{AreEights, client_left, controller_left, first_eights, member_left}
+use Rattle.domain_world.proofs.Frames.TurnFrameLaws.{turns_made}
 
 -- The names of the clients' plans are texts, clients go by such plans, each challenge that is left has 8 bytes, and
 -- each message that was made is the answer of its plan.
@@ -103,11 +101,6 @@ answers_stay made = record {
 }
 
 -- ---- bytes come
-
-turns_made : (controller : ℕ) (units : List (ServedUnit AtTurn TurnTalk)) (unit : Option ℕ) (numbers : List ℕ) (b : Book) → (note_turns controller units unit numbers b).made ≡ b.made
-turns_made controller [] unit numbers b = refl
-turns_made controller (served ∷ units) unit numbers b =
-    turns_made controller units unit (later_of (turn_note controller served).sends numbers) (note_turn (turn_note controller served) served unit (first_of numbers) b)
 
 controller_made : (found : Option ControllerState) (controller : ℕ) (w : Coming) (piece : List ℕ) (s after : State) (b : Book) → (note_controller found controller w piece s after b).made ≡ b.made
 controller_made None controller w piece s after b = refl
@@ -177,4 +170,4 @@ pub messages_made : (plan : Plan) (moves : List Move) → IsSchedule plan moves 
 messages_made plan moves schedule =
     let names : AllByRecursion HasNames plan.clients =
     recursion_from_All HasNames plan.clients (All-weaker IsClientPlan HasNames form_names plan.clients schedule.forms.clients) in
-    (run_stays_by_plans (λ (b : Book). b.made) Answers answers_written moves (first_world plan) blank (first_answers plan names)).from
+    (run_stays_by_plans (λ (b : Book). b.made) Answers answers_written plan moves (first_answers plan names)).from

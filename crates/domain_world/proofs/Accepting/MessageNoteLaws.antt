@@ -15,6 +15,7 @@ use Rattle.domain_world.specs.Claims.LetIn.{IsLetInBy}
 use Rattle.domain_world.specs.Past.{change_if, change_message, first_of, later_of, note_turn, note_turns, with_answer, with_call}
 use Rattle.step_notes.proofs.Members.KeptLogonLaws.{HasFor, IsFor}
 use Rattle.step_notes.proofs.Members.TurnAnswerLaws.{HasAnswer}
+use Rattle.domain_world.proofs.Frames.TurnFrameLaws.{notes_keep}
 
 -- ---- one of the messages
 
@@ -54,11 +55,8 @@ turn_grows Fits stable note served unit number b one =
 
 turns_grow : (Fits : MessageTaken → Type 0) → IsStable Fits → (controller : ℕ) (units : List (ServedUnit AtTurn TurnTalk)) (unit : ℕ) (numbers : List ℕ) (b : Book) → OneOf Fits b.messages →
     OneOf Fits (note_turns controller units (Some unit) numbers b).messages
-turns_grow Fits stable controller [] unit numbers b one = one
-turns_grow Fits stable controller (served ∷ units) unit numbers b one =
-    turns_grow Fits stable controller units unit (later_of (turn_note controller served).sends numbers)
-    (note_turn (turn_note controller served) served (Some unit) (first_of numbers) b)
-    (turn_grows Fits stable (turn_note controller served) served unit (first_of numbers) b one)
+turns_grow Fits stable controller units unit numbers b one =
+    notes_keep (λ (later : Book). OneOf Fits later.messages) (Some unit) (λ note served number later has. turn_grows Fits stable note served unit number later has) controller units numbers b one
 
 -- units of the turn come in a unit of the bag
 abbrev pub AreCarried : Option ℕ → List (ServedUnit AtTurn TurnTalk) → Type 0

@@ -22,7 +22,7 @@ use Rattle.member_server.specs.declared.state.Phase.TheVariants as phase
 use Rattle.member_server.specs.declared.state.Talk.{Talk}
 use Rattle.member_server.specs.declared.state.TurnTalk.{TurnTalk}
 use Rattle.channel_events.specs.Marks.{OneOf}
-use Rattle.step_notes.specs.MemberNotes.{LinkAt, TurnNote, challenge_note, link_of_place, link_units, message_note, taken_link, turn_note, turn_units}
+use Rattle.step_notes.specs.MemberNotes.{LinkAt, TurnNote, challenge_note, link_of_place, link_units, message_note, taken_link, turn_units}
 use Rattle.step_notes.specs.Records.{Book, ChallengeSent, MessageTaken, blank}
 use Rattle.step_notes.specs.Served.{ServedUnit}
 use Rattle.step_notes.proofs.Members.UnservedLaws.{LinksIn, Opens, in_so, step_known}
@@ -36,7 +36,7 @@ use Rattle.world_moves.specs.Ends.{EndStates, client_step, controller_step, end_
 use Rattle.world_moves.specs.Links.{acceptor_of}
 use Rattle.world_moves.specs.World.{first_world}
 use Rattle.domain_world.specs.Accepting.KeysMade.{IsTakenAsSent, MessagesAreTakenAsSent}
-use Rattle.domain_world.specs.Past.{Coming, Past, at_member, change_if, change_message, controller_of, first_of, later_of, note_at, note_client, note_controller, note_member, note_messages, note_turn, note_turns, numbers_on, past, with_answer, with_call}
+use Rattle.domain_world.specs.Past.{Coming, Past, at_member, change_if, change_message, controller_of, note_at, note_client, note_controller, note_member, note_messages, note_turn, note_turns, numbers_on, past, with_answer, with_call}
 use Rattle.channel_events.proofs.ListLaws.{got_behind}
 use Rattle.domain_world.proofs.Accepting.ChallengeLinkLaws.{BytesCome, KnownAfter, KnownAt, ReadOf, bytes_come, so_far}
 use Rattle.domain_world.proofs.Accepting.ChallengeReadLaws.{AreTakenWith, IsTakenWith}
@@ -45,6 +45,7 @@ use Rattle.domain_world.proofs.Challenges.MessageOnceLaws.{each_put, fresh_links
 use Rattle.domain_world.proofs.Challenges.OwnLinkLaws.{IsLinkIn, IsTakenIn, all_join, all_so, all_taken, link_more, one_behind, one_earlier}
 use Rattle.domain_world.proofs.Frames.FrameLaws.{Fact, HoldsAfter, HoldsIn, Stays, StaysWritten, run_stays}
 use Rattle.domain_world.proofs.Frames.LeftLaws.{AreEights, client_left, controller_left, first_eights, member_left}
+use Rattle.domain_world.proofs.Frames.TurnFrameLaws.{notes_keep}
 
 -- ---- what is kept
 
@@ -297,10 +298,8 @@ turn_for note served unit number b members links left kept =
 
 turns_for : (controller : ℕ) (units : List (ServedUnit AtTurn TurnTalk)) (unit : Option ℕ) (numbers : List ℕ) (b : Book) (members : List MemberState) (links : List Route) (left : List (List ℕ)) →
     IsSoOf b members links left → IsSoOf (note_turns controller units unit numbers b) members links left
-turns_for controller [] unit numbers b members links left kept = kept
-turns_for controller (served ∷ units) unit numbers b members links left kept =
-    turns_for controller units unit (later_of (turn_note controller served).sends numbers) (note_turn (turn_note controller served) served unit (first_of numbers) b) members links left
-    (turn_for (turn_note controller served) served unit (first_of numbers) b members links left kept)
+turns_for controller units unit numbers b members links left kept =
+    notes_keep (λ (later : Book). IsSoOf later members links left) unit (λ note served number later so. turn_for note served unit number later members links left so) controller units numbers b kept
 
 controller_written : (found : Option ControllerState) (controller : ℕ) (w : Coming) (piece : List ℕ) (s after : State) (b : Book) →
     written_of (note_controller found controller w piece s after b) ≡ written_of b
@@ -371,7 +370,7 @@ sent_for challenges apart message its l sent there same =
 pub messages_taken : (plan : Plan) (moves : List Move) → MessagesAreTakenAsSent (past plan moves)
 messages_taken plan moves =
     let run : Past = past plan moves in
-    let kept : HoldsIn (Sends (written_of run.book)) run.world.state = run_stays written_of Sends sends_written moves (first_world plan) blank (first_sends plan) in
+    let kept : HoldsIn (Sends (written_of run.book)) run.world.state = run_stays written_of Sends sends_written plan moves (first_sends plan) in
     all_by_place (λ (message : MessageTaken). AllByRecursion (λ (sent : ChallengeSent). sent.link ≡ message.link → IsTakenAsSent message sent) run.book.challenges) run.book.messages
     (λ k message here. all_by_place (λ (sent : ChallengeSent). sent.link ≡ message.link → IsTakenAsSent message sent) run.book.challenges
     (λ l sent there same. sent_for run.book.challenges kept.apart message (all_at (IsForSent run.book.challenges) run.book.messages k message kept.messages here) l sent there same))

@@ -65,7 +65,7 @@ use Rattle.logon_stubs.specs.Ranges.{IsBlock}
 use Rattle.domain_world.proofs.Frames.LeftLaws.{AreBlocks, all_rest, end_rests, eights_of}
 use Rattle.domain_world.proofs.Frames.MarkPlaceLaws.{got_beside, settled_length}
 use Rattle.domain_world.proofs.Frames.OpenMadeLaws.{IsAtSide}
-use Rattle.domain_world.proofs.Frames.StepFrameLaws.{ActionFact, HasHeard, IsCalm, Keeps, NoFact, RunFact}
+use Rattle.domain_world.proofs.Frames.StepFrameLaws.{ActionFact, HasHeard, Keeps, NoFact, RunFact}
 
 -- ---- what is to hold
 

@@ -2,7 +2,6 @@
 -- by such an answer: three of the facts of `UnitsAreHeard`. What they rest on is `TurnSide` of TurnSideLaws.
 -- It serves `schedules_are_heard`.
 use Rattle.std.proofs.Common.{◌≡◌, ℕ, zero, suc, ◌+◌, Bool, List, [], ◌∷◌, map, length, Option, Some, None, refl, sym, subst, ◌∙◌, slice_get, true, false}
-use Rattle.std.specs.List.{AllByRecursion}
 use Rattle.std.proofs.lemmas.List.{append-nil, length-set}
 use Rattle.outside.specs.declared.action.Action.{Action}
 use Rattle.outside.specs.declared.action.Action.TheVariants as action
@@ -34,8 +33,8 @@ use Rattle.world_moves.specs.Ends.{EndStates, member_step}
 use Rattle.world_moves.specs.Links.{acceptor_of, is_accepted_by, kind_of}
 use Rattle.world_moves.specs.Moving.{answered_link, begun, renewed, settle, tick, with_link, without_first}
 use Rattle.world_moves.specs.World.{World, first_world}
-use Rattle.domain_world.specs.Accepting.Carried.{AnswersAreInTurn, IsTakenInTurn}
-use Rattle.domain_world.specs.Accepting.ReadBack.{IsLetInInTurn, IsToldInTurn, TurnsAreHeard, TurnsAreTold, TurnsLetIn}
+use Rattle.domain_world.specs.Accepting.Carried.{IsTakenInTurn}
+use Rattle.domain_world.specs.Accepting.ReadBack.{IsLetInInTurn, IsToldInTurn, TurnsAreHeard}
 use Rattle.domain_world.specs.Past.{Coming, Past, any_clash, answers_of, note_at, note_client, note_controller, note_given, note_member, past}
 use Rattle.domain_world.proofs.Accepting.TurnFactLaws.{Any, AreApart, GrowsTo, HasFree, IsAnswered, IsKnown, KeepFree, MarksAreKnown, SameEnds, TurnFacts, apart_from, let_in_stays, marks_before, past_at, taken_stays, told_stays, world_in}
 use Rattle.domain_world.proofs.Accepting.TurnNotedLaws.{or_false}
@@ -45,7 +44,9 @@ use Rattle.domain_world.proofs.Accepting.TurnSideLaws.{TurnSide, member_comes}
 use Rattle.domain_world.proofs.Challenges.MessageApartLaws.{links_in, messages_apart}
 use Rattle.domain_world.proofs.Frames.ComingLaws.{CameFrom, StillHas, kept_same, kept_settled}
 use Rattle.domain_world.proofs.Frames.OpenMadeLaws.{IsAtSide}
-use Rattle.domain_world.proofs.Frames.StepFrameLaws.{AnyAction, all_any, ActionFact, BothFacts, BothFine, HasBytes, HasHeard, HoldsAfterRun, IsCalm, Keeps, NoFact, RunFact, join, run_keeps, with_side}
+use Rattle.domain_world.proofs.Frames.StepFrameLaws.{AnyAction, all_any, ActionFact, BothFacts, BothFine, HasHeard, HoldsAfterRun, Keeps, NoFact, RunFact, join, run_keeps, with_side}
+use Rattle.domain_world.proofs.Frames.EndFrameLaws.{IsCalm}
+use Rattle.domain_world.proofs.Frames.MoveFrameLaws.{HasBytes}
 
 -- ---- what is to hold
 

@@ -18,7 +18,7 @@ use Rattle.channel_events.specs.Marks.{Mark, Plain, Opening, Opened, Calling, Re
 use Rattle.channel_events.proofs.ListLaws.{all_weaker, got_nothing, some_is}
 use Rattle.step_notes.specs.ControllerNotes.{Where, answer_on, call_answer, channel_by, channel_in, has_passed, heard_answer, judging_by, judging_of, opened_by, opened_mark, opening, passing, reply_mark}
 use Rattle.step_notes.specs.Marking.{answered_marks, mark_channel}
-use Rattle.step_notes.specs.Records.{Book, Judging, blank}
+use Rattle.step_notes.specs.Records.{Book, Judging}
 use Rattle.step_notes.specs.Served.{ServedUnit, work_after}
 use Rattle.world_moves.specs.declared.bag.BagUnit.{BagUnit}
 use Rattle.world_moves.specs.declared.moves.Move.{Move}
@@ -171,5 +171,5 @@ marks_known plan moves n unit one named there back noted made =
     let count : ℕ = length (first_world plan).state.ends.controllers in
     let is : IsOfUnit (OfUnit count) tt (past plan moves).world.state.bag n one.mark =
     run_stays_marked (λ (b : Book). tt) (SoMany count) (OfUnit count) (many_stay count) (marks_stay count) plan moves refl n one noted in
-    subst (λ (c : ℕ). named.controller < c) (sym (run_stays (λ (b : Book). tt) (SoMany count) (many_stay count) moves (first_world plan) blank refl))
+    subst (λ (c : ℕ). named.controller < c) (sym (run_stays (λ (b : Book). tt) (SoMany count) (many_stay count) plan moves refl))
     (known_by count one.mark unit.back named (marks_have_their_way plan moves n unit one there noted) back is.holds made)

@@ -132,16 +132,6 @@ bytes_free w m piece now left messages links kept =
 
 -- ---- the units that the turn takes
 
-pub turns_sent : (controller : ℕ) (units : List (ServedUnit AtTurn TurnTalk)) (carried : Option ℕ) (numbers : List ℕ) (b : Book) → (note_turns controller units carried numbers b).sent ≡ b.sent
-turns_sent controller [] carried numbers b = refl
-turns_sent controller (served ∷ units) carried numbers b =
-    turns_sent controller units carried (later_of (turn_note controller served).sends numbers) (note_turn (turn_note controller served) served carried (first_of numbers) b)
-
-pub turns_told : (controller : ℕ) (units : List (ServedUnit AtTurn TurnTalk)) (carried : Option ℕ) (numbers : List ℕ) (b : Book) → (note_turns controller units carried numbers b).told ≡ b.told
-turns_told controller [] carried numbers b = refl
-turns_told controller (served ∷ units) carried numbers b =
-    turns_told controller units carried (later_of (turn_note controller served).sends numbers) (note_turn (turn_note controller served) served carried (first_of numbers) b)
-
 pub or_false : (one other : Bool) → (one || other) ≡ false → (one ≡ false) × (other ≡ false)
 or_false false false is = (refl, refl)
 or_false false true is = absurd (let x = is in cc)

@@ -1,10 +1,10 @@
 -- What holds of messages whose answer was taken, and of what is told, where bytes come at a member; and what it rests
 -- on. It serves `schedules_are_heard`.
-use Rattle.std.proofs.Common.{◌≡◌, ◌⊎◌, ℕ, ◌<◌, zero, suc, ◌≤◌, ◌==◌, Bool, true, false, List, [], ◌∷◌, ◌++◌, drop, length, inl, inr, Option, Some, None, Result, Ok, Err, refl, sym, ap, subst, ◌∙◌, slice_get, arith}
+use Rattle.std.proofs.Common.{◌≡◌, ◌⊎◌, ℕ, ◌<◌, ◌≤◌, ◌==◌, Bool, true, false, List, [], ◌++◌, length, inl, inr, Option, Some, None, Result, Ok, Err, refl, sym, ap, subst, ◌∙◌, slice_get, arith}
 use Rattle.std.specs.Prelude.{flat_map}
 use Rattle.std.specs.List.{AllByRecursion}
 use Rattle.std.proofs.lemmas.Bool.{eqb-true}
-use Rattle.std.proofs.lemmas.List.{append-nil, drop_all, take_all}
+use Rattle.std.proofs.lemmas.List.{append-nil}
 use Rattle.outside.specs.Machine.{Part, Stepped, step_by}
 use Rattle.outside.specs.declared.action.Action.{Action}
 use Rattle.outside.specs.declared.action.StepRefused.{StepRefused}
@@ -30,7 +30,7 @@ use Rattle.channel_events.proofs.ListLaws.{all_weaker, got_append, one_weaker, s
 use Rattle.step_notes.specs.CallLogons.{AsksUnlessStopped}
 use Rattle.step_notes.specs.ChannelNames.{standing_channel}
 use Rattle.step_notes.specs.Marking.{clashes}
-use Rattle.step_notes.specs.MemberNotes.{is_turn_link, link_of_place, link_units, message_note, taking_note, turn_note, turn_units, turn_units_by, turn_units_in, turn_units_on}
+use Rattle.step_notes.specs.MemberNotes.{is_turn_link, link_units, message_note, taking_note, turn_units, turn_units_by, turn_units_in, turn_units_on}
 use Rattle.step_notes.specs.Records.{Book, MessageTaken, OutcomeTold, Sent}
 use Rattle.step_notes.specs.Served.{ServedUnit, units_if_taken}
 use Rattle.step_notes.proofs.Members.KeptLogonLaws.{IfDialled, KeptIn, each_so, kept_so, one_before}
@@ -42,7 +42,6 @@ use Rattle.world_moves.specs.declared.links.Route.TheVariants.{ToController}
 use Rattle.world_moves.specs.declared.plan.Plan.{Plan}
 use Rattle.world_moves.specs.declared.state.State.{State}
 use Rattle.world_moves.specs.Acting.{Given, Heard, given_by, heard_by}
-use Rattle.world_moves.specs.Bag.{piece_limit, pieces_in, pieces_of}
 use Rattle.world_moves.specs.Ends.{EndStates, actions_by, member_step}
 use Rattle.world_moves.specs.Links.{kind_of}
 use Rattle.world_moves.specs.Moving.{end_of_peer}
@@ -50,18 +49,19 @@ use Rattle.domain_world.specs.Accepting.Carried.{IsWholeUnit}
 use Rattle.domain_world.specs.Accepting.ReadBack.{IsLetInInTurn}
 use Rattle.domain_world.specs.Accepting.Runs.{AskedIsOut, IsOut, IsQuiet, IsQuietTurn}
 use Rattle.domain_world.specs.Claims.{HasController}
-use Rattle.domain_world.specs.Past.{Coming, at_member, change_message, controller_number, controller_of, controller_of_plan, first_of, later_of, note_member, note_messages, note_turn, note_turns, numbers_on, told_in, with_answer, with_call}
+use Rattle.domain_world.specs.Past.{Coming, at_member, controller_number, controller_of, controller_of_plan, first_of, note_member, note_messages, note_turns, numbers_on, told_in}
 use Rattle.domain_world.proofs.Accepting.AnswerReadLaws.{HearsWhole}
 use Rattle.domain_world.proofs.Accepting.LetInStepLaws.{IsAcceptedBy, IsDialledBy}
 use Rattle.domain_world.proofs.Accepting.QuietRunLaws.{one_piece}
 use Rattle.domain_world.proofs.Accepting.TurnFactLaws.{Any, AreApart, GrowsTo, HasFree, IsAnswered, IsKnown, MarksAreKnown, SameEnds, TurnFacts, answered_stays, apart_front, both_all, controller_stays, facts_stay, known_stays, marks_before, past_at}
-use Rattle.domain_world.proofs.Accepting.TurnNotedLaws.{IsTurnNoted, bytes_free, noted_by, or_false, turn_noted, turns_sent, turns_told, units_new}
+use Rattle.domain_world.proofs.Accepting.TurnNotedLaws.{IsTurnNoted, bytes_free, noted_by, or_false, turn_noted, units_new}
 use Rattle.domain_world.proofs.Accepting.TurnQuietLaws.{IsSilent, free_put, member_silent, members_same, same_ends, told_yet, yet_more}
 use Rattle.domain_world.proofs.Accepting.TurnWholeLaws.{ComesWhole, whole_facts}
-use Rattle.domain_world.proofs.Challenges.MessageApartLaws.{change_same, links_append, links_in}
+use Rattle.domain_world.proofs.Challenges.MessageApartLaws.{links_append, links_in, turns_links}
 use Rattle.domain_world.proofs.Challenges.MessageOnceLaws.{set_cases}
 use Rattle.domain_world.proofs.Frames.ComingLaws.{CameFrom, IsPieceOf, kept_same}
 use Rattle.domain_world.proofs.Frames.OpenMadeLaws.{IsAtSide, side_of}
+use Rattle.domain_world.proofs.Frames.TurnFrameLaws.{notes_keep, turns_sent, turns_told}
 
 -- ---- what the facts rest on, at each time of a run
 
@@ -126,21 +126,9 @@ none_if_taken (Err why) = refl
 
 -- ---- what the notes of a turn leave
 
-pub turns_links : (controller : ℕ) (units : List (ServedUnit AtTurn TurnTalk)) (carried : Option ℕ) (numbers : List ℕ) (b : Book) →
-    links_in (note_turns controller units carried numbers b).messages ≡ links_in b.messages
-turns_links controller [] carried numbers b = refl
-turns_links controller (served ∷ units) carried numbers b =
-    let note = turn_note controller served in
-    let first : List MessageTaken = change_message (link_of_place note.called served.work.work.logons) (with_call (first_of numbers)) b.messages in
-    turns_links controller units carried (later_of note.sends numbers) (note_turn note served carried (first_of numbers) b)
-    ∙ change_same (link_of_place note.answered served.work.work.logons) (with_answer carried) (λ one. refl) first
-    ∙ change_same (link_of_place note.called served.work.work.logons) (with_call (first_of numbers)) (λ one. refl) b.messages
-
 pub turns_clash : (controller : ℕ) (units : List (ServedUnit AtTurn TurnTalk)) (carried : Option ℕ) (numbers : List ℕ) (b : Book) → (note_turns controller units carried numbers b).clash ≡ false → b.clash ≡ false
-turns_clash controller [] carried numbers b none = none
-turns_clash controller (served ∷ units) carried numbers b none =
-    let note = turn_note controller served in
-    (or_false b.clash _ (turns_clash controller units carried (later_of note.sends numbers) (note_turn note served carried (first_of numbers) b) none)).0
+turns_clash controller units carried numbers b none =
+    notes_keep (λ (later : Book). later.clash ≡ false → b.clash ≡ false) carried (λ note served number later so apart. so (or_false later.clash _ apart).0) controller units numbers b (λ apart. apart) none
 
 part_cases : (part : Result (Part Desk) StepRefused) → ((p : Part Desk) × (part ≡ Ok p)) ⊎ ((why : StepRefused) × (part ≡ Err why))
 part_cases (Ok p) = inl (p, refl)

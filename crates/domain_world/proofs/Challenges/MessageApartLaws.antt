@@ -16,20 +16,20 @@ use Rattle.member_server.specs.declared.state.Phase.{Phase}
 use Rattle.member_server.specs.declared.state.Phase.TheVariants as phase
 use Rattle.member_server.specs.declared.state.Talk.{Talk}
 use Rattle.member_server.specs.declared.state.TurnTalk.{TurnTalk}
-use Rattle.step_notes.specs.MemberNotes.{LinkAt, is_challenged, link_if, link_of_place, link_units, message_after, message_at, message_by, message_kept, message_note, taken_after, taken_by, taken_link, turn_note, turn_units}
-use Rattle.step_notes.specs.Records.{Book, MessageTaken, blank}
+use Rattle.step_notes.specs.MemberNotes.{LinkAt, is_challenged, link_if, link_of_place, link_units, message_after, message_at, message_by, message_kept, message_note, taken_after, taken_by, taken_link, turn_units, TurnNote}
+use Rattle.step_notes.specs.Records.{Book, MessageTaken}
 use Rattle.step_notes.specs.Served.{ServedUnit, work_after, talk_after}
 use Rattle.world_moves.specs.declared.links.EndId.{EndId}
 use Rattle.world_moves.specs.declared.links.EndId.TheVariants.{Controller, Member, Client}
 use Rattle.world_moves.specs.declared.moves.Move.{Move}
 use Rattle.world_moves.specs.declared.plan.Plan.{Plan}
 use Rattle.world_moves.specs.declared.state.State.{State}
-use Rattle.world_moves.specs.World.{first_world}
 use Rattle.domain_world.specs.Accepting.Answered.{MessagesAreApart}
-use Rattle.domain_world.specs.Past.{Coming, at_member, change_if, change_message, controller_of, first_of, later_of, note_at, note_client, note_controller, note_member, note_messages, note_turn, note_turns, numbers_on, past, with_answer, with_call}
+use Rattle.domain_world.specs.Past.{Coming, at_member, change_if, change_message, controller_of, note_at, note_client, note_controller, note_member, note_messages, note_turn, note_turns, numbers_on, past, with_answer, with_call}
 use Rattle.channel_events.proofs.ListLaws.{pairs_first}
 use Rattle.domain_world.proofs.Challenges.MessageOnceLaws.{messages_once}
 use Rattle.domain_world.proofs.Frames.BookFrameLaws.{book_holds}
+use Rattle.domain_world.proofs.Frames.TurnFrameLaws.{notes_leave, turns_taken}
 
 -- ---- a list among another, in order
 
@@ -152,15 +152,21 @@ change_same (Some link) change same messages = same_all link change same message
 abbrev AreAmong : Book → Type 0
 AreAmong b = Among (links_in b.messages) b.taken
 
+-- the links of the messages stay
+turn_links : (note : TurnNote) (served : ServedUnit AtTurn TurnTalk) (unit number : Option ℕ) (b : Book) → links_in (note_turn note served unit number b).messages ≡ links_in b.messages
+turn_links note served unit number b =
+    let first = change_message (link_of_place note.called served.work.work.logons) (with_call number) b.messages in
+    change_same (link_of_place note.answered served.work.work.logons) (with_answer unit) (λ one. refl) first
+    ∙ change_same (link_of_place note.called served.work.work.logons) (with_call number) (λ one. refl) b.messages
+
+pub turns_links : (controller : ℕ) (units : List (ServedUnit AtTurn TurnTalk)) (unit : Option ℕ) (numbers : List ℕ) (b : Book) →
+    links_in (note_turns controller units unit numbers b).messages ≡ links_in b.messages
+turns_links controller units unit numbers b = notes_leave (λ (later : Book). links_in later.messages) turn_links controller units unit numbers b
+
 turns_among : (controller : ℕ) (units : List (ServedUnit AtTurn TurnTalk)) (unit : Option ℕ) (numbers : List ℕ) (b : Book) → AreAmong b → AreAmong (note_turns controller units unit numbers b)
-turns_among controller [] unit numbers b among = among
-turns_among controller (served ∷ units) unit numbers b among =
-    let note = turn_note controller served in
-    let first = change_message (link_of_place note.called served.work.work.logons) (with_call (first_of numbers)) b.messages in
-    turns_among controller units unit (later_of note.sends numbers) (note_turn note served unit (first_of numbers) b)
-    (subst (λ (links : List ℕ). Among links b.taken)
-    (sym (change_same (link_of_place note.answered served.work.work.logons) (with_answer unit) (λ one. refl) first
-    ∙ change_same (link_of_place note.called served.work.work.logons) (with_call (first_of numbers)) (λ one. refl) b.messages)) among)
+turns_among controller units unit numbers b among =
+    subst (λ (taken : List ℕ). Among (links_in (note_turns controller units unit numbers b).messages) taken) (sym (turns_taken controller units unit numbers b))
+    (subst (λ (links : List ℕ). Among links b.taken) (sym (turns_links controller units unit numbers b)) among)
 
 member_among : (found : Option MemberState) (at : ℕ) (w : Coming) (piece : List ℕ) (s after : State) (b : Book) → AreAmong b → AreAmong (note_member found at w piece s after b)
 member_among None at w piece s after b among = among
@@ -189,4 +195,4 @@ pub messages_apart : (plan : Plan) (moves : List Move) → MessagesAreApart (pas
 messages_apart plan moves =
     let b : Book = (past plan moves).book in
     links_apart b.messages
-    (differ_among (links_in b.messages) b.taken (book_holds AreAmong end_among (λ at given after book among. among) moves (first_world plan) blank tt) (messages_once plan moves))
+    (differ_among (links_in b.messages) b.taken (book_holds AreAmong end_among (λ at given after book among. among) plan moves tt) (messages_once plan moves))

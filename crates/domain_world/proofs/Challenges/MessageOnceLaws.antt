@@ -14,12 +14,9 @@ use Rattle.logon_client.specs.State.{State as ClientState}
 use Rattle.member_server.specs.Machine.{fresh_member, step_of}
 use Rattle.member_server.specs.State.{State as MemberState}
 use Rattle.member_server.specs.declared.plan.MemberPlan.{MemberPlan}
-use Rattle.member_server.specs.declared.state.AtTurn.{AtTurn}
 use Rattle.member_server.specs.declared.state.Phase.{Phase}
-use Rattle.member_server.specs.declared.state.TurnTalk.{TurnTalk}
-use Rattle.step_notes.specs.MemberNotes.{link_units, taken_link, turn_note, turn_units}
-use Rattle.step_notes.specs.Records.{Book, blank}
-use Rattle.step_notes.specs.Served.{ServedUnit}
+use Rattle.step_notes.specs.MemberNotes.{link_units, taken_link, turn_units}
+use Rattle.step_notes.specs.Records.{Book}
 use Rattle.world_moves.specs.declared.links.EndId.{EndId}
 use Rattle.world_moves.specs.declared.links.EndId.TheVariants.{Controller, Member, Client}
 use Rattle.world_moves.specs.declared.links.Route.{Route}
@@ -29,10 +26,11 @@ use Rattle.world_moves.specs.declared.state.State.{State}
 use Rattle.world_moves.specs.Ends.{EndStates, client_step, controller_step, end_step, member_step}
 use Rattle.world_moves.specs.Links.{acceptor_of}
 use Rattle.world_moves.specs.World.{first_world}
-use Rattle.domain_world.specs.Past.{Coming, at_member, controller_of, first_of, later_of, note_at, note_client, note_controller, note_member, note_messages, note_turn, note_turns, numbers_on, past}
+use Rattle.domain_world.specs.Past.{Coming, at_member, controller_of, note_at, note_client, note_controller, note_member, note_messages, numbers_on, past}
 use Rattle.channel_events.proofs.ListLaws.{got_append, got_behind}
 use Rattle.step_notes.proofs.Members.UnservedLaws.{LinksIn, Opens, Took, bytes_took, in_so, step_known}
 use Rattle.domain_world.proofs.Frames.FrameLaws.{Fact, HoldsAfter, HoldsIn, IsQuiet, Stays, StaysWritten, run_stays}
+use Rattle.domain_world.proofs.Frames.TurnFrameLaws.{turns_taken}
 
 -- ---- places of a list
 
@@ -202,11 +200,6 @@ keeps_so taken = record {
 
 -- ---- bytes come
 
-turns_taken : (controller : ℕ) (units : List (ServedUnit AtTurn TurnTalk)) (unit : Option ℕ) (numbers : List ℕ) (b : Book) → (note_turns controller units unit numbers b).taken ≡ b.taken
-turns_taken controller [] unit numbers b = refl
-turns_taken controller (served ∷ units) unit numbers b =
-    turns_taken controller units unit (later_of (turn_note controller served).sends numbers) (note_turn (turn_note controller served) served unit (first_of numbers) b)
-
 controller_taken : (found : Option ControllerState) (controller : ℕ) (w : Coming) (piece : List ℕ) (s after : State) (b : Book) → (note_controller found controller w piece s after b).taken ≡ b.taken
 controller_taken None controller w piece s after b = refl
 controller_taken (Some c) controller w piece s after b = refl
@@ -259,4 +252,4 @@ first_kept plan = record {
 
 -- in every run a link takes at most one AUTHENTICATE
 pub messages_once : (plan : Plan) (moves : List Move) → AllPairs (λ (one other : ℕ). one ≢ other) (past plan moves).book.taken
-messages_once plan moves = (run_stays (λ (b : Book). b.taken) Keeps keeps_written moves (first_world plan) blank (first_kept plan)).once
+messages_once plan moves = (run_stays (λ (b : Book). b.taken) Keeps keeps_written plan moves (first_kept plan)).once

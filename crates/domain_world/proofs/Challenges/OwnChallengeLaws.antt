@@ -26,7 +26,7 @@ use Rattle.member_server.specs.declared.state.TurnTalk.{TurnTalk}
 use Rattle.member_server.specs.Machine.{fresh_member, step_of}
 use Rattle.member_server.specs.State.{State as MemberState}
 use Rattle.channel_events.specs.Marks.{OneOf}
-use Rattle.step_notes.specs.MemberNotes.{LinkAt, TurnNote, challenge_note, link_of_place, link_units, message_note, taken_link, turn_note, turn_units}
+use Rattle.step_notes.specs.MemberNotes.{LinkAt, TurnNote, challenge_note, link_of_place, link_units, message_note, taken_link, turn_units}
 use Rattle.step_notes.specs.Records.{Book, ChallengeSent, MessageTaken, blank}
 use Rattle.step_notes.specs.Served.{ServedUnit}
 use Rattle.world_moves.specs.declared.links.EndId.{EndId}
@@ -41,12 +41,13 @@ use Rattle.world_moves.specs.Links.{acceptor_of}
 use Rattle.world_moves.specs.World.{first_world}
 use Rattle.domain_world.specs.Claims.{IsUnusedChallenge}
 use Rattle.domain_world.specs.Claims.OwnChallenges.{HasOwnChallenge, MessagesHaveOwnChallenges}
-use Rattle.domain_world.specs.Past.{Coming, Past, at_member, change_if, change_message, controller_of, first_of, later_of, note_at, note_client, note_controller, note_member, note_messages, note_turn, note_turns, numbers_on, past, with_answer, with_call}
+use Rattle.domain_world.specs.Past.{Coming, Past, at_member, change_if, change_message, controller_of, note_at, note_client, note_controller, note_member, note_messages, note_turn, note_turns, numbers_on, past, with_answer, with_call}
 use Rattle.channel_events.proofs.ListLaws.{got_append, got_behind}
 use Rattle.step_notes.proofs.Members.UnservedLaws.{LinksIn, Opens, in_so, step_known}
 use Rattle.domain_world.proofs.Challenges.MessageOnceLaws.{each_put, fresh_links, messages_once, quiet_opens}
 use Rattle.domain_world.proofs.Challenges.OwnLinkLaws.{AtMostOne, IsDrawn, IsLinkIn, IsOwn, IsSentAt, IsSentOn, IsTakenIn, all_join, all_sent, all_so, all_taken, bytes_drawn, bytes_one, bytes_own, link_more, one_behind, one_earlier, own_more, own_opened, sent_among}
 use Rattle.domain_world.proofs.Frames.FrameLaws.{Fact, HoldsAfter, HoldsIn, Stays, StaysWritten, run_stays}
+use Rattle.domain_world.proofs.Frames.TurnFrameLaws.{notes_leave}
 
 -- ---- lists
 
@@ -247,10 +248,7 @@ turn_notes note served unit number b =
 
 turns_notes : (controller : ℕ) (units : List (ServedUnit AtTurn TurnTalk)) (unit : Option ℕ) (numbers : List ℕ) (b : Book) →
     notes_of (note_turns controller units unit numbers b) ≡ notes_of b
-turns_notes controller [] unit numbers b = refl
-turns_notes controller (served ∷ units) unit numbers b =
-    turns_notes controller units unit (later_of (turn_note controller served).sends numbers) (note_turn (turn_note controller served) served unit (first_of numbers) b)
-    ∙ turn_notes (turn_note controller served) served unit (first_of numbers) b
+turns_notes controller units unit numbers b = notes_leave notes_of turn_notes controller units unit numbers b
 
 controller_notes : (found : Option ControllerState) (controller : ℕ) (w : Coming) (piece : List ℕ) (s after : State) (b : Book) →
     notes_of (note_controller found controller w piece s after b) ≡ notes_of b
@@ -393,7 +391,7 @@ apart_so challenges drawn drew differ apart i j d lt within same =
 
 -- in every run each link has its own CHALLENGE
 pub links_own : (plan : Plan) (moves : List Move) → HoldsIn (Owns (notes_of (past plan moves).book)) (past plan moves).world.state
-links_own plan moves = run_stays notes_of Owns owns_written moves (first_world plan) blank (first_owns plan)
+links_own plan moves = run_stays notes_of Owns owns_written plan moves (first_owns plan)
 
 -- in every run whose draws differ each message is for the own unused challenge of its link
 pub messages_own : (plan : Plan) (moves : List Move) → DrawsDiffer (past plan moves).world → MessagesHaveOwnChallenges (past plan moves)

@@ -11,15 +11,14 @@ use Rattle.member_server.specs.declared.state.Phase.TheVariants as phase
 use Rattle.member_server.specs.declared.state.Running.{Running}
 use Rattle.member_server.specs.declared.state.Talk.{Talk}
 use Rattle.channel_events.specs.Marks.{OneOf}
-use Rattle.step_notes.specs.Records.{MessageTaken, blank}
+use Rattle.step_notes.specs.Records.{MessageTaken}
 use Rattle.world_moves.specs.declared.moves.Move.{Move}
 use Rattle.world_moves.specs.declared.plan.Plan.{Plan}
-use Rattle.world_moves.specs.World.{first_world}
 use Rattle.domain_world.specs.Claims.WrittenDown.{IsChallengeOf, IsMessageOf, MembersAreWrittenDown}
 use Rattle.domain_world.specs.Past.{Past, past}
 use Rattle.step_notes.proofs.Members.KeptLogonLaws.{HasFor, IsFor, KeptIn, each_found}
 use Rattle.step_notes.proofs.Members.UnservedLaws.{IfUnserved, LinksIn, found_known}
-use Rattle.domain_world.proofs.Accepting.LetInLaws.{HoldsOf, first_holds, run_holds}
+use Rattle.domain_world.proofs.Accepting.LetInLaws.{HoldsOf, run_holds}
 use Rattle.domain_world.proofs.Accepting.LetInStepLaws.{IsDialledBy}
 use Rattle.domain_world.proofs.Accepting.MessageNoteLaws.{one_so}
 use Rattle.domain_world.proofs.Challenges.OwnChallengeLaws.{links_own}
@@ -68,7 +67,7 @@ challenge_is run member (Some one) running number link bound challenge flags run
 pub members_written_down : LetsInTheGranted → (plan : Plan) (moves : List Move) → MembersAreWrittenDown (past plan moves)
 members_written_down law plan moves =
     let run : Past = past plan moves in
-    let holds : HoldsOf run.world run.book = run_holds law moves (first_world plan) blank (first_holds plan) in
+    let holds : HoldsOf run.world run.book = run_holds law plan moves in
     let own = links_own plan moves in
     record {
       logons = λ member m running place logon at runs there.

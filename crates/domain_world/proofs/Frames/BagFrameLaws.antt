@@ -1,48 +1,42 @@
 -- What holds of each unit of the bag and its mark, through all moves of a run: whatever holds where an end makes a unit
 -- for a mark, and goes on holding as more is written down. It may rest on something of the ends, the maker of
--- challenges and the links that holds through all moves (`FrameLaws`). It serves `each_unit_is_marked`.
+-- challenges and the links that holds through all moves (`FrameLaws`). It is an instance of `MoveFrameLaws`.
+-- It serves `each_unit_is_marked`.
 use Rattle.std.proofs.Common.{◌≡◌, ℕ, ◌+◌, Bool, true, false, List, [], ◌∷◌, ◌++◌, drop, length, map, inl, inr, Option, Some, None, slice_get, refl, ap, sym, subst, ◌∙◌, arith, length-append}
 use Rattle.std.specs.Prelude.{◌-◌, ◌≤◌, replicate}
 use Rattle.std.specs.List.{AllByRecursion}
 use Rattle.std.proofs.lemmas.List.{drop_at, length-map, length-replicate}
-use Rattle.wire_base.specs.Maps.{lookup, same_number}
-use Rattle.outside.specs.Drawing.{Drawing}
 use Rattle.outside.specs.declared.event.Event.TheVariants as event
 use Rattle.domain_controller.specs.State.{State as ControllerState}
 use Rattle.domain_controller.specs.Step.{step_of as controller_step_of}
 use Rattle.logon_client.specs.State.{State as ClientState}
 use Rattle.member_server.specs.State.{State as MemberState}
-use Rattle.member_server.specs.declared.state.AtTurn.{AtTurn}
-use Rattle.member_server.specs.declared.state.TurnTalk.{TurnTalk}
 use Rattle.channel_events.specs.Marks.{Mark, Plain}
 use Rattle.step_notes.specs.Marking.{answered_marks, turn_marks}
 use Rattle.step_notes.specs.MemberNotes.{turn_note, turn_units}
 use Rattle.step_notes.specs.Records.{Book, Sent, blank}
-use Rattle.step_notes.specs.Served.{ServedUnit}
 use Rattle.world_moves.specs.declared.bag.BagUnit.{BagUnit}
 use Rattle.world_moves.specs.declared.links.EndId.{EndId}
 use Rattle.world_moves.specs.declared.links.EndId.TheVariants.{Controller, Member, Client}
 use Rattle.world_moves.specs.declared.links.Route.{Route}
 use Rattle.world_moves.specs.declared.moves.Move.{Move}
-use Rattle.world_moves.specs.declared.moves.Move.TheVariants as move
 use Rattle.world_moves.specs.declared.plan.Plan.{Plan}
 use Rattle.world_moves.specs.declared.state.State.{State}
-use Rattle.world_moves.specs.Acting.{Heard, done, heard_by, hears, hears_if, piece_comes, pieces_come}
-use Rattle.world_moves.specs.Bag.{first_waiting, pieces_of, settle_at, settled}
-use Rattle.world_moves.specs.Choosing.{chosen_in, chosen_place}
-use Rattle.world_moves.specs.Ends.{EndStates, actions_by, controller_step, member_step}
-use Rattle.world_moves.specs.Links.{handed_links, hearer_of, links_of}
-use Rattle.world_moves.specs.Moving.{act, come_by, come_on_own, deliver_by, deliver_on, deliver_unit, hand_on, onward_by, settle}
-use Rattle.world_moves.specs.World.{World, first_world, given_at, happens, run}
+use Rattle.world_moves.specs.Acting.{Heard, done, heard_by, hears}
+use Rattle.world_moves.specs.Bag.{settle_at, settled}
+use Rattle.world_moves.specs.Ends.{actions_by, controller_step, member_step}
+use Rattle.world_moves.specs.World.{World, first_world, happens, run}
 use Rattle.domain_world.specs.Claims.MarkedUnits.{EachUnitIsMarked}
-use Rattle.domain_world.specs.Past.{Coming, answers_of, at_controller, book, controller_of, first_of, later_of, marks_of, note, note_at, note_chosen, note_client, note_coming, note_controller, note_deliver, note_hand, note_member, note_messages, note_on, note_onward, note_own, note_pieces, note_turn, note_turns, note_unit, numbers_on, past, sent_at}
+use Rattle.domain_world.specs.Past.{Coming, answers_of, at_controller, book, controller_of, marks_of, note, note_at, note_client, note_coming, note_controller, note_member, note_messages, note_turns, numbers_on, past, sent_at, note_given}
 use Rattle.channel_events.proofs.ListLaws.{got_append, got_nothing}
-use Rattle.world_moves.proofs.LinkFrameLaws.{HasNoBytes, IsOnLink, LinkFact, StaysAlways, actions_stay, heard_stays, move_stays}
-use Rattle.domain_world.proofs.Frames.FrameLaws.{Fact, HoldsIn, StaysWritten, end_stays, note_stays}
+use Rattle.world_moves.proofs.LinkFrameLaws.{IsOnLink, actions_stay, heard_stays, StaysOnLinks}
+use Rattle.domain_world.proofs.Frames.FrameLaws.{Fact, HoldsIn, StaysWritten, OfSide, side_keeps}
 use Rattle.domain_world.proofs.Frames.FrontLaws.{controller_unit}
 use Rattle.domain_world.proofs.Frames.MarkPlaceLaws.{got_beside, got_later, got_map, got_replicate, got_settled, later_or, marks_length, no_longer, settled_length}
 use Rattle.domain_world.proofs.Frames.NewUnitLaws.{IsNewUnit}
-use Rattle.domain_world.proofs.Frames.OpenMadeLaws.{IsAsMade, IsAtSide, IsMore, MoreOf, OpenAsMade, as_made, goes_on, hears_side, no_more, same_side}
+use Rattle.domain_world.proofs.Frames.OpenMadeLaws.{IsAtSide, IsMore, MoreOf, goes_on, no_more, same_side}
+use Rattle.domain_world.proofs.Frames.TurnFrameLaws.{turns_sent}
+use Rattle.domain_world.proofs.Frames.MoveFrameLaws.{AtWork, Both, HoldsAfterMoves, KeepsMoves, MoveFact, NoSide, join_moves, moves_keep, quiet_stays, started}
 
 -- ---- what is to hold of each unit
 
@@ -147,31 +141,37 @@ pub record IsMarked {X : Type 0} (P : UnitFact X) (x : X) (bag : List BagUnit) (
 abbrev hear_bytes : EndId → Coming → List ℕ → State → State
 hear_bytes end w piece s = (hears end (event.Bytes w.link piece) s).state
 
--- what holds where a move begins
-pub record Begins {X : Type 0} (part : Book → X) (Side : X → Fact) (P : UnitFact X) (s : State) (b : Book) : Type 0 where
-  pub side : HoldsIn (Side (part b)) s
-  pub made : AllByRecursion (IsAsMade s.links) s.open_links
-  pub marked : IsMarked P (part b) s.bag b.sent
-
 abbrev pub IsServer : EndId → Type 0
 IsServer (Controller at) = Unit {0}
 IsServer (Member at) = Unit {0}
 IsServer (Client at) = ⊥
 
--- and between the pieces of what comes: each unit has its mark, unless a client is at that side of the link
-pub record Goes {X : Type 0} (part : Book → X) (Side : X → Fact) (P : UnitFact X) (w : Coming) (s : State) (b : Book) : Type 0 where
-  pub side : HoldsIn (Side (part b)) s
-  pub made : AllByRecursion (IsAsMade s.links) s.open_links
-  pub each : OfEachUnit P (part b) s.bag b.sent
-  pub all : (end : EndId) → IsAtSide s.links w.link w.back end → IsServer end → length b.sent ≡ length s.bag
+-- ---- as a fact of a move
 
--- and where it ends, before the other units get their marks
-record Comes {X : Type 0} (P : UnitFact X) (x : X) (s : State) (sent : List Sent) : Type 0 where
-  made : AllByRecursion (IsAsMade s.links) s.open_links
-  each : OfEachUnit P x s.bag sent
+-- the bag as it is once the step at bytes is done
+abbrev pub bag_at : Option State → List BagUnit → List BagUnit
+bag_at None bag = bag
+bag_at (Some after) bag = after.bag
 
-abbrev EachOf : {X : Type 0} → UnitFact X → X → List Sent → LinkFact
-EachOf P x sent links map bag = OfEachUnit P x bag sent
+-- where bytes come, each unit has its mark, unless a client is at that side of the link
+abbrev pub AllFor : Option Coming → List Route → List BagUnit → List Sent → Type 0
+AllFor None links bag sent = Unit {0}
+AllFor (Some w) links bag sent = (end : EndId) → IsAtSide links w.link w.back end → IsServer end → length sent ≡ length bag
+
+pub record MarksAt {X : Type 0} (P : UnitFact X) (on : Option Coming) (to : Option State) (links : List Route) (bag : List BagUnit) (x : X) (sent : List Sent) : Type 0 where
+  pub each : OfEachUnit P x (bag_at to bag) sent
+  pub all : AllFor on links (bag_at to bag) sent
+
+abbrev pub MarkFact : {X : Type 0} → (Book → X) → UnitFact X → MoveFact
+MarkFact part P n p s given b = MarksAt P p.on p.to s.links s.bag (part b) b.sent
+
+all_settled : (on : Option Coming) (number : ℕ) (links : List Route) (bag : List BagUnit) (sent : List Sent) → AllFor on links bag sent → AllFor on links (settle_at number bag) sent
+all_settled None number links bag sent all = tt
+all_settled (Some w) number links bag sent all = λ end there server. all end there server ∙ sym (settled_length number bag)
+
+all_for : (on : Option Coming) (links : List Route) (bag : List BagUnit) (sent : List Sent) → length sent ≡ length bag → AllFor on links bag sent
+all_for None links bag sent all = tt
+all_for (Some w) links bag sent all = λ end there server. all
 
 module _ {X : Type 0} (part : Book → X) (Side : X → Fact) (P : UnitFact X) (written : StaysWritten part Side) (stays : StepsMark part Side P) where
   -- ---- an end hears bytes
@@ -213,11 +213,6 @@ module _ {X : Type 0} (part : Book → X) (Side : X → Fact) (P : UnitFact X) (
       let more : IsMore s.links s.bag after.links after.bag = actions_stay (MoreOf s.links s.bag) (goes_on s.links s.bag) (Controller at) heard.actions heard.state (no_more s.links s.bag) in
       marked_more (part b) (part (note_controller (Some c) at w piece s after b)) s after.bag b.sent w.link true (controller_marks at c w piece s) w.at more.units more.is grows
       (λ place unit mark there marked. stays.controllers c at w piece s b is side hears before.all more.units more.is more.on place unit mark there marked) before
-
-  turns_sent : (controller : ℕ) (units : List (ServedUnit AtTurn TurnTalk)) (unit : Option ℕ) (numbers : List ℕ) (b : Book) → (note_turns controller units unit numbers b).sent ≡ b.sent
-  turns_sent controller [] unit numbers b = refl
-  turns_sent controller (served ∷ units) unit numbers b =
-      turns_sent controller units unit (later_of (turn_note controller served).sends numbers) (note_turn (turn_note controller served) served unit (first_of numbers) b)
 
   member_hears : (found : Option MemberState) (at : ℕ) (w : Coming) (piece : List ℕ) (s : State) (b : Book) → slice_get s.ends.members at ≡ found → HoldsIn (Side (part b)) s →
       IsAtSide s.links w.link w.back (Member at) → IsMarked P (part b) s.bag b.sent →
@@ -282,37 +277,6 @@ module _ {X : Type 0} (part : Book → X) (Side : X → Fact) (P : UnitFact X) (
         (λ server. absurd server),
       )
 
-  pub piece_goes : (end : Option EndId) (w : Coming) (piece : List ℕ) (s : State) (b : Book) → hearer_of w.back (lookup same_number w.link s.open_links) ≡ end → Goes part Side P w s b →
-      Goes part Side P w (hears_if end (event.Bytes w.link piece) s).state (note_at end w piece s (hears_if end (event.Bytes w.link piece) s).state b)
-  piece_goes None w piece s b is goes = goes
-  piece_goes (Some end) w piece s b is goes =
-      let after : State = (hear_bytes end w piece s) in
-      let here : IsAtSide s.links w.link w.back end = hears_side w.back w.link s.links s.open_links end goes.made is in
-      let more : IsMore s.links s.bag after.links after.bag = heard_stays (MoreOf s.links s.bag) (goes_on s.links s.bag) end (event.Bytes w.link piece) s (no_more s.links s.bag) in
-      let heard : EndHeard end w piece s b after = end_hears end w piece s b goes.side here goes.each (λ server. goes.all end here server) in
-      record {
-        side = end_stays part Side written (Some end) w piece s after b goes.side;
-        made = heard_stays OpenAsMade as_made.steps end (event.Bytes w.link piece) s goes.made;
-        each = heard.0;
-        all = λ other there server. heard.1 (subst IsServer (same_side other end s.links w.link w.back (subst (λ (links : List Route). IsAtSide links w.link w.back other) more.links_same there) here) server);
-      }
-
-  pieces_go : (w : Coming) (pieces : List (List ℕ)) (s : State) (b : Book) → Goes part Side P w s b →
-      Comes P (part (note_pieces w pieces s b)) (pieces_come w.back w.link pieces s).state (note_pieces w pieces s b).sent
-  pieces_go w [] s b goes = record { made = goes.made; each = goes.each }
-  pieces_go w (piece ∷ pieces) s b goes =
-      let end : Option EndId = hearer_of w.back (lookup same_number w.link s.open_links) in
-      let after : State = (piece_comes w.back w.link piece s).state in
-      pieces_go w pieces after (note_at end w piece s after b) (piece_goes end w piece s b refl goes)
-
-  pub first_goes : (w : Coming) (s : State) (b : Book) → Begins part Side P s b → Goes part Side P w s b
-  first_goes w s b begins = record { side = begins.side; made = begins.made; each = begins.marked.each; all = λ end there server. begins.marked.all }
-
-  -- ---- moves at which bytes come
-
-  begins_still : (s : State) (b : Book) → Begins part Side P s b → Comes P (part b) s b.sent
-  begins_still s b begins = record { made = begins.made; each = begins.marked.each }
-
   settled_each : (x : X) (number : ℕ) (bag : List BagUnit) (sent : List Sent) → OfEachUnit P x bag sent → OfEachUnit P x (settle_at number bag) sent
   settled_each x number bag sent each k one there =
       let had : IsOfUnit P x bag k one.mark = each k one there in
@@ -320,84 +284,6 @@ module _ {X : Type 0} (part : Book → X) (Side : X → Fact) (P : UnitFact X) (
         | inl same ↦ record { unit = had.unit; there = same; holds = had.holds }
         | inr now ↦ record { unit = settled had.unit; there = now; holds = stays.settles x k had.unit one.mark had.holds }
       ]
-
-  each_always : (x : X) (sent : List Sent) → StaysAlways (EachOf P x sent)
-  each_always x sent = record {
-    steps = record {
-      sends = λ unit links map bag on each. each_more x x bag (unit ∷ []) (bag ++ unit ∷ []) sent refl (λ number here one there mark holds. holds) each;
-      shuts = λ link links map bag each. each;
-    };
-    opens = λ route links map bag each. each;
-    answers = λ link there links map bag is each. each;
-    forgets = λ end links map bag each. each;
-    settles = λ number links map bag each. settled_each x number bag sent each;
-  }
-
-  pub settled_begins : (number : ℕ) (s : State) (b : Book) → Begins part Side P s b → Begins part Side P (settle number s) b
-  settled_begins number s b begins = record {
-    side = begins.side;
-    made = begins.made;
-    marked = record { each = settled_each (part b) number s.bag b.sent begins.marked.each; all = begins.marked.all ∙ sym (settled_length number s.bag) };
-  }
-
-  unit_comes : (unit : Option BagUnit) (number link at : ℕ) (s : State) (b : Book) → Begins part Side P s b →
-      Comes P (part (note_unit unit number link at s b)) (come_by unit link s).state (note_unit unit number link at s b).sent
-  unit_comes None number link at s b begins = begins_still s b begins
-  unit_comes (Some unit) number link at s b begins =
-      let w : Coming = record { at = at; unit = Some number; link = link; back = unit.back } in pieces_go w (pieces_of unit.bytes) s b (first_goes w s b begins)
-
-  own_comes : (unit : Option BagUnit) (number at : ℕ) (s : State) (b : Book) → Begins part Side P s b →
-      Comes P (part (note_own unit number at s b)) (come_on_own unit number s).state (note_own unit number at s b).sent
-  own_comes None number at s b begins = begins_still s b begins
-  own_comes (Some unit) number at s b begins = unit_comes (slice_get (settle number s).bag number) number unit.link at (settle number s) b (settled_begins number s b begins)
-
-  onward_comes : (number : Option ℕ) (at : ℕ) (s : State) (b : Book) → Begins part Side P s b →
-      Comes P (part (note_onward number at s b)) (onward_by number s).state (note_onward number at s b).sent
-  onward_comes None at s b begins = begins_still s b begins
-  onward_comes (Some number) at s b begins = own_comes (slice_get s.bag number) number at s b begins
-
-  on_comes : (link : Option ℕ) (number at : ℕ) (s : State) (b : Book) → Begins part Side P s b →
-      Comes P (part (note_on link number at s b)) (deliver_on link number s).state (note_on link number at s b).sent
-  on_comes None number at s b begins = begins_still s b begins
-  on_comes (Some link) number at s b begins = unit_comes (slice_get (settle number s).bag number) number link at (settle number s) b (settled_begins number s b begins)
-
-  chosen_comes : (unit : Option BagUnit) (number link at : ℕ) (s : State) (b : Book) → Begins part Side P s b →
-      Comes P (part (note_chosen unit number link at s b)) (deliver_unit unit number link s).state (note_chosen unit number link at s b).sent
-  chosen_comes None number link at s b begins = begins_still s b begins
-  chosen_comes (Some unit) number link at s b begins = on_comes (chosen_in link (links_of unit.kind s.links)) number at s b begins
-
-  deliver_comes : (number : Option ℕ) (link at : ℕ) (s : State) (b : Book) → Begins part Side P s b →
-      Comes P (part (note_deliver number link at s b)) (deliver_by number link s).state (note_deliver number link at s b).sent
-  deliver_comes None link at s b begins = begins_still s b begins
-  deliver_comes (Some number) link at s b begins = chosen_comes (slice_get s.bag number) number link at s b begins
-
-  hand_comes : (link : Option ℕ) (back : Bool) (bytes : List ℕ) (at : ℕ) (s : State) (b : Book) → Begins part Side P s b →
-      Comes P (part (note_hand link back bytes at s b)) (hand_on link back bytes s).state (note_hand link back bytes at s b).sent
-  hand_comes None back bytes at s b begins = begins_still s b begins
-  hand_comes (Some link) back bytes at s b begins =
-      let w : Coming = record { at = at; unit = None; link = link; back = back } in pieces_go w (bytes ∷ []) s b (first_goes w s b begins)
-
-  -- ---- a move
-
-  quiet_comes : (what : Move) (s : State) (b : Book) → HasNoBytes what → Begins part Side P s b → Comes P (part b) (act s what).state b.sent
-  quiet_comes what s b none begins = record {
-    made = move_stays OpenAsMade as_made what s none begins.made;
-    each = move_stays (EachOf P (part b) b.sent) (each_always (part b) b.sent) what s none begins.marked.each;
-  }
-
-  act_comes : (what : Move) (at : ℕ) (s : State) (b : Book) → Begins part Side P s b →
-      Comes P (part (note_coming what at s b)) (act s what).state (note_coming what at s b).sent
-  act_comes move.Onward at s b begins = onward_comes (first_waiting s.bag) at s b begins
-  act_comes (move.Deliver unit link) at s b begins = deliver_comes (chosen_place unit (length s.bag)) link at s b begins
-  act_comes (move.Hand link back bytes) at s b begins = hand_comes (chosen_in link (handed_links s.links)) back bytes at s b begins
-  act_comes (move.Start number) at s b begins = quiet_comes (move.Start number) s b tt begins
-  act_comes (move.Stranger number) at s b begins = quiet_comes (move.Stranger number) s b tt begins
-  act_comes move.Connect at s b begins = quiet_comes move.Connect s b tt begins
-  act_comes move.FailDial at s b begins = quiet_comes move.FailDial s b tt begins
-  act_comes move.Lose at s b begins = quiet_comes move.Lose s b tt begins
-  act_comes (move.Shut number) at s b begins = quiet_comes (move.Shut number) s b tt begins
-  act_comes (move.Restart number) at s b begins = quiet_comes (move.Restart number) s b tt begins
-  act_comes (move.Tick more) at s b begins = quiet_comes (move.Tick more) s b tt begins
 
   -- the units that have no mark yet are made for no channel
   others_marked : (x : X) (bag : List BagUnit) (sent : List Sent) (at : ℕ) → OfEachUnit P x bag sent →
@@ -417,29 +303,67 @@ module _ {X : Type 0} (part : Book → X) (Side : X → Fact) (P : UnitFact X) (
         all = size;
       }
 
-  pub note_begins : (w : World) (what : Move) (b : Book) → Begins part Side P w.state b → Begins part Side P (happens w what).state (note w what b)
-  note_begins w what b begins =
-      let after : State = (happens w what).state in
-      let come : Book = note_coming what w.moves w.state b in
-      let comes : Comes P (part come) after come.sent = act_comes what w.moves w.state b begins in
-      record {
-        side = note_stays part Side written w what b begins.side;
-        made = comes.made;
-        marked = subst (λ (x : X). IsMarked P x after.bag (note w what b).sent) (sym (written.given w.moves (given_at w what) after come))
-            (others_marked (part come) after.bag come.sent w.moves comes.each);
-      }
+  -- a unit more
+  sends_on : (x : X) (sent : List Sent) (on : Option Coming) (to : Option State) → AtWork on to → StaysOnLinks (λ links map bag. MarksAt P on to links bag x sent)
+  sends_on x sent None None work = record {
+    sends = λ unit links map bag is marks. record {
+      each = each_more x x bag (unit ∷ []) (bag ++ unit ∷ []) sent refl (λ number here one there mark holds. holds) marks.each;
+      all = tt;
+    };
+    shuts = λ link links map bag marks. marks;
+  }
+  sends_on x sent None (Some after) work =
+      record { sends = λ unit links map bag is marks. record { each = marks.each; all = tt }; shuts = λ link links map bag marks. marks }
+  sends_on x sent (Some w) None work = absurd work
+  sends_on x sent (Some w) (Some after) work =
+      record { sends = λ unit links map bag is marks. record { each = marks.each; all = marks.all }; shuts = λ link links map bag marks. marks }
 
-  run_begins : (moves : List Move) (w : World) (b : Book) → Begins part Side P w.state b → Begins part Side P (run moves w).state (book moves w b)
-  run_begins [] w b begins = begins
-  run_begins (what ∷ moves) w b begins = run_begins moves (happens w what) (note w what b) (note_begins w what b begins)
+  marks_keep : (Known : Type 0) → KeepsMoves Known (OfSide part Side written) (MarkFact part P)
+  marks_keep Known = record {
+    closes = λ n p end link s given b work side marks. marks;
+    opens = λ n at dial route s given b side marks. record { each = marks.each; all = tt };
+    dialled = λ n at end link s given b here side marks. marks;
+    fails = λ n at end s b side marks. marks;
+    begins = λ n at client plan s b is side marks. marks;
+    comes = λ n end w piece s given b here came bytes side marks.
+        let after : State = (hear_bytes end w piece s) in
+        let heard : EndHeard end w piece s b after = end_hears end w piece s b side here marks.each (λ server. marks.all end here server) in
+        record {
+          each = heard.0;
+          all = λ other there server. heard.1 (subst IsServer (same_side other end s.links w.link w.back there here) server);
+        };
+    reaches = λ n w s given b side marks. record { each = marks.each; all = marks.all };
+    acts = λ n p end what s given b work side marks.
+        quiet_stays (λ links map bag. MarksAt P p.on p.to links bag (part b) b.sent) (sends_on (part b) b.sent p.on p.to work) end what s marks;
+    shuts = λ n p link s given b work side marks. marks;
+    answers = λ n at dial link there s given b is side marks. marks;
+    forgets = λ n at end s b side marks. marks;
+    settles = λ n at on number s b side marks. record {
+      each = settled_each (part b) number s.bag b.sent marks.each;
+      all = all_settled on number s.links s.bag b.sent marks.all;
+    };
+    dials = λ n at dial s b is side marks. marks;
+    renews = λ n at end s b side marks. marks;
+    ticks = λ n at more s b side marks. marks;
+    over = λ n at on next s given b side marks.
+        let now : Book = note_given at given s b in
+        let marked : IsMarked P (part now) s.bag now.sent =
+        subst (λ (x : X). IsMarked P x s.bag now.sent) (sym (written.given at given s b)) (others_marked (part b) s.bag b.sent at marks.each) in
+        record { each = marked.each; all = all_for next s.links s.bag now.sent marked.all };
+  }
+
+  pub marked_keep : (Known : Type 0) → KeepsMoves Known NoSide (Both (OfSide part Side written) (MarkFact part P))
+  marked_keep Known = join_moves Known (OfSide part Side written) (MarkFact part P) (side_keeps part Side written Known) (marks_keep Known)
+
+  pub first_marked : (plan : Plan) (on : Option Coming) → HoldsIn (Side (part blank)) (first_world plan).state →
+      Both (OfSide part Side written) (MarkFact part P) 0 (started 0 on) (first_world plan).state [] blank
+  first_marked plan on holds = (holds, record { each = λ number one there. absurd (got_nothing number one there); all = all_for on [] [] [] refl })
 
   run_marked : (plan : Plan) (moves : List Move) → HoldsIn (Side (part blank)) (first_world plan).state →
-      IsMarked P (part (past plan moves).book) (past plan moves).world.state.bag (past plan moves).book.sent
-  run_marked plan moves holds = (run_begins moves (first_world plan) blank (record {
-    side = holds;
-    made = tt;
-    marked = record { each = λ number one there. absurd (got_nothing number one there); all = refl };
-  })).marked
+      OfEachUnit P (part (past plan moves).book) (past plan moves).world.state.bag (past plan moves).book.sent
+  run_marked plan moves holds =
+      let after : HoldsAfterMoves ⊥ (Both (OfSide part Side written) (MarkFact part P)) plan moves =
+      moves_keep ⊥ (Both (OfSide part Side written) (MarkFact part P)) (marked_keep ⊥) plan moves (λ none. absurd none) (λ on. first_marked plan on holds) in after.holds.1.each
 
 -- ---- a run
 
@@ -462,7 +386,7 @@ new_marked part Side P stays = record {
 pub run_stays_marked : {X : Type 0} (part : Book → X) (Side : X → Fact) (P : UnitFact X) → StaysWritten part Side → MarksStay part Side P → (plan : Plan) (moves : List Move) →
     HoldsIn (Side (part blank)) (first_world plan).state →
     OfEachUnit P (part (past plan moves).book) (past plan moves).world.state.bag (past plan moves).book.sent
-run_stays_marked part Side P written stays plan moves holds = (run_marked part Side P written (new_marked part Side P stays) plan moves holds).each
+run_stays_marked part Side P written stays plan moves holds = run_marked part Side P written (new_marked part Side P stays) plan moves holds
 
 -- ---- nothing but that each unit has its mark
 
@@ -497,6 +421,19 @@ nothing_marked = record {
   members = λ m at w piece s b is side hears all units more on place unit mark there marked. tt;
 }
 
+-- no unit is left without a mark at the end of a move
+none_left : (moves : List Move) (w : World) (b : Book) → length w.state.bag ≤ length b.sent → length (run moves w).state.bag ≤ length (book moves w b).sent
+none_left [] w b all = all
+none_left (what ∷ moves) w b all =
+    let come : Book = note_coming what w.moves w.state b in
+    let more : ℕ = length (happens w what).state.bag - length come.sent in
+    none_left moves (happens w what) (note w what b)
+    (omega (arith, length-append come.sent (replicate more (sent_at w.moves Plain)), length-replicate more (sent_at w.moves Plain)))
+
 -- in every run each unit of the bag has its mark
 pub each_marked : (plan : Plan) (moves : List Move) → EachUnitIsMarked (past plan moves)
-each_marked plan moves = (run_marked no_part no_side no_more_of nothing_written nothing_marked plan moves tt).all
+each_marked plan moves =
+    let sent : List Sent = (past plan moves).book.sent in
+    let bag : List BagUnit = (past plan moves).world.state.bag in
+    let each : OfEachUnit no_more_of tt bag sent = run_marked no_part no_side no_more_of nothing_written nothing_marked plan moves tt in
+    omega (arith, no_longer sent bag (λ k one there. ((each k one there).unit, (each k one there).there)), none_left moves (first_world plan) blank (omega arith))

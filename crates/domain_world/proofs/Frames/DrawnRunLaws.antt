@@ -1,6 +1,6 @@
 -- In every run what was drawn and what is left are the challenges that the maker gives: so no two that were drawn are
 -- alike, and each has 8 bytes. It serves `draws_of_runs_differ`.
-use Rattle.std.proofs.Common.{◌≡◌, ◌≢◌, ℕ, ◌+◌, ◌-◌, ◌<◌, List, [], ◌∷◌, ◌++◌, All, get_or, take, length, Option, Some, None, Result, Ok, Err, slice_get, refl, sym, ap, subst, ◌∙◌, arith, length-append}
+use Rattle.std.proofs.Common.{◌≡◌, ◌≢◌, ℕ, ◌-◌, List, ◌++◌, All, get_or, take, length, Option, Some, None, Result, Ok, Err, slice_get, refl, sym, ap, subst, ◌∙◌, arith, length-append}
 use Rattle.std.specs.Prelude.{AllPairs}
 use Rattle.std.proofs.lemmas.List.{append_assoc, append-nil, get_or_append_left, take_at}
 use Rattle.channel_keys.specs.Des.{IsBlock}
@@ -21,14 +21,13 @@ use Rattle.logon_client.specs.declared.state.Running.{Running as ClientRunning}
 use Rattle.member_server.specs.Machine as member
 use Rattle.member_server.specs.State.{State as MemberState}
 use Rattle.member_server.specs.declared.state.Running.{Running as MemberRunning}
-use Rattle.step_notes.specs.Records.{Book, blank}
+use Rattle.step_notes.specs.Records.{Book}
 use Rattle.world_moves.specs.declared.links.EndId.{EndId}
 use Rattle.world_moves.specs.declared.links.EndId.TheVariants.{Controller, Member, Client}
 use Rattle.world_moves.specs.declared.moves.Move.{Move}
 use Rattle.world_moves.specs.declared.plan.Plan.{Plan}
 use Rattle.world_moves.specs.Draws.{DrawsAreBlocks, DrawsDiffer}
 use Rattle.world_moves.specs.Ends.{EndStates, client_step, controller_step, end_step, member_step}
-use Rattle.world_moves.specs.World.{first_world}
 use Rattle.domain_world.specs.Past.{past}
 use Rattle.domain_world.proofs.Frames.FrameLaws.{Fact, StaysWritten, run_stays}
 use Rattle.domain_world.proofs.Frames.LeftLaws.{end_rests}
@@ -126,7 +125,7 @@ given_all plan = challenges_from plan.seed 0 0 (most_draws - 0)
 
 run_all : (plan : Plan) (moves : List Move) → all_of (past plan moves).world.state.chances ≡ given_all plan
 run_all plan moves =
-    run_stays (λ (b : Book). tt) (AreOf (given_all plan)) (of_stays (given_all plan)) moves (first_world plan) blank
+    run_stays (λ (b : Book). tt) (AreOf (given_all plan)) (of_stays (given_all plan)) plan moves
     (ap (λ (drawn : List (List ℕ)). drawn ++ given_all plan) (challenges_from-none plan.seed 0 0))
 
 -- ---- a front of them

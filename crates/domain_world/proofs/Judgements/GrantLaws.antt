@@ -1,8 +1,8 @@
 -- In every run a controller grants a Logon call exactly where it is to be granted, by the accounts of the plan.
 -- It serves `controllers_grant_who_may_log_on`.
-use Rattle.std.proofs.Common.{◌≡◌, ℕ, zero, suc, ◌==◌, Bool, true, false, List, [], ◌∷◌, ◌++◌, drop, length, Option, Some, None, Ok, Err, inl, inr, slice_get, slice_set, refl, sym, ap, subst, ◌∙◌}
+use Rattle.std.proofs.Common.{◌≡◌, ℕ, zero, suc, true, false, List, [], ◌∷◌, ◌++◌, drop, length, Option, Some, None, Ok, Err, inl, inr, slice_get, slice_set, refl, sym, ap, subst, ◌∙◌}
 use Rattle.std.specs.List.{AllByRecursion}
-use Rattle.wire_base.specs.Maps.{lookup, same_number, take_out}
+use Rattle.wire_base.specs.Maps.{lookup, same_number}
 use Rattle.wire_base.specs.Names.{same_name}
 use Rattle.wire_base.specs.declared.authenticator.Authenticator.{Authenticator}
 use Rattle.outside.specs.Drawing.{Drawing}
@@ -13,27 +13,21 @@ use Rattle.outside.specs.declared.action.Judged.{Judged}
 use Rattle.outside.specs.declared.action.Judged.TheVariants as judged
 use Rattle.outside.specs.declared.event.Event.{Event}
 use Rattle.outside.specs.declared.event.Event.TheVariants as event
-use Rattle.rpc_units.specs.declared.refused.UnitRefused.{UnitRefused}
 use Rattle.rpc_units.specs.Stream.{cut_stream}
-use Rattle.logon_stubs.specs.declared.calls.Call.TheVariants as call
-use Rattle.logon_stubs.specs.declared.calls.ChallengeCall.{ChallengeCall}
 use Rattle.logon_stubs.specs.declared.info.NetworkInfo.{NetworkInfo}
 use Rattle.logon_stubs.specs.declared.info.Verdict.{Verdict}
 use Rattle.account_table.specs.AccountTable.{AccountTable}
 use Rattle.account_table.specs.Changes.{DifferInCounts}
 use Rattle.account_table.proofs.ChangeLaws.{differs-again, differs-none}
-use Rattle.sam_logon.specs.Verdict.{judgement_of}
 use Rattle.end_links.specs.Links.{LinkState}
-use Rattle.end_links.specs.Serving.{ServedPart, Service, served_by, served_cut, then_open, then_talk}
+use Rattle.end_links.specs.Serving.{ServedPart}
 use Rattle.domain_controller.specs.Channels.{ChannelState, key_of_channel, channel_by, passes_on, return_by}
 use Rattle.domain_controller.specs.Hearing.{hear}
 use Rattle.domain_controller.proofs.CountLaws.{PartCounts, counts_by_verdict, heard-differs, part-differs}
 use Rattle.domain_controller.specs.Laws.{is_passed}
-use Rattle.domain_controller.specs.Machine.{Desk, answer_logon, by_heard, controller_server, desk, draw_challenge, judge_channel, judge_info, judge_level, judge_return, put_channel, status_of, take_channel}
+use Rattle.domain_controller.specs.Machine.{Desk, answer_logon, by_heard, controller_server, desk, judge_channel, judge_info, judge_return, put_channel, status_of, take_channel}
 use Rattle.domain_controller.specs.State.{State as ControllerState}
-use Rattle.domain_controller.specs.Step.{LinkMap, StepPart, after_units, by_event, first_desk, first_state, halted, serve_on, start_turn, state_after, step_of, step_on}
-use Rattle.domain_controller.specs.declared.hearing.Heard.{Heard}
-use Rattle.domain_controller.specs.declared.hearing.Heard.TheVariants as heard
+use Rattle.domain_controller.specs.Step.{StepPart, by_event, first_desk, first_state, halted, start_turn, state_after, step_of, step_on}
 use Rattle.domain_controller.specs.declared.line.Line.{Line}
 use Rattle.domain_controller.specs.declared.state.Running.{Running}
 use Rattle.domain_controller.specs.declared.state.Talk.{Talk}
@@ -41,7 +35,7 @@ use Rattle.logon_client.specs.State.{State as ClientState}
 use Rattle.member_server.specs.State.{State as MemberState}
 use Rattle.step_notes.specs.ControllerNotes.{Answered, Where, answer_on, has_passed, judged_in, units_at, units_by, units_of_controller}
 use Rattle.step_notes.specs.Judged.{IsJudgedRight}
-use Rattle.step_notes.specs.Records.{Book, Judging, blank}
+use Rattle.step_notes.specs.Records.{Book, Judging}
 use Rattle.step_notes.specs.Served.{ServedUnit, served_units, units_on, units_then}
 use Rattle.world_moves.specs.declared.links.EndId.{EndId}
 use Rattle.world_moves.specs.declared.links.EndId.TheVariants.{Controller, Member, Client}
@@ -332,5 +326,5 @@ all_rightly plan (j ∷ judgings) planned right = (
 pub grants_who_may : (plan : Plan) (moves : List Move) → GrantsWhoMayLogOn (past plan moves)
 grants_who_may plan moves =
     all_rightly plan (past plan moves).book.judged
-    (run_stays (λ (b : Book). b.judged) (ByPlan plan) (stands_written plan) moves (first_world plan) blank (first_stands plan)).judged
+    (run_stays (λ (b : Book). b.judged) (ByPlan plan) (stands_written plan) plan moves (first_stands plan)).judged
     (judged_rightly plan moves)

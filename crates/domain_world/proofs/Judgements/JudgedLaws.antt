@@ -1,6 +1,6 @@
 -- Each Logon call that a controller heard in a run was judged by its channel's sequence.
 -- It serves `controllers_grant_who_may_log_on`, `controllers_pass_the_next`, `members_ask_for_messages` and 8 more.
-use Rattle.std.proofs.Common.{◌≡◌, ℕ, Bool, true, false, List, [], ◌∷◌, ◌++◌, length, map, Option, Some, None, Result, Ok, Err, refl, sym, subst, slice_get}
+use Rattle.std.proofs.Common.{◌≡◌, ℕ, Bool, true, false, List, [], ◌∷◌, ◌++◌, map, Option, Some, None, Result, Ok, Err, refl, sym, subst, slice_get}
 use Rattle.std.specs.List.{AllByRecursion}
 use Rattle.wire_base.specs.Maps.{lookup, same_number}
 use Rattle.authenticators.specs.Channels.{Channel}
@@ -23,28 +23,20 @@ use Rattle.domain_controller.specs.declared.state.Running.{Running}
 use Rattle.domain_controller.specs.declared.state.Talk.{Talk}
 use Rattle.logon_client.specs.State.{State as ClientState}
 use Rattle.member_server.specs.State.{State as MemberState}
-use Rattle.member_server.specs.declared.state.AtTurn.{AtTurn}
-use Rattle.member_server.specs.declared.state.TurnTalk.{TurnTalk}
 use Rattle.step_notes.specs.ControllerNotes.{Answered, Where, answer_on, channel_in, has_passed, heard_answer, judging_by, judging_of, logon_answer, opened_by, opening, passing, units_at, units_by, units_of_controller}
 use Rattle.step_notes.specs.Judged.{IsJudgedRight}
-use Rattle.step_notes.specs.MemberNotes.{turn_note, turn_units}
-use Rattle.step_notes.specs.Records.{Book, Judging, blank}
+use Rattle.step_notes.specs.MemberNotes.{turn_units}
+use Rattle.step_notes.specs.Records.{Book, Judging}
 use Rattle.step_notes.specs.Served.{ServedUnit, served_units, units_if_taken, units_on, units_then, work_after}
-use Rattle.world_moves.specs.declared.bag.BagUnit.{BagUnit}
 use Rattle.world_moves.specs.declared.links.EndId.{EndId}
 use Rattle.world_moves.specs.declared.links.EndId.TheVariants.{Controller, Member, Client}
 use Rattle.world_moves.specs.declared.moves.Move.{Move}
-use Rattle.world_moves.specs.declared.moves.Move.TheVariants as move
 use Rattle.world_moves.specs.declared.plan.Plan.{Plan}
 use Rattle.world_moves.specs.declared.state.State.{State}
-use Rattle.world_moves.specs.Acting.{piece_comes}
-use Rattle.world_moves.specs.Bag.{first_waiting, pieces_of}
-use Rattle.world_moves.specs.Choosing.{chosen_in, chosen_place}
-use Rattle.world_moves.specs.Links.{handed_links, hearer_of, links_of}
-use Rattle.world_moves.specs.Moving.{settle}
-use Rattle.world_moves.specs.World.{World, first_world, happens}
-use Rattle.domain_world.specs.Past.{Coming, answers_of, at_controller, book, controller_of, first_of, judged_of, later_of, note, note_at, note_chosen, note_client, note_coming, note_controller, note_deliver, note_hand, note_member, note_messages, note_on, note_onward, note_own, note_piece, note_pieces, note_turn, note_turns, note_unit, numbers_on, onto, past, with_reply}
+use Rattle.domain_world.specs.Past.{Coming, answers_of, at_controller, controller_of, first_of, judged_of, later_of, note_at, note_client, note_controller, note_member, note_messages, numbers_on, onto, past, with_reply}
 use Rattle.step_notes.proofs.Controllers.JudgedStepLaws.{by_names, told_right}
+use Rattle.domain_world.proofs.Frames.TurnFrameLaws.{notes_keep}
+use Rattle.domain_world.proofs.Frames.BookFrameLaws.{book_holds}
 
 -- ---- a unit
 
@@ -169,76 +161,19 @@ controller_right (Some c) controller w piece s after b was =
     (served_by c.running w.link piece c s.moment s.chances.left))))
     was
 
-turns_right : (controller : ℕ) (units : List (ServedUnit AtTurn TurnTalk)) (unit : Option ℕ) (numbers : List ℕ) (b : Book) → IsRight b → IsRight (note_turns controller units unit numbers b)
-turns_right controller [] unit numbers b was = was
-turns_right controller (served ∷ units) unit numbers b was =
-    turns_right controller units unit (later_of (turn_note controller served).sends numbers) (note_turn (turn_note controller served) served unit (first_of numbers) b) was
-
 member_right : (m : Option MemberState) (member : ℕ) (w : Coming) (piece : List ℕ) (s after : State) (b : Book) → IsRight b → IsRight (note_member m member w piece s after b)
 member_right None member w piece s after b was = was
 member_right (Some m) member w piece s after b was =
-    turns_right (controller_of member s) (turn_units m w.link piece s.moment s.chances.left) w.unit _ (note_messages member m w piece s b) was
+    notes_keep IsRight w.unit (λ note served number later right. right) (controller_of member s) (turn_units m w.link piece s.moment s.chances.left) _ (note_messages member m w piece s b) was
 
 client_right : (c : Option ClientState) (client : ℕ) (w : Coming) (piece : List ℕ) (s : State) (b : Book) → IsRight b → IsRight (note_client c client w piece s b)
 client_right None client w piece s b was = was
 client_right (Some c) client w piece s b was = was
 
-at_right : (end : Option EndId) (w : Coming) (piece : List ℕ) (s after : State) (b : Book) → IsRight b → IsRight (note_at end w piece s after b)
-at_right None w piece s after b was = was
-at_right (Some (Controller at)) w piece s after b was = controller_right (slice_get s.ends.controllers at) at w piece s after b was
-at_right (Some (Member at)) w piece s after b was = member_right (slice_get s.ends.members at) at w piece s after b was
-at_right (Some (Client at)) w piece s after b was = client_right (slice_get s.ends.clients at) at w piece s b was
-
-pieces_right : (w : Coming) (pieces : List (List ℕ)) (s : State) (b : Book) → IsRight b → IsRight (note_pieces w pieces s b)
-pieces_right w [] s b was = was
-pieces_right w (piece ∷ pieces) s b was =
-    let after : State = (piece_comes w.back w.link piece s).state in
-    pieces_right w pieces after (note_piece w piece s after b) (at_right (hearer_of w.back (lookup same_number w.link s.open_links)) w piece s after b was)
-
-note_unit_right : (unit : Option BagUnit) (number link at : ℕ) (s : State) (b : Book) → IsRight b → IsRight (note_unit unit number link at s b)
-note_unit_right None number link at s b was = was
-note_unit_right (Some unit) number link at s b was = pieces_right _ (pieces_of unit.bytes) s b was
-
-own_right : (unit : Option BagUnit) (number at : ℕ) (s : State) (b : Book) → IsRight b → IsRight (note_own unit number at s b)
-own_right None number at s b was = was
-own_right (Some unit) number at s b was = note_unit_right (slice_get (settle number s).bag number) number unit.link at (settle number s) b was
-
-onward_right : (number : Option ℕ) (at : ℕ) (s : State) (b : Book) → IsRight b → IsRight (note_onward number at s b)
-onward_right None at s b was = was
-onward_right (Some number) at s b was = own_right (slice_get s.bag number) number at s b was
-
-on_right : (link : Option ℕ) (number at : ℕ) (s : State) (b : Book) → IsRight b → IsRight (note_on link number at s b)
-on_right None number at s b was = was
-on_right (Some link) number at s b was = note_unit_right (slice_get (settle number s).bag number) number link at (settle number s) b was
-
-chosen_right : (unit : Option BagUnit) (number link at : ℕ) (s : State) (b : Book) → IsRight b → IsRight (note_chosen unit number link at s b)
-chosen_right None number link at s b was = was
-chosen_right (Some unit) number link at s b was = on_right (chosen_in link (links_of unit.kind s.links)) number at s b was
-
-deliver_right : (number : Option ℕ) (link at : ℕ) (s : State) (b : Book) → IsRight b → IsRight (note_deliver number link at s b)
-deliver_right None link at s b was = was
-deliver_right (Some number) link at s b was = chosen_right (slice_get s.bag number) number link at s b was
-
-hand_right : (link : Option ℕ) (back : Bool) (bytes : List ℕ) (at : ℕ) (s : State) (b : Book) → IsRight b → IsRight (note_hand link back bytes at s b)
-hand_right None back bytes at s b was = was
-hand_right (Some link) back bytes at s b was = pieces_right _ (bytes ∷ []) s b was
-
-coming_right : (what : Move) (at : ℕ) (s : State) (b : Book) → IsRight b → IsRight (note_coming what at s b)
-coming_right move.Onward at s b was = onward_right (first_waiting s.bag) at s b was
-coming_right (move.Deliver unit link) at s b was = deliver_right (chosen_place unit (length s.bag)) link at s b was
-coming_right (move.Hand link back bytes) at s b was = hand_right (chosen_in link (handed_links s.links)) back bytes at s b was
-coming_right (move.Start number) at s b was = was
-coming_right (move.Stranger number) at s b was = was
-coming_right move.Connect at s b was = was
-coming_right move.FailDial at s b was = was
-coming_right move.Lose at s b was = was
-coming_right (move.Shut number) at s b was = was
-coming_right (move.Restart number) at s b was = was
-coming_right (move.Tick more) at s b was = was
-
-book_right : (moves : List Move) (w : World) (b : Book) → IsRight b → IsRight (book moves w b)
-book_right [] w b was = was
-book_right (what ∷ moves) w b was = book_right moves (happens w what) (note w what b) (coming_right what w.moves w.state b was)
+at_right : (end : EndId) (w : Coming) (piece : List ℕ) (s after : State) (b : Book) → IsRight b → IsRight (note_at (Some end) w piece s after b)
+at_right (Controller at) w piece s after b was = controller_right (slice_get s.ends.controllers at) at w piece s after b was
+at_right (Member at) w piece s after b was = member_right (slice_get s.ends.members at) at w piece s after b was
+at_right (Client at) w piece s after b was = client_right (slice_get s.ends.clients at) at w piece s b was
 
 pub judged_rightly : (plan : Plan) (moves : List Move) → AreRight (past plan moves).book.judged
-judged_rightly plan moves = book_right moves (first_world plan) blank tt
+judged_rightly plan moves = book_holds IsRight at_right (λ at given after b was. was) plan moves tt

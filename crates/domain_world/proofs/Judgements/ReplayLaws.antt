@@ -29,7 +29,7 @@ use Rattle.step_notes.specs.ControllerNotes.{channel_in, channel_with, has_passe
 use Rattle.step_notes.specs.Judged.{channel_if}
 use Rattle.step_notes.specs.Marking.{is_channel}
 use Rattle.step_notes.specs.MemberNotes.{turn_units}
-use Rattle.step_notes.specs.Records.{Book, Judging, blank, timestamp_in}
+use Rattle.step_notes.specs.Records.{Book, Judging, timestamp_in}
 use Rattle.world_moves.specs.declared.links.EndId.{EndId}
 use Rattle.world_moves.specs.declared.links.EndId.TheVariants.{Controller, Member, Client}
 use Rattle.world_moves.specs.declared.links.Route.{Route}
@@ -49,7 +49,8 @@ use Rattle.domain_world.proofs.Judgements.JudgedLaws.{AreRight, judged_rightly}
 use Rattle.domain_world.proofs.Judgements.MovedLaws.{found_in, moved_append, moved_same}
 use Rattle.domain_world.proofs.Judgements.SeedLaws.{AreApart, AreKept, AreMoved, AreUnheard, IsMovedIn}
 use Rattle.domain_world.proofs.Judgements.SeedStepLaws.{AreKeptIf, SeedsFollow, bytes_follow, controller_put, drawn_follow, quiet_follow}
-use Rattle.domain_world.proofs.Judgements.ToldLaws.{IsNoBytes, turns_judged}
+use Rattle.domain_world.proofs.Judgements.ToldLaws.{IsNoBytes}
+use Rattle.domain_world.proofs.Frames.TurnFrameLaws.{turns_judged}
 
 -- ---- through the moves
 
@@ -166,7 +167,7 @@ first_follows plan =
 
 -- after every run what each controller keeps of computers follows what was judged
 pub seeds_kept : (plan : Plan) (moves : List Move) → HoldsIn (Follows (past plan moves).book.judged) (past plan moves).world.state
-seeds_kept plan moves = run_stays (λ (b : Book). b.judged) Follows follows_written moves (first_world plan) blank (first_follows plan)
+seeds_kept plan moves = run_stays (λ (b : Book). b.judged) Follows follows_written plan moves (first_follows plan)
 
 -- in every run each call that was judged met its channel's seed moved so
 seeds_follow : (plan : Plan) (moves : List Move) → AreMoved (past plan moves).book.judged

@@ -48,38 +48,28 @@ use Rattle.domain_controller.specs.declared.state.Running.{Running}
 use Rattle.domain_controller.specs.declared.state.Talk.{Talk}
 use Rattle.domain_controller.specs.declared.state.Work.{Work}
 use Rattle.logon_client.specs.State.{State as ClientState}
-use Rattle.logon_client.specs.declared.plan.ClientPlan.{ClientPlan}
 use Rattle.member_server.specs.State.{State as MemberState}
-use Rattle.member_server.specs.declared.state.AtTurn.{AtTurn}
-use Rattle.member_server.specs.declared.state.TurnTalk.{TurnTalk}
 use Rattle.step_notes.specs.ControllerNotes.{Answered, Where, answer_on, channel_in, has_passed, heard_answer, judging_by, judging_of, opened_by, opening, passing, units_at, units_by}
 use Rattle.step_notes.specs.Judged.{IsJudgedRight, IsRightOf}
-use Rattle.step_notes.specs.MemberNotes.{turn_note, turn_units}
-use Rattle.step_notes.specs.Records.{Book, Judging, JudgementTold, blank}
+use Rattle.step_notes.specs.MemberNotes.{turn_units}
+use Rattle.step_notes.specs.Records.{Book, Judging, JudgementTold}
 use Rattle.step_notes.specs.Served.{ServedUnit, served_units, units_if_taken, units_on, units_then, work_after}
-use Rattle.world_moves.specs.declared.bag.BagUnit.{BagUnit}
 use Rattle.world_moves.specs.declared.links.EndId.{EndId}
 use Rattle.world_moves.specs.declared.links.EndId.TheVariants.{Controller, Member, Client}
-use Rattle.world_moves.specs.declared.links.OpenLink.{OpenLink}
-use Rattle.world_moves.specs.declared.links.Route.{Route}
-use Rattle.world_moves.specs.declared.links.Route.TheVariants.{Stranger}
 use Rattle.world_moves.specs.declared.moves.Move.{Move}
-use Rattle.world_moves.specs.declared.moves.Move.TheVariants as move
 use Rattle.world_moves.specs.declared.plan.Plan.{Plan}
 use Rattle.world_moves.specs.declared.state.State.{State}
-use Rattle.world_moves.specs.declared.state.Waiting.{Waiting}
-use Rattle.world_moves.specs.Acting.{Acted, Given, Heard as Hears, close_open, closed_at, done, forget, given_by, hears, hears_if, perform, perform_all, piece_comes, pieces_come, shut_link, then_act}
+use Rattle.world_moves.specs.Acting.{Given, given_by, hears}
 use Rattle.world_moves.specs.Acting as acting
-use Rattle.world_moves.specs.Bag.{first_waiting, pieces_of}
-use Rattle.world_moves.specs.Choosing.{chosen_in, chosen_place}
-use Rattle.world_moves.specs.Ends.{EndStates, actions_by, acceptors_in, controller_step, end_at}
-use Rattle.world_moves.specs.Links.{acceptor_of, handed_links, hearer_of, hearer_on, links_of, other_hearer}
-use Rattle.world_moves.specs.Moving.{act, answer_by, answered_link, begun, come_by, come_on_own, connect_by, connect_first, deliver_by, deliver_on, deliver_unit, end_of_peer, fail_first, hand_on, onward_by, open_link, route_to, settle, shut_at, shut_by, start_at, start_by, stranger_at, stranger_by, with_link, without_first}
-use Rattle.world_moves.specs.World.{World, first_world, happens}
+use Rattle.world_moves.specs.Ends.{EndStates, actions_by, controller_step}
+use Rattle.world_moves.specs.Links.{acceptor_of}
+use Rattle.world_moves.specs.Moving.{begun, with_link}
 use Rattle.domain_world.specs.Claims.{AreRightlyTold, AreTheirJudgements, PassesTheNextCredential, TellsOfCallsAlone, judgements_of_calls}
-use Rattle.domain_world.specs.Past.{Coming, answers_of, book, controller_of, first_of, judged_of, judgement_by, judgements_in, later_of, note, note_at, note_chosen, note_client, note_coming, note_controller, note_deliver, note_hand, note_member, note_messages, note_on, note_onward, note_own, note_pieces, note_turn, note_turns, note_unit, numbers_on, onto, past, with_reply}
+use Rattle.domain_world.specs.Past.{Coming, answers_of, controller_of, first_of, judged_of, judgement_by, judgements_in, later_of, note_at, note_client, note_controller, note_member, note_messages, numbers_on, onto, past, with_reply}
 use Rattle.step_notes.proofs.Controllers.JudgedStepLaws.{Told, by_names, how_is}
 use Rattle.domain_world.proofs.Judgements.JudgedLaws.{AreRight, judged_rightly}
+use Rattle.domain_world.proofs.Frames.TurnFrameLaws.{turns_judged, turns_judgements}
+use Rattle.domain_world.proofs.Frames.EndFrameLaws.{EndFact, IsCalm, KeepsEnds, ends_after}
 
 -- ---- what is told of calls
 
@@ -296,6 +286,14 @@ IsNoBytes (event.Dialled link) = Unit {0}
 IsNoBytes event.DialFailed = Unit {0}
 IsNoBytes event.Stop = Unit {0}
 
+pub calm_bytes : (what : Event) → IsCalm what → IsNoBytes what
+calm_bytes (event.Bytes link piece) calm = calm
+calm_bytes (event.Opened link) calm = tt
+calm_bytes (event.Closed link) calm = tt
+calm_bytes (event.Dialled link) calm = tt
+calm_bytes event.DialFailed calm = tt
+calm_bytes event.Stop calm = tt
+
 opened_quiet : (full : Bool) (controller at link : ℕ) (links : LinkMap) (computers : Computers) →
     judgements_in (given_by (Controller controller) (open_by full link (record { computers = computers; actions = [] }) links).0.actions) at ≡ []
 opened_quiet false controller at link links computers = refl
@@ -330,43 +328,6 @@ end_quiet (Controller controller) what s at none = found_quiet (slice_get s.ends
 end_quiet (Member member) what s at none = member_quiet member (acting.hear (Member member) what s).actions at
 end_quiet (Client client) what s at none = client_quiet client (acting.hear (Client client) what s).actions at
 
--- ---- what ends do
-
-closed_quiet : (end : Option EndId) (link : ℕ) (s : State) (at : ℕ) → judgements_in (closed_at end link s).given at ≡ []
-closed_quiet None link s at = refl
-closed_quiet (Some end) link s at = end_quiet end (event.Closed link) s at tt
-
-close_quiet : (there : Option OpenLink) (end : EndId) (link : ℕ) (s : State) (at : ℕ) → judgements_in (close_open there end link s).given at ≡ []
-close_quiet None end link s at = refl
-close_quiet (Some there) end link s at = closed_quiet (other_hearer end there) link (shut_link link s) at
-
-perform_quiet : (end : EndId) (what : Action) (s : State) (at : ℕ) → judgements_in (perform end what s).given at ≡ []
-perform_quiet end (action.Keep bytes) s at = refl
-perform_quiet end (action.Close link cause) s at = close_quiet (lookup same_number link s.open_links) end link s at
-perform_quiet end (action.Send link bytes) s at = refl
-perform_quiet end (action.Dial peer) s at = refl
-perform_quiet end (action.Told link outcome) s at = refl
-perform_quiet end (action.Judged how) s at = refl
-
-both_quiet : (first later : Given) (at : ℕ) → judgements_in first at ≡ [] → judgements_in later at ≡ [] → judgements_in (first ++ later) at ≡ []
-both_quiet first later at none neither =
-    judgements_append first later at ∙ ap (λ told. told ++ judgements_in later at) none ∙ neither
-
-all_quiet : (end : EndId) (actions : List Action) (s : State) (at : ℕ) → judgements_in (perform_all end actions s).given at ≡ []
-all_quiet end [] s at = refl
-all_quiet end (what ∷ actions) s at =
-    both_quiet (perform end what s).given (perform_all end actions (perform end what s).state).given at
-    (perform_quiet end what s at) (all_quiet end actions (perform end what s).state at)
-
-done_told : (end : EndId) (heard : Hears) (at : ℕ) → judgements_in (done end heard).given at ≡ judgements_in (given_by end heard.actions) at
-done_told end heard at =
-    judgements_append (given_by end heard.actions) (perform_all end heard.actions heard.state).given at
-    ∙ ap (λ rest. judgements_in (given_by end heard.actions) at ++ rest) (all_quiet end heard.actions heard.state at)
-    ∙ append-nil (judgements_in (given_by end heard.actions) at)
-
-hears_quiet : (end : EndId) (what : Event) (s : State) (at : ℕ) → IsNoBytes what → judgements_in (hears end what s).given at ≡ []
-hears_quiet end what s at none = done_told end (acting.hear end what s) at ∙ end_quiet end what s at none
-
 -- ---- what is written down as bytes come
 
 onto_append : {T : Type 0} (items later older : List T) → onto (items ++ later) older ≡ onto later (onto items older)
@@ -392,194 +353,80 @@ judged_told (one ∷ answers) numbers =
     reply_told one.judging (first_of numbers) (judged_of answers (later_of one.sends numbers))
     ∙ ap (λ rest. telling_if one.judging ++ rest) (judged_told answers (later_of one.sends numbers))
 
--- The calls that are judged in a part of a move are those whose judgements were told in it, and no judgement is written
--- down yet.
-pub record Writes (at : ℕ) (given : Given) (old new : Book) : Type 0 where
-  pub judged : tellings new.judged ≡ onto (judgements_in given at) (tellings old.judged)
-  pub judgements : new.judgements ≡ old.judgements
+-- the calls that are written down are those whose judgements were told, in this move or before
+abbrev AreTold : ℕ → Given → Book → Type 0
+AreTold at given b = tellings b.judged ≡ onto (judgements_in given at) b.judgements
 
-quiet_writes : (at : ℕ) (given : Given) (b : Book) → judgements_in given at ≡ [] → Writes at given b b
-quiet_writes at given b none = record { judged = ap (λ told. onto told (tellings b.judged)) (sym none); judgements = refl }
+-- what more is told is told of calls
+more_told : (at : ℕ) (given more : Given) (old new : Book) → AreTold at given old → tellings new.judged ≡ onto (judgements_in more at) (tellings old.judged) →
+    new.judgements ≡ old.judgements → AreTold at (given ++ more) new
+more_told at given more old new told judged same =
+    judged
+    ∙ ap (λ all. onto (judgements_in more at) all) (told ∙ ap (λ (judgements : List JudgementTold). onto (judgements_in given at) judgements) (sym same))
+    ∙ sym (onto_append (judgements_in given at) (judgements_in more at) new.judgements)
+    ∙ ap (λ all. onto all new.judgements) (sym (judgements_append given more at))
 
-silent_writes : (at : ℕ) (given : Given) (old new : Book) → judgements_in given at ≡ [] → new.judged ≡ old.judged → new.judgements ≡ old.judgements → Writes at given old new
-silent_writes at given old new none same also =
-    record { judged = ap tellings same ∙ ap (λ told. onto told (tellings old.judged)) (sym none); judgements = also }
+-- nothing more is told
+none_told : (at : ℕ) (given more : Given) (old new : Book) → AreTold at given old → judgements_in more at ≡ [] → new.judged ≡ old.judged → new.judgements ≡ old.judgements →
+    AreTold at (given ++ more) new
+none_told at given more old new told none judged same =
+    more_told at given more old new told (ap tellings judged ∙ ap (λ all. onto all (tellings old.judged)) (sym none)) same
 
-found_writes : (found : Option ControllerState) (controller : ℕ) (w : Coming) (piece : List ℕ) (s after : State) (b : Book) →
-    Writes w.at (given_by (Controller controller) (controller_step found controller (event.Bytes w.link piece) s.moment s.ends s.chances).actions)
-    b (note_controller found controller w piece s after b)
-found_writes None controller w piece s after b = record { judged = refl; judgements = refl }
-found_writes (Some c) controller w piece s after b = record {
-  judged = tellings_onto (judged_of (answers_of controller c w piece s) (numbers_on w.link true s.bag after.bag)) b.judged
-      ∙ ap (λ told. onto told (tellings b.judged)) (judged_told (answers_of controller c w piece s) (numbers_on w.link true s.bag after.bag)
-      ∙ sym (step_told c.running w.at controller w.unit w.link piece c s.moment s.chances.left));
-  judgements = refl;
-}
+controller_told : (found : Option ControllerState) (controller : ℕ) (w : Coming) (piece : List ℕ) (s after : State) (given : Given) (b : Book) → AreTold w.at given b →
+    AreTold w.at (given ++ given_by (Controller controller) (controller_step found controller (event.Bytes w.link piece) s.moment s.ends s.chances).actions)
+    (note_controller found controller w piece s after b)
+controller_told None controller w piece s after given b told = none_told w.at given [] b b told refl refl refl
+controller_told (Some c) controller w piece s after given b told =
+    let numbers : List ℕ = numbers_on w.link true s.bag after.bag in
+    more_told w.at given _ b (note_controller (Some c) controller w piece s after b) told
+    (tellings_onto (judged_of (answers_of controller c w piece s) numbers) b.judged
+    ∙ ap (λ all. onto all (tellings b.judged)) (judged_told (answers_of controller c w piece s) numbers
+    ∙ sym (step_told c.running w.at controller w.unit w.link piece c s.moment s.chances.left)))
+    refl
 
-given_writes : (at : ℕ) (given other : Given) (old new : Book) → judgements_in other at ≡ judgements_in given at → Writes at given old new → Writes at other old new
-given_writes at given other old new same writes =
-    record { judged = writes.judged ∙ ap (λ told. onto told (tellings old.judged)) (sym same); judgements = writes.judgements }
-
-pub turns_judged : (controller : ℕ) (units : List (ServedUnit AtTurn TurnTalk)) (unit : Option ℕ) (numbers : List ℕ) (b : Book) → (note_turns controller units unit numbers b).judged ≡ b.judged
-turns_judged controller [] unit numbers b = refl
-turns_judged controller (served ∷ units) unit numbers b =
-    turns_judged controller units unit (later_of (turn_note controller served).sends numbers) (note_turn (turn_note controller served) served unit (first_of numbers) b)
-
-turns_judgements : (controller : ℕ) (units : List (ServedUnit AtTurn TurnTalk)) (unit : Option ℕ) (numbers : List ℕ) (b : Book) →
-    (note_turns controller units unit numbers b).judgements ≡ b.judgements
-turns_judgements controller [] unit numbers b = refl
-turns_judgements controller (served ∷ units) unit numbers b =
-    turns_judgements controller units unit (later_of (turn_note controller served).sends numbers) (note_turn (turn_note controller served) served unit (first_of numbers) b)
-
-member_writes : (found : Option MemberState) (member : ℕ) (w : Coming) (piece : List ℕ) (s after : State) (given : Given) (b : Book) → judgements_in given w.at ≡ [] →
-    Writes w.at given b (note_member found member w piece s after b)
-member_writes None member w piece s after given b none = quiet_writes w.at given b none
-member_writes (Some m) member w piece s after given b none = silent_writes w.at given b _ none
+member_told : (found : Option MemberState) (member : ℕ) (w : Coming) (piece : List ℕ) (s after : State) (given more : Given) (b : Book) → AreTold w.at given b → judgements_in more w.at ≡ [] →
+    AreTold w.at (given ++ more) (note_member found member w piece s after b)
+member_told None member w piece s after given more b told none = none_told w.at given more b b told none refl refl
+member_told (Some m) member w piece s after given more b told none = none_told w.at given more b (note_member (Some m) member w piece s after b) told none
     (turns_judged (controller_of member s) (turn_units m w.link piece s.moment s.chances.left) w.unit (numbers_on w.link false s.bag after.bag) (note_messages member m w piece s b))
     (turns_judgements (controller_of member s) (turn_units m w.link piece s.moment s.chances.left) w.unit (numbers_on w.link false s.bag after.bag) (note_messages member m w piece s b))
 
-client_writes : (found : Option ClientState) (client : ℕ) (w : Coming) (piece : List ℕ) (s : State) (given : Given) (b : Book) → judgements_in given w.at ≡ [] →
-    Writes w.at given b (note_client found client w piece s b)
-client_writes None client w piece s given b none = quiet_writes w.at given b none
-client_writes (Some c) client w piece s given b none = silent_writes w.at given b _ none refl refl
+client_told : (found : Option ClientState) (client : ℕ) (w : Coming) (piece : List ℕ) (s : State) (given more : Given) (b : Book) → AreTold w.at given b → judgements_in more w.at ≡ [] →
+    AreTold w.at (given ++ more) (note_client found client w piece s b)
+client_told None client w piece s given more b told none = none_told w.at given more b b told none refl refl
+client_told (Some c) client w piece s given more b told none = none_told w.at given more b (note_client (Some c) client w piece s b) told none refl refl
 
-end_writes : (end : Option EndId) (w : Coming) (piece : List ℕ) (s after : State) (b : Book) →
-    Writes w.at (hears_if end (event.Bytes w.link piece) s).given b (note_at end w piece s after b)
-end_writes None w piece s after b = quiet_writes w.at [] b refl
-end_writes (Some (Controller controller)) w piece s after b =
-    given_writes w.at (given_by (Controller controller) (acting.hear (Controller controller) (event.Bytes w.link piece) s).actions) _ b _
-    (done_told (Controller controller) (acting.hear (Controller controller) (event.Bytes w.link piece) s) w.at)
-    (found_writes (slice_get s.ends.controllers controller) controller w piece s after b)
-end_writes (Some (Member member)) w piece s after b = member_writes (slice_get s.ends.members member) member w piece s after _ b
-    (done_told (Member member) (acting.hear (Member member) (event.Bytes w.link piece) s) w.at ∙ member_quiet member (acting.hear (Member member) (event.Bytes w.link piece) s).actions w.at)
-end_writes (Some (Client client)) w piece s after b = client_writes (slice_get s.ends.clients client) client w piece s _ b
-    (done_told (Client client) (acting.hear (Client client) (event.Bytes w.link piece) s) w.at ∙ client_quiet client (acting.hear (Client client) (event.Bytes w.link piece) s).actions w.at)
-
-both_write : (at : ℕ) (first later : Given) (old middle new : Book) → Writes at first old middle → Writes at later middle new → Writes at (first ++ later) old new
-both_write at first later old middle new one other = record {
-  judged = other.judged
-      ∙ ap (λ told. onto (judgements_in later at) told) one.judged
-      ∙ sym (onto_append (judgements_in first at) (judgements_in later at) (tellings old.judged))
-      ∙ ap (λ told. onto told (tellings old.judged)) (sym (judgements_append first later at));
-  judgements = other.judgements ∙ one.judgements;
-}
-
-pieces_write : (w : Coming) (pieces : List (List ℕ)) (s : State) (b : Book) → Writes w.at (pieces_come w.back w.link pieces s).given b (note_pieces w pieces s b)
-pieces_write w [] s b = quiet_writes w.at [] b refl
-pieces_write w (piece ∷ pieces) s b =
-    let end : Option EndId = hearer_of w.back (lookup same_number w.link s.open_links) in
-    let after : State = (piece_comes w.back w.link piece s).state in
-    both_write w.at (piece_comes w.back w.link piece s).given (pieces_come w.back w.link pieces after).given b (note_at end w piece s after b) _
-    (end_writes end w piece s after b)
-    (pieces_write w pieces after (note_at end w piece s after b))
-
--- ---- moves
-
-unit_writes : (unit : Option BagUnit) (number link at : ℕ) (s : State) (b : Book) → Writes at (come_by unit link s).given b (note_unit unit number link at s b)
-unit_writes None number link at s b = quiet_writes at [] b refl
-unit_writes (Some unit) number link at s b =
-    pieces_write (record { at = at; unit = Some number; link = link; back = unit.back }) (pieces_of unit.bytes) s b
-
-own_writes : (unit : Option BagUnit) (number at : ℕ) (s : State) (b : Book) → Writes at (come_on_own unit number s).given b (note_own unit number at s b)
-own_writes None number at s b = quiet_writes at [] b refl
-own_writes (Some unit) number at s b = unit_writes (slice_get (settle number s).bag number) number unit.link at (settle number s) b
-
-onward_writes : (number : Option ℕ) (at : ℕ) (s : State) (b : Book) → Writes at (onward_by number s).given b (note_onward number at s b)
-onward_writes None at s b = quiet_writes at [] b refl
-onward_writes (Some number) at s b = own_writes (slice_get s.bag number) number at s b
-
-on_writes : (link : Option ℕ) (number at : ℕ) (s : State) (b : Book) → Writes at (deliver_on link number s).given b (note_on link number at s b)
-on_writes None number at s b = quiet_writes at [] b refl
-on_writes (Some link) number at s b = unit_writes (slice_get (settle number s).bag number) number link at (settle number s) b
-
-chosen_writes : (unit : Option BagUnit) (number link at : ℕ) (s : State) (b : Book) → Writes at (deliver_unit unit number link s).given b (note_chosen unit number link at s b)
-chosen_writes None number link at s b = quiet_writes at [] b refl
-chosen_writes (Some unit) number link at s b = on_writes (chosen_in link (links_of unit.kind s.links)) number at s b
-
-deliver_writes : (number : Option ℕ) (link at : ℕ) (s : State) (b : Book) → Writes at (deliver_by number link s).given b (note_deliver number link at s b)
-deliver_writes None link at s b = quiet_writes at [] b refl
-deliver_writes (Some number) link at s b = chosen_writes (slice_get s.bag number) number link at s b
-
-hand_writes : (link : Option ℕ) (back : Bool) (bytes : List ℕ) (at : ℕ) (s : State) (b : Book) → Writes at (hand_on link back bytes s).given b (note_hand link back bytes at s b)
-hand_writes None back bytes at s b = quiet_writes at [] b refl
-hand_writes (Some link) back bytes at s b =
-    end_writes (hearer_of back (lookup same_number link s.open_links)) (record { at = at; unit = None; link = link; back = back }) bytes s (piece_comes back link bytes s).state b
-
-start_by_quiet : (plan : Option ClientPlan) (client : ℕ) (s : State) (at : ℕ) → judgements_in (start_by plan client s).given at ≡ []
-start_by_quiet None client s at = refl
-start_by_quiet (Some plan) client s at = done_told (Client client) (begun client plan (forget (Client client) s)) at ∙ client_quiet client (begun client plan (forget (Client client) s)).actions at
-
-start_quiet : (client : Option ℕ) (s : State) (at : ℕ) → judgements_in (start_at client s).given at ≡ []
-start_quiet None s at = refl
-start_quiet (Some client) s at = start_by_quiet (slice_get s.client_plans client) client s at
-
-open_quiet : (route : Route) (s : State) (at : ℕ) → judgements_in (open_link route s).given at ≡ []
-open_quiet route s at = hears_quiet (acceptor_of route) (event.Opened (length s.links)) (with_link route s) at tt
-
-stranger_by_quiet : (end : Option EndId) (s : State) (at : ℕ) → judgements_in (stranger_by end s).given at ≡ []
-stranger_by_quiet None s at = refl
-stranger_by_quiet (Some end) s at = open_quiet (Stranger end) s at
-
-stranger_quiet : (number : Option ℕ) (s : State) (at : ℕ) → judgements_in (stranger_at number s).given at ≡ []
-stranger_quiet None s at = refl
-stranger_quiet (Some number) s at = stranger_by_quiet (end_at number s.ends) s at
-
-answer_quiet : (there : Option OpenLink) (end : EndId) (link : ℕ) (s : State) (at : ℕ) → judgements_in (answer_by there end link s).given at ≡ []
-answer_quiet None end link s at =
-    both_quiet (hears end (event.Dialled link) s).given (closed_at (Some end) link (hears end (event.Dialled link) s).state).given at
-    (hears_quiet end (event.Dialled link) s at tt) (closed_quiet (Some end) link (hears end (event.Dialled link) s).state at)
-answer_quiet (Some there) end link s at = hears_quiet end (event.Dialled link) (answered_link link there s) at tt
-
-connect_by_quiet : (route : Option Route) (end : EndId) (s : State) (at : ℕ) → judgements_in (connect_by route end s).given at ≡ []
-connect_by_quiet None end s at = hears_quiet end event.DialFailed s at tt
-connect_by_quiet (Some route) end s at =
-    let later : State = (open_link route s).state in
-    both_quiet (open_link route s).given (answer_by (lookup same_number (length s.links) later.open_links) end (length s.links) later).given at
-    (open_quiet route s at) (answer_quiet (lookup same_number (length s.links) later.open_links) end (length s.links) later at)
-
-connect_quiet : (first : Option Waiting) (s : State) (at : ℕ) → judgements_in (connect_first first s).given at ≡ []
-connect_quiet None s at = refl
-connect_quiet (Some first) s at = connect_by_quiet (route_to first.end (end_of_peer first.peer s.ends)) first.end s at
-
-fail_quiet : (first : Option Waiting) (s : State) (at : ℕ) → judgements_in (fail_first first s).given at ≡ []
-fail_quiet None s at = refl
-fail_quiet (Some first) s at = hears_quiet first.end event.DialFailed s at tt
-
-shut_quiet : (entry : Option (ℕ × OpenLink)) (s : State) (at : ℕ) → judgements_in (shut_by entry s).given at ≡ []
-shut_quiet None s at = refl
-shut_quiet (Some entry) s at =
-    both_quiet (closed_at (hearer_on false entry.1) entry.0 (shut_link entry.0 s)).given
-    (closed_at (hearer_on true entry.1) entry.0 (closed_at (hearer_on false entry.1) entry.0 (shut_link entry.0 s)).state).given at
-    (closed_quiet (hearer_on false entry.1) entry.0 (shut_link entry.0 s) at)
-    (closed_quiet (hearer_on true entry.1) entry.0 (closed_at (hearer_on false entry.1) entry.0 (shut_link entry.0 s)).state at)
-
-shut_at_quiet : (number : Option ℕ) (s : State) (at : ℕ) → judgements_in (shut_at number s).given at ≡ []
-shut_at_quiet None s at = refl
-shut_at_quiet (Some number) s at = shut_quiet (slice_get s.open_links number) s at
-
-act_writes : (what : Move) (at : ℕ) (s : State) (b : Book) → Writes at (act s what).given b (note_coming what at s b)
-act_writes move.Onward at s b = onward_writes (first_waiting s.bag) at s b
-act_writes (move.Deliver unit link) at s b = deliver_writes (chosen_place unit (length s.bag)) link at s b
-act_writes (move.Hand link back bytes) at s b = hand_writes (chosen_in link (handed_links s.links)) back bytes at s b
-act_writes (move.Start number) at s b = quiet_writes at _ b (start_quiet (chosen_place number (length s.ends.clients)) s at)
-act_writes (move.Stranger number) at s b = quiet_writes at _ b (stranger_quiet (chosen_place number (acceptors_in s.ends)) s at)
-act_writes move.Connect at s b = quiet_writes at _ b (connect_quiet (slice_get s.dials 0) (without_first s) at)
-act_writes move.FailDial at s b = quiet_writes at _ b (fail_quiet (slice_get s.dials 0) (without_first s) at)
-act_writes move.Lose at s b = quiet_writes at _ b refl
-act_writes (move.Shut number) at s b = quiet_writes at _ b (shut_at_quiet (chosen_place number (length s.open_links)) s at)
-act_writes (move.Restart number) at s b = quiet_writes at _ b refl
-act_writes (move.Tick more) at s b = quiet_writes at _ b refl
+end_told : (end : EndId) (w : Coming) (piece : List ℕ) (s after : State) (given : Given) (b : Book) → AreTold w.at given b →
+    AreTold w.at (given ++ given_by end (acting.hear end (event.Bytes w.link piece) s).actions) (note_at (Some end) w piece s after b)
+end_told (Controller controller) w piece s after given b told = controller_told (slice_get s.ends.controllers controller) controller w piece s after given b told
+end_told (Member member) w piece s after given b told =
+    member_told (slice_get s.ends.members member) member w piece s after given _ b told (member_quiet member (acting.hear (Member member) (event.Bytes w.link piece) s).actions w.at)
+end_told (Client client) w piece s after given b told =
+    client_told (slice_get s.ends.clients client) client w piece s given _ b told (client_quiet client (acting.hear (Client client) (event.Bytes w.link piece) s).actions w.at)
 
 -- ---- a run
 
-note_told : (w : World) (what : Move) (b : Book) → tellings b.judged ≡ b.judgements → tellings (note w what b).judged ≡ (note w what b).judgements
-note_told w what b told =
-    let writes : Writes w.moves (act w.state what).given b (note_coming what w.moves w.state b) = act_writes what w.moves w.state b in
-    writes.judged ∙ ap (λ old. onto (judgements_in (act w.state what).given w.moves) old) (told ∙ sym writes.judgements)
+abbrev ToldSoFar : EndFact
+ToldSoFar at on ends given b = AreTold at given b
 
-book_told : (moves : List Move) (w : World) (b : Book) → tellings b.judged ≡ b.judgements → tellings (book moves w b).judged ≡ (book moves w b).judgements
-book_told [] w b told = told
-book_told (what ∷ moves) w b told = book_told moves (happens w what) (note w what b) (note_told w what b told)
+told_keeps : KeepsEnds ToldSoFar
+told_keeps = record {
+  calm = λ at on end what s given b none told. none_told at given (given_by end (acting.hear end what s).actions) b b told (end_quiet end what s at (calm_bytes what none)) refl refl;
+  dialled = λ at end link s given b side told.
+      none_told at given (given_by end (acting.hear end (event.Dialled link) s).actions) b b told (end_quiet end (event.Dialled link) s at tt) refl refl;
+  opens = λ at route s given b told.
+      let end : EndId = acceptor_of route in
+      let what : Event = event.Opened (length s.links) in
+      none_told at given (given_by end (acting.hear end what (with_link route s)).actions) b b told (end_quiet end what (with_link route s) at tt) refl refl;
+  begins = λ at client plan s b is told.
+      none_told at [] (given_by (Client client) (begun client plan s).actions) b b told (client_quiet client (begun client plan s).actions at) refl refl;
+  comes = λ end w piece s given b side came told. end_told end w piece s (hears end (event.Bytes w.link piece) s).state given b told;
+  renews = λ at end s b told. told;
+  over = λ at on next s given b told. told;
+}
+
+judgements_told : (plan : Plan) (moves : List Move) → tellings (past plan moves).book.judged ≡ (past plan moves).book.judgements
+judgements_told plan moves = ends_after ToldSoFar told_keeps plan moves (λ on. refl)
 
 -- ---- each is right
 
@@ -634,11 +481,11 @@ all_rightly (j ∷ judgings) right = one_rightly j.how j (tellings judgings) jud
 -- in every run a controller passes an authenticator exactly where it is the next one
 pub passes_the_next : (plan : Plan) (moves : List Move) → PassesTheNextCredential (past plan moves)
 passes_the_next plan moves =
-    subst (λ told. AreRightlyTold told (past plan moves).book.judged) (book_told moves (first_world plan) blank refl)
+    subst (λ told. AreRightlyTold told (past plan moves).book.judged) (judgements_told plan moves)
     (all_rightly (past plan moves).book.judged (judged_rightly plan moves))
 
 -- and it tells of calls alone
 pub tells_of_calls : (plan : Plan) (moves : List Move) → TellsOfCallsAlone (past plan moves)
 tells_of_calls plan moves =
-    subst (λ told. AllByRecursion (λ (one : JudgementTold). judges_call one.how ≡ true) told) (book_told moves (first_world plan) blank refl)
+    subst (λ told. AllByRecursion (λ (one : JudgementTold). judges_call one.how ≡ true) told) (judgements_told plan moves)
     (all_judge (past plan moves).book.judged (judged_rightly plan moves))

@@ -19,20 +19,20 @@ use Rattle.member_server.specs.declared.state.TurnTalk.{TurnTalk}
 use Rattle.step_notes.specs.ControllerNotes.{Answered, Where, answer_on, call_answer, channel_in, has_passed, heard_answer, judging_by, judging_of, opened_by, opening, passing, units_of_controller}
 use Rattle.step_notes.specs.Judged.{channel_if, passed_channel}
 use Rattle.step_notes.specs.Marking.{clashes, is_channel, sent_channel}
-use Rattle.step_notes.specs.MemberNotes.{turn_note, turn_units}
-use Rattle.step_notes.specs.Records.{Book, Judging, Sent, blank}
+use Rattle.step_notes.specs.MemberNotes.{turn_units}
+use Rattle.step_notes.specs.Records.{Book, Judging, Sent}
 use Rattle.step_notes.specs.Served.{ServedUnit, work_after}
 use Rattle.world_moves.specs.declared.links.EndId.{EndId}
 use Rattle.world_moves.specs.declared.links.EndId.TheVariants.{Controller, Member, Client}
 use Rattle.world_moves.specs.declared.moves.Move.{Move}
 use Rattle.world_moves.specs.declared.plan.Plan.{Plan}
 use Rattle.world_moves.specs.declared.state.State.{State}
-use Rattle.world_moves.specs.World.{first_world}
 use Rattle.domain_world.specs.Accepting.Answered.{PassesAreUnclashed}
-use Rattle.domain_world.specs.Past.{Coming, answers_of, any_clash, at_controller, controller_of, first_of, judged_of, later_of, note_at, note_client, note_controller, note_member, note_messages, note_turn, note_turns, numbers_on, onto, past, with_reply}
+use Rattle.domain_world.specs.Past.{Coming, answers_of, any_clash, at_controller, controller_of, first_of, judged_of, later_of, note_at, note_client, note_controller, note_member, note_messages, note_turns, numbers_on, onto, past, with_reply}
 use Rattle.channel_events.proofs.ListLaws.{all_weaker, got_append}
 use Rattle.domain_world.proofs.Frames.BookFrameLaws.{book_holds}
 use Rattle.domain_world.proofs.Judgements.JudgedLaws.{onto_hold}
+use Rattle.domain_world.proofs.Frames.TurnFrameLaws.{notes_keep}
 
 -- ---- what is to hold
 
@@ -138,10 +138,8 @@ controller_unclashed (Some c) at w piece s after b all = λ apart.
 
 turns_unclashed : (controller : ℕ) (units : List (ServedUnit AtTurn TurnTalk)) (unit : Option ℕ) (numbers : List ℕ) (b : Book) → AreUnclashed b →
     AreUnclashed (note_turns controller units unit numbers b)
-turns_unclashed controller [] unit numbers b all = all
-turns_unclashed controller (served ∷ units) unit numbers b all =
-    turns_unclashed controller units unit (later_of (turn_note controller served).sends numbers) (note_turn (turn_note controller served) served unit (first_of numbers) b)
-    (λ apart. all (or_false b.clash (clashes (turn_note controller served).checked unit b.sent) apart).0)
+turns_unclashed controller units unit numbers b all =
+    notes_keep AreUnclashed unit (λ note served number later so apart. so (or_false later.clash (clashes note.checked unit later.sent) apart).0) controller units numbers b all
 
 member_unclashed : (found : Option MemberState) (at : ℕ) (w : Coming) (piece : List ℕ) (s after : State) (b : Book) → AreUnclashed b →
     AreUnclashed (note_member found at w piece s after b)
@@ -162,4 +160,4 @@ end_unclashed (Client at) w piece s after b all = client_unclashed (slice_get s.
 -- in every run
 pub passes_unclashed : (plan : Plan) (moves : List Move) → PassesAreUnclashed (past plan moves)
 passes_unclashed plan moves =
-    book_holds AreUnclashed end_unclashed (λ at given after b all. sent_more b _ all) moves (first_world plan) blank (λ apart. tt)
+    book_holds AreUnclashed end_unclashed (λ at given after b all. sent_more b _ all) plan moves (λ apart. tt)

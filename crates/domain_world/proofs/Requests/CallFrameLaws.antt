@@ -1,16 +1,15 @@
 -- What is known of calls is kept through all that happens in a run whose ends are quiet: each unit that comes on the
 -- link of a turn is whole. So it is of each schedule. It serves `runs_stand_so`.
-use Rattle.std.proofs.Common.{◌≡◌, ◌⊎◌, ℕ, zero, suc, ◌+◌, ◌*◌, ◌≤◌, ◌==◌, Bool, true, false, List, [], ◌∷◌, drop, length, inl, inr, Option, Some, None, slice_get, refl, sym, ap, ◌∙◌, subst, arith}
+use Rattle.std.proofs.Common.{◌≡◌, ◌⊎◌, ℕ, zero, suc, ◌+◌, ◌*◌, ◌≤◌, ◌==◌, Bool, true, false, List, [], ◌∷◌, length, inl, inr, Option, Some, None, slice_get, refl, sym, ap, ◌∙◌, subst, arith}
 use Rattle.std.specs.Prelude.{◌-◌, replicate}
 use Rattle.std.specs.List.{AllByRecursion}
 use Rattle.std.proofs.lemmas.Bool.{eqb-true}
-use Rattle.std.proofs.lemmas.List.{drop_all, take_all}
 use Rattle.outside.specs.declared.action.Action.{Action}
 use Rattle.outside.specs.declared.action.Action.TheVariants.{Keep, Send, Dial, Close, Told, Judged}
 use Rattle.outside.specs.declared.event.Event.{Event}
 use Rattle.outside.specs.declared.event.Event.TheVariants as event
 use Rattle.channel_client.specs.declared.state.Pending.{Pending}
-use Rattle.channel_events.specs.Marks.{OneOf, Plain}
+use Rattle.channel_events.specs.Marks.{Plain}
 use Rattle.channel_events.specs.RequestSteps.{RequestersKeepCallsApart}
 use Rattle.channel_events.specs.Requests.{CallsAreApart, CallsStayApart, Requests}
 use Rattle.channel_events.proofs.ListLaws.{one_weaker}
@@ -38,36 +37,35 @@ use Rattle.world_moves.specs.declared.links.EndId.TheVariants.{Controller, Membe
 use Rattle.world_moves.specs.declared.links.LinkKind.{LinkKind}
 use Rattle.world_moves.specs.declared.links.LinkKind.TheVariants as kind
 use Rattle.world_moves.specs.declared.links.Route.{Route}
-use Rattle.world_moves.specs.declared.links.Route.TheVariants.{ToMember, ToController, Stranger}
+use Rattle.world_moves.specs.declared.links.Route.TheVariants.{ToController}
 use Rattle.world_moves.specs.declared.moves.Move.{Move}
 use Rattle.world_moves.specs.declared.plan.Plan.{Plan}
 use Rattle.world_moves.specs.declared.state.State.{State}
 use Rattle.world_moves.specs.Acting.{Given, bag_unit, hear, heard_by, hears, perform_all, perform_quietly, send_on}
-use Rattle.world_moves.specs.Bag.{AreShortUnits, HaveBytes, piece_limit, pieces_of}
+use Rattle.world_moves.specs.Bag.{AreShortUnits, HaveBytes}
 use Rattle.world_moves.specs.Draws.{DrawsDiffer}
 use Rattle.world_moves.specs.Ends.{actions_by, member_step, renew_client, renew_controller, renew_member}
 use Rattle.world_moves.specs.Forms.{IsSchedule}
-use Rattle.world_moves.specs.Links.{acceptor_of, dialler_of, is_accepted_by, kind_of}
+use Rattle.world_moves.specs.Links.{acceptor_of, is_accepted_by, kind_of}
 use Rattle.world_moves.specs.Moving.{begun, renewed, with_link}
 use Rattle.world_moves.specs.World.{first_world}
-use Rattle.world_moves.proofs.BagLaws.{pieces_more, pieces_none}
 use Rattle.domain_world.specs.Accepting.Carried.{IsWholeUnit}
 use Rattle.domain_world.specs.Accepting.Runs.{AskedIsOut, BagIsWhole, IsOut, IsQuiet, IsQuietTurn, RunsStandSo, Shows}
 use Rattle.domain_world.specs.Past.{Coming, Past, controller_of, note_at, note_given, note_member, past, sent_at}
-use Rattle.domain_world.proofs.Accepting.LetInStepLaws.{IsDialledBy, Meets, last_accepted}
+use Rattle.domain_world.proofs.Accepting.LetInStepLaws.{IsDialledBy, Meets, calm_meets, last_accepted, side_meets}
 use Rattle.domain_world.proofs.Accepting.QuietRunLaws.{one_piece, has_bytes, is_quiet, quiet_first, quiet_keeps}
 use Rattle.domain_world.proofs.Accepting.QuietStepLaws.{QuietAction, QuietFact}
 use Rattle.domain_world.proofs.Accepting.RunBeginLaws.{first_apart}
 use Rattle.domain_world.proofs.Frames.BagFrameLaws.{IsServer}
 use Rattle.domain_world.proofs.Frames.ComingLaws.{CameFrom}
 use Rattle.domain_world.proofs.Frames.MarkPlaceLaws.{got_map}
-use Rattle.domain_world.proofs.Frames.OpenMadeLaws.{IsAtSide}
-use Rattle.domain_world.proofs.Frames.StepFrameLaws.{AnyAction, ActionFact, BothFacts, BothFine, HasBytes, HoldsAfterRun, IsCalm, Keeps, NoFact, RunFact, join, run_keeps, with_side}
+use Rattle.domain_world.proofs.Frames.StepFrameLaws.{AnyAction, ActionFact, BothFacts, BothFine, HoldsAfterRun, Keeps, NoFact, RunFact, join, run_keeps, with_side}
 use Rattle.domain_world.proofs.Requests.CallComesLaws.{IsWhole, KeptAfter, KeptIn, client_comes, controller_comes, other_comes, whole_comes}
 use Rattle.domain_world.proofs.Requests.CallHoldsLaws.{CallsHold, differ_front, link_more, marks_in, requests_at, sent_more}
 use Rattle.domain_world.proofs.Requests.CallStepLaws.{CallLaws, client_anew, client_hears, controller_anew, controller_hears, member_anew, member_hears}
 use Rattle.domain_world.proofs.Requests.LooserLaws.{NoCalls}
 use Rattle.domain_world.proofs.Requests.OutStepLaws.{IsOther, IsOutIn, MemberHolds, OutFor, none_out}
+use Rattle.domain_world.proofs.Frames.MoveFrameLaws.{HasBytes}
 
 -- ---- a unit that comes on the link of a turn is whole, and comes in one piece
 
@@ -122,30 +120,6 @@ CallsKept n s given b = KeptIn n s b
 any_fine : (end : EndId) (links : List Route) (actions : List Action) → AllByRecursion (AnyAction end links) actions
 any_fine end links [] = tt
 any_fine end links (what ∷ actions) = (tt, any_fine end links actions)
-
--- ---- events
-
-calm_meets : (end : EndId) (links : List Route) (what : Event) → IsCalm what → Meets end links what
-calm_meets (Controller at) links what calm = tt
-calm_meets (Client at) links what calm = tt
-calm_meets (Member at) links (event.Bytes link piece) calm = absurd calm
-calm_meets (Member at) links (event.Opened link) calm = absurd calm
-calm_meets (Member at) links (event.Closed link) calm = (tt, tt)
-calm_meets (Member at) links (event.Dialled link) calm = absurd calm
-calm_meets (Member at) links event.DialFailed calm = (tt, tt)
-calm_meets (Member at) links event.Stop calm = (tt, tt)
-
-dialled_by : (links : List Route) (link at : ℕ) (route : Route) → slice_get links link ≡ Some route → dialler_of route ≡ Some (Member at) → IsDialledBy links at link
-dialled_by links link at (ToMember client member) made side = let x = side in cc
-dialled_by links link at (Stranger to) made side = let x = side in cc
-dialled_by links link at (ToController member controller) made side =
-    let same : member ≡ at = (let x = side in cc) in
-    record { controller = controller; at = made ∙ ap (λ (k : ℕ). Some (ToController k controller)) same }
-
-side_meets : (end : EndId) (links : List Route) (link : ℕ) → IsAtSide links link true end → Meets end links (event.Dialled link)
-side_meets (Controller at) links link side = tt
-side_meets (Client at) links link side = tt
-side_meets (Member at) links link side = (dialled_by links link at side.route side.made side.side, tt)
 
 -- units that were made for nothing are no calls
 pub plain_calls : (at count : ℕ) → NoCalls (marks_in (replicate count (sent_at at Plain)))

@@ -41,18 +41,17 @@ use Rattle.step_notes.specs.CallLogons.{AreFirst, AreForLogon, CarriesItsLogon, 
 use Rattle.step_notes.specs.ChannelNames.{AreFramesOf, sends_in}
 use Rattle.step_notes.specs.Marking.{mark_if, turn_marks}
 use Rattle.step_notes.specs.MemberNotes.{turn_note, turn_units, turn_units_by, turn_units_in, turn_units_on}
-use Rattle.step_notes.specs.Records.{Book, MessageTaken, blank}
+use Rattle.step_notes.specs.Records.{MessageTaken}
 use Rattle.step_notes.specs.Served.{ServedUnit, served_units, units_if_taken, units_on, work_after}
 use Rattle.world_moves.specs.declared.moves.Move.{Move}
 use Rattle.world_moves.specs.declared.plan.Plan.{Plan}
-use Rattle.world_moves.specs.World.{World, first_world, happens, run}
 use Rattle.domain_world.specs.Claims.AskedFor.{AreSentForMessage, AsksForItsMessage, IsForItsMessage, IsOfMessage, MembersAskForMessages, SendsAskForMessages}
-use Rattle.domain_world.specs.Past.{book, note, past}
+use Rattle.domain_world.specs.Past.{past}
 use Rattle.step_notes.proofs.Members.CallKeptLaws.{at_channel}
 use Rattle.step_notes.proofs.Members.CallLogonLaws.{calls_carry}
 use Rattle.step_notes.proofs.Members.KeptLogonLaws.{HasFor, IsFor, KeptIn, OfEach, each_found, turn_keeps}
 use Rattle.step_notes.proofs.Members.RequestOrderLaws.{requests_first}
-use Rattle.domain_world.proofs.Accepting.LetInLaws.{HoldsOf, first_holds, note_holds}
+use Rattle.domain_world.proofs.Accepting.LetInLaws.{HoldsOf, run_holds}
 use Rattle.domain_world.proofs.Accepting.MessageNoteLaws.{one_so}
 use Rattle.domain_world.proofs.Requests.KeptAskLaws.{members_ask, one_asks}
 
@@ -228,14 +227,10 @@ module _ (most member : ℕ) (messages : List MessageTaken) where
 
 -- ---- a run
 
-run_holds : LetsInTheGranted → (moves : List Move) (w : World) (b : Book) → HoldsOf w b → HoldsOf (run moves w) (book moves w b)
-run_holds law [] w b holds = holds
-run_holds law (what ∷ moves) w b holds = run_holds law moves (happens w what) (note w what b) (note_holds law w what b holds)
-
 -- in every run each Logon call that goes out next is for a message
 pub members_ask_for_messages : LetsInTheGranted → (plan : Plan) (moves : List Move) → MembersAskForMessages (past plan moves)
 members_ask_for_messages law plan moves member m there controller number piece now left =
-    let holds : HoldsOf (past plan moves).world (past plan moves).book = run_holds law moves (first_world plan) blank (first_holds plan) in
+    let holds : HoldsOf (past plan moves).world (past plan moves).book = run_holds law plan moves in
     let most : ℕ = (past plan moves).world.moves in
     let messages : List MessageTaken = (past plan moves).book.messages in
     all_ask most member messages controller (turn_units m number piece now left)

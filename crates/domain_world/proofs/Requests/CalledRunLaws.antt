@@ -31,9 +31,10 @@ use Rattle.domain_world.proofs.Accepting.QuietStepLaws.{MemberIsQuiet, QuietActi
 use Rattle.domain_world.proofs.Accepting.QuietTurnLaws.{IfOn}
 use Rattle.domain_world.proofs.Challenges.MessageApartLaws.{messages_apart}
 use Rattle.domain_world.proofs.Frames.BagStepLaws.{run_fits}
-use Rattle.domain_world.proofs.Frames.StepFrameLaws.{ActionFact, HasBytes, Keeps, NoFact, RunFact}
+use Rattle.domain_world.proofs.Frames.StepFrameLaws.{ActionFact, Keeps, NoFact, RunFact}
 use Rattle.domain_world.proofs.Requests.CalledUnitLaws.{CallSide, CalledIn, IsAskedOn, IsCallAt, IsGood, called_keep}
 use Rattle.domain_world.proofs.Requests.OwnMessageLaws.{AllKept, all_fresh, kept_written, messages_in}
+use Rattle.domain_world.proofs.Frames.MoveFrameLaws.{HasBytes}
 
 -- ---- the message of a link is one
 

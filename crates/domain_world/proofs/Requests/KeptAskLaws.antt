@@ -11,7 +11,7 @@ use Rattle.member_server.specs.State.{State as MemberState}
 use Rattle.domain_controller.specs.State.{State as ControllerState}
 use Rattle.logon_client.specs.State.{State as ClientState}
 use Rattle.step_notes.specs.CallLogons.{AsksUnlessStopped}
-use Rattle.step_notes.specs.Records.{Book, blank}
+use Rattle.step_notes.specs.Records.{Book}
 use Rattle.world_moves.specs.declared.links.EndId.{EndId}
 use Rattle.world_moves.specs.declared.links.EndId.TheVariants.{Controller, Member, Client}
 use Rattle.world_moves.specs.declared.links.Route.{Route}
@@ -19,7 +19,6 @@ use Rattle.world_moves.specs.declared.moves.Move.{Move}
 use Rattle.world_moves.specs.declared.plan.Plan.{Plan}
 use Rattle.world_moves.specs.Ends.{EndStates, client_step, controller_step, end_step, member_step}
 use Rattle.world_moves.specs.Links.{acceptor_of}
-use Rattle.world_moves.specs.World.{first_world}
 use Rattle.domain_world.specs.Claims.AskedFor.{MembersAskForKept}
 use Rattle.domain_world.specs.Past.{past}
 use Rattle.step_notes.proofs.Members.CallKeptLaws.{fresh_asks, step_asks}
@@ -87,4 +86,4 @@ asks_written = record {
 
 -- in every run each member asks for what it keeps
 pub members_ask : (plan : Plan) (moves : List Move) → MembersAskForKept (past plan moves)
-members_ask plan moves = run_stays {X = Unit {0}} (λ (b : Book). tt) Ask asks_written moves (first_world plan) blank (fresh_ask plan.members)
+members_ask plan moves = run_stays {X = Unit {0}} (λ (b : Book). tt) Ask asks_written plan moves (fresh_ask plan.members)

@@ -19,7 +19,7 @@ use Rattle.member_server.specs.declared.state.Running.{Running}
 use Rattle.member_server.specs.declared.state.TurnTalk.{TurnTalk}
 use Rattle.channel_events.specs.Marks.{OneOf}
 use Rattle.step_notes.specs.CallLogons.{AsksUnlessStopped}
-use Rattle.step_notes.specs.MemberNotes.{LinkAt, TurnNote, link_of_place, link_units, message_note, taken_link, turn_note, turn_units}
+use Rattle.step_notes.specs.MemberNotes.{LinkAt, link_of_place, link_units, message_note, taken_link, turn_units}
 use Rattle.step_notes.specs.Records.{Book, MessageTaken}
 use Rattle.step_notes.specs.Served.{ServedUnit}
 use Rattle.world_moves.specs.declared.links.EndId.{EndId}
@@ -28,13 +28,14 @@ use Rattle.world_moves.specs.declared.links.Route.{Route}
 use Rattle.world_moves.specs.declared.state.State.{State}
 use Rattle.world_moves.specs.Ends.{EndStates, client_step, controller_step, end_step, member_step}
 use Rattle.world_moves.specs.Links.{acceptor_of}
-use Rattle.domain_world.specs.Past.{Coming, at_member, change_message, controller_of, first_of, later_of, note_at, note_client, note_controller, note_member, note_messages, note_turn, note_turns, numbers_on, with_answer, with_call}
+use Rattle.domain_world.specs.Past.{Coming, at_member, change_message, controller_of, note_at, note_client, note_controller, note_member, note_messages, note_turns, numbers_on, with_answer, with_call}
 use Rattle.step_notes.proofs.Members.CallKeptLaws.{fresh_asks, step_asks}
 use Rattle.step_notes.proofs.Members.KeptLogonLaws.{Dials, IsFor, KeptIn, bytes_keep, kept_so, one_before, step_keeps}
 use Rattle.step_notes.proofs.Members.UnservedLaws.{LinksIn, Opens, bytes_took, step_known, took_known}
 use Rattle.domain_world.proofs.Accepting.MessageNoteLaws.{changed, one_so}
 use Rattle.domain_world.proofs.Frames.FrameLaws.{Fact, HoldsAfter, IsQuiet, Stays, StaysWritten}
 use Rattle.domain_world.proofs.Judgements.ToldLaws.{IsNoBytes}
+use Rattle.domain_world.proofs.Frames.TurnFrameLaws.{notes_keep}
 
 -- ---- the message of a logon
 
@@ -53,13 +54,12 @@ module _ (Fits : MessageTaken → Type 0) (call : (number : Option ℕ) (message
     (answer : (number : Option ℕ) (message : MessageTaken) → Fits message → Fits (with_answer number message)) where
   pub turns_stay : (controller : ℕ) (units : List (ServedUnit AtTurn TurnTalk)) (unit : Option ℕ) (numbers : List ℕ) (b : Book) → OneOf Fits b.messages →
       OneOf Fits (note_turns controller units unit numbers b).messages
-  turns_stay controller [] unit numbers b one = one
-  turns_stay controller (served ∷ units) unit numbers b one =
-      let note : TurnNote = turn_note controller served in
-      turns_stay controller units unit (later_of note.sends numbers) (note_turn note served unit (first_of numbers) b)
-      (changed Fits (link_of_place note.answered served.work.work.logons) (with_answer unit) (answer unit)
-      (change_message (link_of_place note.called served.work.work.logons) (with_call (first_of numbers)) b.messages)
-      (changed Fits (link_of_place note.called served.work.work.logons) (with_call (first_of numbers)) (call (first_of numbers)) b.messages one))
+  turns_stay controller units unit numbers b one =
+      notes_keep (λ (later : Book). OneOf Fits later.messages) unit
+      (λ note served number later has.
+      changed Fits (link_of_place note.answered served.work.work.logons) (with_answer unit) (answer unit)
+      (change_message (link_of_place note.called served.work.work.logons) (with_call number) later.messages)
+      (changed Fits (link_of_place note.called served.work.work.logons) (with_call number) (call number) later.messages has)) controller units numbers b one
 
 -- of the messages before bytes come at a member, after they are written down
 abbrev pub member_messages : ℕ → MemberState → Coming → List ℕ → State → State → Book → List MessageTaken

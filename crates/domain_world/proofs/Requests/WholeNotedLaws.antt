@@ -216,11 +216,6 @@ module _ (controller : ℕ) (at : AtTurn) (unit : RpcUnit) where
       (subst (λ (all : List (ServedUnit AtTurn TurnTalk)). AreFirst controller all actions) whole.all first))
 
 -- the units that were sent stay as they are
-pub turns_sent : (controller : ℕ) (units : List (ServedUnit AtTurn TurnTalk)) (carried : Option ℕ) (numbers : List ℕ) (b : Book) → (note_turns controller units carried numbers b).sent ≡ b.sent
-turns_sent controller [] carried numbers b = refl
-turns_sent controller (served ∷ units) carried numbers b =
-    turns_sent controller units carried (later_of (turn_note controller served).sends numbers) (note_turn (turn_note controller served) served carried (first_of numbers) b)
-
 -- ---- the request among the new units
 
 -- the bag afterwards: that unit is the first of the new ones

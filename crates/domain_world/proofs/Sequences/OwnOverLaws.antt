@@ -1,7 +1,7 @@
 -- At the end of a move what is known of the calls of a member's turns is known with the turns of the move written down:
 -- it dialled once at most, and then its dial waits. So it is known after a run, if each step keeps it.
 -- It serves `sequences_are_shared`.
-use Rattle.std.proofs.Common.{◌≡◌, ℕ, ◌≤◌, ◌==◌, List, [], ◌∷◌, ◌++◌, inl, inr, Option, Some, None, slice_get, refl, sym, ap, subst, ◌∙◌, arith}
+use Rattle.std.proofs.Common.{◌≡◌, ℕ, ◌≤◌, ◌==◌, List, [], ◌++◌, inl, inr, Option, Some, None, slice_get, sym, ap, ◌∙◌, arith}
 use Rattle.std.proofs.lemmas.List.Elements.{filter-append}
 use Rattle.channel_events.specs.Marks.{Mark}
 use Rattle.member_server.specs.Dials.{TurnsAreDialled}
@@ -14,16 +14,16 @@ use Rattle.world_moves.specs.declared.moves.Move.{Move}
 use Rattle.world_moves.specs.declared.plan.Plan.{Plan}
 use Rattle.world_moves.specs.declared.state.State.{State}
 use Rattle.world_moves.specs.Acting.{Given}
-use Rattle.world_moves.specs.Moving.{act}
-use Rattle.world_moves.specs.World.{World, first_world}
-use Rattle.domain_world.specs.Past.{controller_of, note_coming, note_given, running_in, turns_in}
-use Rattle.domain_world.proofs.Frames.StepFrameLaws.{ActionFact, HasBytes, HoldsAfterRun, KeepsWith, NoFact, RunFact, run_beside}
+use Rattle.world_moves.specs.World.{first_world}
+use Rattle.domain_world.specs.Past.{controller_of, note_given, running_in, turns_in}
+use Rattle.domain_world.proofs.Frames.StepFrameLaws.{ActionFact, HoldsAfterRun, KeepsWith, NoFact, RunFact, run_beside}
 use Rattle.domain_world.proofs.Sequences.CallStepLaws.{OwnCalls}
 use Rattle.domain_world.proofs.Sequences.DialCountLaws.{given_dials}
-use Rattle.domain_world.proofs.Sequences.DialWalkLaws.{AtState, move_ends, move_over}
+use Rattle.domain_world.proofs.Sequences.DialWalkLaws.{AtState, OfDials, dials_keep}
 use Rattle.domain_world.proofs.Sequences.OwnFrameLaws.{TurnsKnown}
 use Rattle.domain_world.proofs.Sequences.OwnRunLaws.{all_mine, first_known, turns_keep}
 use Rattle.domain_world.proofs.Sequences.OwnTurnLaws.{TurnsOf, mine, no_times, none_or_one, one_time, times}
+use Rattle.domain_world.proofs.Frames.MoveFrameLaws.{HasBytes}
 
 -- ---- of one member
 
@@ -61,7 +61,5 @@ pub own_run : AsksWhatWaits → TurnsAreDialled → {Over : Type 0} → (Holds :
     ((n at : ℕ) (s : State) (given : Given) (b : Book) → AtState TurnsKnown None [] s given b.turns → Holds n s given b → Holds n s [] (note_given at given s b)) →
     (plan : Plan) (moves : List Move) → HasBytes plan moves → Holds 0 (first_world plan).state [] blank → HoldsAfterRun Holds plan moves
 own_run asks dialled Holds Fine keeps over plan moves has first =
-    run_beside Holds Fine keeps (λ s b. AtState TurnsKnown None [] s [] b.turns) (λ w what b known. move_over TurnsKnown (turns_keep asks dialled) what w b known)
-    (λ n w what b known holds.
-    over n w.moves (act w.state what).state (act w.state what).given (note_coming what w.moves w.state b) (move_ends TurnsKnown (turns_keep asks dialled) what w b known) holds) plan moves has
-    (first_known asks plan) first
+    run_beside Holds Fine keeps (OfDials TurnsKnown (turns_keep asks dialled)) (dials_keep TurnsKnown (turns_keep asks dialled) (Unit {0}))
+    (λ n at on s given b known holds. over n at s given b known holds) plan moves has (λ on. first_known asks plan) first

@@ -30,7 +30,7 @@ use Rattle.member_server.specs.State.{State as MemberState}
 use Rattle.member_server.specs.declared.plan.MemberPlan.{MemberPlan}
 use Rattle.member_server.specs.declared.state.Running.{Running}
 use Rattle.step_notes.specs.MemberNotes.{stamped, turn_by, turn_in, turn_of}
-use Rattle.step_notes.specs.Records.{LogonTurn, blank}
+use Rattle.step_notes.specs.Records.{LogonTurn}
 use Rattle.world_moves.specs.declared.links.EndId.{EndId}
 use Rattle.world_moves.specs.declared.links.EndId.TheVariants.{Controller, Member, Client}
 use Rattle.world_moves.specs.declared.moves.Move.{Move}
@@ -52,7 +52,7 @@ use Rattle.domain_world.proofs.Frames.DrawnRunLaws.{draws_differ}
 use Rattle.domain_world.proofs.Frames.MarkPlaceLaws.{got_map}
 use Rattle.domain_world.proofs.Requests.CallHoldsLaws.{controller_same}
 use Rattle.domain_world.proofs.Sequences.DialCountLaws.{counted, dials_out, done_same, forgotten_few, given_dials, gone_all, is_member, none_counted, one_if, waiting_dials}
-use Rattle.domain_world.proofs.Sequences.DialWalkLaws.{AtState, KeepsDials, run_part}
+use Rattle.domain_world.proofs.Sequences.DialWalkLaws.{AtState, KeepsDials, dials_after}
 use Rattle.domain_world.proofs.Sequences.OwnFrameLaws.{TurnsHold, TurnsKnown, begin_holds, hear_holds, same_turns}
 use Rattle.domain_world.proofs.Sequences.OwnTurnLaws.{AreDrawn, TurnsIf, TurnsOf, both_drawn, mine, times, turn_drawn}
 use Rattle.domain_world.proofs.Sequences.SeedTurnLaws.{Turned, on_channel, stamps_on, turned_blank}
@@ -385,5 +385,5 @@ own_seed s k channel o turns holds stands =
 pub sequences_own : AsksWhatWaits → TurnsAreDialled → (plan : Plan) (moves : List Move) → SequencesAreOwn (past plan moves)
 sequences_own asks dialled plan moves member channel o stands =
     let known : AtState TurnsKnown None [] (past plan moves).world.state [] (past plan moves).book.turns =
-    run_part TurnsKnown (turns_keep asks dialled) moves (first_world plan) blank (first_known asks plan) in
+    dials_after TurnsKnown (turns_keep asks dialled) plan moves (first_known asks plan) in
     own_seed (past plan moves).world.state member channel o (past plan moves).book.turns (known (draws_differ plan moves)) stands

@@ -32,13 +32,14 @@ use Rattle.domain_world.proofs.Frames.OpenMadeLaws.{IsAtSide}
 use Rattle.domain_world.specs.Accepting.Answered.{IsItsWay}
 use Rattle.domain_world.proofs.Requests.MarkWayLaws.{answers_way}
 use Rattle.domain_world.proofs.Frames.BagFrameLaws.{IsServer}
-use Rattle.domain_world.proofs.Frames.StepFrameLaws.{AnyAction, HasHeard, IsCalm, KeepsWith, RunFact, all_any}
+use Rattle.domain_world.proofs.Frames.StepFrameLaws.{AnyAction, HasHeard, KeepsWith, RunFact, all_any}
 use Rattle.domain_world.proofs.Requests.CallComesLaws.{no_calls_sent, reply_no_call}
 use Rattle.domain_world.proofs.Requests.CallHoldsLaws.{marks_append, marks_in}
 use Rattle.domain_world.proofs.Requests.LooserLaws.{calls_before}
 use Rattle.domain_world.proofs.Requests.WholeNotedLaws.{no_calls_marked}
 use Rattle.domain_world.proofs.Sequences.OwnCarryLaws.{IsNoBytes, book_changed, changed, client_begins, none_if, own_anew}
 use Rattle.domain_world.proofs.Sequences.OwnKeepLaws.{HearsNoUnit, OwnHolds, own_hears}
+use Rattle.domain_world.proofs.Frames.EndFrameLaws.{IsCalm}
 
 calm_none : (what : Event) → IsCalm what → IsNoBytes what
 calm_none (event.Bytes link piece) calm = absurd calm

@@ -34,8 +34,8 @@ use Rattle.domain_world.proofs.Accepting.LetInStepLaws.{IsDialledBy}
 use Rattle.domain_world.proofs.Accepting.TurnFactLaws.{AreApart, GrowsTo, MarksAreKnown, TurnFacts, apart_front, marks_before, past_at}
 use Rattle.domain_world.proofs.Accepting.TurnQuietLaws.{told_yet}
 use Rattle.domain_world.proofs.Accepting.TurnRunLaws.{TurnSide, rests_on}
-use Rattle.domain_world.proofs.Accepting.TurnSideLaws.{TurnSide as RestSide, before, comes, dialled_on, ends_same, first_book, hears as heard_whole, is_back, messages_in, new_in, numbers, sent_stays, turns_clash, turns_links, units_of, whole}
-use Rattle.domain_world.proofs.Challenges.MessageApartLaws.{links_append, links_in}
+use Rattle.domain_world.proofs.Accepting.TurnSideLaws.{TurnSide as RestSide, before, comes, dialled_on, ends_same, first_book, hears as heard_whole, is_back, messages_in, new_in, numbers, sent_stays, turns_clash, units_of, whole}
+use Rattle.domain_world.proofs.Challenges.MessageApartLaws.{links_append, links_in, turns_links}
 use Rattle.domain_world.proofs.Challenges.MessageOnceLaws.{set_cases}
 use Rattle.domain_world.proofs.Frames.ComingLaws.{CameFrom, IsPieceOf, kept_same}
 use Rattle.domain_world.proofs.Frames.OpenMadeLaws.{IsAtSide}
@@ -45,7 +45,7 @@ use Rattle.domain_world.proofs.Requests.CallHoldsLaws.{CallsHold, differ_front, 
 use Rattle.domain_world.proofs.Requests.CallStepLaws.{CallLaws, most_steps}
 use Rattle.domain_world.proofs.Requests.LooserLaws.{IsPlaced, NoCalls, Placed}
 use Rattle.domain_world.proofs.Requests.StepApartLaws.{Differ, PlacedBy}
-use Rattle.domain_world.proofs.Requests.WholeNotedLaws.{placed_part, turns_sent}
+use Rattle.domain_world.proofs.Requests.WholeNotedLaws.{placed_part}
 use Rattle.domain_world.proofs.Sequences.CallTakenLaws.{IsAnswer}
 use Rattle.domain_world.proofs.Sequences.DialCountLaws.{given_append, given_other}
 use Rattle.domain_world.proofs.Sequences.OwnFrameLaws.{StillDrawn}
@@ -57,6 +57,7 @@ use Rattle.domain_world.proofs.Sequences.OwnTakenLaws.{called_on, taken_for}
 use Rattle.domain_world.proofs.Sequences.OwnWalkLaws.{MemberComes}
 use Rattle.domain_world.proofs.Sequences.SeedTurnLaws.{drawn_still}
 use Rattle.domain_world.proofs.Sequences.TurnBookLaws.{member_turns}
+use Rattle.domain_world.proofs.Frames.TurnFrameLaws.{turns_sent}
 
 -- ---- the marks that are written down
 

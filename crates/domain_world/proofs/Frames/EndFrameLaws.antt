@@ -1,0 +1,127 @@
+-- What holds through the moves of a world of its ends, its plans, its maker of challenges and its links, of what ends
+-- gave in the move, and of the book: whatever holds through each step of an end, since actions change none of them.
+-- It is an instance of `MoveFrameLaws`. It serves `controllers_pass_the_next`, `members_let_in_who_asked`,
+-- `runs_are_heard` and others.
+use Rattle.std.proofs.Common.{◌≡◌, ℕ, ◌+◌, List, [], ◌++◌, length, Option, Some, None, slice_get, refl, sym, subst}
+use Rattle.std.specs.Prelude.{Bool, true}
+use Rattle.outside.specs.Drawing.{Drawing}
+use Rattle.outside.specs.declared.action.Action.{Action}
+use Rattle.outside.specs.declared.action.Action.TheVariants.{Keep, Send, Dial, Close, Told, Judged}
+use Rattle.outside.specs.declared.event.Event.{Event}
+use Rattle.outside.specs.declared.event.Event.TheVariants as event
+use Rattle.logon_client.specs.declared.plan.ClientPlan.{ClientPlan}
+use Rattle.member_server.specs.declared.plan.MemberPlan.{MemberPlan}
+use Rattle.step_notes.specs.Records.{Book, blank}
+use Rattle.world_moves.specs.declared.links.EndId.{EndId}
+use Rattle.world_moves.specs.declared.links.EndId.TheVariants.{Client}
+use Rattle.world_moves.specs.declared.links.LinkKind.{LinkKind}
+use Rattle.world_moves.specs.declared.links.LinkKind.TheVariants as kind
+use Rattle.world_moves.specs.declared.links.Route.{Route}
+use Rattle.world_moves.specs.declared.moves.Move.{Move}
+use Rattle.world_moves.specs.declared.plan.Plan.{Plan}
+use Rattle.world_moves.specs.declared.state.State.{State}
+use Rattle.world_moves.specs.Acting.{Given, forget, Heard, bag_unit, given_by, hear, hears, perform_quietly, send_on}
+use Rattle.world_moves.specs.Ends.{EndStates}
+use Rattle.world_moves.specs.Links.{acceptor_of, is_accepted_by, kind_of}
+use Rattle.world_moves.specs.Moving.{begun, renewed, with_link}
+use Rattle.world_moves.specs.World.{first_world}
+use Rattle.domain_world.specs.Past.{Coming, note_at, note_given, past}
+use Rattle.domain_world.proofs.Frames.ComingLaws.{CameFrom}
+use Rattle.domain_world.proofs.Frames.MoveFrameLaws.{HoldsAfterMoves, KeepsMoves, MoveFact, NoSide, moves_keep}
+use Rattle.domain_world.proofs.Frames.OpenMadeLaws.{IsAtSide}
+
+-- ---- what is to hold
+
+-- what actions leave of a state
+pub record Ends : Type 0 where
+  pub client_plans : List ClientPlan
+  pub member_plans : List MemberPlan
+  pub ends : EndStates
+  pub chances : Drawing
+  pub links : List Route
+
+abbrev pub ends_in : State → Ends
+ends_in s = record { client_plans = s.client_plans; member_plans = s.member_plans; ends = s.ends; chances = s.chances; links = s.links }
+
+-- after so many moves, where that comes in this one, if bytes come: of the ends, what ends gave in this move, the book
+abbrev pub EndFact : Type 1
+EndFact = ℕ → Option Coming → Ends → Given → Book → Type 0
+
+-- an end has heard something
+abbrev pub HasHeard : EndFact → ℕ → Option Coming → EndId → Heard → Given → Book → Type 0
+HasHeard Holds at on end heard given b = Holds at on (ends_in heard.state) (given ++ given_by end heard.actions) b
+
+-- no bytes come, no link opens and none is answered
+abbrev pub IsCalm : Event → Type 0
+IsCalm (event.Bytes link piece) = ⊥
+IsCalm (event.Opened link) = ⊥
+IsCalm (event.Dialled link) = ⊥
+IsCalm (event.Closed link) = Unit {0}
+IsCalm event.DialFailed = Unit {0}
+IsCalm event.Stop = Unit {0}
+
+pub record KeepsEnds (Holds : EndFact) : Type 0 where
+  pub calm : (at : ℕ) (on : Option Coming) (end : EndId) (what : Event) (s : State) (given : Given) (b : Book) → IsCalm what → Holds at on (ends_in s) given b →
+      HasHeard Holds at on end (hear end what s) given b
+  pub dialled : (at : ℕ) (end : EndId) (link : ℕ) (s : State) (given : Given) (b : Book) → IsAtSide s.links link true end → Holds at None (ends_in s) given b →
+      HasHeard Holds at None end (hear end (event.Dialled link) s) given b
+  pub opens : (at : ℕ) (route : Route) (s : State) (given : Given) (b : Book) → Holds at None (ends_in s) given b →
+      HasHeard Holds at None (acceptor_of route) (hear (acceptor_of route) (event.Opened (length s.links)) (with_link route s)) given b
+  pub begins : (at client : ℕ) (plan : ClientPlan) (s : State) (b : Book) → slice_get s.client_plans client ≡ Some plan → Holds at None (ends_in s) [] b →
+      HasHeard Holds at None (Client client) (begun client plan s) [] b
+  pub comes : (end : EndId) (w : Coming) (piece : List ℕ) (s : State) (given : Given) (b : Book) → IsAtSide s.links w.link w.back end → CameFrom w.unit s w piece →
+      Holds w.at (Some w) (ends_in s) given b →
+      HasHeard Holds w.at (Some w) end (hear end (event.Bytes w.link piece) s) given (note_at (Some end) w piece s (hears end (event.Bytes w.link piece) s).state b)
+  pub renews : (at : ℕ) (end : EndId) (s : State) (b : Book) → Holds at None (ends_in s) [] b → Holds at None (ends_in (renewed end s)) [] b
+  -- the move is over, whatever comes in the next one
+  pub over : (at : ℕ) (on next : Option Coming) (s : State) (given : Given) (b : Book) → Holds at on (ends_in s) given b → Holds (at + 1) next (ends_in s) [] (note_given at given s b)
+
+-- ---- actions
+
+bag_unit_ends : (k : LinkKind) (back : Bool) (link : ℕ) (bytes : List ℕ) (s : State) → ends_in (bag_unit k back link bytes s) ≡ ends_in s
+bag_unit_ends kind.Stranger back link bytes s = refl
+bag_unit_ends kind.ToMember back link bytes s = refl
+bag_unit_ends kind.ToController back link bytes s = refl
+
+send_ends : (route : Option Route) (end : EndId) (link : ℕ) (bytes : List ℕ) (s : State) → ends_in (send_on route end link bytes s) ≡ ends_in s
+send_ends None end link bytes s = refl
+send_ends (Some route) end link bytes s = bag_unit_ends (kind_of route) (is_accepted_by end route) link bytes s
+
+act_ends : (end : EndId) (what : Action) (s : State) → ends_in (perform_quietly end what s) ≡ ends_in s
+act_ends end (Keep bytes) s = refl
+act_ends end (Send link bytes) s = send_ends (slice_get s.links link) end link bytes s
+act_ends end (Dial peer) s = refl
+act_ends end (Close link cause) s = refl
+act_ends end (Told link outcome) s = refl
+act_ends end (Judged how) s = refl
+
+-- ---- a run
+
+module _ (Holds : EndFact) (keeps : KeepsEnds Holds) where
+  abbrev pub OfMoves : MoveFact
+  OfMoves n p s given b = Holds p.at p.on (ends_in s) given b
+
+  pub ends_keep : (Known : Type 0) → KeepsMoves Known NoSide OfMoves
+  ends_keep Known = record {
+    closes = λ n p end link s given b work none holds. keeps.calm p.at p.on end (event.Closed link) s given b tt holds;
+    opens = λ n at dial route s given b none holds. keeps.opens at route s given b holds;
+    dialled = λ n at end link s given b side none holds. keeps.dialled at end link s given b side holds;
+    fails = λ n at end s b none holds. keeps.calm at None end event.DialFailed s [] b tt holds;
+    begins = λ n at client plan s b is none holds. keeps.begins at client plan s b is holds;
+    comes = λ n end w piece s given b side came bytes none holds. keeps.comes end w piece s given b side came holds;
+    reaches = λ n w s given b none holds. holds;
+    acts = λ n p end what s given b work none holds. subst (λ (ends : Ends). Holds p.at p.on ends given b) (sym (act_ends end what s)) holds;
+    shuts = λ n p link s given b work none holds. holds;
+    answers = λ n at dial link there s given b is none holds. holds;
+    forgets = λ n at end s b none holds. holds;
+    settles = λ n at on number s b none holds. holds;
+    dials = λ n at dial s b is none holds. holds;
+    renews = λ n at end s b none holds. keeps.renews at end (forget end s) b holds;
+    ticks = λ n at more s b none holds. holds;
+    over = λ n at on next s given b none holds. keeps.over at on next s given b holds;
+  }
+
+  pub ends_after : (plan : Plan) (moves : List Move) → ((on : Option Coming) → Holds 0 on (ends_in (first_world plan).state) [] blank) →
+      Holds (past plan moves).world.moves None (ends_in (past plan moves).world.state) [] (past plan moves).book
+  ends_after plan moves holds =
+      let after : HoldsAfterMoves ⊥ OfMoves plan moves = moves_keep ⊥ OfMoves (ends_keep ⊥) plan moves (λ none. absurd none) holds in after.holds

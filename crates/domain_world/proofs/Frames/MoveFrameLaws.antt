@@ -1,0 +1,738 @@
+-- What holds through the moves of a world: whatever holds through each step of an end, each action that is done, and
+-- each single change beside that. This is the one induction over the kinds of moves; the other frames, and the laws
+-- that go by none of them, are instances of it. It serves all laws of every run.
+use Rattle.std.proofs.Common.{◌≡◌, ℕ, zero, suc, ◌+◌, ◌*◌, ◌≤◌, Bool, true, false, List, [], ◌∷◌, ◌++◌, drop, length, inl, inr, Option, Some, None, IsSome, slice_get, refl, sym, ap, subst, ◌∙◌, arith, length-append}
+use Rattle.std.specs.Prelude.{◌%◌}
+use Rattle.std.specs.List.{AllByRecursion}
+use Rattle.std.proofs.lemmas.List.{append_assoc, append-nil}
+use Rattle.std.proofs.lemmas.List.Elements.{All-head, All-tail}
+use Rattle.wire_base.specs.Maps.{lookup, same_number, take_out}
+use Rattle.wire_base.specs.Numbers.{AreBytes}
+use Rattle.outside.specs.declared.action.Action.{Action}
+use Rattle.outside.specs.declared.action.Action.TheVariants.{Keep, Send, Dial, Close, Told, Judged}
+use Rattle.outside.specs.declared.event.Event.TheVariants as event
+use Rattle.end_links.specs.Bounds.{send_limit}
+use Rattle.logon_client.specs.declared.plan.ClientPlan.{ClientPlan}
+use Rattle.channel_events.specs.Marks.{OneOf}
+use Rattle.step_notes.specs.Records.{Book, blank}
+use Rattle.world_moves.specs.declared.bag.BagUnit.{BagUnit}
+use Rattle.world_moves.specs.declared.links.EndId.{EndId}
+use Rattle.world_moves.specs.declared.links.EndId.TheVariants.{Client}
+use Rattle.world_moves.specs.declared.links.LinkKind.{LinkKind}
+use Rattle.world_moves.specs.declared.links.LinkKind.TheVariants as kind
+use Rattle.world_moves.specs.declared.links.OpenLink.{OpenLink}
+use Rattle.world_moves.specs.declared.links.Route.{Route}
+use Rattle.world_moves.specs.declared.links.Route.TheVariants.{Stranger}
+use Rattle.world_moves.specs.declared.moves.Move.{Move}
+use Rattle.world_moves.specs.declared.moves.Move.TheVariants as move
+use Rattle.world_moves.specs.declared.plan.Plan.{Plan}
+use Rattle.world_moves.specs.declared.state.State.{State}
+use Rattle.world_moves.specs.declared.state.Waiting.{Waiting}
+use Rattle.world_moves.specs.Acting.{Acted, Given, Heard, bag_unit, close_open, closed_at, done, forget, given_by, hear, hears, hears_if, nothing_done, perform, perform_all, perform_all_quietly, perform_quietly, piece_comes, pieces_come, send_on, shut_link, then_act}
+use Rattle.world_moves.specs.Bag.{AreShortUnits, HaveBytes, first_waiting, pieces_of, settle_at}
+use Rattle.world_moves.specs.Choosing.{chosen_in, chosen_place}
+use Rattle.world_moves.specs.Ends.{acceptors_in, count_of, end_at}
+use Rattle.world_moves.specs.Links.{OpenMap, accepted, acceptor_of, answered, dialler_of, handed_links, hearer_of, hearer_on, is_accepted_by, kind_of, links_of, other_hearer}
+use Rattle.world_moves.specs.Moving.{act, answer_by, answered_link, begun, come_by, come_on_own, connect_by, connect_first, deliver_by, deliver_on, deliver_unit, end_of_peer, fail_first, hand_on, lose_by, onward_by, open_link, renewed, restart_at, restart_by, route_to, settle, shut_at, shut_by, start_at, start_by, stranger_at, stranger_by, tick, with_link, without_first}
+use Rattle.world_moves.specs.World.{World, first_world, happens, run}
+use Rattle.domain_world.specs.Past.{Coming, book, note, note_at, note_chosen, note_coming, note_deliver, note_given, note_hand, note_on, note_onward, note_own, note_pieces, note_unit, past}
+use Rattle.channel_events.proofs.ListLaws.{got_last, got_nothing, some_is}
+use Rattle.world_moves.proofs.BagLaws.{pieces_few}
+use Rattle.world_moves.proofs.BoundLaws.{hears_links}
+use Rattle.world_moves.proofs.LevelLaws.{unit_short}
+use Rattle.world_moves.proofs.LinkFrameLaws.{FitsIn, HasNoBytes, actions_stay, LinkFact, StaysAlways, StaysOnLinks, closed_stays, heard_if_stays, move_stays}
+use Rattle.world_moves.proofs.OpenLaws.{forgotten_fewer, put_more, taken_fewer, taken_one}
+use Rattle.domain_world.proofs.Frames.ComingLaws.{CameFrom, HaveKinds, IsFromOutside, IsLinkOf, IsPieceOf, IsStill, StillHas, chosen_of, handed_outside, kept_same, kept_sent, kept_settled, kinds_sent, kinds_stay, piece_bytes, route_dials, run_still}
+use Rattle.domain_world.proofs.Frames.MarkPlaceLaws.{got_beside, settled_length}
+use Rattle.domain_world.proofs.Frames.OpenMadeLaws.{IsAtSide, OpenAsMade, as_made, hears_side}
+
+-- ---- what is to hold
+
+-- what is under way in a move
+pub record Progress : Type 0 where
+  -- after how many moves
+  pub at : ℕ
+  -- what comes in this move, where bytes come
+  pub on : Option Coming
+  -- the state that the step comes to in which an end hears bytes
+  pub to : Option State
+  -- the end whose dial is answered
+  pub dial : Option EndId
+  -- what ends gave and isn't done yet
+  pub rest : Given
+
+-- after so many steps of ends: of what is under way, the state, what ends gave in this move, and the book
+abbrev pub MoveFact : Type 1
+MoveFact = ℕ → Progress → State → Given → Book → Type 0
+
+-- between two steps
+abbrev pub started : ℕ → Option Coming → Progress
+started at on = record { at = at; on = on; to = None; dial = None; rest = [] }
+
+-- no bytes come, and the dial of that end is answered, if of any
+abbrev pub waiting : ℕ → Option EndId → Progress
+waiting at dial = record { at = at; on = None; to = None; dial = dial; rest = [] }
+
+-- bytes come
+abbrev pub coming : Coming → Progress
+coming w = started w.at (Some w)
+
+abbrev pub with_rest : Given → Progress → Progress
+with_rest given p = record p { rest = given ++ p.rest }
+
+-- an end has heard something, and its actions aren't done yet
+abbrev pub IsHeard : MoveFact → ℕ → Progress → EndId → Heard → Given → Book → Type 0
+IsHeard Holds n p end heard given b = Holds (n + 1) (with_rest (given_by end heard.actions) p) heard.state (given ++ given_by end heard.actions) b
+
+-- Ends are at work where no bytes come, or where it is known what the step at bytes comes to.
+abbrev pub AtWork : Option Coming → Option State → Type 0
+AtWork None to = Unit {0}
+AtWork (Some w) None = ⊥
+AtWork (Some w) (Some after) = Unit {0}
+
+-- It holds on where an end takes a step, where an action is done, and where one thing changes beside that. It may rest
+-- on a side fact, of which the same is shown apart (`join_moves` puts the two together). The argument Known: whether it
+-- is known of the run that what comes are bytes, and that few pieces come in a move.
+pub record KeepsMoves (Known : Type 0) (Side Holds : MoveFact) : Type 0 where
+  -- an end takes a step
+  pub closes : (n : ℕ) (p : Progress) (end : EndId) (link : ℕ) (s : State) (given : Given) (b : Book) → AtWork p.on p.to → Side n p s given b → Holds n p s given b →
+      IsHeard Holds n p end (hear end (event.Closed link) s) given b
+  pub opens : (n at : ℕ) (dial : Option EndId) (route : Route) (s : State) (given : Given) (b : Book) → Side n (waiting at dial) s given b → Holds n (waiting at dial) s given b →
+      IsHeard Holds n (waiting at dial) (acceptor_of route) (hear (acceptor_of route) (event.Opened (length s.links)) (with_link route s)) given b
+  pub dialled : (n at : ℕ) (end : EndId) (link : ℕ) (s : State) (given : Given) (b : Book) → IsAtSide s.links link true end → Side n (waiting at (Some end)) s given b →
+      Holds n (waiting at (Some end)) s given b → IsHeard Holds n (waiting at None) end (hear end (event.Dialled link) s) given b
+  pub fails : (n at : ℕ) (end : EndId) (s : State) (b : Book) → Side n (waiting at (Some end)) s [] b → Holds n (waiting at (Some end)) s [] b →
+      IsHeard Holds n (waiting at None) end (hear end event.DialFailed s) [] b
+  pub begins : (n at client : ℕ) (plan : ClientPlan) (s : State) (b : Book) → slice_get s.client_plans client ≡ Some plan → Side n (waiting at None) s [] b →
+      Holds n (waiting at None) s [] b → IsHeard Holds n (waiting at None) (Client client) (begun client plan s) [] b
+  pub comes : (n : ℕ) (end : EndId) (w : Coming) (piece : List ℕ) (s : State) (given : Given) (b : Book) → IsAtSide s.links w.link w.back end → CameFrom w.unit s w piece →
+      (Known → AreBytes piece) → Side n (coming w) s given b → Holds n (coming w) s given b →
+      let after : State = (hears end (event.Bytes w.link piece) s).state in
+      IsHeard Holds n (record (coming w) { to = Some after }) end (hear end (event.Bytes w.link piece) s) given (note_at (Some end) w piece s after b)
+  -- the step at bytes is done
+  pub reaches : (n : ℕ) (w : Coming) (s : State) (given : Given) (b : Book) → Side n (record (coming w) { to = Some s }) s given b → Holds n (record (coming w) { to = Some s }) s given b →
+      Holds n (coming w) s given b
+  -- an action is done: a unit goes into the bag, or a dial waits
+  pub acts : (n : ℕ) (p : Progress) (end : EndId) (what : Action) (s : State) (given : Given) (b : Book) → AtWork p.on p.to → Side n (with_rest ((end, what) ∷ []) p) s given b →
+      Holds n (with_rest ((end, what) ∷ []) p) s given b → Holds n p (perform_quietly end what s) given b
+  -- one thing changes
+  pub shuts : (n : ℕ) (p : Progress) (link : ℕ) (s : State) (given : Given) (b : Book) → AtWork p.on p.to → Side n p s given b → Holds n p s given b → Holds n p (shut_link link s) given b
+  pub answers : (n at : ℕ) (dial : Option EndId) (link : ℕ) (there : OpenLink) (s : State) (given : Given) (b : Book) → lookup same_number link s.open_links ≡ Some there →
+      Side n (waiting at dial) s given b → Holds n (waiting at dial) s given b → Holds n (waiting at dial) (answered_link link there s) given b
+  pub forgets : (n at : ℕ) (end : EndId) (s : State) (b : Book) → Side n (waiting at None) s [] b → Holds n (waiting at None) s [] b → Holds n (waiting at None) (forget end s) [] b
+  pub settles : (n at : ℕ) (on : Option Coming) (number : ℕ) (s : State) (b : Book) → Side n (started at on) s [] b → Holds n (started at on) s [] b →
+      Holds n (started at on) (settle number s) [] b
+  -- the first dial waits no more
+  pub dials : (n at : ℕ) (dial : Waiting) (s : State) (b : Book) → slice_get s.dials 0 ≡ Some dial → Side n (waiting at None) s [] b → Holds n (waiting at None) s [] b →
+      Holds n (waiting at (Some dial.end)) (without_first s) [] b
+  pub renews : (n at : ℕ) (end : EndId) (s : State) (b : Book) → Side n (waiting at None) s [] b → Holds n (waiting at None) s [] b → Holds n (waiting at None) (renewed end (forget end s)) [] b
+  pub ticks : (n at more : ℕ) (s : State) (b : Book) → Side n (waiting at None) s [] b → Holds n (waiting at None) s [] b → Holds n (waiting at None) (tick more s) [] b
+  -- the move is over, and what ends gave is written down; whatever comes in the next one
+  pub over : (n at : ℕ) (on next : Option Coming) (s : State) (given : Given) (b : Book) → Side n (started at on) s given b → Holds n (started at on) s given b →
+      Holds n (started (at + 1) next) s [] (note_given at given s b)
+
+abbrev pub NoSide : MoveFact
+NoSide n p s given b = Unit {0}
+
+abbrev pub Both : MoveFact → MoveFact → MoveFact
+Both A B n p s given b = A n p s given b × B n p s given b
+
+pub join_moves : (Known : Type 0) (A B : MoveFact) → KeepsMoves Known NoSide A → KeepsMoves Known A B → KeepsMoves Known NoSide (Both A B)
+join_moves Known A B one other = record {
+  closes = λ n p end link s given b work none holds. (one.closes n p end link s given b work tt holds.0, other.closes n p end link s given b work holds.0 holds.1);
+  opens = λ n at dial route s given b none holds. (one.opens n at dial route s given b tt holds.0, other.opens n at dial route s given b holds.0 holds.1);
+  dialled = λ n at end link s given b side none holds. (one.dialled n at end link s given b side tt holds.0, other.dialled n at end link s given b side holds.0 holds.1);
+  fails = λ n at end s b none holds. (one.fails n at end s b tt holds.0, other.fails n at end s b holds.0 holds.1);
+  begins = λ n at client plan s b is none holds. (one.begins n at client plan s b is tt holds.0, other.begins n at client plan s b is holds.0 holds.1);
+  comes = λ n end w piece s given b side came bytes none holds.
+      (one.comes n end w piece s given b side came bytes tt holds.0, other.comes n end w piece s given b side came bytes holds.0 holds.1);
+  reaches = λ n w s given b none holds. (one.reaches n w s given b tt holds.0, other.reaches n w s given b holds.0 holds.1);
+  acts = λ n p end what s given b work none holds. (one.acts n p end what s given b work tt holds.0, other.acts n p end what s given b work holds.0 holds.1);
+  shuts = λ n p link s given b work none holds. (one.shuts n p link s given b work tt holds.0, other.shuts n p link s given b work holds.0 holds.1);
+  answers = λ n at dial link there s given b is none holds. (one.answers n at dial link there s given b is tt holds.0, other.answers n at dial link there s given b is holds.0 holds.1);
+  forgets = λ n at end s b none holds. (one.forgets n at end s b tt holds.0, other.forgets n at end s b holds.0 holds.1);
+  settles = λ n at on number s b none holds. (one.settles n at on number s b tt holds.0, other.settles n at on number s b holds.0 holds.1);
+  dials = λ n at dial s b is none holds. (one.dials n at dial s b is tt holds.0, other.dials n at dial s b is holds.0 holds.1);
+  renews = λ n at end s b none holds. (one.renews n at end s b tt holds.0, other.renews n at end s b holds.0 holds.1);
+  ticks = λ n at more s b none holds. (one.ticks n at more s b tt holds.0, other.ticks n at more s b holds.0 holds.1);
+  over = λ n at on next s given b none holds. (one.over n at on next s given b tt holds.0, other.over n at on next s given b holds.0 holds.1);
+}
+
+-- what rests on nothing rests on any side fact
+pub beside : (Known : Type 0) (Side Holds : MoveFact) → KeepsMoves Known NoSide Holds → KeepsMoves Known Side Holds
+beside Known Side Holds keeps = record {
+  closes = λ n p end link s given b work side holds. keeps.closes n p end link s given b work tt holds;
+  opens = λ n at dial route s given b side holds. keeps.opens n at dial route s given b tt holds;
+  dialled = λ n at end link s given b here side holds. keeps.dialled n at end link s given b here tt holds;
+  fails = λ n at end s b side holds. keeps.fails n at end s b tt holds;
+  begins = λ n at client plan s b is side holds. keeps.begins n at client plan s b is tt holds;
+  comes = λ n end w piece s given b here came bytes side holds. keeps.comes n end w piece s given b here came bytes tt holds;
+  reaches = λ n w s given b side holds. keeps.reaches n w s given b tt holds;
+  acts = λ n p end what s given b work side holds. keeps.acts n p end what s given b work tt holds;
+  shuts = λ n p link s given b work side holds. keeps.shuts n p link s given b work tt holds;
+  answers = λ n at dial link there s given b is side holds. keeps.answers n at dial link there s given b is tt holds;
+  forgets = λ n at end s b side holds. keeps.forgets n at end s b tt holds;
+  settles = λ n at on number s b side holds. keeps.settles n at on number s b tt holds;
+  dials = λ n at dial s b is side holds. keeps.dials n at dial s b is tt holds;
+  renews = λ n at end s b side holds. keeps.renews n at end s b tt holds;
+  ticks = λ n at more s b side holds. keeps.ticks n at more s b tt holds;
+  over = λ n at on next s given b side holds. keeps.over n at on next s given b tt holds;
+}
+
+-- ---- what holds of links and the bag, as an action is done
+
+pub quiet_stays : (Fits : LinkFact) → StaysOnLinks Fits → (end : EndId) (what : Action) (s : State) → FitsIn Fits s → FitsIn Fits (perform_quietly end what s)
+quiet_stays Fits stays end (Close link cause) s holds = holds
+quiet_stays Fits stays end (Keep bytes) s holds = holds
+quiet_stays Fits stays end (Send link bytes) s holds = actions_stay Fits stays end (Send link bytes ∷ []) s holds
+quiet_stays Fits stays end (Dial peer) s holds = holds
+quiet_stays Fits stays end (Told link outcome) s holds = holds
+quiet_stays Fits stays end (Judged how) s holds = holds
+
+-- ---- how many links are open
+
+abbrev pub FewOpen : ℕ → LinkFact
+FewOpen most links map bag = length map ≤ most
+
+few_open : (most : ℕ) → StaysOnLinks (FewOpen most)
+few_open most = record {
+  sends = λ unit links map bag on few. few;
+  shuts = λ link links map bag few. omega (arith, few, taken_fewer link map);
+}
+
+bag_unit_open : (k : LinkKind) (back : Bool) (link : ℕ) (bytes : List ℕ) (s : State) → (bag_unit k back link bytes s).open_links ≡ s.open_links
+bag_unit_open kind.Stranger back link bytes s = refl
+bag_unit_open kind.ToMember back link bytes s = refl
+bag_unit_open kind.ToController back link bytes s = refl
+
+send_open : (route : Option Route) (end : EndId) (link : ℕ) (bytes : List ℕ) (s : State) → (send_on route end link bytes s).open_links ≡ s.open_links
+send_open None end link bytes s = refl
+send_open (Some route) end link bytes s = bag_unit_open (kind_of route) (is_accepted_by end route) link bytes s
+
+-- ---- where links and units are
+
+-- each link that is open is one that was made, and each unit is on a link of its kind
+pub record Placed (links : List Route) (map : OpenMap) (bag : List BagUnit) : Type 0 where
+  pub made : OpenAsMade links map bag
+  pub kinds : HaveKinds links [] bag
+
+abbrev pub IsPlaced : State → Type 0
+IsPlaced s = Placed s.links s.open_links s.bag
+
+placed_stay : StaysAlways Placed
+placed_stay = record {
+  steps = record {
+    sends = λ unit links map bag on placed. record { made = placed.made; kinds = kinds_sent.sends unit links [] bag on placed.kinds };
+    shuts = λ link links map bag placed. record { made = as_made.steps.shuts link links map bag placed.made; kinds = placed.kinds };
+  };
+  opens = λ route links map bag placed. record { made = as_made.opens route links map bag placed.made; kinds = kinds_stay.opens route links [] bag placed.kinds };
+  answers = λ link there links map bag is placed. record { made = as_made.answers link there links map bag is placed.made; kinds = placed.kinds };
+  forgets = λ end links map bag placed. record { made = as_made.forgets end links map bag placed.made; kinds = placed.kinds };
+  settles = λ number links map bag placed. record { made = placed.made; kinds = kinds_stay.settles number links [] bag placed.kinds };
+}
+
+-- the links are as they were when bytes began to come, and the units of the bag are still there
+pub record Since (links : List Route) (old : List BagUnit) (now : List Route) (map : OpenMap) (bag : List BagUnit) : Type 0 where
+  pub same : now ≡ links
+  pub still : StillHas old bag
+  pub placed : Placed now map bag
+
+since_sent : (links : List Route) (old : List BagUnit) → StaysOnLinks (Since links old)
+since_sent links old = record {
+  sends = λ unit now map bag on since. record {
+    same = since.same;
+    still = (kept_sent old).sends unit now map bag on since.still;
+    placed = placed_stay.steps.sends unit now map bag on since.placed;
+  };
+  shuts = λ link now map bag since. record { same = since.same; still = since.still; placed = placed_stay.steps.shuts link now map bag since.placed };
+}
+
+-- ---- what may be known of a run
+
+-- no unit is longer than an end sends at once
+abbrev pub ShortBag : List BagUnit → Type 0
+ShortBag bag = (k : ℕ) (unit : BagUnit) → slice_get bag k ≡ Some unit → length unit.bytes ≤ send_limit
+
+short_before : (old bag : List BagUnit) → StillHas old bag → ShortBag bag → ShortBag old
+short_before old bag still short k unit there =
+    let now : IsStill unit bag k = still k unit there in subst (λ (bytes : List ℕ). length bytes ≤ send_limit) now.bytes (short k now.now now.there)
+
+-- each unit has bytes
+abbrev pub BytesIn : List BagUnit → Type 0
+BytesIn bag = (k : ℕ) (unit : BagUnit) → slice_get bag k ≡ Some unit → AreBytes unit.bytes
+
+bytes_before : (old bag : List BagUnit) → StillHas old bag → BytesIn bag → BytesIn old
+bytes_before old bag still have k unit there = let now : IsStill unit bag k = still k unit there in subst AreBytes now.bytes (have k now.now now.there)
+
+settled_bytes : (number : ℕ) (bag : List BagUnit) → BytesIn bag → BytesIn (settle_at number bag)
+settled_bytes number bag have k unit there =
+    let before : (old : BagUnit) × (slice_get bag k ≡ Some old) = got_beside (settle_at number bag) bag k unit (settled_length number bag) there in
+    let now : IsStill before.0 (settle_at number bag) k = kept_settled number bag k before.0 before.1 in
+    let same : now.now ≡ unit = some_is now.now unit (sym now.there ∙ there) in
+    subst (λ (u : BagUnit). AreBytes u.bytes) same (subst AreBytes (sym now.bytes) (have k before.0 before.1))
+
+settled_short : (number : ℕ) (bag : List BagUnit) → ShortBag bag → ShortBag (settle_at number bag)
+settled_short number bag have k unit there =
+    let before : (old : BagUnit) × (slice_get bag k ≡ Some old) = got_beside (settle_at number bag) bag k unit (settled_length number bag) there in
+    let now : IsStill before.0 (settle_at number bag) k = kept_settled number bag k before.0 before.1 in
+    let same : now.now ≡ unit = some_is now.now unit (sym now.there ∙ there) in
+    subst (λ (u : BagUnit). length u.bytes ≤ send_limit) same (subst (λ (bytes : List ℕ). length bytes ≤ send_limit) (sym now.bytes) (have k before.0 before.1))
+
+-- what is handed in are bytes
+abbrev pub HandsBytes : Move → Type 0
+HandsBytes (move.Hand link back piece) = AreBytes piece
+HandsBytes _ = Unit {0}
+
+-- the units of a bag are short, and have bytes
+pub record IsBytesBag (bag : List BagUnit) : Type 0 where
+  pub short : ShortBag bag
+  pub bytes : BytesIn bag
+
+bag_before : (old bag : List BagUnit) → StillHas old bag → IsBytesBag bag → IsBytesBag old
+bag_before old bag still have = record { short = short_before old bag still have.short; bytes = bytes_before old bag still have.bytes }
+
+settled_bag : (number : ℕ) (bag : List BagUnit) → IsBytesBag bag → IsBytesBag (settle_at number bag)
+settled_bag number bag have = record { short = settled_short number bag have.short; bytes = settled_bytes number bag have.bytes }
+
+-- no dial waits: the first isn't taken
+none_dialled : (dials : List Waiting) → slice_get dials 0 ≡ None → drop 1 dials ≡ dials
+none_dialled [] none = refl
+none_dialled (dial ∷ dials) none = absurd (let x = none in cc)
+
+-- its kind and its link stay as a unit is settled
+settled_link : (number link : ℕ) (unit found : BagUnit) (s : State) → slice_get s.bag number ≡ Some unit → IsLinkOf s.links link unit.kind →
+    slice_get (settle_at number s.bag) number ≡ Some found → IsLinkOf s.links link found.kind
+settled_link number link unit found s there of is =
+    let now : IsStill unit (settle_at number s.bag) number = kept_settled number s.bag number unit there in
+    let same : now.now ≡ found = (let both : Some now.now ≡ Some found = sym now.there ∙ is in cc) in (of.0, of.1, of.2 ∙ sym now.kind ∙ ap (λ (u : BagUnit). u.kind) same)
+
+-- a piece of the unit as the bag was when it began to come is one of it now
+same_piece : (number : ℕ) (unit : BagUnit) (link at : ℕ) (s later : State) (piece : List ℕ) → slice_get s.bag number ≡ Some unit → IsLinkOf s.links link unit.kind →
+    Since s.links s.bag later.links later.open_links later.bag → OneOf (λ (one : List ℕ). one ≡ piece) (pieces_of unit.bytes) →
+    IsPieceOf later number (record { at = at; unit = Some number; link = link; back = unit.back }) piece
+same_piece number unit link at s later piece there of since one =
+    let now : IsStill unit later.bag number = since.still number unit there in
+    record {
+      unit = now.now;
+      there = now.there;
+      back = now.back;
+      route = of.0;
+      made = ap (λ (l : List Route). slice_get l link) since.same ∙ of.1;
+      same_kind = of.2 ∙ sym now.kind;
+      part = subst (λ (bytes : List ℕ). OneOf (λ (one : List ℕ). one ≡ piece) (pieces_of bytes)) (sym now.bytes) one;
+    }
+
+-- ---- a part of a move
+
+module _ (Known : Type 0) (Holds : MoveFact) (keeps : KeepsMoves Known NoSide Holds) where
+  -- it holds after it, and no more steps were taken than are allowed; a link that is open allows two
+  record After (p : Progress) (most : ℕ) (acted : Acted) (given : Given) (b : Book) : Type 0 where
+    steps : ℕ
+    holds : Holds steps p acted.state (given ++ acted.given) b
+    few : steps + 2 * length acted.state.open_links ≤ most
+
+  widen : (p : Progress) (most more : ℕ) (acted : Acted) (given : Given) (b : Book) → most ≤ more → After p most acted given b → After p more acted given b
+  widen p most more acted given b few part = record { steps = part.steps; holds = part.holds; few = omega (arith, part.few, few) }
+
+  nothing : (p : Progress) (most n : ℕ) (s : State) (given : Given) (b : Book) → Holds n p s given b → n + 2 * length s.open_links ≤ most → After p most (nothing_done s) given b
+  nothing p most n s given b holds few = record { steps = n; holds = subst (λ (g : Given). Holds n p s g b) (sym (append-nil given)) holds; few = few }
+
+  followed : (p : Progress) (most : ℕ) (first : Acted) (next : State → Acted) (given : Given) (b : Book) → After p most (next first.state) (given ++ first.given) b →
+      After p most (then_act first next) given b
+  followed p most first next given b later = record {
+    steps = later.steps;
+    holds = subst (λ (g : Given). Holds later.steps p (next first.state).state g b) (append_assoc given first.given (next first.state).given) later.holds;
+    few = later.few;
+  }
+
+  -- ---- actions
+
+  all_quiet : (p : Progress) (work : AtWork p.on p.to) (end : EndId) (actions : List Action) (n : ℕ) (s : State) (given : Given) (b : Book) → Holds n (with_rest (given_by end actions) p) s given b →
+      Holds n p (perform_all_quietly end actions s) given b
+  all_quiet p work end [] n s given b holds = holds
+  all_quiet p work end (what ∷ actions) n s given b holds =
+      all_quiet p work end actions n (perform_quietly end what s) given b (keeps.acts n (with_rest (given_by end actions) p) end what s given b work tt holds)
+
+  closed_part : (p : Progress) (work : AtWork p.on p.to) (end : Option EndId) (link n : ℕ) (s : State) (given : Given) (b : Book) → Holds n p s given b →
+      After p (n + 1 + 2 * length s.open_links) (closed_at end link s) given b
+  closed_part p work None link n s given b holds = nothing p (n + 1 + 2 * length s.open_links) n s given b holds (omega arith)
+  closed_part p work (Some end) link n s given b holds =
+      let heard : Heard = hear end (event.Closed link) s in
+      let few : length (closed_at (Some end) link s).state.open_links ≤ length s.open_links =
+      closed_stays (FewOpen (length s.open_links)) (few_open (length s.open_links)) (Some end) link s (omega arith) in
+      record {
+        steps = n + 1;
+        holds = all_quiet p work end heard.actions (n + 1) heard.state (given ++ given_by end heard.actions) b (keeps.closes n p end link s given b work tt holds);
+        few = omega (arith, few);
+      }
+
+  close_part : (p : Progress) (work : AtWork p.on p.to) (there : Option OpenLink) (end : EndId) (link n : ℕ) (s : State) (given : Given) (b : Book) → lookup same_number link s.open_links ≡ there → Holds n p s given b →
+      After p (n + 2 * length s.open_links) (close_open there end link s) given b
+  close_part p work None end link n s given b is holds = nothing p (n + 2 * length s.open_links) n s given b holds (omega arith)
+  close_part p work (Some there) end link n s given b is holds =
+      let one : length (take_out same_number link s.open_links) + 1 ≤ length s.open_links = taken_one link s.open_links (subst IsSome (sym is) refl) in
+      widen p (n + 1 + 2 * length (take_out same_number link s.open_links)) (n + 2 * length s.open_links) (closed_at (other_hearer end there) link (shut_link link s)) given b (omega (arith, one))
+      (closed_part p work (other_hearer end there) link n (shut_link link s) given b (keeps.shuts n p link s given b work tt holds))
+
+  -- an action that closes no link
+  quietly : (p : Progress) (work : AtWork p.on p.to) (end : EndId) (what : Action) (n : ℕ) (s : State) (given : Given) (b : Book) → length (perform_quietly end what s).open_links ≡ length s.open_links →
+      Holds n (with_rest ((end, what) ∷ []) p) s given b → After p (n + 2 * length s.open_links) (nothing_done (perform_quietly end what s)) given b
+  quietly p work end what n s given b same holds =
+      nothing p (n + 2 * length s.open_links) n (perform_quietly end what s) given b (keeps.acts n p end what s given b work tt holds) (omega (arith, same))
+
+  perform_part : (p : Progress) (work : AtWork p.on p.to) (end : EndId) (what : Action) (n : ℕ) (s : State) (given : Given) (b : Book) → Holds n (with_rest ((end, what) ∷ []) p) s given b →
+      After p (n + 2 * length s.open_links) (perform end what s) given b
+  perform_part p work end (Close link cause) n s given b holds =
+      close_part p work (lookup same_number link s.open_links) end link n s given b refl (keeps.acts n p end (Close link cause) s given b work tt holds)
+  perform_part p work end (Keep bytes) n s given b holds = quietly p work end (Keep bytes) n s given b refl holds
+  perform_part p work end (Send link bytes) n s given b holds = quietly p work end (Send link bytes) n s given b (ap length (send_open (slice_get s.links link) end link bytes s)) holds
+  perform_part p work end (Dial peer) n s given b holds = quietly p work end (Dial peer) n s given b refl holds
+  perform_part p work end (Told link outcome) n s given b holds = quietly p work end (Told link outcome) n s given b refl holds
+  perform_part p work end (Judged how) n s given b holds = quietly p work end (Judged how) n s given b refl holds
+
+  all_part : (p : Progress) (work : AtWork p.on p.to) (end : EndId) (actions : List Action) (n : ℕ) (s : State) (given : Given) (b : Book) → Holds n (with_rest (given_by end actions) p) s given b →
+      After p (n + 2 * length s.open_links) (perform_all end actions s) given b
+  all_part p work end [] n s given b holds = nothing p (n + 2 * length s.open_links) n s given b holds (omega arith)
+  all_part p work end (what ∷ actions) n s given b holds =
+      let first : After (with_rest (given_by end actions) p) (n + 2 * length s.open_links) (perform end what s) given b =
+      perform_part (with_rest (given_by end actions) p) work end what n s given b holds in
+      let after : State = (perform end what s).state in
+      followed p (n + 2 * length s.open_links) (perform end what s) (λ later. perform_all end actions later) given b
+      (widen p (first.steps + 2 * length after.open_links) (n + 2 * length s.open_links) (perform_all end actions after) (given ++ (perform end what s).given) b first.few
+      (all_part p work end actions first.steps after (given ++ (perform end what s).given) b first.holds))
+
+  done_part : (p : Progress) (work : AtWork p.on p.to) (n : ℕ) (end : EndId) (heard : Heard) (given : Given) (b : Book) → IsHeard Holds n p end heard given b →
+      After p (n + 1 + 2 * length heard.state.open_links) (done end heard) given b
+  done_part p work n end heard given b holds =
+      let all : After p (n + 1 + 2 * length heard.state.open_links) (perform_all end heard.actions heard.state) (given ++ given_by end heard.actions) b =
+      all_part p work end heard.actions (n + 1) heard.state (given ++ given_by end heard.actions) b holds in
+      record {
+        steps = all.steps;
+        holds = subst (λ (g : Given). Holds all.steps p (perform_all end heard.actions heard.state).state g b)
+            (append_assoc given (given_by end heard.actions) (perform_all end heard.actions heard.state).given) all.holds;
+        few = all.few;
+      }
+
+  -- ---- moves at which no bytes come
+
+  -- at the end of such a move, or of a part of it
+  abbrev Quietly : ℕ → ℕ → Acted → Given → Book → Type 0
+  Quietly at most acted given b = After (waiting at None) most acted given b
+
+  start_by_part : (plan : Option ClientPlan) (client n at : ℕ) (s : State) (b : Book) → slice_get s.client_plans client ≡ plan → Holds n (waiting at None) s [] b →
+      Quietly at (n + 1 + 2 * length s.open_links) (start_by plan client s) [] b
+  start_by_part None client n at s b is holds = nothing (waiting at None) (n + 1 + 2 * length s.open_links) n s [] b holds (omega arith)
+  start_by_part (Some plan) client n at s b is holds =
+      let before : State = forget (Client client) s in
+      widen (waiting at None) (n + 1 + 2 * length before.open_links) (n + 1 + 2 * length s.open_links) (done (Client client) (begun client plan before)) [] b
+      (omega (arith, forgotten_fewer (Client client) s.open_links))
+      (done_part (waiting at None) tt n (Client client) (begun client plan before) [] b (keeps.begins n at client plan before b is tt (keeps.forgets n at (Client client) s b tt holds)))
+
+  start_part : (client : Option ℕ) (n at : ℕ) (s : State) (b : Book) → Holds n (waiting at None) s [] b → Quietly at (n + 1 + 2 * length s.open_links) (start_at client s) [] b
+  start_part None n at s b holds = nothing (waiting at None) (n + 1 + 2 * length s.open_links) n s [] b holds (omega arith)
+  start_part (Some client) n at s b holds = start_by_part (slice_get s.client_plans client) client n at s b refl holds
+
+  open_part : (dial : Option EndId) (route : Route) (n at : ℕ) (s : State) (b : Book) → Holds n (waiting at dial) s [] b →
+      After (waiting at dial) (n + 3 + 2 * length s.open_links) (open_link route s) [] b
+  open_part dial route n at s b holds =
+      let before : State = with_link route s in
+      widen (waiting at dial) (n + 1 + 2 * length before.open_links) (n + 3 + 2 * length s.open_links) (open_link route s) [] b
+      (omega (arith, length-append s.open_links ((length s.links, accepted route) ∷ [])))
+      (done_part (waiting at dial) tt n (acceptor_of route) (hear (acceptor_of route) (event.Opened (length s.links)) before) [] b (keeps.opens n at dial route s [] b tt holds))
+
+  stranger_by_part : (end : Option EndId) (n at : ℕ) (s : State) (b : Book) → Holds n (waiting at None) s [] b → Quietly at (n + 3 + 2 * length s.open_links) (stranger_by end s) [] b
+  stranger_by_part None n at s b holds = nothing (waiting at None) (n + 3 + 2 * length s.open_links) n s [] b holds (omega arith)
+  stranger_by_part (Some end) n at s b holds = open_part None (Stranger end) n at s b holds
+
+  stranger_part : (number : Option ℕ) (n at : ℕ) (s : State) (b : Book) → Holds n (waiting at None) s [] b → Quietly at (n + 3 + 2 * length s.open_links) (stranger_at number s) [] b
+  stranger_part None n at s b holds = nothing (waiting at None) (n + 3 + 2 * length s.open_links) n s [] b holds (omega arith)
+  stranger_part (Some number) n at s b holds = stranger_by_part (end_at number s.ends) n at s b holds
+
+  answer_part : (there : Option OpenLink) (end : EndId) (link n at : ℕ) (s : State) (given : Given) (b : Book) → lookup same_number link s.open_links ≡ there →
+      IsAtSide s.links link true end → Holds n (waiting at (Some end)) s given b → Quietly at (n + 3 + 2 * length s.open_links) (answer_by there end link s) given b
+  answer_part None end link n at s given b is side holds =
+      let first : Quietly at (n + 1 + 2 * length s.open_links) (hears end (event.Dialled link) s) given b =
+      done_part (waiting at None) tt n end (hear end (event.Dialled link) s) given b (keeps.dialled n at end link s given b side tt holds) in
+      let after : State = (hears end (event.Dialled link) s).state in
+      followed (waiting at None) (n + 3 + 2 * length s.open_links) (hears end (event.Dialled link) s) (λ later. closed_at (Some end) link later) given b
+      (widen (waiting at None) (first.steps + 1 + 2 * length after.open_links) (n + 3 + 2 * length s.open_links) (closed_at (Some end) link after)
+      (given ++ (hears end (event.Dialled link) s).given) b (omega (arith, first.few))
+      (closed_part (waiting at None) tt (Some end) link first.steps after (given ++ (hears end (event.Dialled link) s).given) b first.holds))
+  answer_part (Some there) end link n at s given b is side holds =
+      let before : State = answered_link link there s in
+      widen (waiting at None) (n + 1 + 2 * length before.open_links) (n + 3 + 2 * length s.open_links) (hears end (event.Dialled link) before) given b
+      (omega (arith, put_more link (answered there) s.open_links))
+      (done_part (waiting at None) tt n end (hear end (event.Dialled link) before) given b
+      (keeps.dialled n at end link before given b side tt (keeps.answers n at (Some end) link there s given b is tt holds)))
+
+  connect_by_part : (route : Option Route) (end : EndId) (n at : ℕ) (s : State) (b : Book) → ((found : Route) → route ≡ Some found → dialler_of found ≡ Some end) →
+      Holds n (waiting at (Some end)) s [] b → Quietly at (n + 6 + 2 * length s.open_links) (connect_by route end s) [] b
+  connect_by_part None end n at s b dials holds =
+      widen (waiting at None) (n + 1 + 2 * length s.open_links) (n + 6 + 2 * length s.open_links) (hears end event.DialFailed s) [] b (omega arith)
+      (done_part (waiting at None) tt n end (hear end event.DialFailed s) [] b (keeps.fails n at end s b tt holds))
+  connect_by_part (Some route) end n at s b dials holds =
+      let first : After (waiting at (Some end)) (n + 3 + 2 * length s.open_links) (open_link route s) [] b = open_part (Some end) route n at s b holds in
+      let after : State = (open_link route s).state in
+      let made : slice_get after.links (length s.links) ≡ Some route =
+      ap (λ (l : List Route). slice_get l (length s.links)) (hears_links (acceptor_of route) (event.Opened (length s.links)) (with_link route s)) ∙ got_last s.links route in
+      let side : IsAtSide after.links (length s.links) true end = record { route = route; made = made; side = dials route refl } in
+      followed (waiting at None) (n + 6 + 2 * length s.open_links) (open_link route s) (λ later. answer_by (lookup same_number (length s.links) later.open_links) end (length s.links) later) [] b
+      (widen (waiting at None) (first.steps + 3 + 2 * length after.open_links) (n + 6 + 2 * length s.open_links)
+      (answer_by (lookup same_number (length s.links) after.open_links) end (length s.links) after) (open_link route s).given b (omega (arith, first.few))
+      (answer_part (lookup same_number (length s.links) after.open_links) end (length s.links) first.steps at after (open_link route s).given b refl side first.holds))
+
+  -- no dial waited
+  none_first : (n at : ℕ) (s : State) (b : Book) → slice_get s.dials 0 ≡ None → Holds n (waiting at None) s [] b → Holds n (waiting at None) (without_first s) [] b
+  none_first n at s b none holds = subst (λ (dials : List Waiting). Holds n (waiting at None) (record s { dials = dials }) [] b) (sym (none_dialled s.dials none)) holds
+
+  connect_part : (first : Option Waiting) (n at : ℕ) (s : State) (b : Book) → slice_get s.dials 0 ≡ first → Holds n (waiting at None) s [] b →
+      Quietly at (n + 6 + 2 * length s.open_links) (connect_first first (without_first s)) [] b
+  connect_part None n at s b is holds = nothing (waiting at None) (n + 6 + 2 * length s.open_links) n (without_first s) [] b (none_first n at s b is holds) (omega arith)
+  connect_part (Some dial) n at s b is holds =
+      connect_by_part (route_to dial.end (end_of_peer dial.peer s.ends)) dial.end n at (without_first s) b (λ found is. route_dials dial.end (end_of_peer dial.peer s.ends) found is)
+      (keeps.dials n at dial s b is tt holds)
+
+  fail_part : (first : Option Waiting) (n at : ℕ) (s : State) (b : Book) → slice_get s.dials 0 ≡ first → Holds n (waiting at None) s [] b →
+      Quietly at (n + 1 + 2 * length s.open_links) (fail_first first (without_first s)) [] b
+  fail_part None n at s b is holds = nothing (waiting at None) (n + 1 + 2 * length s.open_links) n (without_first s) [] b (none_first n at s b is holds) (omega arith)
+  fail_part (Some dial) n at s b is holds =
+      done_part (waiting at None) tt n dial.end (hear dial.end event.DialFailed (without_first s)) [] b (keeps.fails n at dial.end (without_first s) b tt (keeps.dials n at dial s b is tt holds))
+
+  lose_part : (number : Option ℕ) (n at : ℕ) (s : State) (b : Book) → Holds n (waiting at None) s [] b → Quietly at (n + 2 * length s.open_links) (nothing_done (lose_by number s)) [] b
+  lose_part None n at s b holds = nothing (waiting at None) (n + 2 * length s.open_links) n s [] b holds (omega arith)
+  lose_part (Some number) n at s b holds = nothing (waiting at None) (n + 2 * length s.open_links) n (settle number s) [] b (keeps.settles n at None number s b tt holds) (omega arith)
+
+  shut_by_part : (entry : Option (ℕ × OpenLink)) (n at : ℕ) (s : State) (b : Book) → Holds n (waiting at None) s [] b → Quietly at (n + 2 + 2 * length s.open_links) (shut_by entry s) [] b
+  shut_by_part None n at s b holds = nothing (waiting at None) (n + 2 + 2 * length s.open_links) n s [] b holds (omega arith)
+  shut_by_part (Some entry) n at s b holds =
+      let before : State = shut_link entry.0 s in
+      let one : Acted = closed_at (hearer_on false entry.1) entry.0 before in
+      let first : Quietly at (n + 1 + 2 * length before.open_links) one [] b =
+      closed_part (waiting at None) tt (hearer_on false entry.1) entry.0 n before [] b (keeps.shuts n (waiting at None) entry.0 s [] b tt tt holds) in
+      followed (waiting at None) (n + 2 + 2 * length s.open_links) one (λ later. closed_at (hearer_on true entry.1) entry.0 later) [] b
+      (widen (waiting at None) (first.steps + 1 + 2 * length one.state.open_links) (n + 2 + 2 * length s.open_links) (closed_at (hearer_on true entry.1) entry.0 one.state) one.given b
+      (omega (arith, first.few, taken_fewer entry.0 s.open_links)) (closed_part (waiting at None) tt (hearer_on true entry.1) entry.0 first.steps one.state one.given b first.holds))
+
+  shut_part : (number : Option ℕ) (n at : ℕ) (s : State) (b : Book) → Holds n (waiting at None) s [] b → Quietly at (n + 2 + 2 * length s.open_links) (shut_at number s) [] b
+  shut_part None n at s b holds = nothing (waiting at None) (n + 2 + 2 * length s.open_links) n s [] b holds (omega arith)
+  shut_part (Some number) n at s b holds = shut_by_part (slice_get s.open_links number) n at s b holds
+
+  restart_by_part : (end : Option EndId) (n at : ℕ) (s : State) (b : Book) → Holds n (waiting at None) s [] b → Quietly at (n + 2 * length s.open_links) (nothing_done (restart_by end s)) [] b
+  restart_by_part None n at s b holds = nothing (waiting at None) (n + 2 * length s.open_links) n s [] b holds (omega arith)
+  restart_by_part (Some end) n at s b holds =
+      nothing (waiting at None) (n + 2 * length s.open_links) n (renewed end (forget end s)) [] b (keeps.renews n at end s b tt holds) (omega (arith, forgotten_fewer end s.open_links))
+
+  restart_part : (number : Option ℕ) (n at : ℕ) (s : State) (b : Book) → Holds n (waiting at None) s [] b → Quietly at (n + 2 * length s.open_links) (nothing_done (restart_at number s)) [] b
+  restart_part None n at s b holds = nothing (waiting at None) (n + 2 * length s.open_links) n s [] b holds (omega arith)
+  restart_part (Some number) n at s b holds = restart_by_part (end_at number s.ends) n at s b holds
+
+  -- ---- bytes come
+
+  piece_part : (end : Option EndId) (w : Coming) (piece : List ℕ) (n : ℕ) (s : State) (given : Given) (b : Book) → hearer_of w.back (lookup same_number w.link s.open_links) ≡ end →
+      CameFrom w.unit s w piece → (Known → AreBytes piece) → IsPlaced s → Holds n (coming w) s given b →
+      After (coming w) (n + 1 + 2 * length s.open_links) (hears_if end (event.Bytes w.link piece) s) given (note_at end w piece s (hears_if end (event.Bytes w.link piece) s).state b)
+  piece_part None w piece n s given b is came bytes placed holds = nothing (coming w) (n + 1 + 2 * length s.open_links) n s given b holds (omega arith)
+  piece_part (Some end) w piece n s given b is came bytes placed holds =
+      let side : IsAtSide s.links w.link w.back end = hears_side w.back w.link s.links s.open_links end placed.made is in
+      let after : State = (hears end (event.Bytes w.link piece) s).state in
+      let now : Book = note_at (Some end) w piece s after b in
+      let all : After (record (coming w) { to = Some after }) (n + 1 + 2 * length s.open_links) (hears end (event.Bytes w.link piece) s) given now =
+      done_part (record (coming w) { to = Some after }) tt n end (hear end (event.Bytes w.link piece) s) given now (keeps.comes n end w piece s given b side came bytes tt holds) in
+      record { steps = all.steps; holds = keeps.reaches all.steps w after (given ++ (hears end (event.Bytes w.link piece) s).given) now tt all.holds; few = all.few }
+
+  pieces_part : (w : Coming) (links : List Route) (old : List BagUnit) (pieces : List (List ℕ)) (n : ℕ) (s : State) (given : Given) (b : Book) →
+      ((later : State) (piece : List ℕ) → Since links old later.links later.open_links later.bag → OneOf (λ (one : List ℕ). one ≡ piece) pieces → CameFrom w.unit later w piece) →
+      ((piece : List ℕ) → OneOf (λ (one : List ℕ). one ≡ piece) pieces → Known → AreBytes piece) → Since links old s.links s.open_links s.bag → Holds n (coming w) s given b →
+      After (coming w) (n + length pieces + 2 * length s.open_links) (pieces_come w.back w.link pieces s) given (note_pieces w pieces s b)
+  pieces_part w links old [] n s given b came bytes since holds = nothing (coming w) (n + 0 + 2 * length s.open_links) n s given b holds (omega arith)
+  pieces_part w links old (piece ∷ pieces) n s given b came bytes since holds =
+      let end : Option EndId = hearer_of w.back (lookup same_number w.link s.open_links) in
+      let one : Acted = piece_comes w.back w.link piece s in
+      let middle : Book = note_at end w piece s one.state b in
+      let first : After (coming w) (n + 1 + 2 * length s.open_links) one given middle =
+      piece_part end w piece n s given b refl (came s piece since (inl refl)) (bytes piece (inl refl)) since.placed holds in
+      let more : ℕ = n + suc (length pieces) + 2 * length s.open_links in
+      followed (coming w) more one (λ later. pieces_come w.back w.link pieces later) given (note_pieces w pieces one.state middle)
+      (widen (coming w) (first.steps + length pieces + 2 * length one.state.open_links) more (pieces_come w.back w.link pieces one.state) (given ++ one.given)
+      (note_pieces w pieces one.state middle) (omega (arith, first.few))
+      (pieces_part w links old pieces first.steps one.state (given ++ one.given) middle (λ later other then_so there. came later other then_so (inr there)) (λ other there. bytes other (inr there))
+      (heard_if_stays (Since links old) (since_sent links old) end (event.Bytes w.link piece) s since) first.holds))
+
+  pieces_since : (w : Coming) (links : List Route) (old : List BagUnit) (pieces : List (List ℕ)) (s : State) → Since links old s.links s.open_links s.bag →
+      let after : State = (pieces_come w.back w.link pieces s).state in Since links old after.links after.open_links after.bag
+  pieces_since w links old [] s since = since
+  pieces_since w links old (piece ∷ pieces) s since =
+      pieces_since w links old pieces (piece_comes w.back w.link piece s).state
+      (heard_if_stays (Since links old) (since_sent links old) (hearer_of w.back (lookup same_number w.link s.open_links)) (event.Bytes w.link piece) s since)
+
+  -- it holds after a move, of which what is given isn't written down; few steps were taken, where no unit is long
+  record Moved (n at : ℕ) (s : State) (acted : Acted) (b : Book) : Type 0 where
+    steps : ℕ
+    on : Option Coming
+    holds : Holds steps (started at on) acted.state acted.given b
+    placed : IsPlaced acted.state
+    few : Known → steps + 2 * length acted.state.open_links ≤ n + 2 * length s.open_links + 10
+
+  -- before a move it holds whatever comes in it
+  abbrev HoldsFor : ℕ → ℕ → State → Book → Type 0
+  HoldsFor n at s b = (on : Option Coming) → Holds n (started at on) s [] b
+
+  unmoved : (n at : ℕ) (s : State) (b : Book) → IsPlaced s → HoldsFor n at s b → Moved n at s (nothing_done s) b
+  unmoved n at s b placed holds = record { steps = n; on = None; holds = holds None; placed = placed; few = λ known. omega arith }
+
+  unit_part : (unit : Option BagUnit) (number link n at : ℕ) (s : State) (b : Book) → slice_get s.bag number ≡ unit → ((found : BagUnit) → unit ≡ Some found → IsLinkOf s.links link found.kind) →
+      IsPlaced s → (Known → IsBytesBag s.bag) → HoldsFor n at s b → Moved n at s (come_by unit link s) (note_unit unit number link at s b)
+  unit_part None number link n at s b is of placed have holds = unmoved n at s b placed holds
+  unit_part (Some unit) number link n at s b is of placed have holds =
+      let w : Coming = record { at = at; unit = Some number; link = link; back = unit.back } in
+      let start : Since s.links s.bag s.links s.open_links s.bag = record { same = refl; still = kept_same s.bag; placed = placed } in
+      let all : After (coming w) (n + length (pieces_of unit.bytes) + 2 * length s.open_links) (come_by (Some unit) link s) [] (note_unit (Some unit) number link at s b) =
+      pieces_part w s.links s.bag (pieces_of unit.bytes) n s [] b (λ later piece since one. same_piece number unit link at s later piece is (of unit refl) since one)
+      (λ piece one known. piece_bytes unit.bytes ((have known).bytes number unit is) piece one) start (holds (Some w)) in
+      record {
+        steps = all.steps;
+        on = Some w;
+        holds = all.holds;
+        placed = (pieces_since w s.links s.bag (pieces_of unit.bytes) s start).placed;
+        few = λ known. omega (arith, all.few, pieces_few unit.bytes ((have known).short number unit is));
+      }
+
+  -- a unit is delivered or lost first
+  settled_part : (number n at : ℕ) (s : State) (acted : Acted) (b : Book) → Moved n at (settle number s) acted b → Moved n at s acted b
+  settled_part number n at s acted b moved = record { steps = moved.steps; on = moved.on; holds = moved.holds; placed = moved.placed; few = moved.few }
+
+  settled_unit : (number link n at : ℕ) (unit : BagUnit) (s : State) (b : Book) → slice_get s.bag number ≡ Some unit → IsLinkOf s.links link unit.kind → IsPlaced s →
+      (Known → IsBytesBag s.bag) → HoldsFor n at s b →
+      Moved n at s (come_by (slice_get (settle number s).bag number) link (settle number s)) (note_unit (slice_get (settle number s).bag number) number link at (settle number s) b)
+  settled_unit number link n at unit s b is of placed have holds =
+      settled_part number n at s (come_by (slice_get (settle number s).bag number) link (settle number s))
+      (note_unit (slice_get (settle number s).bag number) number link at (settle number s) b)
+      (unit_part (slice_get (settle number s).bag number) number link n at (settle number s) b refl (λ found there. settled_link number link unit found s is of there)
+      (placed_stay.settles number s.links s.open_links s.bag placed) (λ known. settled_bag number s.bag (have known)) (λ on. keeps.settles n at on number s b tt (holds on)))
+
+  own_part : (unit : Option BagUnit) (number n at : ℕ) (s : State) (b : Book) → slice_get s.bag number ≡ unit → IsPlaced s → (Known → IsBytesBag s.bag) → HoldsFor n at s b →
+      Moved n at s (come_on_own unit number s) (note_own unit number at s b)
+  own_part None number n at s b is placed have holds = unmoved n at s b placed holds
+  own_part (Some unit) number n at s b is placed have holds = settled_unit number unit.link n at unit s b is (placed.kinds number unit is) placed have holds
+
+  onward_part : (number : Option ℕ) (n at : ℕ) (s : State) (b : Book) → IsPlaced s → (Known → IsBytesBag s.bag) → HoldsFor n at s b →
+      Moved n at s (onward_by number s) (note_onward number at s b)
+  onward_part None n at s b placed have holds = unmoved n at s b placed holds
+  onward_part (Some number) n at s b placed have holds = own_part (slice_get s.bag number) number n at s b refl placed have holds
+
+  on_part : (link : Option ℕ) (number n at : ℕ) (unit : BagUnit) (s : State) (b : Book) → slice_get s.bag number ≡ Some unit →
+      ((there : ℕ) → link ≡ Some there → IsLinkOf s.links there unit.kind) → IsPlaced s → (Known → IsBytesBag s.bag) → HoldsFor n at s b →
+      Moved n at s (deliver_on link number s) (note_on link number at s b)
+  on_part None number n at unit s b is of placed have holds = unmoved n at s b placed holds
+  on_part (Some link) number n at unit s b is of placed have holds = settled_unit number link n at unit s b is (of link refl) placed have holds
+
+  chosen_part : (unit : Option BagUnit) (number link n at : ℕ) (s : State) (b : Book) → slice_get s.bag number ≡ unit → IsPlaced s → (Known → IsBytesBag s.bag) → HoldsFor n at s b →
+      Moved n at s (deliver_unit unit number link s) (note_chosen unit number link at s b)
+  chosen_part None number link n at s b is placed have holds = unmoved n at s b placed holds
+  chosen_part (Some unit) number link n at s b is placed have holds =
+      on_part (chosen_in link (links_of unit.kind s.links)) number n at unit s b is
+      (λ there chosen. chosen_of unit.kind s.links (link % length (links_of unit.kind s.links)) there chosen) placed have holds
+
+  deliver_part : (number : Option ℕ) (link n at : ℕ) (s : State) (b : Book) → IsPlaced s → (Known → IsBytesBag s.bag) → HoldsFor n at s b →
+      Moved n at s (deliver_by number link s) (note_deliver number link at s b)
+  deliver_part None link n at s b placed have holds = unmoved n at s b placed holds
+  deliver_part (Some number) link n at s b placed have holds = chosen_part (slice_get s.bag number) number link n at s b refl placed have holds
+
+  hand_part : (link : Option ℕ) (back : Bool) (piece : List ℕ) (n at : ℕ) (s : State) (b : Book) → ((there : ℕ) → link ≡ Some there → IsFromOutside s.links there) →
+      IsPlaced s → (Known → AreBytes piece) → HoldsFor n at s b → Moved n at s (hand_on link back piece s) (note_hand link back piece at s b)
+  hand_part None back piece n at s b outside placed bytes holds = unmoved n at s b placed holds
+  hand_part (Some link) back piece n at s b outside placed bytes holds =
+      let w : Coming = record { at = at; unit = None; link = link; back = back } in
+      let end : Option EndId = hearer_of back (lookup same_number link s.open_links) in
+      let one : After (coming w) (n + 1 + 2 * length s.open_links) (hears_if end (event.Bytes link piece) s) [] (note_at end w piece s (hears_if end (event.Bytes link piece) s).state b) =
+      piece_part end w piece n s [] b refl (outside link refl) bytes placed (holds (Some w)) in
+      record {
+        steps = one.steps;
+        on = Some w;
+        holds = one.holds;
+        placed = heard_if_stays Placed placed_stay.steps end (event.Bytes link piece) s placed;
+        few = λ known. omega (arith, one.few);
+      }
+
+  -- ---- a move
+
+  quiet_part : (what : Move) (most n at : ℕ) (s : State) (b : Book) → HasNoBytes what → IsPlaced s → most ≤ n + 2 * length s.open_links + 10 → Quietly at most (act s what) [] b →
+      Moved n at s (act s what) b
+  quiet_part what most n at s b none placed few part = record {
+    steps = part.steps;
+    on = None;
+    holds = part.holds;
+    placed = move_stays Placed placed_stay what s none placed;
+    few = λ known. omega (arith, part.few, few);
+  }
+
+  act_part : (what : Move) (n at : ℕ) (s : State) (b : Book) → IsPlaced s → (Known → IsBytesBag s.bag) → (Known → HandsBytes what) → HoldsFor n at s b →
+      Moved n at s (act s what) (note_coming what at s b)
+  act_part move.Onward n at s b placed have handed holds = onward_part (first_waiting s.bag) n at s b placed have holds
+  act_part (move.Deliver unit link) n at s b placed have handed holds = deliver_part (chosen_place unit (length s.bag)) link n at s b placed have holds
+  act_part (move.Hand link back piece) n at s b placed have handed holds =
+      hand_part (chosen_in link (handed_links s.links)) back piece n at s b (λ there is. handed_outside s.links (link % length (handed_links s.links)) there is) placed handed holds
+  act_part (move.Start number) n at s b placed have handed holds =
+      quiet_part (move.Start number) (n + 1 + 2 * length s.open_links) n at s b tt placed (omega arith) (start_part (chosen_place number (length s.ends.clients)) n at s b (holds None))
+  act_part (move.Stranger number) n at s b placed have handed holds =
+      quiet_part (move.Stranger number) (n + 3 + 2 * length s.open_links) n at s b tt placed (omega arith) (stranger_part (chosen_place number (acceptors_in s.ends)) n at s b (holds None))
+  act_part move.Connect n at s b placed have handed holds =
+      quiet_part move.Connect (n + 6 + 2 * length s.open_links) n at s b tt placed (omega arith) (connect_part (slice_get s.dials 0) n at s b refl (holds None))
+  act_part move.FailDial n at s b placed have handed holds =
+      quiet_part move.FailDial (n + 1 + 2 * length s.open_links) n at s b tt placed (omega arith) (fail_part (slice_get s.dials 0) n at s b refl (holds None))
+  act_part move.Lose n at s b placed have handed holds =
+      quiet_part move.Lose (n + 2 * length s.open_links) n at s b tt placed (omega arith) (lose_part (first_waiting s.bag) n at s b (holds None))
+  act_part (move.Shut number) n at s b placed have handed holds =
+      quiet_part (move.Shut number) (n + 2 + 2 * length s.open_links) n at s b tt placed (omega arith) (shut_part (chosen_place number (length s.open_links)) n at s b (holds None))
+  act_part (move.Restart number) n at s b placed have handed holds =
+      quiet_part (move.Restart number) (n + 2 * length s.open_links) n at s b tt placed (omega arith) (restart_part (chosen_place number (count_of s.ends)) n at s b (holds None))
+  act_part (move.Tick more) n at s b placed have handed holds =
+      quiet_part (move.Tick more) (n + 2 * length s.open_links) n at s b tt placed (omega arith)
+      (nothing (waiting at None) (n + 2 * length s.open_links) n (tick more s) [] b (keeps.ticks n at more s b tt (holds None)) (omega arith))
+
+  -- ---- a run
+
+  record Ran (n : ℕ) (moves : List Move) (w : World) (b : Book) : Type 0 where
+    steps : ℕ
+    holds : HoldsFor steps (run moves w).moves (run moves w).state (book moves w b)
+    few : Known → steps + 2 * length (run moves w).state.open_links ≤ n + 2 * length w.state.open_links + 10 * length moves
+
+  run_part : (moves : List Move) (n : ℕ) (w : World) (b : Book) → (Known → IsBytesBag (run moves w).state.bag) → (Known → AllByRecursion HandsBytes moves) → IsPlaced w.state →
+      HoldsFor n w.moves w.state b → Ran n moves w b
+  run_part [] n w b have handed placed holds = record { steps = n; holds = holds; few = λ known. omega arith }
+  run_part (what ∷ moves) n w b have handed placed holds =
+      let moved : Moved n w.moves w.state (act w.state what) (note_coming what w.moves w.state b) =
+      act_part what n w.moves w.state b placed
+      (λ known. bag_before w.state.bag (run (what ∷ moves) w).state.bag (run_still (what ∷ moves) w) (have known)) (λ known. (handed known).0) holds in
+      let later : Ran moved.steps moves (happens w what) (note w what b) =
+      run_part moves moved.steps (happens w what) (note w what b) have (λ known. (handed known).1) moved.placed
+      (λ next. keeps.over moved.steps w.moves moved.on next (act w.state what).state (act w.state what).given (note_coming what w.moves w.state b) tt moved.holds) in
+      record { steps = later.steps; holds = later.holds; few = λ known. omega (arith, later.few known, moved.few known) }
+
+-- It holds after a run from a plan, at which ten steps of ends a move were taken at most, where what comes is known.
+pub record HoldsAfterMoves (Known : Type 0) (Holds : MoveFact) (plan : Plan) (moves : List Move) : Type 0 where
+  pub steps : ℕ
+  pub holds : Holds steps (started (past plan moves).world.moves None) (past plan moves).world.state [] (past plan moves).book
+  pub few : Known → steps + 2 * length (past plan moves).world.state.open_links ≤ 10 * length moves
+
+-- what is known of the units of a world, and of the bytes that are handed in
+pub record HasBytes (plan : Plan) (moves : List Move) : Type 0 where
+  pub short : AreShortUnits (past plan moves).world.state.bag
+  pub bytes : HaveBytes (past plan moves).world.state.bag
+  pub handed : AllByRecursion HandsBytes moves
+
+pub bytes_in : (bag : List BagUnit) → HaveBytes bag → BytesIn bag
+bytes_in [] have number unit there = absurd (got_nothing number unit there)
+bytes_in (first ∷ bag) have zero unit there =
+    let here : first ≡ unit = cc in subst (λ (u : BagUnit). AreBytes u.bytes) here (All-head (λ (u : BagUnit). AreBytes u.bytes) first bag have)
+bytes_in (first ∷ bag) have (suc number) unit there = bytes_in bag (All-tail (λ (u : BagUnit). AreBytes u.bytes) first bag have) number unit there
+
+pub moves_keep : (Known : Type 0) (Holds : MoveFact) → KeepsMoves Known NoSide Holds → (plan : Plan) (moves : List Move) → (Known → HasBytes plan moves) →
+    ((on : Option Coming) → Holds 0 (started 0 on) (first_world plan).state [] blank) → HoldsAfterMoves Known Holds plan moves
+moves_keep Known Holds keeps plan moves has holds =
+    let bag : List BagUnit = (past plan moves).world.state.bag in
+    let ran : Ran Known Holds keeps 0 moves (first_world plan) blank =
+    run_part Known Holds keeps moves 0 (first_world plan) blank
+    (λ known. record { short = λ k unit there. unit_short bag k unit (has known).short there; bytes = bytes_in bag (has known).bytes }) (λ known. (has known).handed)
+    (record { made = tt; kinds = λ k unit there. absurd (got_nothing k unit there) }) holds in
+    record { steps = ran.steps; holds = ran.holds None; few = λ known. omega (arith, ran.few known) }
