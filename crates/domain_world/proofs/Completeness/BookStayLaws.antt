@@ -15,10 +15,11 @@ use Rattle.world_moves.specs.declared.moves.Move.{Move}
 use Rattle.world_moves.specs.declared.state.State.{State}
 use Rattle.world_moves.specs.World.{World, run}
 use Rattle.domain_world.specs.Past.{Coming, answers_of, book, controller_of, judged_of, note_at, note_client, note_controller, note_member, note_messages, numbers_on, onto, told_in}
-use Rattle.domain_world.proofs.Accepting.TurnNotedLaws.{turns_told}
 use Rattle.domain_world.proofs.Challenges.OwnLinkLaws.{one_earlier}
-use Rattle.domain_world.proofs.Frames.BookFrameLaws.{book_holds}
-use Rattle.domain_world.proofs.Frames.FrameLaws.{Fact, StaysWritten, run_stays}
+use Rattle.domain_world.proofs.Frames.BookFrameLaws.{book_stays}
+use Rattle.domain_world.proofs.Frames.FrameLaws.{Fact, StaysWritten, later_stays}
+use Rattle.domain_world.proofs.Frames.MoveFrameLaws.{IsPlaced}
+use Rattle.domain_world.proofs.Frames.TurnFrameLaws.{turns_told}
 use Rattle.domain_world.proofs.Judgements.ReplayLaws.{client_judged, member_judged}
 
 -- ---- one of several
@@ -47,11 +48,11 @@ bytes_told (Controller at) w piece s after b = controller_told (slice_get s.ends
 bytes_told (Member at) w piece s after b = member_told (slice_get s.ends.members at) at w piece s after b
 bytes_told (Client at) w piece s after b = client_told (slice_get s.ends.clients at) at w piece s b
 
-pub told_stays : (P : OutcomeTold → Type 0) (moves : List Move) (w : World) (b : Book) → OneOf P b.told → OneOf P (book moves w b).told
-told_stays P moves w b one =
-    book_holds (λ (now : Book). OneOf P now.told)
+pub told_stays : (P : OutcomeTold → Type 0) (moves : List Move) (w : World) (b : Book) → IsPlaced w.state → OneOf P b.told → OneOf P (book moves w b).told
+told_stays P moves w b placed one =
+    book_stays (λ (now : Book). OneOf P now.told)
     (λ end w piece s after now is. subst (OneOf P) (sym (bytes_told end w piece s after now)) is)
-    (λ at given after now is. one_earlier P now.told (told_in given at) is) moves w b one
+    (λ at given after now is. one_earlier P now.told (told_in given at) is) moves w b placed one
 
 -- ---- what was judged
 
@@ -65,8 +66,8 @@ bytes_judged P (Controller at) w piece s after b one = controller_judged P (slic
 bytes_judged P (Member at) w piece s after b one = subst (OneOf P) (sym (member_judged (slice_get s.ends.members at) at w piece s after b)) one
 bytes_judged P (Client at) w piece s after b one = subst (OneOf P) (sym (client_judged (slice_get s.ends.clients at) at w piece s b)) one
 
-pub judged_stays : (P : Judging → Type 0) (moves : List Move) (w : World) (b : Book) → OneOf P b.judged → OneOf P (book moves w b).judged
-judged_stays P moves w b one = book_holds (λ (now : Book). OneOf P now.judged) (bytes_judged P) (λ at given after now is. is) moves w b one
+pub judged_stays : (P : Judging → Type 0) (moves : List Move) (w : World) (b : Book) → IsPlaced w.state → OneOf P b.judged → OneOf P (book moves w b).judged
+judged_stays P moves w b placed one = book_stays (λ (now : Book). OneOf P now.judged) (bytes_judged P) (λ at given after now is. is) moves w b placed one
 
 -- ---- links
 
@@ -87,6 +88,6 @@ link_is number route = record {
   given = λ at given after b. refl;
 }
 
-pub link_stays : (number : ℕ) (route : Route) (moves : List Move) (w : World) (b : Book) → slice_get w.state.links number ≡ Some route → slice_get (run moves w).state.links number ≡ Some route
+pub link_stays : (number : ℕ) (route : Route) (moves : List Move) (w : World) (b : Book) → IsPlaced w.state → slice_get w.state.links number ≡ Some route → slice_get (run moves w).state.links number ≡ Some route
 unfolding LinkIs
-link_stays number route moves w b is = run_stays (λ (now : Book). tt) (LinkIs number route) (link_is number route) moves w b is
+link_stays number route moves w b placed is = later_stays (λ (now : Book). tt) (LinkIs number route) (link_is number route) moves w b placed is

@@ -30,6 +30,7 @@ use Rattle.logon_runs.proofs.GrantsToldLaws.{grants_tell}
 use Rattle.domain_world.specs.Claims.{TravelsAsZeros}
 use Rattle.domain_world.specs.Past.{book, note, told_in}
 use Rattle.domain_world.proofs.Accepting.TurnChangedLaws.{one_after}
+use Rattle.domain_world.proofs.Frames.MoveFrameLaws.{IsPlaced}
 use Rattle.domain_world.proofs.Completeness.BookStayLaws.{judged_stays, told_stays}
 use Rattle.domain_world.proofs.Completeness.JudgedNoteLaws.{IsGrant, grant_noted}
 
@@ -45,10 +46,10 @@ IsWritten p NotYet b = Unit {0}
 IsWritten p (WasJudged a o) b = OneOf (IsGrant (open_key o) (base_key p.meeting.task (message_for (own p) a))) b.judged
 IsWritten p (WasTold a) b = OneOf (IsTold p a) b.told
 
-pub written_stays : (p : Coming) (far : Progress) (what : Move) (w : World) (b : Book) → IsWritten p far b → IsWritten p far (note w what b)
-written_stays p NotYet what w b is = tt
-written_stays p (WasJudged a o) what w b is = judged_stays (IsGrant (open_key o) (base_key p.meeting.task (message_for (own p) a))) (what ∷ []) w b is
-written_stays p (WasTold a) what w b is = told_stays (IsTold p a) (what ∷ []) w b is
+pub written_stays : (p : Coming) (far : Progress) (what : Move) (w : World) (b : Book) → IsPlaced w.state → IsWritten p far b → IsWritten p far (note w what b)
+written_stays p NotYet what w b placed is = tt
+written_stays p (WasJudged a o) what w b placed is = judged_stays (IsGrant (open_key o) (base_key p.meeting.task (message_for (own p) a))) (what ∷ []) w b placed is
+written_stays p (WasTold a) what w b placed is = told_stays (IsTold p a) (what ∷ []) w b placed is
 
 -- no key of a call that was granted travels as zeros
 abbrev pub IsSafe : Book → Type 0
@@ -58,10 +59,10 @@ IsSafe b = (key base : List ℕ) → OneOf (IsGrant key base) b.judged → KeyTr
 abbrev pub AreSafe : Book → Type 0
 AreSafe b = AllByRecursion (λ (j : Judging). j.how ≡ Some (judged.Passed 0) → TravelsAsZeros j j.logon.info → ⊥) b.judged
 
-pub safe_then : (moves : List Move) (w : World) (b : Book) → AreSafe (book moves w b) → IsSafe b
-safe_then moves w b safe key base one zeros =
+pub safe_then : (moves : List Move) (w : World) (b : Book) → IsPlaced w.state → AreSafe (book moves w b) → IsSafe b
+safe_then moves w b placed safe key base one zeros =
     let found = one_found (IsGrant key base) (λ (j : Judging). j.how ≡ Some (judged.Passed 0) → TravelsAsZeros j j.logon.info → ⊥) (book moves w b).judged safe
-    (judged_stays (IsGrant key base) moves w b one) in
+    (judged_stays (IsGrant key base) moves w b placed one) in
     found.2 found.1.how (found.1.zeros zeros)
 
 -- ---- the member tells
@@ -78,7 +79,7 @@ told_so p a w b turn answer rest is =
 
 -- ---- a unit comes
 
-module _ (p : Coming) (w : World) (b : Book) (known : IsKnown p) (user : HasUser p) (may : MayLogOnAt p w.state) (safe : IsSafe (note w move.Onward b)) where
+module _ (p : Coming) (w : World) (b : Book) (known : IsKnown p) (user : HasUser p) (may : MayLogOnAt p w.state) (placed : IsPlaced w.state) (safe : IsSafe (note w move.Onward b)) where
   call_written : (a : Asked) (who : WhoAsked p a) (v : TurnAt) (aim : Aim) (left : List (List ℕ)) (moment : ℕ) → Fits p (Calls a who v aim) → Shows w.state (scene_of p (Calls a who v aim) left moment) →
       IsWritten p (progress_onward {p = p} (Calls a who v aim)) (note w move.Onward b)
   call_written a who v (First client) left moment fits shows = tt
@@ -91,7 +92,7 @@ module _ (p : Coming) (w : World) (b : Book) (known : IsKnown p) (user : HasUser
   granted_written a who v o c timestamp judged_at accounts left moment fits shows is =
       let tells : TellsIn p w.state a v =
       grants_tell.tells p w.state a who v o c timestamp judged_at accounts left moment known fits
-      (safe (open_key o) (base_key p.meeting.task (message_for (own p) a)) (written_stays p (WasJudged a o) move.Onward w b is)) shows in
+      (safe (open_key o) (base_key p.meeting.task (message_for (own p) a)) (written_stays p (WasJudged a o) move.Onward w b placed is)) shows in
       told_so p a w b (length v.links) tells.answer tells.rest tells.are
 
   pub onward_written : (phase : LogonPhase p) (left : List (List ℕ)) (moment : ℕ) → Fits p phase → Shows w.state (scene_of p phase left moment) → IsWritten p (progress_of phase) b →
@@ -110,9 +111,9 @@ module _ (p : Coming) (w : World) (b : Book) (known : IsKnown p) (user : HasUser
   onward_written (Proved a who v client server) left moment fits shows is = tt
   onward_written (Granted a who v o c timestamp judged_at accounts) left moment fits shows is =
       granted_written a who v o c timestamp judged_at accounts left moment fits shows is
-  onward_written (Named a e on one other back) left moment fits shows is = written_stays p (WasTold a) move.Onward w b is
-  onward_written (Echoes a e on one asks) left moment fits shows is = written_stays p (WasTold a) move.Onward w b is
-  onward_written (Echoed a e talk one other back) left moment fits shows is = written_stays p (WasTold a) move.Onward w b is
+  onward_written (Named a e on one other back) left moment fits shows is = written_stays p (WasTold a) move.Onward w b placed is
+  onward_written (Echoes a e on one asks) left moment fits shows is = written_stays p (WasTold a) move.Onward w b placed is
+  onward_written (Echoed a e talk one other back) left moment fits shows is = written_stays p (WasTold a) move.Onward w b placed is
 
   call_arrives : (a : Asked) (who : WhoAsked p a) (v : TurnAt) (aim : Aim) (left : List (List ℕ)) (moment : ℕ) → Fits p (Calls a who v aim) → Shows w.state (scene_of p (Calls a who v aim) left moment) →
       ArrivesAt p (Calls a who v aim) move.Onward

@@ -34,7 +34,9 @@ use Rattle.logon_runs.proofs.PassingLaws.{rest_of}
 use Rattle.logon_runs.proofs.RestStayLaws.{rests_stay}
 use Rattle.logon_runs.proofs.StayingLaws.{both_same, ends_stay}
 use Rattle.logon_runs.proofs.WaitingLaws.{waiting_comes}
+use Rattle.step_notes.specs.Records.{blank}
 use Rattle.domain_world.specs.Claims.Completeness.{IsPlainMove, IsQuiet, OneAtATime, started_in}
+use Rattle.domain_world.proofs.Frames.MoveFrameLaws.{IsPlaced, placed_next}
 use Rattle.domain_world.proofs.Completeness.MomentLaws.{moment_below, start_chances}
 
 -- ---- challenges
@@ -216,6 +218,7 @@ pub record Along (plan : Plan) (moves : List Move) (w : World) : Type 0 where
   pub quiet : OneAtATime moves w
   pub same : HasSameEnds (first_world plan).state w.state
   pub below : w.state.moment < 2 ^ 64
+  pub placed : IsPlaced w.state
 
 pub along_next : (plan : Plan) (what : Move) (moves : List Move) (w : World) → Along plan (what ∷ moves) w → Along plan moves (happens w what)
 along_next plan what moves w along = record {
@@ -223,6 +226,7 @@ along_next plan what moves w along = record {
   quiet = along.quiet.1;
   same = both_same (first_world plan).state w.state (act w.state what).state along.same (ends_stay.acts w.state what);
   below = moment_below w.state what along.plain.0 along.below;
+  placed = placed_next what w blank along.placed;
 }
 
 -- ---- a client that isn't started any more

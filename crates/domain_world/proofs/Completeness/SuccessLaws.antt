@@ -39,6 +39,7 @@ use Rattle.domain_world.proofs.Completeness.ApartLaws.{can_be_granted, has_serve
 use Rattle.domain_world.proofs.Completeness.MomentLaws.{start_bag, start_chances}
 use Rattle.domain_world.proofs.Completeness.OwnLogonLaws.{AreSafe, IsTold}
 use Rattle.domain_world.proofs.Completeness.OwnWalkLaws.{IsSoFar, OwnEnds, own_goes}
+use Rattle.domain_world.proofs.Frames.MoveFrameLaws.{placed_first}
 use Rattle.domain_world.proofs.Completeness.RestingLaws.{Along, BeginsSo, along_next, Resting, Started, begins_so, fewer_moves, goes_further, rests_on, rests_then}
 
 -- ---- a logon that starts isn't judged yet
@@ -249,6 +250,6 @@ each_succeeds plan moves comes =
     let forms : HasForms plan = comes.schedule.forms in
     all_given (λ (client : ℕ). CanSucceed plan moves client) (λ client can. Succeeds (past plan moves) moves client can) (HasServers plan) (started_in moves (length plan.clients)) (λ client can. has_servers plan moves client can)
     (λ servers. each_from plan moves is forms servers (run moves first) (book moves first blank) comes.keys moves first blank
-    (record { plain = comes.plain; quiet = comes.quiet; same = ends_stay.none first.state; below = forms.now })
+    (record { plain = comes.plain; quiet = comes.quiet; same = ends_stay.none first.state; below = forms.now; placed = placed_first plan })
     comes.once (λ Fact each. each) refl refl
     (inl (record { rest = logons_come_to_rest.first plan is forms; enough = first_enough plan (length moves) comes.schedule.few })))

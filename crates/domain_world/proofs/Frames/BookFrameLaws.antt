@@ -9,8 +9,10 @@ use Rattle.world_moves.specs.declared.moves.Move.{Move}
 use Rattle.world_moves.specs.declared.plan.Plan.{Plan}
 use Rattle.world_moves.specs.declared.state.State.{State}
 use Rattle.world_moves.specs.Acting.{Given, hears}
-use Rattle.domain_world.specs.Past.{Coming, note_at, note_given, past}
-use Rattle.domain_world.proofs.Frames.EndFrameLaws.{EndFact, KeepsEnds, ends_after}
+use Rattle.world_moves.specs.World.{World}
+use Rattle.domain_world.specs.Past.{Coming, book, note_at, note_given, past}
+use Rattle.domain_world.proofs.Frames.EndFrameLaws.{EndFact, KeepsEnds, ends_after, ends_later}
+use Rattle.domain_world.proofs.Frames.MoveFrameLaws.{IsPlaced}
 
 module _ (Holds : Book → Type 0)
     (bytes : (end : EndId) (w : Coming) (piece : List ℕ) (s after : State) (b : Book) → Holds b → Holds (note_at (Some end) w piece s after b))
@@ -31,3 +33,7 @@ module _ (Holds : Book → Type 0)
 
   pub book_holds : (plan : Plan) (moves : List Move) → Holds blank → Holds (past plan moves).book
   book_holds plan moves holds = ends_after OfBook book_keeps plan moves (λ on. holds)
+
+  -- the same from any world on
+  pub book_stays : (moves : List Move) (w : World) (b : Book) → IsPlaced w.state → Holds b → Holds (book moves w b)
+  book_stays moves w b placed holds = ends_later OfBook book_keeps moves w b placed (λ on. holds)

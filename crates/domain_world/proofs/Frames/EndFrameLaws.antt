@@ -24,10 +24,10 @@ use Rattle.world_moves.specs.Acting.{Given, forget, Heard, bag_unit, given_by, h
 use Rattle.world_moves.specs.Ends.{EndStates}
 use Rattle.world_moves.specs.Links.{acceptor_of, is_accepted_by, kind_of}
 use Rattle.world_moves.specs.Moving.{begun, renewed, with_link}
-use Rattle.world_moves.specs.World.{first_world}
-use Rattle.domain_world.specs.Past.{Coming, note_at, note_given, past}
+use Rattle.world_moves.specs.World.{World, first_world, run}
+use Rattle.domain_world.specs.Past.{Coming, book, note_at, note_given, past}
 use Rattle.domain_world.proofs.Frames.ComingLaws.{CameFrom}
-use Rattle.domain_world.proofs.Frames.MoveFrameLaws.{HoldsAfterMoves, KeepsMoves, MoveFact, NoSide, moves_keep}
+use Rattle.domain_world.proofs.Frames.MoveFrameLaws.{HoldsAfterMoves, IsPlaced, KeepsMoves, MoveFact, NoSide, later_keeps, moves_keep}
 use Rattle.domain_world.proofs.Frames.OpenMadeLaws.{IsAtSide}
 
 -- ---- what is to hold
@@ -125,3 +125,8 @@ module _ (Holds : EndFact) (keeps : KeepsEnds Holds) where
       Holds (past plan moves).world.moves None (ends_in (past plan moves).world.state) [] (past plan moves).book
   ends_after plan moves holds =
       let after : HoldsAfterMoves ⊥ OfMoves plan moves = moves_keep ⊥ OfMoves (ends_keep ⊥) plan moves (λ none. absurd none) holds in after.holds
+
+  -- the same from any world on
+  pub ends_later : (moves : List Move) (w : World) (b : Book) → IsPlaced w.state → ((on : Option Coming) → Holds w.moves on (ends_in w.state) [] b) →
+      Holds (run moves w).moves None (ends_in (run moves w).state) [] (book moves w b)
+  ends_later moves w b placed holds = (later_keeps OfMoves (ends_keep ⊥) moves w b placed holds).1

@@ -23,10 +23,10 @@ use Rattle.world_moves.specs.Acting.{Given, hears}
 use Rattle.world_moves.specs.Ends.{EndStates, EndStep, end_step, renew_client, renew_controller, renew_member, with_client, with_member}
 use Rattle.world_moves.specs.Links.{acceptor_of}
 use Rattle.world_moves.specs.Moving.{renewed}
-use Rattle.world_moves.specs.World.{first_world}
-use Rattle.domain_world.specs.Past.{Coming, note_at, note_given, past}
-use Rattle.domain_world.proofs.Frames.EndFrameLaws.{EndFact, IsCalm, KeepsEnds, ends_after, ends_keep}
-use Rattle.domain_world.proofs.Frames.MoveFrameLaws.{KeepsMoves, MoveFact, NoSide}
+use Rattle.world_moves.specs.World.{World, first_world, run}
+use Rattle.domain_world.specs.Past.{Coming, book, note_at, note_given, past}
+use Rattle.domain_world.proofs.Frames.EndFrameLaws.{EndFact, IsCalm, KeepsEnds, ends_after, ends_keep, ends_later}
+use Rattle.domain_world.proofs.Frames.MoveFrameLaws.{IsPlaced, KeepsMoves, MoveFact, NoSide}
 use Rattle.world_moves.specs.declared.plan.Plan.{Plan}
 
 -- ---- what is to hold
@@ -175,3 +175,8 @@ module _ {X : Type 0} (part : Book → X) (Fits : X → Fact) (written : StaysWr
   -- through all moves of a run
   pub run_stays : (plan : Plan) (moves : List Move) → HoldsIn (Fits (part blank)) (first_world plan).state → HoldsIn (Fits (part (past plan moves).book)) (past plan moves).world.state
   run_stays plan moves holds = run_stays_by_plans part (λ x plans. Fits x) (written_by_plans part Fits written) plan moves holds
+
+  -- the same from any world on
+  pub later_stays : (moves : List Move) (w : World) (b : Book) → IsPlaced w.state → HoldsIn (Fits (part b)) w.state → HoldsIn (Fits (part (book moves w b))) (run moves w).state
+  later_stays moves w b placed holds =
+      ends_later (Planned part (λ x plans. Fits x) (written_by_plans part Fits written)) (planned_keeps part (λ x plans. Fits x) (written_by_plans part Fits written)) moves w b placed (λ on. holds)

@@ -736,3 +736,44 @@ moves_keep Known Holds keeps plan moves has holds =
     (λ known. record { short = λ k unit there. unit_short bag k unit (has known).short there; bytes = bytes_in bag (has known).bytes }) (λ known. (has known).handed)
     (record { made = tt; kinds = λ k unit there. absurd (got_nothing k unit there) }) holds in
     record { steps = ran.steps; holds = ran.holds None; few = λ known. omega (arith, ran.few known) }
+
+-- ---- from any world on
+
+-- So it does after a run from any world in which links and units have their places, where nothing of bytes is asked.
+pub later_keeps : (Holds : MoveFact) → KeepsMoves ⊥ NoSide Holds → (moves : List Move) (w : World) (b : Book) → IsPlaced w.state → ((on : Option Coming) → Holds 0 (started w.moves on) w.state [] b) →
+    (n : ℕ) × Holds n (started (run moves w).moves None) (run moves w).state [] (book moves w b)
+later_keeps Holds keeps moves w b placed holds =
+    let ran : Ran ⊥ Holds keeps 0 moves w b = run_part ⊥ Holds keeps moves 0 w b (λ none. absurd none) (λ none. absurd none) placed holds in (ran.steps, ran.holds None)
+
+-- a fact that says nothing
+abbrev AnyMove : MoveFact
+AnyMove n p s given b = Unit {0}
+
+any_keeps : KeepsMoves ⊥ NoSide AnyMove
+any_keeps = record {
+  closes = λ n p end link s given b work none holds. tt;
+  opens = λ n at dial route s given b none holds. tt;
+  dialled = λ n at end link s given b side none holds. tt;
+  fails = λ n at end s b none holds. tt;
+  begins = λ n at client plan s b is none holds. tt;
+  comes = λ n end w piece s given b side came bytes none holds. tt;
+  reaches = λ n w s given b none holds. tt;
+  acts = λ n p end what s given b work none holds. tt;
+  shuts = λ n p link s given b work none holds. tt;
+  answers = λ n at dial link there s given b is none holds. tt;
+  forgets = λ n at end s b none holds. tt;
+  settles = λ n at on number s b none holds. tt;
+  dials = λ n at dial s b is none holds. tt;
+  renews = λ n at end s b none holds. tt;
+  ticks = λ n at more s b none holds. tt;
+  over = λ n at on next s given b none holds. tt;
+}
+
+-- they have their places in the first world, and after each move
+pub placed_first : (plan : Plan) → IsPlaced (first_world plan).state
+placed_first plan = record { made = tt; kinds = λ k unit there. absurd (got_nothing k unit there) }
+
+pub placed_next : (what : Move) (w : World) (b : Book) → IsPlaced w.state → IsPlaced (act w.state what).state
+placed_next what w b placed =
+    let moved : Moved ⊥ AnyMove any_keeps 0 w.moves w.state (act w.state what) (note_coming what w.moves w.state b) =
+    act_part ⊥ AnyMove any_keeps what 0 w.moves w.state b placed (λ none. absurd none) (λ none. absurd none) (λ on. tt) in moved.placed

@@ -31,7 +31,7 @@ use Rattle.logon_client.specs.State.{State as ClientState}
 use Rattle.member_server.specs.State.{State as MemberState}
 use Rattle.step_notes.specs.ControllerNotes.{Answered, Where, answer_on, channel_in, has_passed, heard_answer, judging_by, judging_of, logon_answer, opened_by, opening, passing, units_at, units_by}
 use Rattle.step_notes.specs.Judged.{IsJudgedRight}
-use Rattle.step_notes.specs.Records.{Book, Judging, blank}
+use Rattle.step_notes.specs.Records.{Book, Judging}
 use Rattle.step_notes.specs.Served.{ServedUnit, served_units, units_if_taken, units_on, units_then, work_after}
 use Rattle.world_moves.specs.declared.links.EndId.{EndId}
 use Rattle.world_moves.specs.declared.links.EndId.TheVariants.{Controller, Member, Client}
@@ -403,5 +403,5 @@ first_stands plan = record {
 -- in every run accounts change by verdicts alone
 pub tables_follow : (plan : Plan) (moves : List Move) → TablesFollowVerdicts (past plan moves)
 tables_follow plan moves =
-    let stands = run_stays (λ (b : Book). b.judged) (Stands plan) (stands_written plan) moves (first_world plan) blank (first_stands plan) in
+    let stands = run_stays (λ (b : Book). b.judged) (Stands plan) (stands_written plan) plan moves (first_stands plan) in
     record { judged = stands.judged; stands = stands.each }

@@ -4,7 +4,6 @@ use Rattle.std.proofs.Common.{◌≡◌, ℕ, ◌+◌, Bool, true, false, List, 
 use Rattle.member_server.specs.Dials.{TurnsAreDialled}
 use Rattle.member_server.specs.Laws.{AsksWhatWaits}
 use Rattle.member_server.specs.declared.state.Running.{Running}
-use Rattle.step_notes.specs.Records.{blank}
 use Rattle.world_moves.specs.declared.links.EndId.{EndId}
 use Rattle.world_moves.specs.declared.links.EndId.TheVariants.{Controller, Member, Client}
 use Rattle.world_moves.specs.declared.moves.Move.{Move}
@@ -12,12 +11,11 @@ use Rattle.world_moves.specs.declared.plan.Plan.{Plan}
 use Rattle.world_moves.specs.declared.state.State.{State}
 use Rattle.world_moves.specs.declared.state.Waiting.{Waiting}
 use Rattle.world_moves.specs.Links.{same_end}
-use Rattle.world_moves.specs.World.{first_world}
 use Rattle.domain_world.specs.Claims.SharedSequences.{OneTurnIsOut, dials_of}
 use Rattle.domain_world.specs.Past.{controller_of, past}
 use Rattle.domain_world.proofs.Frames.DrawnRunLaws.{draws_differ}
 use Rattle.domain_world.proofs.Sequences.DialCountLaws.{is_member, one_if, waiting_dials}
-use Rattle.domain_world.proofs.Sequences.DialWalkLaws.{AtState, run_part}
+use Rattle.domain_world.proofs.Sequences.DialWalkLaws.{AtState, dials_after}
 use Rattle.domain_world.proofs.Sequences.OwnFrameLaws.{TurnsHold, TurnsKnown}
 use Rattle.domain_world.proofs.Sequences.OwnRunLaws.{first_known, turns_keep}
 use Rattle.domain_world.proofs.Sequences.OwnTurnLaws.{TurnsIf, TurnsOf}
@@ -44,7 +42,7 @@ dials_count k (dial ∷ dials) =
 pub one_turn : AsksWhatWaits → TurnsAreDialled → (plan : Plan) (moves : List Move) → OneTurnIsOut (past plan moves)
 one_turn asks dialled plan moves member m running there runs =
     let s : State = (past plan moves).world.state in
-    let known : AtState TurnsKnown None [] s [] (past plan moves).book.turns = run_part TurnsKnown (turns_keep asks dialled) moves (first_world plan) blank (first_known asks plan) in
+    let known : AtState TurnsKnown None [] s [] (past plan moves).book.turns = dials_after TurnsKnown (turns_keep asks dialled) plan moves (first_known asks plan) in
     let holds : TurnsHold None [] s.member_plans s.ends s.dials s.chances.drawn [] (past plan moves).book.turns = known (draws_differ plan moves) in
     let its : TurnsOf member (controller_of member s) None [] s.dials s.chances.drawn [] (past plan moves).book.turns running =
     subst (λ (r : Option Running). TurnsIf member (controller_of member s) None [] s.dials s.chances.drawn [] (past plan moves).book.turns r) runs (holds.members member m there) in
