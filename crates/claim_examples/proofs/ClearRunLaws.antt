@@ -451,6 +451,8 @@ first_logons_are_clear asked = record {
         keys = proved.keys schedule clear;
         counts = proved.counts schedule clear;
         sequences = proved.sequences schedule clear;
+        called = proved.called schedule clear;
+        answered = proved.answered schedule clear.apart;
       };
   plain = ann_plain;
   once = ann_once;

@@ -15,6 +15,7 @@ use Rattle.world_moves.specs.Forms.{HasForms, IsSchedule}
 use Rattle.world_moves.specs.World.{IsPlan, first_world}
 use Rattle.logon_runs.specs.ExampleLogon.{ann_moves, ann_plan}
 use Rattle.logon_runs.specs.FirstWorlds.{CanComeIn, FirstKeyArrives, logon_moves}
+use Rattle.domain_world.specs.Accepting.Sequences.{RepliesAnswerCalls, TurnsAreCalled}
 use Rattle.domain_world.specs.Claims.{AcceptsAllGranted, AcceptsOnlyGranted, IsAccepted, IsClear, KeysAgree}
 use Rattle.domain_world.specs.Claims.Completeness.{IsPlainMove, OneAtATime, started_in}
 use Rattle.domain_world.specs.Claims.Counts.{EachCallRaisesOnce}
@@ -47,13 +48,15 @@ pub record HasSharedChannel (run : Past) : Type 0 where
   pub same : SameChannel (channel_with channel.controller channel.computer c) channel
   pub seed : c.seed ≡ o.seed
 
--- what is claimed of clear schedules
+-- what is claimed of schedules that are clear, or have no clash
 pub record MeetsClearClaims (run : Past) : Type 0 where
   pub only : AcceptsOnlyGranted run
   pub all : AcceptsAllGranted run
   pub keys : KeysAgree run
   pub counts : EachCallRaisesOnce run
   pub sequences : SequencesAreShared run
+  pub called : TurnsAreCalled run
+  pub answered : RepliesAnswerCalls run
 
 -- It is so of the first logon in a world, of whatever plan, where it comes in; and of the example, which is a schedule
 -- whose one client is started where nothing is under way, and at whose end nothing is. A channel stands at both ends
