@@ -10,13 +10,15 @@ use Rattle.outside.specs.declared.action.CloseCause.TheVariants as close
 use Rattle.outside.specs.declared.action.Judged.TheVariants as judged
 use Rattle.rpc_units.specs.Writing.{written}
 use Rattle.account_table.specs.AccountTable.{AccountTable}
+use Rattle.account_table.specs.LookUps.{account_in}
+use Rattle.ntlm_responses.specs.Verification.{base_key_of}
 use Rattle.logon_stubs.specs.declared.calls.Reply.{Reply}
 use Rattle.logon_stubs.specs.declared.info.SamInfo.{SamInfo}
 use Rattle.memo_stubs.specs.Memo.{written_echo_reply, written_echo_request}
 use Rattle.memo_stubs.proofs.MemoLaws.{reply_stub, request_stub}
 use Rattle.channel_client.specs.Effects.{channel_of}
 use Rattle.channel_client.specs.Machine.{after, challenge_call, offered_flags}
-use Rattle.channel_client.specs.Opened.{OpenState, after_call}
+use Rattle.channel_client.specs.Opened.{OpenState, after_call, open_key}
 use Rattle.channel_client.specs.declared.state.Question.TheVariants as question
 use Rattle.channel_client.specs.declared.state.Standing.{Standing}
 use Rattle.channel_client.specs.declared.state.Standing.TheVariants as standing
@@ -30,9 +32,10 @@ use Rattle.logon_client.specs.declared.plan.ClientPlan.{ClientPlan}
 use Rattle.logon_client.specs.declared.state.Phase.TheVariants as client_phase
 use Rattle.member_server.specs.Turns.{timestamp_of}
 use Rattle.channel_events.specs.Marks.{OneOf}
-use Rattle.channel_events.proofs.ListLaws.{one_found, one_weaker, one_with}
+use Rattle.channel_events.proofs.ListLaws.{all_weaker, one_found, one_weaker, one_with}
 use Rattle.step_notes.specs.ControllerNotes.{channel_with}
-use Rattle.step_notes.specs.Records.{Book, MessageTaken, OutcomeTold, blank}
+use Rattle.step_notes.specs.Judged.{hash_in}
+use Rattle.step_notes.specs.Records.{Book, Judging, MessageTaken, OutcomeTold, blank}
 use Rattle.world_moves.specs.declared.bag.BagUnit.{BagUnit}
 use Rattle.world_moves.specs.declared.links.EndId.{EndId}
 use Rattle.world_moves.specs.declared.links.EndId.TheVariants.{Client, Member}
@@ -44,13 +47,14 @@ use Rattle.world_moves.specs.Counting.{is_in}
 use Rattle.world_moves.specs.Choosing.{chosen_place}
 use Rattle.world_moves.specs.Forms.{HasForms}
 use Rattle.world_moves.specs.World.{IsPlan, World, first_world, happens, run}
-use Rattle.domain_world.specs.Claims.{AcceptsOnlyGranted, IsAccepted, Wraps}
+use Rattle.domain_world.specs.Claims.{AcceptsOnlyGranted, IsAccepted, TravelsAsZeros, Wraps}
 use Rattle.domain_world.specs.Claims.Completeness.{IsQuiet, OneAtATime, IsPlainMove, started_in}
 use Rattle.domain_world.specs.Claims.LetIn.{IsLetInBy, LetsInWhoAsked}
 use Rattle.domain_world.specs.Past.{Past, book, note, past}
 use Rattle.logon_steps.specs.Answering.{pair_of}
+use Rattle.logon_steps.specs.Calling.{TravelsAsZeros as KeyTravels}
 use Rattle.logon_steps.specs.Answers.{auth3_for, drawn_of, logon_for, terms_for}
-use Rattle.logon_steps.specs.Granting.{cleared}
+use Rattle.logon_steps.specs.Granting.{base_key, cleared}
 use Rattle.logon_steps.specs.Meeting.{ack_for, challenged_talk, fresh_talk}
 use Rattle.logon_steps.specs.MemberAnswers.{granting}
 use Rattle.logon_steps.specs.MemoCalls.{ReplyGoes, RequestGoes}
@@ -89,8 +93,9 @@ use Rattle.logon_runs.proofs.WaitingLaws.{waiting_comes}
 use Rattle.logon_runs.proofs.TwoLinkLaws.{turns_have_links}
 use Rattle.claim_examples.specs.ClearRuns.{FirstLogonsAreClear, IsLetIn, LetsInClearly}
 use Rattle.claim_examples.proofs.LogonTrailLaws.{FineSo, logon_trail}
+use Rattle.claim_examples.proofs.JudgedOnLaws.{HearsNoCall, OnlyTravels, travels_still}
 use Rattle.claim_examples.proofs.NotedLaws.{Fine, Leads, Trail, then_on, world_at}
-use Rattle.domain_world.proofs.Completeness.UnitNotedLaws.{comes_so}
+use Rattle.domain_world.proofs.Completeness.UnitNotedLaws.{Came, comes_so}
 use Rattle.claim_examples.proofs.SequenceLaws.{one_apart}
 use Rattle.claim_examples.proofs.ToldLaws.{LetsIn, lets_in, stays_told}
 use Rattle.claim_examples.proofs.TurnTrailLaws.{challenge_trail, names_stay, opening_trail}
@@ -161,12 +166,18 @@ rests_so w v dials units shows = record { dials = shows.dials ∙ dials; units =
 
 -- ---- a unit comes once somebody was let in
 
-told_leads : (s : State) (v : Scene) (unit : BagUnit) (later : List BagUnit) (end : EndId) → Shows s v → HasFirst v unit later end → Leads s move.Onward (Fine s 1) (Fine (goes s) 1) →
-    Leads s move.Onward (FineSo s 1 LetsIn) (FineSo (goes s) 1 LetsIn)
-told_leads s v unit later end shows first leads k b f = record {
-  fine = leads k b f.fine;
-  holds = stays_told s unit later end (comes_so s v unit later end shows first) k b f.holds;
-}
+-- somebody was let in, and no key but this one travels as zeros
+abbrev pub LetsInOn : (key base : List ℕ) → Book → Type 0
+LetsInOn key base b = LetsIn b × OnlyTravels key base b.judged
+
+told_leads : (key base : List ℕ) (s : State) (v : Scene) (unit : BagUnit) (later : List BagUnit) (end : EndId) → HearsNoCall end → Shows s v → HasFirst v unit later end →
+    Leads s move.Onward (Fine s 1) (Fine (goes s) 1) → Leads s move.Onward (FineSo s 1 (LetsInOn key base)) (FineSo (goes s) 1 (LetsInOn key base))
+told_leads key base s v unit later end none shows first leads k b f =
+    let came : Came s unit later end = comes_so s v unit later end shows first in
+    record {
+      fine = leads k b f.fine;
+      holds = (stays_told s unit later end came k b f.holds.0, travels_still key base s unit later end none came k b f.holds.1);
+    }
 
 module _ (plan : Plan) (client member controller : ℕ) (can : CanComeIn plan client member controller) (is : IsPlan plan) (forms : HasForms plan) (number : ℕ)
     (chosen : chosen_place number (length plan.clients) ≡ Some client) (arrives : FirstKeyArrives plan client member controller can) where
@@ -196,6 +207,13 @@ module _ (plan : Plan) (client member controller : ℕ) (can : CanComeIn plan cl
 
   abbrev SeenSo : Type 0
   SeenSo = FirstLogonSeen s0 g number [] a one other can.table can.name can.account can.machine no_computers left plan.now
+
+  -- the key of the channel, and the session base key by the accounts as the controller keeps them
+  abbrev key : List ℕ
+  key = open_key (opens_as g one other)
+
+  abbrev base : List ℕ
+  base = base_key_of (hash_in (account_in can.table.accounts (info_asked j a).user)) (info_asked j a).user (info_asked j a).domain (info_asked j a).nt
 
   seen_so : SeenSo
   seen_so = (first_worlds_run.comes_in plan client member controller number is forms chosen can arrives).seen
@@ -244,7 +262,7 @@ module _ (plan : Plan) (client member controller : ℕ) (can : CanComeIn plan cl
       })) more)))))
 
   -- the three turns
-  pub turns_trail : (seen : SeenSo) (later : List Move) (After : Book → Type 0) → Trail (first_turns number s0) later (FineSo (first_turns number s0) 1 LetsIn) After →
+  pub turns_trail : (seen : SeenSo) (later : List Move) (After : Book → Type 0) → Trail (first_turns number s0) later (FineSo (first_turns number s0) 1 (LetsInOn key base)) After →
       Trail (goes (goes (meets number s0))) (turn_moves ++ turn_moves ++ turn_moves ++ later) (Fine (goes (goes (meets number s0))) 0) After
   turns_trail seen later After more =
       let s6 : State = goes (goes (meets number s0)) in
@@ -289,30 +307,35 @@ module _ (plan : Plan) (client member controller : ℕ) (can : CanComeIn plan cl
       let r : Reply = granting o stamp 0 1 (hidden o sam) in
       let is_reply : IsTurnReply question.Logon r = opened.logon_reply in
       let s11 : State = goes (goes (goes (connects s8))) in
+      let heard_reply = heard_back (with_accounts accounts t3) _ (after n5) n5 (step.Reply question.Logon) (with_moved j c stamp now_open) _ left plan.now (between_still t3 accounts between3)
+      (response_comes n5 question.Logon r is_reply) in
       turn_then s6 (turn_moves ++ turn_moves ++ later) (Fine s6 0) (Fine s7 0) After
       (challenge_trail s6 t1 n1 j.number one other no_computers paired left plan.now seen.turns.challenge between1 opened.number (after_below j.number) names6 refl opened.caller opened.block opened.server_block opened.knows)
       (turn_then s7 (turn_moves ++ later) (Fine s7 0) (Fine s8 0) After
       (opening_trail s7 t2 n3 n2 one other can.machine paired now_open left plan.now seen.turns.proof between2 (after_below n1) (after_below n2) (record { plan = names7.plan; reach = names7.reach }) refl opened.caller
       opened.machine_found opened.secret (lookup-put_same same_name j.caller.computer (pair_of one other) no_computers.pending (same_computer j.caller.computer)))
-      (turn_then s8 later (Fine s8 0) (FineSo s9 1 LetsIn) After
-      (logon_trail s8 t3 accounts n5 n4 stamp o c (info_asked j a) (hidden o sam) (judged.Passed 0) now_open (with_moved j c stamp now_open) left plan.now _ LetsIn seen.turns.logon between3 (after_below n3) (after_below n4)
+      (turn_then s8 later (Fine s8 0) (FineSo s9 1 (LetsInOn key base)) After
+      (logon_trail s8 t3 accounts n5 n4 stamp o c (info_asked j a) (hidden o sam) (judged.Passed 0) now_open (with_moved j c stamp now_open) left plan.now _ (LetsInOn key base) seen.turns.logon between3 (after_below n3) (after_below n4)
       (record { plan = names8.plan; reach = names8.reach }) refl (calls_can_go.logon j.caller o stamp (info_asked j a) opened.caller (timestamp_below plan.now) opened.info) is_reply found in_step named answered
-      (lets_in s11 _ _ [] _ left t3.link j.link close.CallDone _ _ _ _ seen.turns.logon.reply
-      (heard_back (with_accounts accounts t3) _ (after n5) n5 (step.Reply question.Logon) (with_moved j c stamp now_open) _ left plan.now (between_still t3 accounts between3) (response_comes n5 question.Logon r is_reply))
-      (logons_end.granted j.plan j.caller o t3.info (hidden o sam) (logon_for j.link j.task a.challenge (message_for j a)) j.task j.place (after n5) n5 t3.link plan.now stamp 0 1 1 _ left (after_below n4) is_reply opened.short seen.who seen.back)))
+      (λ k b only. (
+        lets_in s11 _ _ [] _ left t3.link j.link close.CallDone _ _ _ _ seen.turns.logon.reply heard_reply
+            (logons_end.granted j.plan j.caller o t3.info (hidden o sam) (logon_for j.link j.task a.challenge (message_for j a)) j.task j.place (after n5) n5 t3.link plan.now stamp 0 1 1 _ left (after_below n4) is_reply opened.short seen.who seen.back)
+            k b,
+        travels_still key base s11 _ [] (Member member) tt (comes_so s11 _ _ [] (Member member) seen.turns.logon.reply heard_reply) k b only,
+      )))
       more))
 
   -- from the name on
   abbrev pub EndsSo : Bool → Book → Type 0
-  EndsSo silent b = (b.clash ≡ false) × (length b.judged ≤ 1) × LetsIn b
+  EndsSo silent b = (b.clash ≡ false) × (length b.judged ≤ 1) × LetsInOn key base b
 
-  pub end_trail : (seen : SeenSo) (silent : Bool) → (can.task.echo == 0) ≡ silent → Trail (first_turns number s0) (move.Onward ∷ echo_moves silent) (FineSo (first_turns number s0) 1 LetsIn) (EndsSo silent)
+  pub end_trail : (seen : SeenSo) (silent : Bool) → (can.task.echo == 0) ≡ silent → Trail (first_turns number s0) (move.Onward ∷ echo_moves silent) (FineSo (first_turns number s0) 1 (LetsInOn key base)) (EndsSo silent)
   end_trail seen true is_silent =
       let s9 : State = first_turns number s0 in
       let end : Meeting = after_first g [] can.machine one other can.table can.name no_computers plan.now in
       let heard = heard_down end _ _ seen.back.sent [] left plan.now (record { some = seen.back.some; short = omega (arith, seen.back.short) }) in
-      then_on s9 move.Onward [] (FineSo s9 1 LetsIn) (FineSo (goes s9) 1 LetsIn) (EndsSo true)
-      (told_leads s9 _ (unit_down end seen.back.sent) [] (Client client) seen.granted heard (client_comes s9 (unit_down end seen.back.sent) [] client 1 (comes_so s9 _ (unit_down end seen.back.sent) [] (Client client) seen.granted heard)))
+      then_on s9 move.Onward [] (FineSo s9 1 (LetsInOn key base)) (FineSo (goes s9) 1 (LetsInOn key base)) (EndsSo true)
+      (told_leads key base s9 _ (unit_down end seen.back.sent) [] (Client client) tt seen.granted heard (client_comes s9 (unit_down end seen.back.sent) [] client 1 (comes_so s9 _ (unit_down end seen.back.sent) [] (Client client) seen.granted heard)))
       (λ k b f. (f.fine.apart, f.fine.few, f.holds))
   end_trail seen false is_silent =
       let s9 : State = first_turns number s0 in
@@ -334,24 +357,43 @@ module _ (plan : Plan) (client member controller : ℕ) (can : CanComeIn plan cl
       let heard = heard_down end _ _ seen.back.sent [] left plan.now (record { some = seen.back.some; short = omega (arith, seen.back.short) }) in
       let heard_echo = heard_up end _ _ asks.sent [] left plan.now (record { some = asks.some; short = omega (arith, asks.short) }) in
       let heard_again = heard_down end _ _ again.sent [] left plan.now (record { some = again.some; short = omega (arith, again.short) }) in
-      then_on s9 move.Onward (move.Onward ∷ move.Onward ∷ []) (FineSo s9 1 LetsIn) (FineSo s10 1 LetsIn) (EndsSo false)
-      (told_leads s9 _ (unit_down end seen.back.sent) [] (Client client) seen.granted heard (client_comes s9 (unit_down end seen.back.sent) [] client 1 (comes_so s9 _ (unit_down end seen.back.sent) [] (Client client) seen.granted heard)))
-      (then_on s10 move.Onward (move.Onward ∷ []) (FineSo s10 1 LetsIn) (FineSo s11 1 LetsIn) (EndsSo false)
-      (told_leads s10 _ (unit_up end asks.sent) [] (Member member) named heard_echo (meeting_leads s10 end _ _ asks.sent [] left plan.now 1 (record { some = asks.some; short = omega (arith, asks.short) }) named))
-      (then_on s11 move.Onward [] (FineSo s11 1 LetsIn) (FineSo s12 1 LetsIn) (EndsSo false)
-      (told_leads s11 _ (unit_down end again.sent) [] (Client client) echoed heard_again (client_comes s11 (unit_down end again.sent) [] client 1 (comes_so s11 _ (unit_down end again.sent) [] (Client client) echoed heard_again)))
+      then_on s9 move.Onward (move.Onward ∷ move.Onward ∷ []) (FineSo s9 1 (LetsInOn key base)) (FineSo s10 1 (LetsInOn key base)) (EndsSo false)
+      (told_leads key base s9 _ (unit_down end seen.back.sent) [] (Client client) tt seen.granted heard (client_comes s9 (unit_down end seen.back.sent) [] client 1 (comes_so s9 _ (unit_down end seen.back.sent) [] (Client client) seen.granted heard)))
+      (then_on s10 move.Onward (move.Onward ∷ []) (FineSo s10 1 (LetsInOn key base)) (FineSo s11 1 (LetsInOn key base)) (EndsSo false)
+      (told_leads key base s10 _ (unit_up end asks.sent) [] (Member member) tt named heard_echo (meeting_leads s10 end _ _ asks.sent [] left plan.now 1 (record { some = asks.some; short = omega (arith, asks.short) }) named))
+      (then_on s11 move.Onward [] (FineSo s11 1 (LetsInOn key base)) (FineSo s12 1 (LetsInOn key base)) (EndsSo false)
+      (told_leads key base s11 _ (unit_down end again.sent) [] (Client client) tt echoed heard_again (client_comes s11 (unit_down end again.sent) [] client 1 (comes_so s11 _ (unit_down end again.sent) [] (Client client) echoed heard_again)))
       (λ k b f. (f.fine.apart, f.fine.few, f.holds))))
+
+  ends_so : EndsSo (can.task.echo == 0) (past plan (logon_moves number (can.task.echo == 0))).book
+  ends_so =
+      let silent : Bool = can.task.echo == 0 in
+      meets_trail seen_so (turn_moves ++ turn_moves ++ turn_moves ++ move.Onward ∷ echo_moves silent) (EndsSo silent)
+      (turns_trail seen_so (move.Onward ∷ echo_moves silent) (EndsSo silent) (end_trail seen_so silent refl)) 0 blank (record { apart = refl; few = omega arith; marked = refl })
 
   lets_in_clearly : LetsInWhoAsked (past plan (logon_moves number (can.task.echo == 0))) → LetsInClearly (past plan (logon_moves number (can.task.echo == 0)))
   lets_in_clearly asked =
-      let silent : Bool = can.task.echo == 0 in
-      let ends = meets_trail seen_so (turn_moves ++ turn_moves ++ turn_moves ++ move.Onward ∷ echo_moves silent) (EndsSo silent)
-      (turns_trail seen_so (move.Onward ∷ echo_moves silent) (EndsSo silent) (end_trail seen_so silent refl)) 0 blank (record { apart = refl; few = omega arith; marked = refl }) in
+      let now : Past = past plan (logon_moves number (can.task.echo == 0)) in
       record {
-        clear = record { apart = ends.0; onward = no_wrap (past plan (logon_moves number silent)).book ends.1 };
-        told = asked_so (past plan (logon_moves number silent)) asked ends.2;
-        accepted = λ only. accepted_so (past plan (logon_moves number silent)) only ends.2;
+        clear = record { apart = ends_so.0; onward = no_wrap now.book ends_so.1 };
+        told = asked_so now asked ends_so.2.0;
+        accepted = λ only. accepted_so now only ends_so.2.0;
       }
+
+  -- the session base key is that of the client's answer
+  base_so : base ≡ base_key can.task (message_for j a)
+  base_so =
+      let names = answers_are_asked.names g.plan g.task a.challenge a.one a.two a.three a.then_now opened.can opened.units in
+      ap (λ (name : List ℕ). base_key_of (hash_in (account_in can.table.accounts name)) name (info_asked j a).domain (info_asked j a).nt) names.1
+      ∙ ap (λ (hash : List ℕ). base_key_of hash can.task.user (info_asked j a).domain (info_asked j a).nt) (ap hash_in can.found ∙ can.hash)
+      ∙ ap (λ (domain : List ℕ). base_key_of can.task.hash can.task.user domain (info_asked j a).nt) names.0
+
+  -- where it doesn't travel as zeros, no key of the run does
+  pub keys_arrive : (KeyTravels key (base_key can.task (message_for j a)) → ⊥) →
+      AllByRecursion (λ (call : Judging). call.how ≡ Some (judged.Passed 0) → TravelsAsZeros call call.logon.info → ⊥) (past plan (logon_moves number (can.task.echo == 0))).book.judged
+  keys_arrive never =
+      all_weaker (λ (call : Judging). TravelsAsZeros call call.logon.info → KeyTravels key base) (λ (call : Judging). call.how ≡ Some (judged.Passed 0) → TravelsAsZeros call call.logon.info → ⊥)
+      (past plan (logon_moves number (can.task.echo == 0))).book.judged (λ call only how zeros. never (sym base_so ∙ only zeros)) ends_so.2.1
 
 -- the example's client follows the plan of ann
 ann_task_is : (can : CanComeIn ann_plan 0 0 0) → ann_task ≡ can.task

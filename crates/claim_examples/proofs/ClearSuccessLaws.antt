@@ -1,5 +1,5 @@
--- The client of the example can succeed: her account may log on in each state of the run; and she does, where no key
--- travels as zeros.
+-- The client of the example can succeed: her account may log on in each state of the run; and she does, since no key of
+-- the run travels as zeros.
 -- It serves `ann_can_succeed`.
 use Rattle.std.proofs.Common.{◌≡◌, ℕ, ◌≤◌, arith, false, List, [], length, Option, Some, refl, sym, subst, inl, inr}
 use Rattle.std.specs.Prelude.{◌==◌, codes, IsSomeAnd}
@@ -36,8 +36,9 @@ use Rattle.logon_runs.proofs.FirstLogonRunLaws.{joined_still}
 use Rattle.logon_runs.proofs.FirstWorldLaws.{comes_first, first_shows, first_worlds_run}
 use Rattle.logon_runs.proofs.LinkSceneLaws.{meetings_are_seen}
 use Rattle.domain_world.proofs.Completeness.SuccessLaws.{each_succeeds}
-use Rattle.claim_examples.specs.ClearSuccess.{AnnCanSucceed, KeysArrive}
-use Rattle.claim_examples.proofs.ClearRunLaws.{ann_once, ann_plain, ann_quiet}
+use Rattle.claim_examples.specs.ClearSuccess.{AnnCanSucceed}
+use Rattle.claim_examples.proofs.ClearRunLaws.{ann_once, ann_plain, ann_quiet, keys_arrive}
+use Rattle.claim_examples.proofs.ExampleKeyLaws.{ann_key_arrives}
 use Rattle.claim_examples.proofs.SequenceLaws.{one_apart}
 
 may_here : (info : NetworkInfo) (s : State) (v : Scene) → Shows s v → MayLogOn v.controller.table info v.moment → MayLogOnIn v.at_controller info s
@@ -185,12 +186,18 @@ ann_can_so = record {
       (subst (λ (table : AccountTable). MayLogOn table (info_planned ann_task) 0) (sym same_accounts) ann_may);
 }
 
-ann_comes : KeysArrive → ComesOneAtATime (past ann_plan ann_moves) ann_moves
-ann_comes keys = record { schedule = an_example_logs_on.schedule; plain = ann_plain; once = ann_once; quiet = ann_quiet; keys = keys }
+ann_comes : ComesOneAtATime (past ann_plan ann_moves) ann_moves
+ann_comes = record {
+  schedule = an_example_logs_on.schedule;
+  plain = ann_plain;
+  once = ann_once;
+  quiet = ann_quiet;
+  keys = keys_arrive ann_plan 0 0 0 ann_can an_example_logs_on.schedule.start an_example_logs_on.schedule.forms 0 refl (λ signed. absurd cc) ann_key_arrives;
+}
 
 pub ann_can_succeed : AnnCanSucceed
 ann_can_succeed = record {
   can = ann_can_so;
   comes = ann_comes;
-  succeeds = λ keys. (each_succeeds ann_plan ann_moves (ann_comes keys)).0 ann_can_so;
+  succeeds = (each_succeeds ann_plan ann_moves ann_comes).0 ann_can_so;
 }

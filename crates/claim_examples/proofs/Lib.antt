@@ -2,7 +2,9 @@ mod ClaimLaws
 mod ClearRunLaws
 mod ClearSuccessLaws
 mod CompletenessLaws
+mod ExampleKeyLaws
 mod GrantExampleLaws
+mod JudgedOnLaws
 mod LetInExampleLaws
 mod LogonLaws
 mod LogonTrailLaws

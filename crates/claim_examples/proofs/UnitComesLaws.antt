@@ -33,7 +33,7 @@ use Rattle.member_server.specs.State.{State as MemberState}
 use Rattle.step_notes.specs.ControllerNotes.{Answered, Where, answer_on, plain, units_of_controller}
 use Rattle.step_notes.specs.Marking.{answered_marks, clashes, mark_channel, turn_marks}
 use Rattle.step_notes.specs.MemberNotes.{TurnNote, asked_note, request_note, taking_note, turn_note, turn_units}
-use Rattle.step_notes.specs.Records.{Book, Sent}
+use Rattle.step_notes.specs.Records.{Book, Judging, Sent}
 use Rattle.world_moves.specs.declared.bag.BagUnit.{BagUnit}
 use Rattle.world_moves.specs.declared.links.EndId.{EndId}
 use Rattle.world_moves.specs.declared.links.EndId.TheVariants.{Client, Controller, Member}
@@ -46,7 +46,7 @@ use Rattle.world_moves.specs.Bag.{first_waiting}
 use Rattle.world_moves.specs.Ends.{EndStates}
 use Rattle.world_moves.specs.Links.{OpenMap}
 use Rattle.world_moves.specs.Moving.{connect, end_of_peer, settle, start}
-use Rattle.domain_world.specs.Past.{Coming, answers_of, any_clash, at_controller, controller_number, controller_of, controller_of_plan, is_sent_on, judged_of, note, note_at, note_client, note_controller, note_member, numbers_on}
+use Rattle.domain_world.specs.Past.{Coming, answers_of, any_clash, at_controller, controller_number, controller_of, controller_of_plan, is_sent_on, judged_of, note, note_at, note_client, note_controller, note_member, numbers_on, onto}
 use Rattle.logon_steps.specs.ControllerTurns.{controller_at, one_link, turn_link}
 use Rattle.logon_steps.specs.MemberLinks.{logons_at_rest, one_link as client_link}
 use Rattle.logon_steps.specs.MemberTurns.{logons_in_turn, member_at, on_turn}
@@ -247,6 +247,8 @@ pub record Called (s : State) (t : Turn) (number : ℕ) (c : Call) (computers : 
   pub came : Came s (unit_there t (bytes_of_call (turn_request number c) 5840)) [] (Controller t.at_controller)
   pub has : HasWritten s (unit_there t (bytes_of_call (turn_request number c) 5840)) [] (Controller t.at_controller) came k t.link true total
       (answered_marks (answer_in_turn s t number c computers k came.number left moment ∷ [])) b
+  pub numbers : List ℕ
+  pub judged : (note (world_at k s) move.Onward b).judged ≡ onto (judged_of (answer_in_turn s t number c computers k came.number left moment ∷ []) numbers) b.judged
 
 pub call_comes : (s : State) (t : Turn) (next number : ℕ) (what : Step) (c : Call) (computers : Computers) (left rest : List (List ℕ)) (moment count total : ℕ) (actions : List Action) (after : ControllerState) →
     IsBetween t → number < 2 ^ 32 → IsTurnCall c →
@@ -262,7 +264,10 @@ call_comes s t next number what c computers left rest moment count total actions
     let came : Came s unit [] (Controller t.at_controller) =
     comes_so s _ unit [] (Controller t.at_controller) shows (heard_there t bytes next number what computers (turn_link t.link) left moment between (request_comes number c is)) in
     let w : Coming = coming k came.number unit in
-    let answers : List Answered = answers_of t.at_controller at w bytes (settle came.number s) in
+    let s1 : State = settle came.number s in
+    let later : State = state_then (Controller t.at_controller) unit came.number s in
+    let numbers : List ℕ = numbers_on t.link true s1.bag later.bag in
+    let answers : List Answered = answers_of t.at_controller at w bytes s1 in
     let one : Answered = answer_in_turn s t number c computers k came.number left moment in
     let to : ComeTo answers one =
     subst (λ (all : List Answered). ComeTo all one)
@@ -275,6 +280,9 @@ call_comes s t next number what c computers left rest moment count total actions
     record {
       came = came;
       has = subst (λ (marks : List Mark). HasWritten s unit [] (Controller t.at_controller) came k t.link true total marks b) to.marks has;
+      numbers = numbers;
+      judged = ap (λ (one : Book). one.judged) (came.noted k b ∙ ap (λ (f : Option ControllerState). note_controller f t.at_controller w bytes s1 later b) shows.controller)
+          ∙ ap (λ (js : List Judging). onto js b.judged) (to.judged numbers);
     }
 
 -- and the reply waits then, with its mark

@@ -66,7 +66,7 @@ pub fn a_run_is_clear()
 }
 
 /// The client of that example can succeed, as completeness asks it of a client: her account may log on in each state of
-/// the run. She is in, as completeness says it, where no session base key of a granted call travels as zeros.
+/// the run. The run meets all premises of completeness, and she is in, as completeness says it.
 #[tactic(auto, using(crate::proofs::ClearSuccessLaws::ann_can_succeed))]
 pub fn ann_can_succeed()
     ensures { AnnCanSucceed }
