@@ -9,7 +9,6 @@ use Rattle.wire_base.specs.Maps.{lookup, same_number}
 use Rattle.authenticators.specs.Channels.{Channel, SameChannel}
 use Rattle.authenticators.proofs.ChannelLaws.{same_channel-Decides}
 use Rattle.outside.specs.declared.event.Event.TheVariants as event
-use Rattle.rpc_units.specs.Stream.{cut_stream}
 use Rattle.rpc_units.specs.declared.unit.Unit.{Unit as RpcUnit}
 use Rattle.channel_client.specs.Machine.{take_of}
 use Rattle.channel_client.specs.State.{Requester}
@@ -22,12 +21,9 @@ use Rattle.channel_client.specs.declared.state.Step.{Step}
 use Rattle.channel_client.specs.declared.state.Step.TheVariants as step
 use Rattle.member_server.specs.Machine.{at_turn, step_of, work_of}
 use Rattle.member_server.specs.State.{State as MemberState}
-use Rattle.member_server.specs.Turns.{turn_server}
 use Rattle.member_server.specs.declared.state.AtLink.{AtLink}
 use Rattle.member_server.specs.declared.state.AtTurn.{AtTurn}
-use Rattle.member_server.specs.declared.state.Dialling.{Dialling}
 use Rattle.member_server.specs.declared.state.Logon.{Logon}
-use Rattle.member_server.specs.declared.state.Logons.{Logons}
 use Rattle.member_server.specs.declared.state.Phase.{Phase}
 use Rattle.member_server.specs.declared.state.Phase.TheVariants as phase
 use Rattle.member_server.specs.declared.state.Running.{Running}
@@ -37,16 +33,17 @@ use Rattle.channel_events.specs.Marks.{OneOf}
 use Rattle.channel_events.proofs.ListLaws.{one_with}
 use Rattle.step_notes.specs.ChannelNames.{place_answered}
 use Rattle.step_notes.specs.Marking.{clashes, is_channel, sent_channel}
-use Rattle.step_notes.specs.MemberNotes.{LinkAt, TurnNote, asked_note, is_challenged, link_units, message_after, message_at, message_by, message_kept, message_note, no_note, taken_note, taking_at, taking_note, turn_note, turn_units_by, turn_units_in, turn_units_on, link_of_place}
+use Rattle.step_notes.specs.MemberNotes.{LinkAt, TurnNote, asked_note, is_challenged, link_units, message_after, message_at, message_by, message_kept, message_note, taken_note, taking_note, turn_note, turn_units_in}
 use Rattle.step_notes.specs.Records.{Book, MessageTaken, Sent}
-use Rattle.step_notes.specs.Served.{ServedUnit, served_units, talk_after, work_after}
+use Rattle.step_notes.specs.Served.{ServedUnit, talk_after, work_after}
 use Rattle.step_notes.specs.TakenWhole.{TakesWhole}
 use Rattle.step_notes.proofs.Members.KeptLogonLaws.{HasFor, IsFor, KeptIn, bytes_keep, kept_so}
-use Rattle.step_notes.proofs.Members.TurnHeardLaws.{members_take}
 use Rattle.step_notes.proofs.Members.UnservedLaws.{LinksIn}
-use Rattle.domain_world.specs.Past.{change_if, change_message, first_of, later_of, note_turn, note_turns, with_answer, with_call}
+use Rattle.domain_world.specs.Past.{change_if, change_message, first_of, later_of, note_turn, note_turns}
 use Rattle.domain_world.proofs.Accepting.AnswerReadLaws.{HearsWhole}
 use Rattle.domain_world.proofs.Accepting.TurnFactLaws.{Any, HasFree, IsFree, both_all}
+use Rattle.domain_world.proofs.Requests.WholeNotedLaws.{last_noted, note_for, whole_messages, whole_units}
+use Rattle.domain_world.proofs.Requests.WholeOutLaws.{noted}
 
 -- ---- a message that is taken then has no answer
 
@@ -137,51 +134,13 @@ or_false false false is = (refl, refl)
 or_false false true is = absurd (let x = is in cc)
 or_false true other is = absurd (let x = is in cc)
 
--- what becomes of messages by a note
-abbrev pub noted_by : TurnNote → Logons → Option ℕ → Option ℕ → List MessageTaken → List MessageTaken
-noted_by note logons carried number messages =
-    change_message (link_of_place note.answered logons) (with_answer carried) (change_message (link_of_place note.called logons) (with_call number) messages)
-
-same_units : (running : Running) (number : ℕ) (bytes : List ℕ) (unit : RpcUnit) (left : List (List ℕ)) → (hears : HearsWhole running number bytes unit) →
-    turn_units_in (Some running) number bytes left ≡ served_units turn_server (cut_stream bytes).units (at_turn number (work_of running)) hears.said.talk left
-same_units running number bytes unit left hears =
-    ap (λ (how : Dialling). turn_units_on how number bytes running left) hears.on
-    ∙ ap (λ (hit : Bool). turn_units_by hit hears.said number bytes running left) ((Decides-eqb number number).1 refl)
-    ∙ ap (λ (r : List ℕ). served_units turn_server (cut_stream (r ++ bytes)).units (at_turn number (work_of running)) hears.said.talk left) hears.rest
-
-turn_takes : (running : Running) (number : ℕ) (bytes : List ℕ) (unit : RpcUnit) (left : List (List ℕ)) → HearsWhole running number bytes unit →
-    TakesWhole (at_turn number (work_of running)) unit left (turn_units_in (Some running) number bytes left)
-turn_takes running number bytes unit left hears =
-    subst (λ (units : List (ServedUnit AtTurn TurnTalk)). TakesWhole (at_turn number (work_of running)) unit left units) (sym (same_units running number bytes unit left hears))
-    (members_take.units bytes hears.frames unit (at_turn number (work_of running)) hears.said.talk left hears.heard hears.none)
-
 -- what is written down of the turn of a member that takes a whole unit
 pub record IsTurnNoted (controller : ℕ) (running : Running) (unit : RpcUnit) (carried number : Option ℕ) (before after : Book) : Type 0 where
-  pub messages : after.messages ≡ noted_by (taking_note (Some (take_of running.logons.channel unit)) controller running.logons.channel) running.logons carried number before.messages
+  pub messages : after.messages ≡ noted (taking_note (Some (take_of running.logons.channel unit)) controller running.logons.channel) running.logons carried number before.messages
   pub clash : after.clash ≡ false →
       (before.clash ≡ false) × (clashes (taking_note (Some (take_of running.logons.channel unit)) controller running.logons.channel).checked carried before.sent ≡ false)
 
 module _ (controller : ℕ) (at : AtTurn) (unit : RpcUnit) where
-  abbrev note_for : TurnNote
-  note_for = taking_note (Some (take_of at.work.logons.channel unit)) controller at.work.logons.channel
-
-  none_noted : (served : ServedUnit AtTurn TurnTalk) → taking_at served ≡ None → turn_note controller served ≡ no_note
-  none_noted served is = ap (λ (taking : _). taking_note taking controller served.work.work.logons.channel) is
-
-  last_noted : (last : ServedUnit AtTurn TurnTalk) → last.work ≡ at → taking_at last ≡ Some (take_of at.work.logons.channel unit) → turn_note controller last ≡ note_for
-  last_noted last work takes =
-      ap (λ (taking : _). taking_note taking controller last.work.work.logons.channel) takes
-      ∙ ap (λ (a : AtTurn). taking_note (Some (take_of at.work.logons.channel unit)) controller a.work.logons.channel) work
-
-  messages_before : (before : List (ServedUnit AtTurn TurnTalk)) (last : ServedUnit AtTurn TurnTalk) (carried : Option ℕ) (numbers : List ℕ) (b : Book) →
-      AllByRecursion (λ (served : ServedUnit AtTurn TurnTalk). (taking_at served ≡ None) × (served.work ≡ at)) before →
-      (note_turns controller (before ++ last ∷ []) carried numbers b).messages ≡ noted_by (turn_note controller last) last.work.work.logons carried (first_of numbers) b.messages
-  messages_before [] last carried numbers b none = refl
-  messages_before (served ∷ before) last carried numbers b none =
-      ap (λ (note : TurnNote). (note_turns controller (before ++ last ∷ []) carried (later_of note.sends numbers) (note_turn note served carried (first_of numbers) b)).messages)
-      (none_noted served none.0.0)
-      ∙ messages_before before last carried numbers (note_turn no_note served carried (first_of numbers) b) none.1
-
   clash_before : (before : List (ServedUnit AtTurn TurnTalk)) (last : ServedUnit AtTurn TurnTalk) (carried : Option ℕ) (numbers : List ℕ) (b : Book) →
       (note_turns controller (before ++ last ∷ []) carried numbers b).clash ≡ false → (b.clash ≡ false) × (clashes (turn_note controller last).checked carried b.sent ≡ false)
   clash_before [] last carried numbers b none = or_false b.clash (clashes (turn_note controller last).checked carried b.sent) none
@@ -190,28 +149,24 @@ module _ (controller : ℕ) (at : AtTurn) (unit : RpcUnit) where
       let later = clash_before before last carried (later_of note.sends numbers) (note_turn note served carried (first_of numbers) b) none in
       ((or_false b.clash (clashes note.checked carried b.sent) later.0).0, later.1)
 
-  taken_noted : (left : List (List ℕ)) (units : List (ServedUnit AtTurn TurnTalk)) (carried : Option ℕ) (numbers : List ℕ) (b : Book) → TakesWhole at unit left units →
-      ((note_turns controller units carried numbers b).messages ≡ noted_by note_for at.work.logons carried (first_of numbers) b.messages)
-      × ((note_turns controller units carried numbers b).clash ≡ false → (b.clash ≡ false) × (clashes note_for.checked carried b.sent ≡ false))
-  taken_noted left units carried numbers b whole =
-      let last : turn_note controller whole.last ≡ note_for = last_noted whole.last whole.work whole.takes in (
-        ap (λ (all : List (ServedUnit AtTurn TurnTalk)). (note_turns controller all carried numbers b).messages) whole.all
-            ∙ messages_before whole.before whole.last carried numbers b whole.none
-            ∙ ap (λ (note : TurnNote). noted_by note whole.last.work.work.logons carried (first_of numbers) b.messages) last
-            ∙ ap (λ (a : AtTurn). noted_by note_for a.work.logons carried (first_of numbers) b.messages) whole.work,
-        λ none.
-            let both = clash_before whole.before whole.last carried numbers b
-            (subst (λ (all : List (ServedUnit AtTurn TurnTalk)). (note_turns controller all carried numbers b).clash ≡ false) whole.all none) in
-            (both.0, subst (λ (note : TurnNote). clashes note.checked carried b.sent ≡ false) last both.1),
-      )
+  taken_clash : (left : List (List ℕ)) (units : List (ServedUnit AtTurn TurnTalk)) (carried : Option ℕ) (numbers : List ℕ) (b : Book) → TakesWhole at unit left units →
+      (note_turns controller units carried numbers b).clash ≡ false → (b.clash ≡ false) × (clashes (note_for controller at unit).checked carried b.sent ≡ false)
+  taken_clash left units carried numbers b whole none =
+      let both = clash_before whole.before whole.last carried numbers b
+      (subst (λ (all : List (ServedUnit AtTurn TurnTalk)). (note_turns controller all carried numbers b).clash ≡ false) whole.all none) in
+      (both.0, subst (λ (note : TurnNote). clashes note.checked carried b.sent ≡ false) (last_noted controller at unit whole.last whole.work whole.takes) both.1)
 
 pub turn_noted : (controller : ℕ) (running : Running) (number : ℕ) (bytes : List ℕ) (unit : RpcUnit) (left : List (List ℕ)) (carried : Option ℕ) (numbers : List ℕ) (b : Book) →
     HearsWhole running number bytes unit →
     IsTurnNoted controller running unit carried (first_of numbers) b (note_turns controller (turn_units_in (Some running) number bytes left) carried numbers b)
 turn_noted controller running number bytes unit left carried numbers b hears =
-    let both = taken_noted controller (at_turn number (work_of running)) unit left (turn_units_in (Some running) number bytes left) carried numbers b
-    (turn_takes running number bytes unit left hears) in
-    record { messages = both.0; clash = both.1 }
+    let at : AtTurn = at_turn number (work_of running) in
+    let units : List (ServedUnit AtTurn TurnTalk) = turn_units_in (Some running) number bytes left in
+    let whole : TakesWhole at unit left units = whole_units running number hears.said bytes hears.frames unit left hears.on hears.rest hears.none hears.heard in
+    record {
+      messages = whole_messages controller at unit left units carried numbers b whole;
+      clash = taken_clash controller at unit left units carried numbers b whole;
+    }
 
 -- ---- which answer is written down
 

@@ -54,7 +54,7 @@ use Rattle.domain_world.proofs.Accepting.AnswerReadLaws.{HearsWhole}
 use Rattle.domain_world.proofs.Accepting.LetInStepLaws.{IsAcceptedBy, IsDialledBy}
 use Rattle.domain_world.proofs.Accepting.QuietRunLaws.{one_piece}
 use Rattle.domain_world.proofs.Accepting.TurnFactLaws.{Any, AreApart, GrowsTo, HasFree, IsAnswered, IsKnown, MarksAreKnown, SameEnds, TurnFacts, answered_stays, apart_front, both_all, controller_stays, facts_stay, known_stays, marks_before, past_at}
-use Rattle.domain_world.proofs.Accepting.TurnNotedLaws.{IsTurnNoted, bytes_free, noted_by, or_false, turn_noted, units_new}
+use Rattle.domain_world.proofs.Accepting.TurnNotedLaws.{IsTurnNoted, bytes_free, or_false, turn_noted, units_new}
 use Rattle.domain_world.proofs.Accepting.TurnQuietLaws.{IsSilent, free_put, member_silent, members_same, same_ends, told_yet, yet_more}
 use Rattle.domain_world.proofs.Accepting.TurnWholeLaws.{ComesWhole, whole_facts}
 use Rattle.domain_world.proofs.Challenges.MessageApartLaws.{links_append, links_in, turns_links}
@@ -62,6 +62,8 @@ use Rattle.domain_world.proofs.Challenges.MessageOnceLaws.{set_cases}
 use Rattle.domain_world.proofs.Frames.ComingLaws.{CameFrom, IsPieceOf, kept_same}
 use Rattle.domain_world.proofs.Frames.OpenMadeLaws.{IsAtSide, side_of}
 use Rattle.domain_world.proofs.Frames.TurnFrameLaws.{notes_keep, turns_sent, turns_told}
+use Rattle.domain_world.proofs.Requests.WholeOutLaws.{noted as noted_by}
+use Rattle.domain_world.proofs.Accepting.LetInLaws.{none_if_taken}
 
 -- ---- what the facts rest on, at each time of a run
 
@@ -119,10 +121,6 @@ on_units (dialling.On other said) link piece running left is = ap (λ (hit : Boo
 other_units : (r : Option Running) (link : ℕ) (piece : List ℕ) (left : List (List ℕ)) → IsOther r link → turn_units_in r link piece left ≡ []
 other_units None link piece left is = refl
 other_units (Some running) link piece left is = on_units running.dialling link piece running left is
-
-none_if_taken : (answer : Result (List Action) StepRefused) → units_if_taken {U = ServedUnit AtTurn TurnTalk} answer [] ≡ []
-none_if_taken (Ok actions) = refl
-none_if_taken (Err why) = refl
 
 -- ---- what the notes of a turn leave
 

@@ -59,10 +59,11 @@ use Rattle.domain_world.specs.Past.{change_message, told_by, told_in, with_answe
 use Rattle.domain_world.proofs.Accepting.AnswerReadLaws.{HearsWhole, IsAnswerOf, TellsAnswer, answer_is, answer_tells, heard_whole, out_differ}
 use Rattle.domain_world.proofs.Accepting.TurnChangedLaws.{all_pair, answered_facts, called_facts}
 use Rattle.domain_world.proofs.Accepting.TurnFactLaws.{Any, AreApart, HasFree, IsFree, MarksAreKnown, TurnFacts, facts_stay, one_is_all, past_at}
-use Rattle.domain_world.proofs.Accepting.TurnNotedLaws.{IsMadeFor, answered_is, noted_by, unclashed as made_unless}
+use Rattle.domain_world.proofs.Accepting.TurnNotedLaws.{IsMadeFor, answered_is, unclashed as made_unless}
 use Rattle.domain_world.proofs.Accepting.TurnQuietLaws.{granted_known, same_ends, told_of}
 use Rattle.domain_world.proofs.Challenges.MessageApartLaws.{links_in}
 use Rattle.domain_world.proofs.Frames.ComingLaws.{kept_same}
+use Rattle.domain_world.proofs.Requests.WholeOutLaws.{noted as noted_by}
 
 -- ---- a grant is that of the unit
 

@@ -1,6 +1,7 @@
 -- What holds through the moves of a world: whatever holds through each step of an end, each action that is done, and
--- each single change beside that. This is the one induction over the kinds of moves; the other frames, and the laws
--- that go by none of them, are instances of it. It serves all laws of every run.
+-- each single change beside that. This is the one induction over the kinds of moves; the other frames are instances of
+-- it, each with less to be shown. It serves `drive`, `schedules_are_heard`, `sequences_are_own` and all other laws of
+-- runs.
 use Rattle.std.proofs.Common.{◌≡◌, ℕ, zero, suc, ◌+◌, ◌*◌, ◌≤◌, Bool, true, false, List, [], ◌∷◌, ◌++◌, drop, length, inl, inr, Option, Some, None, IsSome, slice_get, refl, sym, ap, subst, ◌∙◌, arith, length-append}
 use Rattle.std.specs.Prelude.{◌%◌}
 use Rattle.std.specs.List.{AllByRecursion}
@@ -48,13 +49,13 @@ use Rattle.domain_world.proofs.Frames.OpenMadeLaws.{IsAtSide, OpenAsMade, as_mad
 
 -- ---- what is to hold
 
--- what is under way in a move
+-- what is under way in a move: between two moves, before a step and within it
 pub record Progress : Type 0 where
   -- after how many moves
   pub at : ℕ
-  -- what comes in this move, where bytes come
+  -- what comes in this move, or None where no bytes come
   pub on : Option Coming
-  -- the state that the step comes to in which an end hears bytes
+  -- while an end does what it does at bytes: the state once all of that is done
   pub to : Option State
   -- the end whose dial is answered
   pub dial : Option EndId
@@ -65,7 +66,7 @@ pub record Progress : Type 0 where
 abbrev pub MoveFact : Type 1
 MoveFact = ℕ → Progress → State → Given → Book → Type 0
 
--- between two steps
+-- nothing is left to do
 abbrev pub started : ℕ → Option Coming → Progress
 started at on = record { at = at; on = on; to = None; dial = None; rest = [] }
 
@@ -84,7 +85,7 @@ with_rest given p = record p { rest = given ++ p.rest }
 abbrev pub IsHeard : MoveFact → ℕ → Progress → EndId → Heard → Given → Book → Type 0
 IsHeard Holds n p end heard given b = Holds (n + 1) (with_rest (given_by end heard.actions) p) heard.state (given ++ given_by end heard.actions) b
 
--- Ends are at work where no bytes come, or where it is known what the step at bytes comes to.
+-- An end may act, or hear that a link closed: at a move without bytes, or within the step at bytes that is under way.
 abbrev pub AtWork : Option Coming → Option State → Type 0
 AtWork None to = Unit {0}
 AtWork (Some w) None = ⊥
@@ -249,34 +250,27 @@ since_sent links old = record {
 
 -- ---- what may be known of a run
 
+-- the bytes of each unit are such
+abbrev pub EachHas : (List ℕ → Type 0) → List BagUnit → Type 0
+EachHas Fits bag = (k : ℕ) (unit : BagUnit) → slice_get bag k ≡ Some unit → Fits unit.bytes
+
+each_before : (Fits : List ℕ → Type 0) (old bag : List BagUnit) → StillHas old bag → EachHas Fits bag → EachHas Fits old
+each_before Fits old bag still have k unit there = let now : IsStill unit bag k = still k unit there in subst Fits now.bytes (have k now.now now.there)
+
+each_settled : (Fits : List ℕ → Type 0) (number : ℕ) (bag : List BagUnit) → EachHas Fits bag → EachHas Fits (settle_at number bag)
+each_settled Fits number bag have k unit there =
+    let before : (old : BagUnit) × (slice_get bag k ≡ Some old) = got_beside (settle_at number bag) bag k unit (settled_length number bag) there in
+    let now : IsStill before.0 (settle_at number bag) k = kept_settled number bag k before.0 before.1 in
+    let same : now.now ≡ unit = some_is now.now unit (sym now.there ∙ there) in
+    subst (λ (u : BagUnit). Fits u.bytes) same (subst Fits (sym now.bytes) (have k before.0 before.1))
+
 -- no unit is longer than an end sends at once
 abbrev pub ShortBag : List BagUnit → Type 0
-ShortBag bag = (k : ℕ) (unit : BagUnit) → slice_get bag k ≡ Some unit → length unit.bytes ≤ send_limit
-
-short_before : (old bag : List BagUnit) → StillHas old bag → ShortBag bag → ShortBag old
-short_before old bag still short k unit there =
-    let now : IsStill unit bag k = still k unit there in subst (λ (bytes : List ℕ). length bytes ≤ send_limit) now.bytes (short k now.now now.there)
+ShortBag bag = EachHas (λ (bytes : List ℕ). length bytes ≤ send_limit) bag
 
 -- each unit has bytes
 abbrev pub BytesIn : List BagUnit → Type 0
-BytesIn bag = (k : ℕ) (unit : BagUnit) → slice_get bag k ≡ Some unit → AreBytes unit.bytes
-
-bytes_before : (old bag : List BagUnit) → StillHas old bag → BytesIn bag → BytesIn old
-bytes_before old bag still have k unit there = let now : IsStill unit bag k = still k unit there in subst AreBytes now.bytes (have k now.now now.there)
-
-settled_bytes : (number : ℕ) (bag : List BagUnit) → BytesIn bag → BytesIn (settle_at number bag)
-settled_bytes number bag have k unit there =
-    let before : (old : BagUnit) × (slice_get bag k ≡ Some old) = got_beside (settle_at number bag) bag k unit (settled_length number bag) there in
-    let now : IsStill before.0 (settle_at number bag) k = kept_settled number bag k before.0 before.1 in
-    let same : now.now ≡ unit = some_is now.now unit (sym now.there ∙ there) in
-    subst (λ (u : BagUnit). AreBytes u.bytes) same (subst AreBytes (sym now.bytes) (have k before.0 before.1))
-
-settled_short : (number : ℕ) (bag : List BagUnit) → ShortBag bag → ShortBag (settle_at number bag)
-settled_short number bag have k unit there =
-    let before : (old : BagUnit) × (slice_get bag k ≡ Some old) = got_beside (settle_at number bag) bag k unit (settled_length number bag) there in
-    let now : IsStill before.0 (settle_at number bag) k = kept_settled number bag k before.0 before.1 in
-    let same : now.now ≡ unit = some_is now.now unit (sym now.there ∙ there) in
-    subst (λ (u : BagUnit). length u.bytes ≤ send_limit) same (subst (λ (bytes : List ℕ). length bytes ≤ send_limit) (sym now.bytes) (have k before.0 before.1))
+BytesIn bag = EachHas AreBytes bag
 
 -- what is handed in are bytes
 abbrev pub HandsBytes : Move → Type 0
@@ -289,10 +283,16 @@ pub record IsBytesBag (bag : List BagUnit) : Type 0 where
   pub bytes : BytesIn bag
 
 bag_before : (old bag : List BagUnit) → StillHas old bag → IsBytesBag bag → IsBytesBag old
-bag_before old bag still have = record { short = short_before old bag still have.short; bytes = bytes_before old bag still have.bytes }
+bag_before old bag still have = record {
+  short = each_before (λ (bytes : List ℕ). length bytes ≤ send_limit) old bag still have.short;
+  bytes = each_before AreBytes old bag still have.bytes;
+}
 
 settled_bag : (number : ℕ) (bag : List BagUnit) → IsBytesBag bag → IsBytesBag (settle_at number bag)
-settled_bag number bag have = record { short = settled_short number bag have.short; bytes = settled_bytes number bag have.bytes }
+settled_bag number bag have = record {
+  short = each_settled (λ (bytes : List ℕ). length bytes ≤ send_limit) number bag have.short;
+  bytes = each_settled AreBytes number bag have.bytes;
+}
 
 -- no dial waits: the first isn't taken
 none_dialled : (dials : List Waiting) → slice_get dials 0 ≡ None → drop 1 dials ≡ dials

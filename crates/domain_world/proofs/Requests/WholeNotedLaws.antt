@@ -140,7 +140,7 @@ module _ (controller : ℕ) (at : AtTurn) (unit : RpcUnit) where
   none_noted : (served : ServedUnit AtTurn TurnTalk) → taking_at served ≡ None → turn_note controller served ≡ no_note
   none_noted served is = ap (λ (taking : Option Taking). taking_note taking controller served.work.work.logons.channel) is
 
-  last_noted : (last : ServedUnit AtTurn TurnTalk) → last.work ≡ at → taking_at last ≡ Some (take_of at.work.logons.channel unit) → turn_note controller last ≡ note_for
+  pub last_noted : (last : ServedUnit AtTurn TurnTalk) → last.work ≡ at → taking_at last ≡ Some (take_of at.work.logons.channel unit) → turn_note controller last ≡ note_for
   last_noted last work takes =
       ap (λ (taking : Option Taking). taking_note taking controller last.work.work.logons.channel) takes
       ∙ ap (λ (a : AtTurn). taking_note (Some (take_of at.work.logons.channel unit)) controller a.work.logons.channel) work
