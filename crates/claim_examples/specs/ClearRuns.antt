@@ -13,8 +13,8 @@ use Rattle.world_moves.specs.Choosing.{chosen_place}
 use Rattle.world_moves.specs.Counting.{is_in}
 use Rattle.world_moves.specs.Forms.{HasForms, IsSchedule}
 use Rattle.world_moves.specs.World.{IsPlan, first_world}
-use Rattle.logon_runs.specs.ExampleLogon.{ann_moves, ann_plan}
-use Rattle.logon_runs.specs.FirstWorlds.{CanComeIn, FirstKeyArrives, logon_moves}
+use Rattle.logon_runs.specs.First.ExampleLogon.{ann_moves, ann_plan}
+use Rattle.logon_runs.specs.First.FirstWorlds.{CanComeIn, FirstKeyArrives, logon_moves}
 use Rattle.domain_world.specs.Accepting.Sequences.{RepliesAnswerCalls, TurnsAreCalled}
 use Rattle.domain_world.specs.Claims.{AcceptsAllGranted, AcceptsOnlyGranted, IsAccepted, IsClear, KeysAgree}
 use Rattle.domain_world.specs.Claims.Completeness.{IsPlainMove, OneAtATime, started_in}

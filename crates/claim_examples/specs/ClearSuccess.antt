@@ -1,6 +1,6 @@
 -- A whole logon meets completeness: the client of the example can succeed, her run meets all its premises, and she is
 -- in (this project's own choice).
-use Rattle.logon_runs.specs.ExampleLogon.{ann_moves, ann_plan}
+use Rattle.logon_runs.specs.First.ExampleLogon.{ann_moves, ann_plan}
 use Rattle.domain_world.specs.Claims.Completeness.{CanSucceed, ComesOneAtATime, Succeeds}
 use Rattle.domain_world.specs.Past.{past}
 

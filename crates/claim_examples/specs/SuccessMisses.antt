@@ -16,7 +16,7 @@ use Rattle.world_moves.specs.declared.moves.Move.{Move}
 use Rattle.world_moves.specs.declared.moves.Move.TheVariants as move
 use Rattle.world_moves.specs.declared.plan.Plan.{Plan}
 use Rattle.world_moves.specs.World.{outcome_of}
-use Rattle.logon_runs.specs.ExampleLogon as example
+use Rattle.logon_runs.specs.First.ExampleLogon as example
 use Rattle.domain_world.specs.Claims.{TravelsAsZeros}
 use Rattle.domain_world.specs.Claims.Completeness.{CanSucceed, ComesOneAtATime, EachSucceeds, Succeeds, started_in}
 use Rattle.domain_world.specs.Past.{Past, past}

@@ -75,7 +75,7 @@ pub fn a_run_is_clear()
 
 /// The client of that example can succeed, as completeness asks it of a client: her account may log on in each state of
 /// the run. The run meets all premises of completeness, and she is in, as completeness says it.
-#[tactic(auto, using(crate::proofs::ClearSuccessLaws::ann_can_succeed))]
+#[tactic(auto, using(crate::proofs::Runs::ClearSuccessLaws::ann_can_succeed))]
 pub fn ann_can_succeed()
     ensures { AnnCanSucceed }
 {}

@@ -76,7 +76,7 @@ pub fn carried_calls_are_heard()
 
 /// Two more follow from what a member reads in single units: what is told of an answer, and who is let in, is what the
 /// controller judged.
-#[tactic(auto, using(crate::proofs::Accepting::ReadBackLaws::read_back))]
+#[tactic(auto, using(crate::proofs::Accepting::Heard::ReadBackLaws::read_back))]
 pub fn outcomes_are_read_back()
     ensures { OutcomesAreReadBack }
 {}
@@ -90,7 +90,7 @@ pub fn runs_are_heard()
 {}
 
 /// The last of them follows from what a client makes for a CHALLENGE and what a member takes.
-#[tactic(auto, using(crate::proofs::Accepting::KeyLaws::keys_made))]
+#[tactic(auto, using(crate::proofs::Accepting::Messages::KeyLaws::keys_made))]
 pub fn keys_are_found_as_made()
     ensures { KeysAreFoundAsMade }
 {}
@@ -104,7 +104,7 @@ pub fn runs_begin()
 
 /// In every schedule each AUTHENTICATE that a client made is the answer of its plan to the CHALLENGE that it read, and
 /// is read again as it was made.
-#[tactic(auto, using(crate::proofs::Accepting::MessageMadeLaws::messages_made))]
+#[tactic(auto, using(crate::proofs::Accepting::Messages::MessageMadeLaws::messages_made))]
 pub fn messages_are_made()
     ensures { (plan : Plan) (moves : List Move) → IsSchedule plan moves →
         MessagesAreMade (past plan moves) }
@@ -112,14 +112,14 @@ pub fn messages_are_made()
 
 /// In every run a member keeps the AUTHENTICATE that it read, the challenge of the one CHALLENGE that it sent on the
 /// link, and the flags that both have.
-#[tactic(auto, using(crate::proofs::Accepting::MessageTakenLaws::messages_taken))]
+#[tactic(auto, using(crate::proofs::Accepting::Messages::MessageTakenLaws::messages_taken))]
 pub fn messages_are_taken_as_sent()
     ensures { (plan : Plan) (moves : List Move) → MessagesAreTakenAsSent (past plan moves) }
 {}
 
 /// After every schedule what is under way between members and controllers is whole, and nothing stays open on the links
 /// between them.
-#[tactic(auto, using(crate::proofs::Accepting::QuietRunLaws::stands_quiet))]
+#[tactic(auto, using(crate::proofs::Accepting::Quiet::QuietRunLaws::stands_quiet))]
 pub fn schedules_stand_quiet()
     ensures { (plan : Plan) (moves : List Move) → IsSchedule plan moves →
         AreShortUnits (past plan moves).world.state.bag →
@@ -161,7 +161,7 @@ pub fn runs_stand_so()
 
 /// In every schedule each Logon call that a controller judged, and that came in a unit of the bag, is the call which
 /// that unit carries, with its number.
-#[tactic(auto, using(crate::proofs::Accepting::JudgedRunLaws::judged_as_carried))]
+#[tactic(auto, using(crate::proofs::Accepting::Heard::JudgedRunLaws::judged_as_carried))]
 pub fn calls_are_judged_as_carried()
     ensures { (plan : Plan) (moves : List Move) → IsSchedule plan moves →
         AreShortUnits (past plan moves).world.state.bag →
@@ -170,7 +170,7 @@ pub fn calls_are_judged_as_carried()
 {}
 
 /// In every schedule a reply to a call that passed is read as its controller made it.
-#[tactic(auto, using(crate::proofs::Accepting::JudgedRunLaws::replies_back))]
+#[tactic(auto, using(crate::proofs::Accepting::Heard::JudgedRunLaws::replies_back))]
 pub fn replies_are_read_back()
     ensures { (plan : Plan) (moves : List Move) → IsSchedule plan moves →
         AreShortUnits (past plan moves).world.state.bag →
@@ -180,7 +180,7 @@ pub fn replies_are_read_back()
 
 /// In every schedule each unit that was made for a secure channel is one whole unit, and what its mark says: no Logon
 /// call and no answer to one, or a request or a reply of the number that is written down.
-#[tactic(auto, using(crate::proofs::Accepting::MarkWholeLaws::marked_whole))]
+#[tactic(auto, using(crate::proofs::Accepting::Heard::MarkWholeLaws::marked_whole))]
 pub fn marked_units_are_whole()
     ensures { (plan : Plan) (moves : List Move) → IsSchedule plan moves →
         AreShortUnits (past plan moves).world.state.bag →
@@ -190,7 +190,7 @@ pub fn marked_units_are_whole()
 
 /// In every schedule the answer of a message was taken in its turn, its outcome is told, and who is let in is so by an
 /// answer that was taken.
-#[tactic(auto, using(crate::proofs::Accepting::TurnRunLaws::turns_run))]
+#[tactic(auto, using(crate::proofs::Accepting::Turns::TurnRunLaws::turns_run))]
 pub fn answers_are_taken_in_turn()
     ensures { (plan : Plan) (moves : List Move) → IsSchedule plan moves →
         AreShortUnits (past plan moves).world.state.bag →

@@ -17,17 +17,17 @@ use Rattle.world_moves.specs.Choosing.{chosen_place}
 use Rattle.world_moves.specs.Links.{accepted, answered}
 use Rattle.world_moves.specs.Moving.{act, route_to, start}
 use Rattle.world_moves.specs.World.{first_world}
-use Rattle.logon_runs.specs.LinkScenes.{its_link}
-use Rattle.logon_runs.specs.Others.{AreAmong, IsDialAmong, IsRoutedAmong, IsStepOn, OthersStay}
+use Rattle.logon_runs.specs.Seen.LinkScenes.{its_link}
+use Rattle.logon_runs.specs.Seen.Others.{AreAmong, IsDialAmong, IsRoutedAmong, IsStepOn, OthersStay}
 use Rattle.logon_runs.specs.Phases.{Acked, Answers, ArrivesAt, Binds, BindsBefore, BindsHeld, Calls, Challenged, ComesTo, Coming, Dials, DialsBefore, DialsHeld, Echoed, Echoes, Granted, Halved, IsOver, IsReached, IsUnderWay, HasUser, IsKnown, LogonPhase, Named, Proved, TurnAt, key_at, own, scene_of, told_of}
 use Rattle.logon_runs.specs.Rests.{AreFine, AtRest, CanBeGranted, HasBegun, IsFine, IsLoggedOnSince, LogonsComeIn, coming_of, moved_by, three_in}
-use Rattle.logon_runs.specs.Staying.{HasSameEnds}
-use Rattle.logon_runs.specs.Waiting.{waiting}
-use Rattle.logon_runs.proofs.OtherLaws.{more_so, others_are_left, put_so}
-use Rattle.logon_runs.proofs.PhaseLaws.{phases_go_on}
+use Rattle.logon_runs.specs.Seen.Staying.{HasSameEnds}
+use Rattle.logon_runs.specs.Seen.Waiting.{waiting}
+use Rattle.logon_runs.proofs.Seen.OtherLaws.{more_so, others_are_left, put_so}
+use Rattle.logon_runs.proofs.Phases.PhaseLaws.{phases_go_on}
 use Rattle.logon_runs.proofs.RestLaws.{logons_come_to_rest}
-use Rattle.logon_runs.proofs.TurnedAwayLaws.{logons_are_turned_away}
-use Rattle.logon_runs.proofs.StayingLaws.{both_same, ends_stay, reach_still, starts_same}
+use Rattle.logon_runs.proofs.Failing.TurnedAwayLaws.{logons_are_turned_away}
+use Rattle.logon_runs.proofs.Seen.StayingLaws.{both_same, ends_stay, reach_still, starts_same}
 
 -- ---- the links of a phase are between the three
 

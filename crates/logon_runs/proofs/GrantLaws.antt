@@ -4,7 +4,7 @@ use Rattle.std.proofs.Common.{◌≡◌, ℕ, ◌≤◌, Bool, true, false, refl
 use Rattle.account_table.specs.AccountTable.{AccountTable}
 use Rattle.account_table.specs.declared.account.Account.{Account}
 use Rattle.channel_client.specs.Opened.{OpenState}
-use Rattle.logon_runs.specs.LinkScenes.{Meeting}
+use Rattle.logon_runs.specs.Seen.LinkScenes.{Meeting}
 use Rattle.logon_runs.specs.Runs.{Asked, sam_for, message_for, hidden}
 use Rattle.std.proofs.Common.{ap, ◌∙◌}
 use Rattle.std.specs.Prelude.{◌&&◌}

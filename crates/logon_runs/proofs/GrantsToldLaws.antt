@@ -29,10 +29,10 @@ use Rattle.logon_runs.specs.Phases.{Coming, Fits, IsKnown, Third, TurnAt, WhoAsk
 use Rattle.logon_runs.specs.Phases.{Granted}
 use Rattle.logon_runs.specs.Runs.{Asked, hidden, message_for, on_for, sam_for}
 use Rattle.logon_runs.specs.Scenes.{Scene, Shows}
-use Rattle.logon_runs.specs.TurnScenes.{Turn, unit_back, with_accounts}
+use Rattle.logon_runs.specs.Seen.TurnScenes.{Turn, unit_back, with_accounts}
 use Rattle.logon_runs.proofs.GrantLaws.{grants_are_told}
 use Rattle.logon_runs.proofs.RunLaws.{between_still}
-use Rattle.logon_runs.proofs.TwoLinkLaws.{turns_have_links}
+use Rattle.logon_runs.proofs.Seen.TwoLinkLaws.{turns_have_links}
 use Rattle.outside.specs.declared.action.Action.{Action}
 use Rattle.outside.specs.declared.action.Action.TheVariants as action
 use Rattle.outside.specs.declared.action.CloseCause.TheVariants as close
@@ -56,11 +56,11 @@ use Rattle.logon_steps.specs.Calling.{TravelsAsZeros}
 use Rattle.logon_steps.proofs.MemberAnswerLaws.{logons_end}
 use Rattle.logon_steps.proofs.TurningLaws.{response_comes}
 use Rattle.logon_runs.specs.GrantsTold.{GrantsTell, TellsIn}
-use Rattle.logon_runs.specs.Waiting.{Comes}
-use Rattle.logon_runs.proofs.PhaseEndLaws.{granted_scene, reply_then, sent_same, told_then}
-use Rattle.logon_runs.proofs.SceneLaws.{first_comes}
-use Rattle.logon_runs.proofs.TurnSceneLaws.{heard_back}
-use Rattle.logon_runs.proofs.WaitingLaws.{waiting_comes}
+use Rattle.logon_runs.specs.Seen.Waiting.{Comes}
+use Rattle.logon_runs.proofs.Phases.PhaseEndLaws.{granted_scene, reply_then, sent_same, told_then}
+use Rattle.logon_runs.proofs.Seen.SceneLaws.{first_comes}
+use Rattle.logon_runs.proofs.Seen.TurnSceneLaws.{heard_back}
+use Rattle.logon_runs.proofs.Seen.WaitingLaws.{waiting_comes}
 
 -- the domain and the account's name that are granted
 sam_domain : (table : AccountTable) (name : List ℕ) (account : Account) (key : List ℕ) (now : ℕ) → (sam_info_of table name account key now).domain ≡ table.domain

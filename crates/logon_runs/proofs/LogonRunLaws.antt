@@ -27,17 +27,17 @@ use Rattle.logon_steps.specs.MemberAnswers.{sam_shown}
 use Rattle.logon_steps.specs.MemoCalls.{ReplyGoes, RequestGoes, logged_on, with_session}
 use Rattle.logon_steps.proofs.ClientStepLaws.{echo_are, echo_length}
 use Rattle.logon_steps.proofs.MemoCallLaws.{memo_calls_go}
-use Rattle.logon_runs.specs.AskScenes.{with_controller}
-use Rattle.logon_runs.specs.LinkScenes.{IsJoined, Meeting, joined, meeting_scene, rest_scene, unit_down}
+use Rattle.logon_runs.specs.Seen.AskScenes.{with_controller}
+use Rattle.logon_runs.specs.Seen.LinkScenes.{IsJoined, Meeting, joined, meeting_scene, rest_scene, unit_down}
 use Rattle.logon_runs.specs.Runs.{Asked, connects, goes, hidden, on_for, sam_for}
 use Rattle.logon_runs.specs.LogonRuns.{ComesIn, LogonsRun, after_logon, asked_at, meets, starts, turns}
 use Rattle.logon_runs.specs.Scenes.{Shows}
-use Rattle.logon_runs.specs.Staying.{HasSameEnds}
-use Rattle.logon_runs.proofs.LinkSceneLaws.{meetings_are_seen}
+use Rattle.logon_runs.specs.Seen.Staying.{HasSameEnds}
+use Rattle.logon_runs.proofs.Seen.LinkSceneLaws.{meetings_are_seen}
 use Rattle.logon_runs.proofs.RunLaws.{turns_run, twice_same}
-use Rattle.logon_runs.proofs.StayingLaws.{both_same, connects_same, reach_still, starts_same}
-use Rattle.logon_runs.proofs.StartLaws.{starts_are_seen}
-use Rattle.logon_runs.proofs.TwoLinkLaws.{got_first}
+use Rattle.logon_runs.proofs.Seen.StayingLaws.{both_same, connects_same, reach_still, starts_same}
+use Rattle.logon_runs.proofs.Seen.StartLaws.{starts_are_seen}
+use Rattle.logon_runs.proofs.Seen.TwoLinkLaws.{got_first}
 use Rattle.logon_runs.proofs.GrantLaws.{grants_are_told}
 
 -- ---- up to the answer of WhoAmI

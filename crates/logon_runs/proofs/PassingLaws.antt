@@ -16,21 +16,21 @@ use Rattle.world_moves.specs.declared.state.Waiting.{Waiting}
 use Rattle.world_moves.specs.Choosing.{chosen_place}
 use Rattle.world_moves.specs.Moving.{act, start}
 use Rattle.world_moves.specs.World.{first_world}
-use Rattle.logon_runs.specs.Others.{AreAmong, IsDialAmong, IsStepOn, OthersStay}
+use Rattle.logon_runs.specs.Seen.Others.{AreAmong, IsDialAmong, IsStepOn, OthersStay}
 use Rattle.logon_runs.specs.Passing.{HasEnough, AreJudged, HasPassed, IsJudgedAt, LogonsPass}
 use Rattle.logon_runs.specs.Phases.{Acked, Aim, Answers, ArrivesAt, Binds, BindsBefore, BindsHeld, Calls, Challenged, ComesTo, Coming, Dials, DrawsFew, Fits, scene_of, DialsBefore, DialsHeld, Echoed, Echoes, First, Granted, Halved, HasThree, HasUserAt, IsKnown, IsReached, IsUnderWay, LogonPhase, Named, Proved, Second, Third, TurnAt, WhoAsked, own}
 use Rattle.logon_runs.specs.Rests.{AtRest, CanCome, HasCome, coming_at, moved_by, three_in}
 use Rattle.logon_runs.specs.Runs.{Asked, info_asked}
 use Rattle.logon_runs.specs.Scenes.{Shows}
-use Rattle.logon_runs.specs.Staying.{HasSameEnds}
-use Rattle.logon_runs.specs.TurnedAway.{AwayPhase, Faulted, HasEnded, IsAway, Refused, Unheard, away_scene}
-use Rattle.logon_runs.specs.Waiting.{waiting}
+use Rattle.logon_runs.specs.Seen.Staying.{HasSameEnds}
+use Rattle.logon_runs.specs.Failing.TurnedAway.{AwayPhase, Faulted, HasEnded, IsAway, Refused, Unheard, away_scene}
+use Rattle.logon_runs.specs.Seen.Waiting.{waiting}
 use Rattle.logon_runs.proofs.ComeInLaws.{alone_so, own_among, reached_so, turn_among}
-use Rattle.logon_runs.proofs.OtherLaws.{others_are_left}
-use Rattle.logon_runs.proofs.PhaseLaws.{phases_go_on}
+use Rattle.logon_runs.proofs.Seen.OtherLaws.{others_are_left}
+use Rattle.logon_runs.proofs.Phases.PhaseLaws.{phases_go_on}
 use Rattle.logon_runs.proofs.RestLaws.{logons_come_to_rest}
-use Rattle.logon_runs.proofs.StayingLaws.{both_same, ends_stay, reach_still, starts_same}
-use Rattle.logon_runs.proofs.TurnedAwayLaws.{logons_are_turned_away}
+use Rattle.logon_runs.proofs.Seen.StayingLaws.{both_same, ends_stay, reach_still, starts_same}
+use Rattle.logon_runs.proofs.Failing.TurnedAwayLaws.{logons_are_turned_away}
 
 -- ---- the links of a logon that is turned away
 

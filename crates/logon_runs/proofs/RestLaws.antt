@@ -23,15 +23,15 @@ use Rattle.world_moves.specs.World.{IsPlan, first_world}
 use Rattle.world_moves.proofs.RangeLaws.{table_in_range}
 use Rattle.logon_steps.specs.Knowing.{StandsLater}
 use Rattle.logon_steps.proofs.KnowingLaws.{computers_are_known}
-use Rattle.logon_runs.specs.Others.{OthersStay}
+use Rattle.logon_runs.specs.Seen.Others.{OthersStay}
 use Rattle.logon_runs.specs.Phases.{Coming}
 use Rattle.logon_runs.specs.Rests.{AtRest, CanBeGranted, CanCome, ClientRests, ControllerRests, HasBegun, HasCome, LogonsComeToRest, coming_at, three_of}
 use Rattle.logon_runs.specs.Runs.{StandsInStep}
-use Rattle.logon_runs.specs.TurnedAway.{HasEnded, Settled, settled_in}
+use Rattle.logon_runs.specs.Failing.TurnedAway.{HasEnded, Settled, settled_in}
 use Rattle.logon_runs.specs.Any.AnyPhases.{HasSecret, IsAble, IsOwn, KeepsInStep, MayStand}
 use Rattle.logon_runs.specs.Any.AnyStarts.{AreThree, coming_from}
-use Rattle.logon_runs.proofs.FirstWorldLaws.{at_place, got_controller, got_mapped, item_has}
-use Rattle.logon_runs.proofs.PhaseLaws.{phases_go_on}
+use Rattle.logon_runs.proofs.First.FirstWorldLaws.{at_place, got_controller, got_mapped, item_has}
+use Rattle.logon_runs.proofs.Phases.PhaseLaws.{phases_go_on}
 use Rattle.logon_runs.proofs.Any.AnyBeginLaws.{able_so, has_secret, rests_seen}
 use Rattle.logon_runs.proofs.Any.RestAgainLaws.{HasItem, item_at, rests_again}
 

@@ -13,10 +13,10 @@ use Rattle.world_moves.specs.declared.state.Waiting.{Waiting}
 use Rattle.world_moves.specs.Acting.{Acted}
 use Rattle.world_moves.specs.Ends.{EndStates}
 use Rattle.world_moves.specs.Moving.{act, connect_first, tick, without_first}
-use Rattle.logon_runs.specs.Others.{IsStepOn}
+use Rattle.logon_runs.specs.Seen.Others.{IsStepOn}
 use Rattle.logon_runs.specs.Rests.{AtRest, ClientRests, ControllerRests, IsInStepAt, MemberRests, RestsStay, StandsWell}
-use Rattle.logon_runs.specs.Waiting.{waiting}
-use Rattle.logon_runs.proofs.WaitingLaws.{waiting_comes}
+use Rattle.logon_runs.specs.Seen.Waiting.{waiting}
+use Rattle.logon_runs.proofs.Seen.WaitingLaws.{waiting_comes}
 
 well_still : (plan : Plan) (s after : State) (at : ℕ) (member : MemberPlan) (how : Standing) → ((k : ℕ) → slice_get after.ends.controllers k ≡ slice_get s.ends.controllers k) →
     StandsWell plan s at member how → StandsWell plan after at member how

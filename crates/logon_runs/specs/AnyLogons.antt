@@ -14,11 +14,11 @@ use Rattle.world_moves.specs.Forms.{HasForms}
 use Rattle.world_moves.specs.Moving.{act, start}
 use Rattle.world_moves.specs.World.{IsPlan, first_world}
 use Rattle.logon_steps.specs.ClientSteps.{client_ended}
-use Rattle.logon_runs.specs.Others.{IsStepOn}
+use Rattle.logon_runs.specs.Seen.Others.{IsStepOn}
 use Rattle.logon_runs.specs.Passing.{HasEnough}
 use Rattle.logon_runs.specs.Rests.{AtRest, moved_by}
-use Rattle.logon_runs.specs.Staying.{HasSameEnds}
-use Rattle.logon_runs.specs.Waiting.{waiting}
+use Rattle.logon_runs.specs.Seen.Staying.{HasSameEnds}
+use Rattle.logon_runs.specs.Seen.Waiting.{waiting}
 
 -- there is a controller and a member: where there is none, nobody is let in
 pub record HasServers (plan : Plan) : Type 0 where

@@ -22,9 +22,9 @@ use Rattle.logon_steps.specs.Answers.{answer_for, drawn_of}
 use Rattle.logon_steps.specs.ClientSteps.{client_ended}
 use Rattle.logon_steps.specs.Granting.{cleared}
 use Rattle.logon_steps.specs.MemberAnswers.{sam_shown}
-use Rattle.logon_runs.specs.AskScenes.{with_controller}
+use Rattle.logon_runs.specs.Seen.AskScenes.{with_controller}
 use Rattle.logon_runs.specs.Grants.{KeyArrives}
-use Rattle.logon_runs.specs.LinkScenes.{Meeting, joined, rest_scene}
+use Rattle.logon_runs.specs.Seen.LinkScenes.{Meeting, joined, rest_scene}
 use Rattle.logon_runs.specs.Runs.{Asked, IsToBeGranted, connects, goes, hidden, rested, sam_for, with_moved}
 use Rattle.logon_runs.specs.Scenes.{Shows}
 

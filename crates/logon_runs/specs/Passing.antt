@@ -16,13 +16,13 @@ use Rattle.world_moves.specs.Moving.{act, start}
 use Rattle.world_moves.specs.World.{first_world}
 use Rattle.logon_steps.specs.ClientSteps.{client_ended}
 use Rattle.logon_runs.specs.Grants.{KeyArrives}
-use Rattle.logon_runs.specs.Others.{AreAmong, IsStepOn, OthersStay}
+use Rattle.logon_runs.specs.Seen.Others.{AreAmong, IsStepOn, OthersStay}
 use Rattle.logon_runs.specs.Phases.{Calls, Coming, HasUser, IsUnderWay, LogonPhase, MayLogOnAt, Third, own}
 use Rattle.logon_runs.specs.Rests.{AtRest, CanCome, HasCome, coming_at, moved_by, three_in, three_of}
 use Rattle.logon_runs.specs.Runs.{info_asked}
-use Rattle.logon_runs.specs.Staying.{HasSameEnds}
-use Rattle.logon_runs.specs.TurnedAway.{IsAway}
-use Rattle.logon_runs.specs.Waiting.{waiting}
+use Rattle.logon_runs.specs.Seen.Staying.{HasSameEnds}
+use Rattle.logon_runs.specs.Failing.TurnedAway.{IsAway}
+use Rattle.logon_runs.specs.Seen.Waiting.{waiting}
 
 -- where the logon is judged at the move, the controller has the user's hash, he may log on, and the key arrives; or the
 -- controller refuses him

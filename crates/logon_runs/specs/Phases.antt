@@ -63,14 +63,14 @@ use Rattle.logon_steps.specs.MemberAnswers.{granting}
 use Rattle.logon_steps.specs.MemberLinks.{asked_talk}
 use Rattle.logon_steps.specs.MemoCalls.{ReplyGoes, RequestGoes, logged_on, with_session}
 use Rattle.logon_steps.specs.Turning.{turn_ack, turn_request}
-use Rattle.logon_runs.specs.AskScenes.{turn_within, with_controller}
+use Rattle.logon_runs.specs.Seen.AskScenes.{turn_within, with_controller}
 use Rattle.logon_runs.specs.Grants.{KeyArrives}
-use Rattle.logon_runs.specs.LinkScenes.{Meeting, its_link, joined, meeting_scene, rest_scene, unit_down, unit_up}
-use Rattle.logon_runs.specs.Others.{IsStepOn}
+use Rattle.logon_runs.specs.Seen.LinkScenes.{Meeting, its_link, joined, meeting_scene, rest_scene, unit_down, unit_up}
+use Rattle.logon_runs.specs.Seen.Others.{IsStepOn}
 use Rattle.logon_runs.specs.Runs.{Asked, StandsInStep, hidden, info_asked, message_for, sam_for}
 use Rattle.logon_runs.specs.Scenes.{Scene, Shows}
-use Rattle.logon_runs.specs.Waiting.{waiting}
-use Rattle.logon_runs.specs.TurnScenes.{Turn, dial_scene, next_turn, turn_scene, unit_back, unit_there, with_accounts}
+use Rattle.logon_runs.specs.Seen.Waiting.{waiting}
+use Rattle.logon_runs.specs.Seen.TurnScenes.{Turn, dial_scene, next_turn, turn_scene, unit_back, unit_there, with_accounts}
 
 -- ---- what stays
 

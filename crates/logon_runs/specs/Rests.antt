@@ -37,11 +37,11 @@ use Rattle.logon_steps.specs.ClientSteps.{client_ended}
 use Rattle.logon_steps.specs.ControllerTurns.{controller_at}
 use Rattle.logon_steps.specs.MemberLinks.{logons_at_rest}
 use Rattle.logon_steps.specs.MemberTurns.{member_at}
-use Rattle.logon_runs.specs.Others.{AreAmong, IsDialAmong, IsStepOn, OthersStay, Three}
-use Rattle.logon_runs.specs.Staying.{HasSameEnds}
+use Rattle.logon_runs.specs.Seen.Others.{AreAmong, IsDialAmong, IsStepOn, OthersStay, Three}
+use Rattle.logon_runs.specs.Seen.Staying.{HasSameEnds}
 use Rattle.logon_runs.specs.Phases.{ArrivesAt, HasThree, IsReached, MayLogOnAt, Coming, HasUser, IsUnderWay, IsKnown}
-use Rattle.logon_runs.specs.TurnedAway.{HasEnded}
-use Rattle.logon_runs.specs.Waiting.{waiting}
+use Rattle.logon_runs.specs.Failing.TurnedAway.{HasEnded}
+use Rattle.logon_runs.specs.Seen.Waiting.{waiting}
 
 -- ---- the plan
 

@@ -40,8 +40,8 @@ use Rattle.logon_steps.specs.Meeting.{HasShortNames, challenged_talk, flags_agre
 use Rattle.logon_steps.specs.MemberAnswers.{granting, let_in, sam_shown}
 use Rattle.logon_steps.specs.MemoCalls.{ReplyGoes, RequestGoes, logged_on}
 use Rattle.logon_steps.specs.Turning.{IsTurnReply}
-use Rattle.logon_runs.specs.AskScenes.{with_controller}
-use Rattle.logon_runs.specs.LinkScenes.{IsJoined, Meeting, meeting_scene, unit_down, unit_up}
+use Rattle.logon_runs.specs.Seen.AskScenes.{with_controller}
+use Rattle.logon_runs.specs.Seen.LinkScenes.{IsJoined, Meeting, meeting_scene, unit_down, unit_up}
 use Rattle.logon_runs.specs.Scenes.{Shows}
 
 -- what a client answers to its member, where it is asked so

@@ -24,7 +24,7 @@ use Rattle.world_moves.specs.declared.state.State.{State}
 use Rattle.world_moves.specs.declared.state.Waiting.{Waiting}
 use Rattle.world_moves.specs.Links.{OpenMap, hearer_on}
 use Rattle.world_moves.specs.Moving.{onward}
-use Rattle.logon_runs.specs.Waiting.{unit_on, waiting}
+use Rattle.logon_runs.specs.Seen.Waiting.{unit_on, waiting}
 
 -- a scene: one client, one member and one controller, and what is under way between them
 pub record Scene : Type 0 where

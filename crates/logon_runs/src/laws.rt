@@ -6,92 +6,92 @@ ghost use Rattle.logon_runs.specs.Any.AnyStarts.{AnyLogonsStart};
 ghost use Rattle.logon_runs.specs.Any.ControllerAnswers.{ControllersAnswer};
 ghost use Rattle.logon_runs.specs.Any.GrantRests.{GrantsRest};
 ghost use Rattle.logon_runs.specs.AnyLogons.{LogonsRest};
-ghost use Rattle.logon_runs.specs.AskScenes.{LogonsAreSeen};
-ghost use Rattle.logon_runs.specs.ExampleLogon.{AnnLogsOn};
-ghost use Rattle.logon_runs.specs.FailingSteps.{FailingsStep};
-ghost use Rattle.logon_runs.specs.Failings.{FailingsAreSeen};
-ghost use Rattle.logon_runs.specs.FirstLogonRuns.{FirstLogonsRun};
-ghost use Rattle.logon_runs.specs.FirstRuns.{FirstTurnsRun};
-ghost use Rattle.logon_runs.specs.FirstTraces.{FirstLogonsAreSeen, FirstTurnsAreSeen};
-ghost use Rattle.logon_runs.specs.FirstWorlds.{FirstWorldsRun};
+ghost use Rattle.logon_runs.specs.Seen.AskScenes.{LogonsAreSeen};
+ghost use Rattle.logon_runs.specs.First.ExampleLogon.{AnnLogsOn};
+ghost use Rattle.logon_runs.specs.Failing.FailingSteps.{FailingsStep};
+ghost use Rattle.logon_runs.specs.Failing.Failings.{FailingsAreSeen};
+ghost use Rattle.logon_runs.specs.First.FirstLogonRuns.{FirstLogonsRun};
+ghost use Rattle.logon_runs.specs.First.FirstRuns.{FirstTurnsRun};
+ghost use Rattle.logon_runs.specs.First.FirstTraces.{FirstLogonsAreSeen, FirstTurnsAreSeen};
+ghost use Rattle.logon_runs.specs.First.FirstWorlds.{FirstWorldsRun};
 ghost use Rattle.logon_runs.specs.Grants.{GrantsAreTold};
 ghost use Rattle.logon_runs.specs.GrantsTold.{GrantsTell};
 ghost use Rattle.logon_runs.specs.Keys.Differing.{KeysMayDiffer};
 ghost use Rattle.logon_runs.specs.Keys.LetIn.{GrantsGoOn};
-ghost use Rattle.logon_runs.specs.LinkScenes.{MeetingsAreSeen};
+ghost use Rattle.logon_runs.specs.Seen.LinkScenes.{MeetingsAreSeen};
 ghost use Rattle.logon_runs.specs.LogonRuns.{LogonsRun};
-ghost use Rattle.logon_runs.specs.Others.{OthersAreLeft};
+ghost use Rattle.logon_runs.specs.Seen.Others.{OthersAreLeft};
 ghost use Rattle.logon_runs.specs.Passing.{LogonsPass};
 ghost use Rattle.logon_runs.specs.Phases.{PhasesGoOn};
 ghost use Rattle.logon_runs.specs.Rests.{LogonsComeIn, LogonsComeToRest, RestsStay};
 ghost use Rattle.logon_runs.specs.Runs.{TurnsRun};
 ghost use Rattle.logon_runs.specs.Scenes.{ScenesGoOn};
-ghost use Rattle.logon_runs.specs.Starts.{StartsAreSeen};
-ghost use Rattle.logon_runs.specs.Staying.{EndsStay};
-ghost use Rattle.logon_runs.specs.TurnScenes.{TurnsAreSeen};
-ghost use Rattle.logon_runs.specs.TurnedAway.{LogonsAreTurnedAway};
-ghost use Rattle.logon_runs.specs.Turnings.{ScenesTurn};
-ghost use Rattle.logon_runs.specs.TwoLinks.{TurnsHaveLinks};
-ghost use Rattle.logon_runs.specs.Waiting.{WaitingComes};
+ghost use Rattle.logon_runs.specs.Seen.Starts.{StartsAreSeen};
+ghost use Rattle.logon_runs.specs.Seen.Staying.{EndsStay};
+ghost use Rattle.logon_runs.specs.Seen.TurnScenes.{TurnsAreSeen};
+ghost use Rattle.logon_runs.specs.Failing.TurnedAway.{LogonsAreTurnedAway};
+ghost use Rattle.logon_runs.specs.Seen.Turnings.{ScenesTurn};
+ghost use Rattle.logon_runs.specs.Seen.TwoLinks.{TurnsHaveLinks};
+ghost use Rattle.logon_runs.specs.Seen.Waiting.{WaitingComes};
 
 /// The oldest unit that waits comes at the end that hears it on its own link, and those behind it
 /// wait on. What an end makes of what it hears changes that end alone, until its actions are done.
-#[tactic(auto, using(crate::proofs::WaitingLaws::waiting_comes))]
+#[tactic(auto, using(crate::proofs::Seen::WaitingLaws::waiting_comes))]
 pub fn what_waits_comes()
     ensures { WaitingComes }
 {}
 
 /// There are as many ends after each move as before it, with the same plans, so an address is the
 /// same end's in each state of a run.
-#[tactic(auto, using(crate::proofs::StayingLaws::ends_stay))]
+#[tactic(auto, using(crate::proofs::Seen::StayingLaws::ends_stay))]
 pub fn ends_stay()
     ensures { EndsStay }
 {}
 
 /// What comes of the oldest unit is seen of the ends, the links and what waits alone, where the end
 /// that hears it closes nothing.
-#[tactic(auto, using(crate::proofs::SceneLaws::scenes_go_on))]
+#[tactic(auto, using(crate::proofs::Seen::SceneLaws::scenes_go_on))]
 pub fn scenes_go_on()
     ensures { ScenesGoOn }
 {}
 
 /// The same where a link is closed, where a dial is answered, and where time passes.
-#[tactic(auto, using(crate::proofs::TurningSceneLaws::scenes_turn))]
+#[tactic(auto, using(crate::proofs::Seen::TurningSceneLaws::scenes_turn))]
 pub fn scenes_turn()
     ensures { ScenesTurn }
 {}
 
 /// A client that starts where no link is open dials its member. A move that finds no dial or no
 /// unit changes nothing that is seen.
-#[tactic(auto, using(crate::proofs::StartLaws::starts_are_seen))]
+#[tactic(auto, using(crate::proofs::Seen::StartLaws::starts_are_seen))]
 pub fn starts_are_seen()
     ensures { StartsAreSeen }
 {}
 
 /// A turn of a member with its controller, unit by unit, whichever call it makes: its dial, its
 /// bind and the answer, its call and the reply, and the next turn of a channel that opens.
-#[tactic(auto, using(crate::proofs::TurnSceneLaws::turns_are_seen))]
+#[tactic(auto, using(crate::proofs::Seen::TurnSceneLaws::turns_are_seen))]
 pub fn turns_are_seen()
     ensures { TurnsAreSeen }
 {}
 
 /// A client and its member on their link: from the dial to the AUTHENTICATE with WhoAmI behind it,
 /// and from the answer of WhoAmI to the link's end.
-#[tactic(auto, using(crate::proofs::LinkSceneLaws::meetings_are_seen))]
+#[tactic(auto, using(crate::proofs::Seen::LinkSceneLaws::meetings_are_seen))]
 pub fn meetings_are_seen()
     ensures { MeetingsAreSeen }
 {}
 
 /// A logon goes over into the member's turns, while WhoAmI is held, and out of them where it is
 /// granted.
-#[tactic(auto, using(crate::proofs::AskSceneLaws::logons_are_seen))]
+#[tactic(auto, using(crate::proofs::Seen::AskSceneLaws::logons_are_seen))]
 pub fn logons_are_seen()
     ensures { LogonsAreSeen }
 {}
 
 /// The link of a turn is the next one, beside its client's: open at both sides once its dial is
 /// answered. The client's is as before, also once the turn's is closed.
-#[tactic(auto, using(crate::proofs::TwoLinkLaws::turns_have_links))]
+#[tactic(auto, using(crate::proofs::Seen::TwoLinkLaws::turns_have_links))]
 pub fn turns_have_links()
     ensures { TurnsHaveLinks }
 {}
@@ -111,14 +111,14 @@ pub fn grants_are_told()
 {}
 
 /// What is seen at each move of the three turns of a member that has no channel yet.
-#[tactic(auto, using(crate::proofs::FirstTraceLaws::first_turns_are_seen))]
+#[tactic(auto, using(crate::proofs::First::FirstTraceLaws::first_turns_are_seen))]
 pub fn first_turns_are_seen()
     ensures { FirstTurnsAreSeen }
 {}
 
 /// The three turns of a member that has no channel yet, from the AUTHENTICATE of its client to the
 /// answer of WhoAmI. The channel stands afterwards, and the account's count of bad passwords is 0.
-#[tactic(auto, using(crate::proofs::FirstRunLaws::first_turns_run))]
+#[tactic(auto, using(crate::proofs::First::FirstRunLaws::first_turns_run))]
 pub fn first_turns_run()
     ensures { FirstTurnsRun }
 {}
@@ -131,42 +131,42 @@ pub fn logons_run()
 {}
 
 /// What is seen at each move of a first logon, from the client's start to the answer of WhoAmI.
-#[tactic(auto, using(crate::proofs::FirstLogonTraceLaws::first_logons_are_seen))]
+#[tactic(auto, using(crate::proofs::First::FirstLogonTraceLaws::first_logons_are_seen))]
 pub fn first_logons_are_seen()
     ensures { FirstLogonsAreSeen }
 {}
 
 /// A whole first logon, by a channel that is opened for it, from the client's start to its end: the
 /// client is in, with its own key and the name that the member found.
-#[tactic(auto, using(crate::proofs::FirstLogonRunLaws::first_logons_run))]
+#[tactic(auto, using(crate::proofs::First::FirstLogonRunLaws::first_logons_run))]
 pub fn first_logons_run()
     ensures { FirstLogonsRun }
 {}
 
 /// The first logon in a world is granted by the values of its plan: after these moves the client is
 /// in, no link is open, and the account's count of bad passwords is 0.
-#[tactic(auto, using(crate::proofs::FirstWorldLaws::first_worlds_run))]
+#[tactic(auto, using(crate::proofs::First::FirstWorldLaws::first_worlds_run))]
 pub fn first_worlds_run()
     ensures { FirstWorldsRun }
 {}
 
 /// There is such a world: in one of a controller, a member and a client, the client's logon is
 /// granted, and it is in after 24 moves.
-#[tactic(auto, using(crate::proofs::ExampleLogonLaws::an_example_logs_on))]
+#[tactic(auto, using(crate::proofs::First::ExampleLogonLaws::an_example_logs_on))]
 pub fn an_example_logs_on()
     ensures { AnnLogsOn }
 {}
 
 /// A logon that is granted goes on at each move, in whichever order the moves come and whenever time
 /// passes: from one phase to another, and from the last one to its end, where the client is in.
-#[tactic(auto, using(crate::proofs::PhaseLaws::phases_go_on))]
+#[tactic(auto, using(crate::proofs::Phases::PhaseLaws::phases_go_on))]
 pub fn phases_go_on()
     ensures { PhasesGoOn }
 {}
 
 /// The moves of one logon change its client, its member and its controller alone: all other ends
 /// are as they were, and no other link opens.
-#[tactic(auto, using(crate::proofs::OtherLaws::others_are_left))]
+#[tactic(auto, using(crate::proofs::Seen::OtherLaws::others_are_left))]
 pub fn others_are_left()
     ensures { OthersAreLeft }
 {}
@@ -187,21 +187,21 @@ pub fn logons_come_in()
 
 /// The steps of a member and a client where a logon fails: its dial or its turn fails, or the
 /// controller refuses it. WhoAmI is answered with a fault, and the client then has its outcome.
-#[tactic(auto, using(crate::proofs::FailingStepLaws::failings_step))]
+#[tactic(auto, using(crate::proofs::Failing::FailingStepLaws::failings_step))]
 pub fn failings_step()
     ensures { FailingsStep }
 {}
 
 /// A logon that fails, as it is seen in the world: a dial that reaches nobody, a turn that is
 /// dropped or refused, and the fault upon which the client closes its link.
-#[tactic(auto, using(crate::proofs::FailingLaws::failings_are_seen))]
+#[tactic(auto, using(crate::proofs::Failing::FailingLaws::failings_are_seen))]
 pub fn failings_are_seen()
     ensures { FailingsAreSeen }
 {}
 
 /// A logon that a controller refuses which knows the computer, or whose member reaches no
 /// controller, goes on at each move to its end: the client has its outcome, and no link is open.
-#[tactic(auto, using(crate::proofs::TurnedAwayLaws::logons_are_turned_away))]
+#[tactic(auto, using(crate::proofs::Failing::TurnedAwayLaws::logons_are_turned_away))]
 pub fn logons_are_turned_away()
     ensures { LogonsAreTurnedAway }
 {}

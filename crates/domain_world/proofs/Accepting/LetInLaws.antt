@@ -51,7 +51,7 @@ use Rattle.step_notes.proofs.Members.TurnAnswerLaws.{HasAnswer, link_answers, no
 use Rattle.step_notes.proofs.Members.UnservedLaws.{LinksIn, bytes_took, took_known}
 use Rattle.domain_world.proofs.Accepting.LetInStepLaws.{IsAcceptedBy, IsDialledBy, KeepsIn, OfLetIn, IfLetIn, clients_tell, controllers_tell, given_append, given_so, hear_keeps, member_put, messages_so, nobody_so, step_told, Keeps, Meets, NotLate, calm_meets, end_silent, last_accepted, link_made, renewed_keeps, side_meets}
 use Rattle.domain_world.proofs.Frames.ComingLaws.{CameFrom}
-use Rattle.domain_world.proofs.Accepting.MessageNoteLaws.{AreCarried, IsAnsweredFor, for_stable, let_in_stable, notes_grow, one_so, turns_answer}
+use Rattle.domain_world.proofs.Accepting.Messages.MessageNoteLaws.{AreCarried, IsAnsweredFor, for_stable, let_in_stable, notes_grow, one_so, turns_answer}
 use Rattle.domain_world.proofs.Frames.TurnFrameLaws.{turns_told}
 use Rattle.domain_world.proofs.Frames.EndFrameLaws.{Ends, KeepsEnds, ends_after, ends_in}
 use Rattle.domain_world.proofs.Judgements.ToldLaws.{IsNoBytes, calm_bytes}

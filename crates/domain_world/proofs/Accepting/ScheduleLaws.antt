@@ -10,9 +10,9 @@ use Rattle.domain_world.specs.Accepting.Carried.{MarkedUnitsAreWhole}
 use Rattle.domain_world.specs.Accepting.Runs.{RunsStandSo}
 use Rattle.domain_world.specs.Accepting.Units.{UnitsAreHeard}
 use Rattle.domain_world.specs.Past.{past}
-use Rattle.domain_world.proofs.Accepting.JudgedRunLaws.{judged_as_carried, replies_back}
-use Rattle.domain_world.proofs.Accepting.MessageMadeLaws.{messages_made}
-use Rattle.domain_world.proofs.Accepting.MessageTakenLaws.{messages_taken}
+use Rattle.domain_world.proofs.Accepting.Heard.JudgedRunLaws.{judged_as_carried, replies_back}
+use Rattle.domain_world.proofs.Accepting.Messages.MessageMadeLaws.{messages_made}
+use Rattle.domain_world.proofs.Accepting.Messages.MessageTakenLaws.{messages_taken}
 use Rattle.domain_world.specs.Accepting.ReadBack.{TurnsAreHeard}
 use Rattle.domain_world.proofs.Accepting.UnitLaws.{runs_heard}
 use Rattle.domain_world.proofs.Frames.DrawnRunLaws.{draws_differ}

@@ -15,8 +15,8 @@ use Rattle.channel_events.proofs.ListLaws.{got_nothing, some_is}
 use Rattle.domain_world.proofs.Accepting.AnsweredLaws.{accepts_all, accepts_only, keys_agree, raises_once}
 use Rattle.domain_world.proofs.Accepting.AnsweredRunLaws.{is_proved}
 use Rattle.domain_world.proofs.Accepting.CarriedLaws.{carried_heard}
-use Rattle.domain_world.proofs.Accepting.KeyLaws.{keys_made}
-use Rattle.domain_world.proofs.Accepting.ReadBackLaws.{read_back}
+use Rattle.domain_world.proofs.Accepting.Messages.KeyLaws.{keys_made}
+use Rattle.domain_world.proofs.Accepting.Heard.ReadBackLaws.{read_back}
 use Rattle.domain_world.proofs.Challenges.MessageApartLaws.{messages_apart}
 use Rattle.domain_world.proofs.Judgements.ReplyLaws.{replies_carry}
 use Rattle.domain_world.proofs.Judgements.UnclashedLaws.{passes_unclashed}

@@ -20,7 +20,7 @@ use Rattle.step_notes.proofs.Members.KeptLogonLaws.{HasFor, IsFor, KeptIn, each_
 use Rattle.step_notes.proofs.Members.UnservedLaws.{IfUnserved, LinksIn, found_known}
 use Rattle.domain_world.proofs.Accepting.LetInLaws.{HoldsOf, run_holds}
 use Rattle.domain_world.proofs.Accepting.LetInStepLaws.{IsDialledBy}
-use Rattle.domain_world.proofs.Accepting.MessageNoteLaws.{one_so}
+use Rattle.domain_world.proofs.Accepting.Messages.MessageNoteLaws.{one_so}
 use Rattle.domain_world.proofs.Challenges.OwnChallengeLaws.{links_own}
 use Rattle.domain_world.proofs.Challenges.OwnLinkLaws.{IsOwn}
 

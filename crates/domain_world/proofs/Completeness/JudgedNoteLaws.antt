@@ -55,9 +55,9 @@ use Rattle.logon_steps.proofs.TurningLaws.{request_comes}
 use Rattle.logon_runs.specs.Phases.{Calls, Coming as LogonComing, Fits, HasUser, IsAimed, IsKnown, IsTurning, MayLogOnAt, Third, TurnAt, WhoAsked, call_for, own, scene_of, standing_for, turn_before, turn_on}
 use Rattle.logon_runs.specs.Runs.{Asked, info_asked, message_for}
 use Rattle.logon_runs.specs.Scenes.{Shows}
-use Rattle.logon_runs.specs.TurnScenes.{IsBetween, Turn, unit_there}
-use Rattle.logon_runs.proofs.TurnSceneLaws.{heard_there}
-use Rattle.logon_runs.proofs.TwoLinkLaws.{turns_have_links}
+use Rattle.logon_runs.specs.Seen.TurnScenes.{IsBetween, Turn, unit_there}
+use Rattle.logon_runs.proofs.Seen.TurnSceneLaws.{heard_there}
+use Rattle.logon_runs.proofs.Seen.TwoLinkLaws.{turns_have_links}
 use Rattle.domain_world.specs.Claims.{TravelsAsZeros, key_bytes}
 use Rattle.domain_world.specs.Past.{Coming, answers_of, at_controller, first_of, judged_of, note, note_controller, numbers_on, onto, with_reply}
 use Rattle.domain_world.proofs.Completeness.HeardOnceLaws.{ComeTo, controller_answers, turn_answer, turn_line}

@@ -24,16 +24,16 @@ use Rattle.world_moves.specs.Forms.{HasForms}
 use Rattle.world_moves.specs.Moving.{act, connect_first, start, start_at, without_first}
 use Rattle.world_moves.specs.World.{IsPlan, World, first_world, happens, run}
 use Rattle.logon_runs.specs.AnyLogons.{AreBelow, DrawsUpTo, HasServers, LogonRests}
-use Rattle.logon_runs.specs.Others.{IsStepOn}
+use Rattle.logon_runs.specs.Seen.Others.{IsStepOn}
 use Rattle.logon_runs.specs.Passing.{HasEnough}
 use Rattle.logon_runs.specs.Rests.{AtRest, moved_by}
-use Rattle.logon_runs.specs.Staying.{HasSameEnds}
-use Rattle.logon_runs.specs.Waiting.{waiting}
+use Rattle.logon_runs.specs.Seen.Staying.{HasSameEnds}
+use Rattle.logon_runs.specs.Seen.Waiting.{waiting}
 use Rattle.logon_runs.proofs.Any.AnyLogonLaws.{logons_rest}
 use Rattle.logon_runs.proofs.PassingLaws.{rest_of}
 use Rattle.logon_runs.proofs.RestStayLaws.{rests_stay}
-use Rattle.logon_runs.proofs.StayingLaws.{both_same, ends_stay}
-use Rattle.logon_runs.proofs.WaitingLaws.{waiting_comes}
+use Rattle.logon_runs.proofs.Seen.StayingLaws.{both_same, ends_stay}
+use Rattle.logon_runs.proofs.Seen.WaitingLaws.{waiting_comes}
 use Rattle.step_notes.specs.Records.{blank}
 use Rattle.domain_world.specs.Claims.Completeness.{IsPlainMove, IsQuiet, OneAtATime, started_in}
 use Rattle.domain_world.proofs.Frames.MoveFrameLaws.{IsPlaced, placed_next}

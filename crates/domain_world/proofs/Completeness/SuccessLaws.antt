@@ -22,16 +22,16 @@ use Rattle.world_moves.specs.Forms.{HasForms}
 use Rattle.world_moves.specs.Moving.{act, start}
 use Rattle.world_moves.specs.World.{IsPlan, World, first_world, happens, outcome_by, run}
 use Rattle.logon_runs.specs.AnyLogons.{HasServers}
-use Rattle.logon_runs.specs.Others.{IsStepOn}
+use Rattle.logon_runs.specs.Seen.Others.{IsStepOn}
 use Rattle.logon_runs.specs.Passing.{HasEnough}
 use Rattle.logon_runs.specs.Phases.{Coming, IsReached, IsUnderWay, LogonPhase, NotYet, key_at, progress_of, scene_of, told_of}
 use Rattle.logon_runs.specs.Phases.{Acked, Answers, Binds, BindsBefore, BindsHeld, Calls, Challenged, Dials, DialsBefore, DialsHeld, Echoed, Echoes, Granted, Halved, Named, Proved}
 use Rattle.logon_runs.specs.Rests.{CanBeGranted, HasBegun, coming_of}
 use Rattle.logon_runs.specs.Scenes.{Shows}
-use Rattle.logon_runs.specs.Waiting.{waiting}
-use Rattle.logon_runs.proofs.PhaseLaws.{one_waits}
+use Rattle.logon_runs.specs.Seen.Waiting.{waiting}
+use Rattle.logon_runs.proofs.Phases.PhaseLaws.{one_waits}
 use Rattle.logon_runs.proofs.RestLaws.{logons_come_to_rest}
-use Rattle.logon_runs.proofs.StayingLaws.{ends_stay, reach_still}
+use Rattle.logon_runs.proofs.Seen.StayingLaws.{ends_stay, reach_still}
 use Rattle.domain_world.specs.Claims.Completeness.{CanSucceed, EachSucceeds, IsQuiet, InEachState, MayLogOnIn, Succeeds, info_planned, name_of, started_in}
 use Rattle.domain_world.specs.Past.{Past, book, note, past}
 use Rattle.domain_world.proofs.Frames.LeftLaws.{first_left_blocks}

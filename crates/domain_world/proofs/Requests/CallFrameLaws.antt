@@ -53,8 +53,8 @@ use Rattle.domain_world.specs.Accepting.Carried.{IsWholeUnit}
 use Rattle.domain_world.specs.Accepting.Runs.{AskedIsOut, BagIsWhole, IsOut, IsQuiet, IsQuietTurn, RunsStandSo, Shows}
 use Rattle.domain_world.specs.Past.{Coming, Past, controller_of, note_at, note_given, note_member, past, sent_at}
 use Rattle.domain_world.proofs.Accepting.LetInStepLaws.{IsDialledBy, Meets, calm_meets, last_accepted, side_meets}
-use Rattle.domain_world.proofs.Accepting.QuietRunLaws.{one_piece, has_bytes, is_quiet, quiet_first, quiet_keeps}
-use Rattle.domain_world.proofs.Accepting.QuietStepLaws.{QuietAction, QuietFact}
+use Rattle.domain_world.proofs.Accepting.Quiet.QuietRunLaws.{one_piece, has_bytes, is_quiet, quiet_first, quiet_keeps}
+use Rattle.domain_world.proofs.Accepting.Quiet.QuietStepLaws.{QuietAction, QuietFact}
 use Rattle.domain_world.proofs.Accepting.RunBeginLaws.{first_apart}
 use Rattle.domain_world.proofs.Frames.BagFrameLaws.{IsServer}
 use Rattle.domain_world.proofs.Frames.ComingLaws.{CameFrom}

@@ -26,9 +26,9 @@ use Rattle.domain_world.specs.Past.{past}
 use Rattle.channel_events.proofs.ListLaws.{one_found}
 use Rattle.step_notes.proofs.Members.KeptLogonLaws.{IfDialled}
 use Rattle.domain_world.proofs.Accepting.LetInStepLaws.{IsDialledBy}
-use Rattle.domain_world.proofs.Accepting.QuietRunLaws.{has_bytes, quiet_first, quiet_keeps}
-use Rattle.domain_world.proofs.Accepting.QuietStepLaws.{MemberIsQuiet, QuietAction, QuietFact, QuietState, RunningIsQuiet}
-use Rattle.domain_world.proofs.Accepting.QuietTurnLaws.{IfOn}
+use Rattle.domain_world.proofs.Accepting.Quiet.QuietRunLaws.{has_bytes, quiet_first, quiet_keeps}
+use Rattle.domain_world.proofs.Accepting.Quiet.QuietStepLaws.{MemberIsQuiet, QuietAction, QuietFact, QuietState, RunningIsQuiet}
+use Rattle.domain_world.proofs.Accepting.Quiet.QuietTurnLaws.{IfOn}
 use Rattle.domain_world.proofs.Challenges.MessageApartLaws.{messages_apart}
 use Rattle.domain_world.proofs.Frames.BagStepLaws.{run_fits}
 use Rattle.domain_world.proofs.Frames.StepFrameLaws.{ActionFact, Keeps, NoFact, RunFact}

@@ -60,7 +60,7 @@ use Rattle.step_notes.proofs.Members.RequestOrderLaws.{requests_first}
 use Rattle.world_moves.proofs.LinkFrameLaws.{actions_stay, heard_stays}
 use Rattle.domain_world.proofs.Accepting.LetInLaws.{none_if_taken}
 use Rattle.domain_world.proofs.Accepting.LetInStepLaws.{IsDialledBy}
-use Rattle.domain_world.proofs.Accepting.MessageNoteLaws.{one_so}
+use Rattle.domain_world.proofs.Accepting.Messages.MessageNoteLaws.{one_so}
 use Rattle.domain_world.proofs.Frames.BagStepLaws.{BagKeeps, BookFact}
 use Rattle.domain_world.proofs.Frames.ComingLaws.{IsStill, StillHas, StillIn, kept_same, kept_sent}
 use Rattle.domain_world.proofs.Frames.FrameLaws.{HoldsIn}

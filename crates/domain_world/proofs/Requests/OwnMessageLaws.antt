@@ -32,7 +32,7 @@ use Rattle.domain_world.specs.Past.{Coming, at_member, change_message, controlle
 use Rattle.step_notes.proofs.Members.CallKeptLaws.{fresh_asks, step_asks}
 use Rattle.step_notes.proofs.Members.KeptLogonLaws.{Dials, IsFor, KeptIn, bytes_keep, kept_so, one_before, step_keeps}
 use Rattle.step_notes.proofs.Members.UnservedLaws.{LinksIn, Opens, bytes_took, step_known, took_known}
-use Rattle.domain_world.proofs.Accepting.MessageNoteLaws.{changed, one_so}
+use Rattle.domain_world.proofs.Accepting.Messages.MessageNoteLaws.{changed, one_so}
 use Rattle.domain_world.proofs.Frames.FrameLaws.{Fact, HoldsAfter, IsQuiet, Stays, StaysWritten}
 use Rattle.domain_world.proofs.Judgements.ToldLaws.{IsNoBytes}
 use Rattle.domain_world.proofs.Frames.TurnFrameLaws.{notes_keep}

@@ -53,7 +53,7 @@ use Rattle.world_moves.specs.declared.links.Route.{Route}
 use Rattle.world_moves.specs.Links.{acceptor_of}
 use Rattle.domain_world.specs.Past.{change_if, change_message, with_answer, with_call}
 use Rattle.domain_world.proofs.Accepting.LetInStepLaws.{IsAcceptedBy, IsDialledBy}
-use Rattle.domain_world.proofs.Accepting.MessageNoteLaws.{changed, map_one}
+use Rattle.domain_world.proofs.Accepting.Messages.MessageNoteLaws.{changed, map_one}
 use Rattle.domain_world.proofs.Requests.OutStepLaws.{HasOne, IsOf, IsOutIn, MemberHolds, OutFor, OutSteps, StaysKnown, bytes_accepts, bytes_kept, none_out, out_steps, same_channel}
 
 -- ---- what the unit is taken for, where the turn waits for the answer to a Logon call afterwards

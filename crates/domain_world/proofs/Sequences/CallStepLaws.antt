@@ -26,8 +26,8 @@ use Rattle.world_moves.specs.Acting.{Given, given_by}
 use Rattle.domain_world.proofs.Requests.StepApartLaws.{Differ, fresh_last}
 use Rattle.domain_world.proofs.Sequences.CallTurnLaws.{KnowsCalls, calls_still, start_knows}
 use Rattle.domain_world.proofs.Sequences.DialCountLaws.{given_append, given_dials, given_own, is_itself}
-use Rattle.domain_world.proofs.Sequences.OwnFrameLaws.{StillDrawn, still_drawn}
-use Rattle.domain_world.proofs.Sequences.OwnTurnLaws.{AreDrawn, both_drawn, drawn_between, mine, one_drawn, turn_drawn}
+use Rattle.domain_world.proofs.Sequences.Own.OwnFrameLaws.{StillDrawn, still_drawn}
+use Rattle.domain_world.proofs.Sequences.Own.OwnTurnLaws.{AreDrawn, both_drawn, drawn_between, mine, one_drawn, turn_drawn}
 use Rattle.domain_world.proofs.Sequences.SeedTurnLaws.{Turned, comes_so, drawn_still, starts_so, turned_later}
 
 -- ---- what is known of a member that runs

@@ -25,7 +25,7 @@ use Rattle.step_notes.specs.MemberNotes.{timestamp_bound, turn_of}
 use Rattle.step_notes.specs.Records.{LogonTurn}
 use Rattle.domain_world.specs.Accepting.Sequences.{AreUnitsApart, stamps_of}
 use Rattle.domain_world.proofs.Requests.LooserLaws.{IsPlaced, calls_before, placed_as}
-use Rattle.domain_world.proofs.Sequences.OwnTurnLaws.{stands_same}
+use Rattle.domain_world.proofs.Sequences.Own.OwnTurnLaws.{stands_same}
 use Rattle.domain_world.proofs.Sequences.SeedTurnLaws.{stamps_last, stamps_on}
 
 -- ---- what is known

@@ -22,8 +22,8 @@ use Rattle.domain_world.specs.Past.{Past, controller_of}
 use Rattle.domain_world.proofs.Frames.MarkPlaceLaws.{got_map}
 use Rattle.domain_world.proofs.Requests.CallHoldsLaws.{marks_in}
 use Rattle.domain_world.proofs.Sequences.CallTurnLaws.{AllDone, AreFar, AreFarBy, CallsMade, IsCalled, KnowsCalls}
-use Rattle.domain_world.proofs.Sequences.OwnRunLaws.{own_stamps}
-use Rattle.domain_world.proofs.Sequences.OwnTurnLaws.{mine}
+use Rattle.domain_world.proofs.Sequences.Own.OwnRunLaws.{own_stamps}
+use Rattle.domain_world.proofs.Sequences.Own.OwnTurnLaws.{mine}
 use Rattle.domain_world.proofs.Sequences.SeedTurnLaws.{stamps_on}
 
 -- what is known of a member, if it runs

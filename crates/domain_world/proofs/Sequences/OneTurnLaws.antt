@@ -16,9 +16,9 @@ use Rattle.domain_world.specs.Past.{controller_of, past}
 use Rattle.domain_world.proofs.Frames.DrawnRunLaws.{draws_differ}
 use Rattle.domain_world.proofs.Sequences.DialCountLaws.{is_member, one_if, waiting_dials}
 use Rattle.domain_world.proofs.Sequences.DialWalkLaws.{AtState, dials_after}
-use Rattle.domain_world.proofs.Sequences.OwnFrameLaws.{TurnsHold, TurnsKnown}
-use Rattle.domain_world.proofs.Sequences.OwnRunLaws.{first_known, turns_keep}
-use Rattle.domain_world.proofs.Sequences.OwnTurnLaws.{TurnsIf, TurnsOf}
+use Rattle.domain_world.proofs.Sequences.Own.OwnFrameLaws.{TurnsHold, TurnsKnown}
+use Rattle.domain_world.proofs.Sequences.Own.OwnRunLaws.{first_known, turns_keep}
+use Rattle.domain_world.proofs.Sequences.Own.OwnTurnLaws.{TurnsIf, TurnsOf}
 
 -- ---- the dials of a member are as many as are counted
 

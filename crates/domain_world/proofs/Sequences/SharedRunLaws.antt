@@ -16,8 +16,8 @@ use Rattle.domain_world.specs.Claims.{IsClear}
 use Rattle.domain_world.specs.Claims.SharedSequences.{SequencesAreShared}
 use Rattle.domain_world.specs.Past.{past}
 use Rattle.domain_world.proofs.Requests.CallStepLaws.{CallLaws}
-use Rattle.domain_world.proofs.Sequences.OwnEndLaws.{turns_are_called}
-use Rattle.domain_world.proofs.Sequences.OwnWholeLaws.{own_comes}
+use Rattle.domain_world.proofs.Sequences.Own.OwnEndLaws.{turns_are_called}
+use Rattle.domain_world.proofs.Sequences.Own.OwnWholeLaws.{own_comes}
 use Rattle.domain_world.proofs.Sequences.SharedLaws.{sequences_follow}
 use Rattle.domain_world.proofs.Sequences.StampLaws.{calls_stamped}
 

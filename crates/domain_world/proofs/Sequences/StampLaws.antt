@@ -24,10 +24,10 @@ use Rattle.domain_world.specs.Accepting.Carried.{call_carried, call_read}
 use Rattle.domain_world.specs.Accepting.Sequences.{CallsAreStamped}
 use Rattle.domain_world.specs.Past.{past}
 use Rattle.domain_world.proofs.Accepting.CarriedLaws.{logon_is, one_whole}
-use Rattle.domain_world.proofs.Accepting.HeardUnitLaws.{heard_stub}
-use Rattle.domain_world.proofs.Accepting.MarkSentLaws.{IsCallSent, IsStampedCall}
-use Rattle.domain_world.proofs.Accepting.MarkWholeLaws.{FitsMark, OfMark, marks_fit}
-use Rattle.domain_world.proofs.Accepting.QuietRunLaws.{has_bytes}
+use Rattle.domain_world.proofs.Accepting.Heard.HeardUnitLaws.{heard_stub}
+use Rattle.domain_world.proofs.Accepting.Heard.MarkSentLaws.{IsCallSent, IsStampedCall}
+use Rattle.domain_world.proofs.Accepting.Heard.MarkWholeLaws.{FitsMark, OfMark, marks_fit}
+use Rattle.domain_world.proofs.Accepting.Quiet.QuietRunLaws.{has_bytes}
 use Rattle.domain_world.proofs.Frames.BagFrameLaws.{IsOfUnit}
 use Rattle.domain_world.proofs.Frames.MoveFrameLaws.{HasBytes, bytes_in}
 

@@ -25,7 +25,7 @@ use Rattle.member_server.specs.declared.state.Talk.{Talk}
 use Rattle.member_server.specs.declared.state.TurnTalk.{TurnTalk}
 use Rattle.member_server.specs.declared.state.Work.{Work}
 use Rattle.step_notes.specs.MemberNotes.{turn_of}
-use Rattle.domain_world.proofs.Sequences.OwnTurnLaws.{turn_same, waits_dialled}
+use Rattle.domain_world.proofs.Sequences.Own.OwnTurnLaws.{turn_same, waits_dialled}
 
 -- ---- the dial after an event
 

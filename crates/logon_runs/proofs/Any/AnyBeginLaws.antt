@@ -22,14 +22,14 @@ use Rattle.world_moves.specs.World.{IsPlan}
 use Rattle.logon_steps.specs.Knowing.{StandsLater}
 use Rattle.logon_steps.proofs.CallingLaws.{calls_can_go}
 use Rattle.logon_steps.proofs.KnowingLaws.{computers_are_known}
-use Rattle.logon_runs.specs.LinkScenes.{rest_scene}
+use Rattle.logon_runs.specs.Seen.LinkScenes.{rest_scene}
 use Rattle.logon_runs.specs.Phases.{Coming, Dials, scene_of, with_its_controller}
 use Rattle.logon_runs.specs.Rests.{AtRest, ControllerRests, HasOwnComputer, IsInStepAt, MemberRests, StandsWell}
 use Rattle.logon_runs.specs.Scenes.{Shows}
 use Rattle.logon_runs.specs.Any.AnyPhases.{HasSecret, IsAble, MayStand, On}
 use Rattle.logon_runs.specs.Any.AnyStarts.{AnyLogonsStart, AreThree, HasStarted, coming_from}
-use Rattle.logon_runs.proofs.FirstWorldLaws.{are_units, item_has}
-use Rattle.logon_runs.proofs.StartLaws.{starts_are_seen}
+use Rattle.logon_runs.proofs.First.FirstWorldLaws.{are_units, item_has}
+use Rattle.logon_runs.proofs.Seen.StartLaws.{starts_are_seen}
 use Rattle.logon_runs.proofs.Any.RestAgainLaws.{computers_same, rests_again, some_same}
 
 module _ (plan : Plan) (s : State) (rest : AtRest plan s) (client member controller : ℕ) (three : AreThree plan client member controller) (account machine : Account) where

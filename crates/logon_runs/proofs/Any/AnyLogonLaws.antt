@@ -19,12 +19,12 @@ use Rattle.world_moves.specs.Forms.{HasForms}
 use Rattle.world_moves.specs.Moving.{end_of_peer, route_to, start}
 use Rattle.world_moves.specs.World.{IsPlan, first_controllers, first_ends, first_world}
 use Rattle.logon_runs.specs.AnyLogons.{AreBelow, HasServers, LogonRests, LogonsRest}
-use Rattle.logon_runs.specs.ExampleLogon.{ann}
-use Rattle.logon_runs.specs.Others.{IsStepOn}
+use Rattle.logon_runs.specs.First.ExampleLogon.{ann}
+use Rattle.logon_runs.specs.Seen.Others.{IsStepOn}
 use Rattle.logon_runs.specs.Passing.{HasEnough}
 use Rattle.logon_runs.specs.Rests.{AtRest, moved_by}
-use Rattle.logon_runs.specs.Staying.{HasSameEnds}
-use Rattle.logon_runs.specs.Waiting.{waiting}
+use Rattle.logon_runs.specs.Seen.Staying.{HasSameEnds}
+use Rattle.logon_runs.specs.Seen.Waiting.{waiting}
 use Rattle.logon_runs.specs.Any.AnyStarts.{AreThree, IsReachedOrNot}
 use Rattle.logon_runs.proofs.Any.AnyRunLaws.{reached_rests}
 use Rattle.logon_runs.proofs.Any.RestAgainLaws.{HasItem, item_at}

@@ -8,16 +8,16 @@ use Rattle.world_moves.specs.declared.plan.Plan.{Plan}
 use Rattle.world_moves.specs.declared.state.State.{State}
 use Rattle.world_moves.specs.Moving.{act, moment_after, onward, tick}
 use Rattle.logon_steps.specs.ClientSteps.{client_ended}
-use Rattle.logon_runs.specs.LinkScenes.{rest_scene}
-use Rattle.logon_runs.specs.Others.{IsStepOn}
+use Rattle.logon_runs.specs.Seen.LinkScenes.{rest_scene}
+use Rattle.logon_runs.specs.Seen.Others.{IsStepOn}
 use Rattle.logon_runs.specs.Phases.{Acked, Answers, Binds, BindsBefore, BindsHeld, Calls, Challenged, Coming, Dials, DialsBefore, DialsHeld, Echoed, Echoes, Granted, Halved, LogonPhase, Named, Proved, scene_of}
 use Rattle.logon_runs.specs.Scenes.{Scene, Shows}
-use Rattle.logon_runs.specs.TurnedAway.{AwayPhase, Faulted, Refused, Unheard, away_scene, settled_in}
-use Rattle.logon_runs.specs.Waiting.{waiting}
+use Rattle.logon_runs.specs.Failing.TurnedAway.{AwayPhase, Faulted, Refused, Unheard, away_scene, settled_in}
+use Rattle.logon_runs.specs.Seen.Waiting.{waiting}
 use Rattle.logon_runs.specs.Any.AnyPhases.{AnyPhase, AnyPhasesGoOn, Away, IsAble, IsAnywhere, IsDone, IsLetIn, IsOnward, IsReadyBy, Judged, MayFit, MayFitOn, On, Told, any_scene}
-use Rattle.logon_runs.proofs.PhaseLaws.{at_moment, one_waits, same_scene, waits_so}
-use Rattle.logon_runs.proofs.StartLaws.{starts_are_seen}
-use Rattle.logon_runs.proofs.TurningSceneLaws.{scenes_turn}
+use Rattle.logon_runs.proofs.Phases.PhaseLaws.{at_moment, one_waits, same_scene, waits_so}
+use Rattle.logon_runs.proofs.Seen.StartLaws.{starts_are_seen}
+use Rattle.logon_runs.proofs.Seen.TurningSceneLaws.{scenes_turn}
 use Rattle.logon_runs.proofs.Any.AnyStartLaws.{any_answers, any_binds, any_challenged, any_connects, any_seen, leads}
 use Rattle.logon_runs.proofs.Any.AnyTurnLaws.{any_acked, any_away, any_binds_held, any_bound, any_calls, any_dials_held, any_halved, any_judged, any_told}
 

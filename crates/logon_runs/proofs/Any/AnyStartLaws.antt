@@ -19,24 +19,24 @@ use Rattle.logon_steps.specs.Meeting.{flags_agreed}
 use Rattle.logon_steps.proofs.GrantingLaws.{logons_are_granted}
 use Rattle.logon_steps.proofs.MemoCallLaws.{memo_calls_go}
 use Rattle.logon_steps.proofs.TellingLaws.{logons_are_short}
-use Rattle.logon_runs.specs.LinkScenes.{its_link, unit_up}
+use Rattle.logon_runs.specs.Seen.LinkScenes.{its_link, unit_up}
 use Rattle.logon_runs.specs.LogonRuns.{asked_at}
 use Rattle.logon_runs.specs.Phases.{Acked, Aim, Answers, Binds, BindsBefore, BindsHeld, Calls, Challenged, Coming, Dials, DialsBefore, DialsHeld, Echoed, Echoes, First, Granted, Halved, HasThree, IsAnswering, LogonPhase, Named, Proved, Third, TurnAt, WhoAsked, call_for, key_at, own, scene_of, standing_for, terms_at, turn_before, waits_for, with_its_controller}
 use Rattle.logon_runs.specs.Runs.{Asked, message_for}
 use Rattle.logon_runs.specs.Scenes.{Shows}
-use Rattle.logon_runs.specs.TurnedAway.{AwayPhase, Faulted, Refused, Unheard, away_scene}
-use Rattle.logon_runs.specs.TurnScenes.{Turn}
+use Rattle.logon_runs.specs.Failing.TurnedAway.{AwayPhase, Faulted, Refused, Unheard, away_scene}
+use Rattle.logon_runs.specs.Seen.TurnScenes.{Turn}
 use Rattle.logon_runs.specs.Any.AnyPhases.{AnyPhase, Away, IsAble, IsLeft, IsOnward, IsReadyBy, IsTurningBy, Judged, MayAim, MayFit, MayFitAway, MayFitOn, MayStand, On, Told, any_scene}
-use Rattle.logon_runs.proofs.AskSceneLaws.{logons_are_seen}
-use Rattle.logon_runs.proofs.FailingLaws.{failings_are_seen}
-use Rattle.logon_runs.proofs.FirstTraceLaws.{after_below}
-use Rattle.logon_runs.proofs.LinkSceneLaws.{meetings_are_seen}
-use Rattle.logon_runs.proofs.PhaseStartLaws.{left_seen, left_so, turn_first_of}
+use Rattle.logon_runs.proofs.Seen.AskSceneLaws.{logons_are_seen}
+use Rattle.logon_runs.proofs.Failing.FailingLaws.{failings_are_seen}
+use Rattle.logon_runs.proofs.First.FirstTraceLaws.{after_below}
+use Rattle.logon_runs.proofs.Seen.LinkSceneLaws.{meetings_are_seen}
+use Rattle.logon_runs.proofs.Phases.PhaseStartLaws.{left_seen, left_so, turn_first_of}
 use Rattle.logon_runs.proofs.RunLaws.{timestamp_below}
-use Rattle.logon_runs.proofs.StartLaws.{starts_are_seen}
-use Rattle.logon_runs.proofs.TurnedAwayLaws.{lost_at}
-use Rattle.logon_runs.proofs.TurnSceneLaws.{turns_are_seen}
-use Rattle.logon_runs.proofs.TwoLinkLaws.{got_last, turns_have_links}
+use Rattle.logon_runs.proofs.Seen.StartLaws.{starts_are_seen}
+use Rattle.logon_runs.proofs.Failing.TurnedAwayLaws.{lost_at}
+use Rattle.logon_runs.proofs.Seen.TurnSceneLaws.{turns_are_seen}
+use Rattle.logon_runs.proofs.Seen.TwoLinkLaws.{got_last, turns_have_links}
 
 -- no channel is known at the controller
 abbrev pub no_channel : ChannelState

@@ -48,25 +48,25 @@ use Rattle.logon_steps.specs.Turning.{IsTurnCall, IsTurnReply}
 use Rattle.logon_steps.proofs.AnsweringLaws.{calls_are_answered}
 use Rattle.logon_steps.proofs.CallingLaws.{calls_can_go}
 use Rattle.logon_steps.proofs.ControllerTurnLaws.{controllers_step}
-use Rattle.logon_runs.specs.FailingSteps.{out_talk}
-use Rattle.logon_runs.specs.LinkScenes.{its_link}
+use Rattle.logon_runs.specs.Failing.FailingSteps.{out_talk}
+use Rattle.logon_runs.specs.Seen.LinkScenes.{its_link}
 use Rattle.logon_runs.specs.Phases.{Acked, Aim, BindsBefore, BindsHeld, Calls, Coming, DialsBefore, DialsHeld, First, Halved, HasThree, Second, Third, TurnAt, WhoAsked, call_for, own, scene_of, standing_for, terms_at, turn_before, turn_on, waits_for}
 use Rattle.logon_runs.specs.Runs.{Asked, info_asked, message_for}
 use Rattle.logon_runs.specs.Scenes.{Shows}
-use Rattle.logon_runs.specs.TurnedAway.{AwayPhase, Faulted, Refused, Settled, Unheard, away_scene, settled_in}
-use Rattle.logon_runs.specs.TurnScenes.{IsBetween, Turn, dial_scene, turn_scene, unit_back, with_accounts}
+use Rattle.logon_runs.specs.Failing.TurnedAway.{AwayPhase, Faulted, Refused, Settled, Unheard, away_scene, settled_in}
+use Rattle.logon_runs.specs.Seen.TurnScenes.{IsBetween, Turn, dial_scene, turn_scene, unit_back, with_accounts}
 use Rattle.logon_runs.specs.Any.AnyPhases.{Away, HasSecret, IsAble, IsJudgedBy, IsLeft, IsLetIn, IsOnward, IsOwn, IsReadyBy, IsThere, IsTurningBy, Judged, KeepsInStep, MayAim, MayFitAway, MayStand, On, Told, any_scene, proof_reply}
 use Rattle.logon_runs.specs.Any.ControllerAnswers.{ToldChallenge, ToldLogon, ToldProof}
 use Rattle.logon_runs.specs.Any.GrantRests.{judged_scene}
-use Rattle.logon_runs.proofs.AskSceneLaws.{logons_are_seen}
-use Rattle.logon_runs.proofs.FailingLaws.{failings_are_seen}
-use Rattle.logon_runs.proofs.FirstTraceLaws.{after_below}
-use Rattle.logon_runs.proofs.LinkSceneLaws.{found_here}
-use Rattle.logon_runs.proofs.PhaseStartLaws.{left_so}
-use Rattle.logon_runs.proofs.PhaseTurnLaws.{turn_after}
+use Rattle.logon_runs.proofs.Seen.AskSceneLaws.{logons_are_seen}
+use Rattle.logon_runs.proofs.Failing.FailingLaws.{failings_are_seen}
+use Rattle.logon_runs.proofs.First.FirstTraceLaws.{after_below}
+use Rattle.logon_runs.proofs.Seen.LinkSceneLaws.{found_here}
+use Rattle.logon_runs.proofs.Phases.PhaseStartLaws.{left_so}
+use Rattle.logon_runs.proofs.Phases.PhaseTurnLaws.{turn_after}
 use Rattle.logon_runs.proofs.RunLaws.{between_still, same_computer, timestamp_below}
-use Rattle.logon_runs.proofs.TurnSceneLaws.{turns_are_seen}
-use Rattle.logon_runs.proofs.TwoLinkLaws.{turns_have_links}
+use Rattle.logon_runs.proofs.Seen.TurnSceneLaws.{turns_are_seen}
+use Rattle.logon_runs.proofs.Seen.TwoLinkLaws.{turns_have_links}
 use Rattle.logon_runs.proofs.Any.AnyStartLaws.{leads, leads_less, no_channel}
 use Rattle.logon_runs.proofs.Any.ControllerAnswerLaws.{controllers_answer}
 use Rattle.logon_runs.proofs.Any.JudgingLaws.{IsLogonJudged, info_in, logon_judged}

@@ -60,7 +60,7 @@ use Rattle.logon_steps.proofs.KnowingLaws.{computers_are_known}
 use Rattle.logon_runs.specs.Any.ControllerAnswers.{ControllersAnswer, KeepsBut, TellsShort, ToldChallenge, ToldLogon, ToldProof}
 use Rattle.logon_runs.specs.Any.GrantRests.{HasShortName}
 use Rattle.logon_runs.proofs.Any.JudgingLaws.{IsLogonJudged, IsNamedIn, info_in, logon_judged}
-use Rattle.logon_runs.proofs.TurnedAwayLaws.{IsRefusalOf, verdict_refuses}
+use Rattle.logon_runs.proofs.Failing.TurnedAwayLaws.{IsRefusalOf, verdict_refuses}
 
 -- ---- a call comes on the one link
 

@@ -25,11 +25,11 @@ use Rattle.world_moves.specs.Moving.{end_of_peer, route_to}
 use Rattle.world_moves.specs.World.{first_ends}
 use Rattle.logon_steps.specs.ClientSteps.{client_ended}
 use Rattle.logon_steps.specs.ControllerTurns.{controller_at}
-use Rattle.logon_runs.specs.Others.{OthersStay}
+use Rattle.logon_runs.specs.Seen.Others.{OthersStay}
 use Rattle.logon_runs.specs.Rests.{AtRest, ClientRests, ControllerRests, HasOwnComputer, IsInStepAt, MemberRests, StandsWell, three_of}
 use Rattle.logon_runs.specs.Any.AnyPhases.{IsDone, KeepsInStep, MayStand}
 use Rattle.logon_runs.specs.Any.AnyStarts.{AreThree, IsReachedOrNot, coming_from}
-use Rattle.logon_runs.proofs.FirstTraceLaws.{after_below}
+use Rattle.logon_runs.proofs.First.FirstTraceLaws.{after_below}
 
 pub same_or_not : (one other : ℕ) → (one ≡ other) ⊎ (one ≢ other)
 same_or_not zero zero = inl refl

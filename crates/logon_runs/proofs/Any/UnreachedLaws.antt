@@ -19,20 +19,20 @@ use Rattle.world_moves.specs.Moving.{act, end_of_peer, moment_after, route_to, s
 use Rattle.world_moves.specs.World.{first_ends, first_world}
 use Rattle.logon_steps.specs.ClientSteps.{client_ended}
 use Rattle.logon_runs.specs.AnyLogons.{LogonRests}
-use Rattle.logon_runs.specs.LinkScenes.{rest_scene}
-use Rattle.logon_runs.specs.Others.{AreAmong, IsDialAmong, IsRoutedAmong, IsStepOn, OthersStay}
+use Rattle.logon_runs.specs.Seen.LinkScenes.{rest_scene}
+use Rattle.logon_runs.specs.Seen.Others.{AreAmong, IsDialAmong, IsRoutedAmong, IsStepOn, OthersStay}
 use Rattle.logon_runs.specs.Phases.{Coming, Dials, scene_of, with_its_controller}
 use Rattle.logon_runs.specs.Rests.{AtRest, ClientRests, moved_by, three_in}
 use Rattle.logon_runs.specs.Scenes.{Scene, Shows}
-use Rattle.logon_runs.specs.Staying.{HasSameEnds}
+use Rattle.logon_runs.specs.Seen.Staying.{HasSameEnds}
 use Rattle.logon_runs.specs.Any.AnyStarts.{AreThree, coming_from}
-use Rattle.logon_runs.proofs.FailingLaws.{failings_are_seen}
-use Rattle.logon_runs.proofs.OtherLaws.{others_are_left}
-use Rattle.logon_runs.proofs.PhaseLaws.{one_waits}
+use Rattle.logon_runs.proofs.Failing.FailingLaws.{failings_are_seen}
+use Rattle.logon_runs.proofs.Seen.OtherLaws.{others_are_left}
+use Rattle.logon_runs.proofs.Phases.PhaseLaws.{one_waits}
 use Rattle.logon_runs.proofs.RestStayLaws.{rest_with}
-use Rattle.logon_runs.proofs.StartLaws.{starts_are_seen}
-use Rattle.logon_runs.proofs.StayingLaws.{both_same, ends_stay, starts_same}
-use Rattle.logon_runs.proofs.TurningSceneLaws.{scenes_turn}
+use Rattle.logon_runs.proofs.Seen.StartLaws.{starts_are_seen}
+use Rattle.logon_runs.proofs.Seen.StayingLaws.{both_same, ends_stay, starts_same}
+use Rattle.logon_runs.proofs.Seen.TurningSceneLaws.{scenes_turn}
 use Rattle.logon_runs.proofs.Any.AnyBeginLaws.{begins_seen}
 use Rattle.logon_runs.proofs.Any.AnyRunLaws.{none_up_to, route_still}
 use Rattle.logon_runs.proofs.Any.RestAgainLaws.{same_or_not, some_same}

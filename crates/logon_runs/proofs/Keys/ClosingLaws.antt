@@ -25,11 +25,11 @@ use Rattle.world_moves.specs.Ends.{EndStates}
 use Rattle.world_moves.specs.Links.{OpenMap}
 use Rattle.world_moves.specs.Moving.{onward, settle}
 use Rattle.logon_runs.specs.Scenes.{HasFirst, IsNoClose, Scene, Shows, with_actions}
-use Rattle.logon_runs.specs.Turnings.{ClosesTo, shut_in}
-use Rattle.logon_runs.specs.Waiting.{Comes, after_hearing, with_client_at, with_controller_at, with_member_at}
-use Rattle.logon_runs.proofs.SceneLaws.{first_comes, got_same}
-use Rattle.logon_runs.proofs.TurningSceneLaws.{lands_closing}
-use Rattle.logon_runs.proofs.WaitingLaws.{waiting_comes}
+use Rattle.logon_runs.specs.Seen.Turnings.{ClosesTo, shut_in}
+use Rattle.logon_runs.specs.Seen.Waiting.{Comes, after_hearing, with_client_at, with_controller_at, with_member_at}
+use Rattle.logon_runs.proofs.Seen.SceneLaws.{first_comes, got_same}
+use Rattle.logon_runs.proofs.Seen.TurningSceneLaws.{lands_closing}
+use Rattle.logon_runs.proofs.Seen.WaitingLaws.{waiting_comes}
 
 -- it closes its client's link, and then does other things
 pub member_shuts : (s : State) (v : Scene) (unit : BagUnit) (later : List BagUnit) (after : MemberState) (client : ClientState) (left : List (List ℕ)) (link : ℕ) (cause : CloseCause)

@@ -53,7 +53,7 @@ use Rattle.logon_steps.proofs.MemoCallLaws.{one_bytes, one_fragment, one_sends, 
 use Rattle.logon_steps.proofs.SecuringLaws.{units_travel}
 use Rattle.logon_steps.proofs.StreamLaws.{read_again}
 use Rattle.logon_runs.specs.Keys.Differing.{AreTerms, AsksEcho, HasItsOutcome, HasSent, Hears, IsLetIn, IsReplied, IsRequest, IsShut, IsSingle, KeysMayDiffer, single_unit}
-use Rattle.logon_runs.proofs.FailingStepLaws.{fault_sends}
+use Rattle.logon_runs.proofs.Failing.FailingStepLaws.{fault_sends}
 use Rattle.logon_runs.proofs.Keys.EchoSizeLaws.{echo_fits, echo_reply_size}
 use Rattle.logon_runs.proofs.Keys.OpeningLaws.{client_opens, member_opens, mirror, mirrored}
 

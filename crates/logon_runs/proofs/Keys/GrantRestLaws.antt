@@ -20,21 +20,21 @@ use Rattle.world_moves.specs.Moving.{act, onward}
 use Rattle.logon_steps.specs.Turning.{IsTurnReply}
 use Rattle.logon_runs.specs.Any.GrantRests.{CanGoOn, GrantsRest, HasSettled, HasShortName, judged_rest, judged_scene}
 use Rattle.logon_runs.specs.Keys.LetIn.{GoesOn, HasEndedAt}
-use Rattle.logon_runs.specs.LinkScenes.{Meeting}
-use Rattle.logon_runs.specs.Others.{AreAmong, IsStepOn, OthersStay}
+use Rattle.logon_runs.specs.Seen.LinkScenes.{Meeting}
+use Rattle.logon_runs.specs.Seen.Others.{AreAmong, IsStepOn, OthersStay}
 use Rattle.logon_runs.specs.Phases.{Coming, Third, TurnAt, WhoAsked, own, terms_at, turn_before, turn_on}
 use Rattle.logon_runs.specs.Rests.{moved_by, three_in}
 use Rattle.logon_runs.specs.Runs.{Asked, message_for}
 use Rattle.logon_runs.specs.Scenes.{Shows}
-use Rattle.logon_runs.specs.TurnedAway.{Settled, settled_in}
-use Rattle.logon_runs.specs.TurnScenes.{Turn}
-use Rattle.logon_runs.specs.Waiting.{waiting}
+use Rattle.logon_runs.specs.Failing.TurnedAway.{Settled, settled_in}
+use Rattle.logon_runs.specs.Seen.TurnScenes.{Turn}
+use Rattle.logon_runs.specs.Seen.Waiting.{waiting}
 use Rattle.logon_runs.proofs.ComeInLaws.{turn_among}
 use Rattle.logon_runs.proofs.Keys.LetInLaws.{grants_go_on}
-use Rattle.logon_runs.proofs.OtherLaws.{others_are_left}
+use Rattle.logon_runs.proofs.Seen.OtherLaws.{others_are_left}
 use Rattle.logon_runs.proofs.PassingLaws.{no_dial_among}
 use Rattle.logon_runs.proofs.RunLaws.{between_still}
-use Rattle.logon_runs.proofs.TwoLinkLaws.{turns_have_links}
+use Rattle.logon_runs.proofs.Seen.TwoLinkLaws.{turns_have_links}
 
 -- ---- the moves, one after the other
 

@@ -59,28 +59,28 @@ use Rattle.logon_steps.proofs.ControllerTurnLaws.{controllers_step}
 use Rattle.logon_steps.proofs.MemberLinkLaws.{links_step}
 use Rattle.logon_steps.proofs.StreamLaws.{same}
 use Rattle.logon_steps.proofs.TurningLaws.{response_comes}
-use Rattle.logon_runs.specs.Failings.{failing_turn, settled_at}
+use Rattle.logon_runs.specs.Failing.Failings.{failing_turn, settled_at}
 use Rattle.logon_runs.specs.Keys.Differing.{AreTerms, AsksEcho, HasItsOutcome, HasSent, IsLetIn, IsReplied, IsRequest, IsShut, IsSingle}
 use Rattle.logon_runs.specs.Keys.LetIn.{Asks, FitsLetIn, GoesOn, GrantsGoOn, HasEndedAt, Hears, IsOnLink, LetInPhase, answered_by, asked_by, let_in_scene}
-use Rattle.logon_runs.specs.LinkScenes.{IsJoined, Meeting, its_link, meeting_scene, rest_scene, unit_down, unit_up}
-use Rattle.logon_runs.specs.Others.{AreAmong, IsStepOn}
+use Rattle.logon_runs.specs.Seen.LinkScenes.{IsJoined, Meeting, its_link, meeting_scene, rest_scene, unit_down, unit_up}
+use Rattle.logon_runs.specs.Seen.Others.{AreAmong, IsStepOn}
 use Rattle.logon_runs.specs.Phases.{Coming, WhoAsked, key_at, terms_at}
 use Rattle.logon_runs.specs.Rests.{three_of}
 use Rattle.logon_runs.specs.Runs.{Asked}
 use Rattle.logon_runs.specs.Scenes.{Shows}
-use Rattle.logon_runs.specs.TurnScenes.{IsBetween, Turn, turn_scene, unit_back}
-use Rattle.logon_runs.specs.Turnings.{ClosesTo, shut_in}
-use Rattle.logon_runs.specs.Waiting.{waiting}
+use Rattle.logon_runs.specs.Seen.TurnScenes.{IsBetween, Turn, turn_scene, unit_back}
+use Rattle.logon_runs.specs.Seen.Turnings.{ClosesTo, shut_in}
+use Rattle.logon_runs.specs.Seen.Waiting.{waiting}
 use Rattle.logon_runs.proofs.Keys.ClosingLaws.{member_shuts, member_shuts_both}
 use Rattle.logon_runs.proofs.Keys.DifferingLaws.{Asks as AsksBy, asks_by, keys_may_differ}
 use Rattle.logon_runs.proofs.Keys.LetInStepLaws.{granted_replies, granted_shuts, let_in_replies, let_in_shuts}
-use Rattle.logon_runs.proofs.LinkSceneLaws.{closes_own, found_here, heard_down, heard_up, none_left, sent_down, sent_up}
-use Rattle.logon_runs.proofs.PhaseEndLaws.{sent_same}
-use Rattle.logon_runs.proofs.PhaseLaws.{one_waits}
-use Rattle.logon_runs.proofs.SceneLaws.{scenes_go_on}
-use Rattle.logon_runs.proofs.StartLaws.{starts_are_seen}
-use Rattle.logon_runs.proofs.TurnSceneLaws.{closes_turn, heard_back}
-use Rattle.logon_runs.proofs.TurningSceneLaws.{scenes_turn}
+use Rattle.logon_runs.proofs.Seen.LinkSceneLaws.{closes_own, found_here, heard_down, heard_up, none_left, sent_down, sent_up}
+use Rattle.logon_runs.proofs.Phases.PhaseEndLaws.{sent_same}
+use Rattle.logon_runs.proofs.Phases.PhaseLaws.{one_waits}
+use Rattle.logon_runs.proofs.Seen.SceneLaws.{scenes_go_on}
+use Rattle.logon_runs.proofs.Seen.StartLaws.{starts_are_seen}
+use Rattle.logon_runs.proofs.Seen.TurnSceneLaws.{closes_turn, heard_back}
+use Rattle.logon_runs.proofs.Seen.TurningSceneLaws.{scenes_turn}
 
 -- ---- what comes on the client's link
 

@@ -50,7 +50,7 @@ use Rattle.logon_steps.specs.Turning.{IsTurnReply, turn_response}
 use Rattle.logon_steps.proofs.MemberLinkLaws.{link_serves}
 use Rattle.logon_steps.proofs.MemberTurnLaws.{replied_steps}
 use Rattle.logon_runs.specs.Keys.Differing.{IsReplied, IsRequest, IsShut, single_unit}
-use Rattle.logon_runs.proofs.FailingStepLaws.{ended_work, waiting_work}
+use Rattle.logon_runs.proofs.Failing.FailingStepLaws.{ended_work, waiting_work}
 use Rattle.rpc_units.specs.declared.unit.Body.TheVariants.{Request}
 
 -- ---- the turn's reply

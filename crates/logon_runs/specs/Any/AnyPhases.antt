@@ -40,15 +40,15 @@ use Rattle.logon_steps.specs.ClientSteps.{client_ended}
 use Rattle.logon_steps.specs.ControllerTurns.{reply_bytes, turn_link}
 use Rattle.logon_steps.specs.Meeting.{HasShortNames}
 use Rattle.logon_steps.specs.Turning.{IsTurnReply}
-use Rattle.logon_runs.specs.LinkScenes.{rest_scene}
-use Rattle.logon_runs.specs.Others.{IsStepOn}
+use Rattle.logon_runs.specs.Seen.LinkScenes.{rest_scene}
+use Rattle.logon_runs.specs.Seen.Others.{IsStepOn}
 use Rattle.logon_runs.specs.Phases.{Acked, Aim, Answers, Binds, BindsBefore, BindsHeld, Calls, Challenged, Coming, Dials, DialsBefore, DialsHeld, DrawsFew, Echoed, Echoes, First, Granted, Halved, HasJoined, HasThree, IsAnswering, LogonPhase, Named, Proved, Second, Third, TurnAt, WhoAsked, scene_of, turn_on}
 use Rattle.logon_runs.specs.Rests.{HasOwnComputer}
 use Rattle.logon_runs.specs.Runs.{Asked}
 use Rattle.logon_runs.specs.Scenes.{Scene, Shows}
-use Rattle.logon_runs.specs.TurnedAway.{AwayPhase, Faulted, Refused, Settled, Unheard, away_scene, settled_in}
-use Rattle.logon_runs.specs.TurnScenes.{turn_scene, unit_back}
-use Rattle.logon_runs.specs.Waiting.{waiting}
+use Rattle.logon_runs.specs.Failing.TurnedAway.{AwayPhase, Faulted, Refused, Settled, Unheard, away_scene, settled_in}
+use Rattle.logon_runs.specs.Seen.TurnScenes.{turn_scene, unit_back}
+use Rattle.logon_runs.specs.Seen.Waiting.{waiting}
 use Rattle.logon_runs.specs.Any.ControllerAnswers.{TellsShort}
 use Rattle.logon_runs.specs.Any.GrantRests.{judged_scene}
 

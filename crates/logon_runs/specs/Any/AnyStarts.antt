@@ -13,7 +13,7 @@ use Rattle.world_moves.specs.Forms.{HasForms}
 use Rattle.world_moves.specs.Moving.{end_of_peer, route_to, start}
 use Rattle.world_moves.specs.World.{IsPlan, first_ends}
 use Rattle.logon_steps.specs.ControllerTurns.{controller_at}
-use Rattle.logon_runs.specs.Others.{OthersStay}
+use Rattle.logon_runs.specs.Seen.Others.{OthersStay}
 use Rattle.logon_runs.specs.Phases.{Coming}
 use Rattle.logon_runs.specs.Rests.{AtRest, ControllerRests, MemberRests, three_of}
 use Rattle.logon_runs.specs.Any.AnyPhases.{IsAble, IsAnywhere, IsDone}

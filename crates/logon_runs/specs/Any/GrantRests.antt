@@ -25,15 +25,15 @@ use Rattle.logon_steps.specs.ClientSteps.{client_ended}
 use Rattle.logon_steps.specs.ControllerTurns.{reply_bytes, turn_link}
 use Rattle.logon_steps.specs.Meeting.{HasShortNames}
 use Rattle.logon_steps.specs.Turning.{IsTurnReply}
-use Rattle.logon_runs.specs.LinkScenes.{rest_scene}
-use Rattle.logon_runs.specs.Others.{IsStepOn, OthersStay}
+use Rattle.logon_runs.specs.Seen.LinkScenes.{rest_scene}
+use Rattle.logon_runs.specs.Seen.Others.{IsStepOn, OthersStay}
 use Rattle.logon_runs.specs.Phases.{Coming, HasJoined, Third, TurnAt, WhoAsked, turn_on}
 use Rattle.logon_runs.specs.Rests.{moved_by, three_in}
 use Rattle.logon_runs.specs.Runs.{Asked}
 use Rattle.logon_runs.specs.Scenes.{Scene, Shows}
-use Rattle.logon_runs.specs.TurnedAway.{Settled, settled_in}
-use Rattle.logon_runs.specs.TurnScenes.{Turn, turn_scene, unit_back, with_accounts}
-use Rattle.logon_runs.specs.Waiting.{waiting}
+use Rattle.logon_runs.specs.Failing.TurnedAway.{Settled, settled_in}
+use Rattle.logon_runs.specs.Seen.TurnScenes.{Turn, turn_scene, unit_back, with_accounts}
+use Rattle.logon_runs.specs.Seen.Waiting.{waiting}
 
 -- the turn of the logon's own call, whose controller has these accounts by then; the channel's state at the controller
 -- isn't used

@@ -37,16 +37,16 @@ use Rattle.world_moves.specs.Moving.{act, onward}
 use Rattle.logon_steps.specs.ClientSteps.{client_ended}
 use Rattle.logon_steps.specs.ControllerTurns.{reply_bytes, turn_link}
 use Rattle.logon_steps.specs.Turning.{IsTurnReply}
-use Rattle.logon_runs.specs.Failings.{failing_turn, settled_at}
+use Rattle.logon_runs.specs.Failing.Failings.{failing_turn, settled_at}
 use Rattle.logon_runs.specs.Keys.Differing.{AreTerms, IsLetIn, IsSingle, IsRequest}
-use Rattle.logon_runs.specs.LinkScenes.{IsJoined, Meeting, its_link, meeting_scene, rest_scene, unit_down, unit_up}
-use Rattle.logon_runs.specs.Others.{AreAmong, IsStepOn}
+use Rattle.logon_runs.specs.Seen.LinkScenes.{IsJoined, Meeting, its_link, meeting_scene, rest_scene, unit_down, unit_up}
+use Rattle.logon_runs.specs.Seen.Others.{AreAmong, IsStepOn}
 use Rattle.logon_runs.specs.Phases.{Coming, WhoAsked, terms_at}
 use Rattle.logon_runs.specs.Rests.{three_of}
 use Rattle.logon_runs.specs.Runs.{Asked}
 use Rattle.logon_runs.specs.Scenes.{Scene, Shows}
-use Rattle.logon_runs.specs.TurnScenes.{IsBetween, Turn, turn_scene, unit_back}
-use Rattle.logon_runs.specs.Waiting.{waiting}
+use Rattle.logon_runs.specs.Seen.TurnScenes.{IsBetween, Turn, turn_scene, unit_back}
+use Rattle.logon_runs.specs.Seen.Waiting.{waiting}
 
 -- the phases once somebody is let in on the client's link: its request waits, or the member's reply does
 pub data LetInPhase : Type 0 where

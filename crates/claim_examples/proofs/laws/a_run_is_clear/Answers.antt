@@ -1,4 +1,4 @@
-use Rattle.claim_examples.proofs.ClearRunLaws.{first_logons_are_clear}
+use Rattle.claim_examples.proofs.Runs.ClearRunLaws.{first_logons_are_clear}
 use Rattle.claim_examples.proofs.laws.a_run_is_clear.Goals as goal
 
 pub returns : goal.returns

@@ -1,4 +1,4 @@
-use Rattle.domain_world.proofs.Sequences.OwnRunLaws.{sequences_own}
+use Rattle.domain_world.proofs.Sequences.Own.OwnRunLaws.{sequences_own}
 use Rattle.domain_world.proofs.answering.sequences_are_own.Goals as goal
 
 pub returns : goal.returns

@@ -1,0 +1,81 @@
+-- Calls that were judged stay as they are where a unit comes at a client or at a member; and of a key that travels as
+-- zeros on one of them.
+-- It serves `ann_can_succeed`.
+use Rattle.std.proofs.Common.{◌≡◌, ℕ, ◌≤◌, arith, Bool, true, false, List, [], ◌∷◌, length, Option, Some, None, refl, sym, ap, subst, ◌∙◌, replicate, slice_get}
+use Rattle.std.specs.List.{AllByRecursion}
+use Rattle.wire_base.specs.Maps.{lookup}
+use Rattle.wire_base.specs.Names.{same_name}
+use Rattle.rc4_stream.specs.Rc4.{applied}
+use Rattle.channel_client.specs.Opened.{OpenState, open_key}
+use Rattle.domain_controller.specs.Channels.{ChannelState, key_of_channel}
+use Rattle.logon_client.specs.State.{State as ClientState}
+use Rattle.member_server.specs.State.{State as MemberState}
+use Rattle.member_server.specs.declared.state.AtTurn.{AtTurn}
+use Rattle.member_server.specs.declared.state.TurnTalk.{TurnTalk}
+use Rattle.step_notes.specs.ControllerNotes.{channel_by, channel_in, has_passed}
+use Rattle.step_notes.specs.Judged.{base_key_asked, channel_if}
+use Rattle.step_notes.specs.MemberNotes.{turn_note, turn_units}
+use Rattle.step_notes.specs.Records.{Book, Judging}
+use Rattle.step_notes.specs.Served.{ServedUnit}
+use Rattle.world_moves.specs.declared.bag.BagUnit.{BagUnit}
+use Rattle.world_moves.specs.declared.links.EndId.{EndId}
+use Rattle.world_moves.specs.declared.links.EndId.TheVariants.{Client, Controller, Member}
+use Rattle.world_moves.specs.declared.moves.Move.TheVariants as move
+use Rattle.world_moves.specs.declared.state.State.{State}
+use Rattle.world_moves.specs.Moving.{settle}
+use Rattle.logon_steps.specs.Calling.{TravelsAsZeros as KeyTravels}
+use Rattle.domain_world.specs.Claims.{TravelsAsZeros, key_bytes}
+use Rattle.domain_world.specs.Past.{Coming, controller_of, note, note_at, note_client, note_member, note_messages, note_turn, note_turns, numbers_on}
+use Rattle.domain_world.proofs.Completeness.UnitNotedLaws.{Came, coming, state_then}
+use Rattle.claim_examples.proofs.Runs.NotedLaws.{world_at}
+
+-- no call is heard there
+abbrev pub HearsNoCall : EndId → Type 0
+HearsNoCall (Controller at) = ⊥
+HearsNoCall (Member at) = Unit {0}
+HearsNoCall (Client at) = Unit {0}
+
+turns_judge : (controller : ℕ) (units : List (ServedUnit AtTurn TurnTalk)) (unit : Option ℕ) (numbers : List ℕ) (b : Book) → (note_turns controller units unit numbers b).judged ≡ b.judged
+turns_judge controller [] unit numbers b = refl
+turns_judge controller (served ∷ units) unit numbers b = turns_judge controller units unit _ (note_turn (turn_note controller served) served unit _ b)
+
+client_judges : (found : Option ClientState) (at : ℕ) (w : Coming) (piece : List ℕ) (s : State) (b : Book) → (note_client found at w piece s b).judged ≡ b.judged
+client_judges None at w piece s b = refl
+client_judges (Some c) at w piece s b = refl
+
+member_judges : (found : Option MemberState) (at : ℕ) (w : Coming) (piece : List ℕ) (s after : State) (b : Book) → (note_member found at w piece s after b).judged ≡ b.judged
+member_judges None at w piece s after b = refl
+member_judges (Some m) at w piece s after b =
+    turns_judge (controller_of at s) (turn_units m w.link piece s.moment s.chances.left) w.unit (numbers_on w.link false s.bag after.bag) (note_messages at m w piece s b)
+
+end_judges : (end : EndId) → HearsNoCall end → (w : Coming) (piece : List ℕ) (s after : State) (b : Book) → (note_at (Some end) w piece s after b).judged ≡ b.judged
+end_judges (Controller at) none w piece s after b = absurd none
+end_judges (Member at) none w piece s after b = member_judges (slice_get s.ends.members at) at w piece s after b
+end_judges (Client at) none w piece s after b = client_judges (slice_get s.ends.clients at) at w piece s b
+
+judged_still : (s : State) (unit : BagUnit) (later : List BagUnit) (end : EndId) → HearsNoCall end → Came s unit later end → (k : ℕ) (b : Book) → (note (world_at k s) move.Onward b).judged ≡ b.judged
+judged_still s unit later end none came k b =
+    ap (λ (one : Book). one.judged) (came.noted k b) ∙ end_judges end none (coming k came.number unit) unit.bytes (settle came.number s) (state_then end unit came.number s) b
+
+-- ---- keys that travel as zeros
+
+-- where a key of a call that was judged travels as zeros, this one does
+abbrev pub OnlyTravels : (key base : List ℕ) → List Judging → Type 0
+OnlyTravels key base judged = AllByRecursion (λ (j : Judging). TravelsAsZeros j j.logon.info → KeyTravels key base) judged
+
+-- it is the key of the client's answer under the key of its member's channel, where the controller keeps that channel
+pub travels_so : (j : Judging) (o : OpenState) (state : ChannelState) (computer : List ℕ) → has_passed j.how ≡ true → j.logon.computer ≡ Some computer →
+    lookup same_name computer j.computers.channels ≡ Some state → key_of_channel state ≡ open_key o → TravelsAsZeros j j.logon.info → KeyTravels (open_key o) (base_key_asked j j.logon.info)
+travels_so j o state computer passed named found same zeros =
+    zeros ∙ ap (λ (is : Bool). key_bytes (channel_if is j)) passed
+    ∙ ap (λ (name : Option (List ℕ)). key_bytes (channel_in j.controller name j.computers)) named
+    ∙ ap (λ (kept : Option ChannelState). key_bytes (channel_by j.controller computer kept)) found
+    ∙ ap (λ (key : List ℕ). applied key 0 (replicate 16 0)) same
+
+pub none_travels : (key base : List ℕ) (judged : List Judging) → length judged ≤ 0 → OnlyTravels key base judged
+none_travels key base [] few = tt
+none_travels key base (j ∷ judged) few = absurd (omega (arith, few))
+
+pub travels_still : (key base : List ℕ) (s : State) (unit : BagUnit) (later : List BagUnit) (end : EndId) → HearsNoCall end → Came s unit later end → (k : ℕ) (b : Book) → OnlyTravels key base b.judged →
+    OnlyTravels key base (note (world_at k s) move.Onward b).judged
+travels_still key base s unit later end none came k b only = subst (OnlyTravels key base) (sym (judged_still s unit later end none came k b)) only

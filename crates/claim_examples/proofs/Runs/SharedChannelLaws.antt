@@ -1,0 +1,109 @@
+-- After the first logon in a world the channel stands at both ends.
+-- It serves `a_run_is_clear`.
+use Rattle.std.proofs.Common.{◌≡◌, ℕ, true, List, [], ◌∷◌, length, Option, Some, None, refl, sym, ap, ap₂, ◌∙◌}
+use Rattle.std.specs.Prelude.{◌==◌, slice_get}
+use Rattle.wire_base.specs.Maps.{take_out}
+use Rattle.wire_base.specs.Names.{same_name}
+use Rattle.wire_base.proofs.MapLaws.{lookup-put_same}
+use Rattle.authenticators.specs.Channels.{Channel}
+use Rattle.channel_client.specs.Effects.{channel_of}
+use Rattle.channel_client.specs.Opened.{OpenState, after_call, after_return}
+use Rattle.domain_controller.specs.Channels.{ChannelState}
+use Rattle.member_server.specs.Turns.{timestamp_of}
+use Rattle.member_server.specs.declared.plan.MemberPlan.{MemberPlan}
+use Rattle.member_server.specs.declared.state.Dialling.TheVariants as dialling
+use Rattle.world_moves.specs.declared.links.EndId.{EndId}
+use Rattle.world_moves.specs.declared.links.EndId.TheVariants.{Controller}
+use Rattle.world_moves.specs.declared.moves.Move.{Move}
+use Rattle.world_moves.specs.declared.plan.Plan.{Plan}
+use Rattle.world_moves.specs.declared.state.State.{State}
+use Rattle.world_moves.specs.Choosing.{chosen_place}
+use Rattle.world_moves.specs.Ends.{EndStates}
+use Rattle.world_moves.specs.Forms.{HasForms}
+use Rattle.world_moves.specs.Moving.{end_of_peer}
+use Rattle.world_moves.specs.World.{IsPlan, World, first_world, happens, run}
+use Rattle.domain_world.specs.Past.{controller_number, controller_of, controller_of_plan, past}
+use Rattle.logon_steps.specs.Answering.{moved}
+use Rattle.logon_steps.specs.MemberLinks.{logons_at_rest}
+use Rattle.logon_steps.specs.MemberTurns.{member_at}
+use Rattle.logon_runs.specs.First.FirstLogonRuns.{after_first}
+use Rattle.logon_runs.specs.First.FirstRuns.{channel_as, opened_at, opens_as}
+use Rattle.logon_runs.specs.First.FirstWorlds.{CanComeIn, FirstKeyArrives, draw, first_meeting, logon_moves, no_computers}
+use Rattle.logon_runs.specs.Seen.LinkScenes.{Meeting, joined}
+use Rattle.logon_runs.specs.Seen.Staying.{HasSameEnds}
+use Rattle.logon_runs.proofs.First.FirstWorldLaws.{first_worlds_run}
+use Rattle.logon_runs.proofs.RunLaws.{same_computer}
+use Rattle.logon_runs.proofs.Seen.StayingLaws.{ends_stay}
+use Rattle.claim_examples.specs.ClearRuns.{HasSharedChannel}
+
+-- ---- a member's controller stays so
+
+same_ends : (moves : List Move) (w : World) → HasSameEnds w.state (run moves w).state
+same_ends [] w = ends_stay.none w.state
+same_ends (what ∷ moves) w = ends_stay.both w.state (happens w what).state (run moves (happens w what)).state (ends_stay.acts w.state what) (same_ends moves (happens w what))
+
+by_plan : (found : Option MemberPlan) (plan : MemberPlan) (ends : EndStates) (controller : ℕ) → found ≡ Some plan → end_of_peer plan.controller ends ≡ Some (Controller controller) →
+    controller_of_plan found ends ≡ controller
+by_plan found plan ends controller is reaches =
+    ap (λ (p : Option MemberPlan). controller_of_plan p ends) is ∙ ap (λ (end : Option EndId). controller_number end (length ends.controllers)) reaches
+
+-- ---- the channel
+
+module _ (plan : Plan) (client member controller number : ℕ) (is : IsPlan plan) (forms : HasForms plan) (chosen : chosen_place number (length plan.clients) ≡ Some client)
+    (can : CanComeIn plan client member controller) (arrives : FirstKeyArrives plan client member controller can) where
+  abbrev moves : List Move
+  moves = logon_moves number (can.task.echo == 0)
+
+  abbrev s : State
+  s = (run moves (first_world plan)).state
+
+  abbrev g : Meeting
+  g = first_meeting plan client member controller can
+
+  abbrev end : Meeting
+  end = after_first g [] can.machine (draw plan 4) (draw plan 5) can.table can.name no_computers plan.now
+
+  abbrev stamp : ℕ
+  stamp = timestamp_of plan.now
+
+  abbrev o : OpenState
+  o = after_return true (after_call (opens_as g (draw plan 4) (draw plan 5)) stamp)
+
+  abbrev c : ChannelState
+  c = moved (channel_as (joined g []) can.machine (draw plan 4) (draw plan 5)) stamp
+
+  its_controller : controller_of member s ≡ controller
+  its_controller =
+      let stays : HasSameEnds (first_world plan).state s = same_ends moves (first_world plan) in
+      by_plan (slice_get s.member_plans member) can.member_plan s.ends controller (ap (λ (plans : List MemberPlan). slice_get plans member) stays.members ∙ can.is_member_plan)
+      (ends_stay.reach can.member_plan.controller (first_world plan).state.ends s.ends stays.ends ∙ can.is_controller)
+
+  pub shared_channel : HasSharedChannel (past plan moves)
+  shared_channel =
+      let rests = (first_worlds_run.comes_in plan client member controller number is forms chosen can arrives).rests in
+      record {
+        member = member;
+        channel = channel_of controller can.member_plan.computer o;
+        o = o;
+        c = c;
+        stands = record {
+          state = member_at (logons_at_rest end.plan end.caller end.how end.place end.number) [] dialling.Nothing;
+          running = record { logons = logons_at_rest end.plan end.caller end.how end.place end.number; links = []; dialling = dialling.Nothing };
+          at = rests.member;
+          runs = refl;
+          open_so = refl;
+          is = ap (λ (k : ℕ). channel_of k can.member_plan.computer o) (sym its_controller);
+          turn = None;
+          is_turn = refl;
+        };
+        keeps = record {
+          state = end.controller;
+          running = _;
+          at = rests.controller;
+          runs = refl;
+          kept = lookup-put_same same_name can.member_plan.computer c
+              (take_out same_name can.member_plan.computer (opened_at (joined g []) can.machine (draw plan 4) (draw plan 5) no_computers).channels) (same_computer can.member_plan.computer);
+        };
+        same = record { controller = refl; computer = refl; secret = can.secret; client = refl; server = refl; flags = refl };
+        seed = refl;
+      }

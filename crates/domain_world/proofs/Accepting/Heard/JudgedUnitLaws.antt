@@ -1,0 +1,300 @@
+-- In every schedule each Logon call that a controller judged, and that came in a unit of the bag, is the call which
+-- that unit carries, whole; and each is judged in ranges. It serves `calls_are_judged_as_carried`,
+-- `replies_are_read_back` and `marked_units_are_whole`.
+use Rattle.std.proofs.Common.{◌≡◌, ℕ, ◌<◌, ◌^◌, Bool, true, false, List, [], ◌∷◌, ◌++◌, inl, inr, Option, Some, None, Result, Ok, Err, slice_get, refl, sym, ap, subst, ◌∙◌}
+use Rattle.std.specs.List.{AllByRecursion}
+use Rattle.wire_base.specs.Maps.{lookup, same_number}
+use Rattle.wire_base.specs.Numbers.{AreBytes}
+use Rattle.outside.specs.declared.action.Action.{Action}
+use Rattle.outside.specs.declared.action.Action.TheVariants.{Keep, Send, Dial, Close, Told, Judged}
+use Rattle.rpc_units.specs.declared.unit.Body.{Body}
+use Rattle.rpc_units.specs.declared.unit.Body.TheVariants.{Bind, BindAck, BindNak, Auth3, Request, Response, Fault}
+use Rattle.rpc_units.specs.declared.unit.Unit.{Unit as RpcUnit}
+use Rattle.rpc_units.specs.Calls.{IsHeard}
+use Rattle.rpc_units.specs.Stream.{cut_stream}
+use Rattle.logon_stubs.specs.Calls.{call_of}
+use Rattle.logon_stubs.specs.declared.calls.Call.{Call}
+use Rattle.logon_stubs.specs.declared.calls.Call.TheVariants as call
+use Rattle.logon_stubs.specs.declared.calls.LogonCall.{LogonCall}
+use Rattle.logon_stubs.specs.declared.refused.StubRefused.{StubRefused}
+use Rattle.end_links.specs.Links.{LinkState}
+use Rattle.end_links.specs.Whole.{IsWholeSend}
+use Rattle.domain_controller.specs.Hearing.{hear as hear_unit}
+use Rattle.domain_controller.specs.Machine.{Desk, controller_server}
+use Rattle.domain_controller.specs.State.{State as ControllerState}
+use Rattle.domain_controller.specs.Step.{first_desk}
+use Rattle.domain_controller.specs.declared.hearing.Heard.{Heard as HeardUnit}
+use Rattle.domain_controller.specs.declared.hearing.Heard.TheVariants as heard
+use Rattle.domain_controller.specs.declared.line.Line.{Line}
+use Rattle.domain_controller.specs.declared.state.Running.{Running}
+use Rattle.domain_controller.specs.declared.state.Talk.{Talk}
+use Rattle.step_notes.specs.ControllerNotes.{Where, has_passed, heard_answer, judging_of, opened_by, units_at, units_by}
+use Rattle.step_notes.specs.HeardWhole.{IsCallOf, call_carried as carried_there, call_read as read_there}
+use Rattle.step_notes.specs.JudgedInRange.{IsJudgedInRange}
+use Rattle.step_notes.specs.Records.{Judging}
+use Rattle.step_notes.specs.Served.{ServedUnit, served_units}
+use Rattle.step_notes.proofs.Controllers.HeardLaws.{controllers_hear}
+use Rattle.world_moves.specs.declared.bag.BagUnit.{BagUnit}
+use Rattle.world_moves.specs.declared.links.EndId.{EndId}
+use Rattle.world_moves.specs.declared.links.EndId.TheVariants.{Controller}
+use Rattle.world_moves.specs.declared.links.LinkKind.{LinkKind}
+use Rattle.world_moves.specs.declared.links.LinkKind.TheVariants as kind
+use Rattle.world_moves.specs.declared.links.Route.{Route}
+use Rattle.world_moves.specs.declared.links.Route.TheVariants.{ToMember, ToController, Stranger}
+use Rattle.world_moves.specs.declared.state.State.{State}
+use Rattle.world_moves.specs.Acting.{bag_unit, perform_quietly, send_on}
+use Rattle.world_moves.specs.Bag.{settle_at}
+use Rattle.world_moves.specs.Links.{is_accepted_by, kind_of}
+use Rattle.domain_world.specs.Accepting.Carried.{IsWholeUnit, call_carried, call_read}
+use Rattle.domain_world.specs.Accepting.Runs.{IsOfMember}
+use Rattle.domain_world.specs.Past.{Coming}
+use Rattle.channel_events.proofs.ListLaws.{at_end, got_append, some_is}
+use Rattle.domain_world.proofs.Accepting.Heard.HeardUnitLaws.{heard_level}
+use Rattle.domain_world.proofs.Accepting.Quiet.QuietListenLaws.{ListensWell, WellUnlessStopped, entries_found}
+use Rattle.domain_world.proofs.Accepting.Quiet.QuietRunLaws.{one_piece, whole_by}
+use Rattle.domain_world.proofs.Accepting.Quiet.QuietStepLaws.{IsMade, WholeBag}
+use Rattle.domain_world.proofs.Frames.ComingLaws.{IsPieceOf, IsStill, StillHas, kept_settled}
+use Rattle.domain_world.proofs.Frames.MarkPlaceLaws.{got_beside, settled_length}
+use Rattle.domain_world.proofs.Frames.OpenMadeLaws.{IsAtSide, side_of}
+use Rattle.domain_world.proofs.Frames.StepFrameLaws.{ActionFact, RunFact}
+use Rattle.domain_world.proofs.Judgements.JudgedLaws.{HoldsIf, judging_holds, opening_holds}
+
+-- ---- what is to hold
+
+-- the call is that of a unit of the bag, with its number, and asks for a level of 16 bits
+pub record IsCarriedCall (bag : List BagUnit) (number : ℕ) (logon : LogonCall) (n : ℕ) : Type 0 where
+  pub carrier : BagUnit
+  pub there : slice_get bag n ≡ Some carrier
+  pub whole : IsWholeUnit carrier.bytes
+  pub number_is : number ≡ whole.unit.call
+  pub carried : call_carried whole.unit.body ≡ Some (call.Logon logon)
+  pub level : logon.validation < 2 ^ 16
+
+-- it came in that unit of the bag, if it came in one
+abbrev pub CarriedIf : List BagUnit → Option ℕ → ℕ → LogonCall → Type 0
+CarriedIf bag unit number logon = (n : ℕ) → unit ≡ Some n → IsCarriedCall bag number logon n
+
+pub record IsJudgedWell (bag : List BagUnit) (j : Judging) : Type 0 where
+  pub carried : CarriedIf bag j.unit j.number j.logon
+  pub range : IsJudgedInRange j
+
+-- no unit of the bag is a stranger's
+abbrev pub NoStrangers : List BagUnit → Type 0
+NoStrangers bag = (n : ℕ) (unit : BagUnit) → slice_get bag n ≡ Some unit → unit.kind ≡ kind.Stranger → ⊥
+
+pub record JudgedStand (bag : List BagUnit) (js : List Judging) : Type 0 where
+  pub kinds : NoStrangers bag
+  pub judged : AllByRecursion (IsJudgedWell bag) js
+
+abbrev pub JudgedFact : RunFact
+JudgedFact n s given b = JudgedStand s.bag b.judged
+
+-- whatever an end does
+abbrev pub AnyAction : ActionFact
+AnyAction end links what = Unit {0}
+
+pub any_actions : (end : EndId) (links : List Route) (actions : List Action) → AllByRecursion (AnyAction end links) actions
+any_actions end links [] = tt
+any_actions end links (what ∷ actions) = (tt, any_actions end links actions)
+
+-- ---- the units of the bag stay
+
+carried_still : (old bag : List BagUnit) (number : ℕ) (logon : LogonCall) (n : ℕ) → StillHas old bag → IsCarriedCall old number logon n → IsCarriedCall bag number logon n
+carried_still old bag number logon n still is =
+    let now : IsStill is.carrier bag n = still n is.carrier is.there in
+    record {
+      carrier = now.now;
+      there = now.there;
+      whole = record { frames = is.whole.frames; unit = is.whole.unit; heard = subst (λ (bytes : List ℕ). IsHeard bytes is.whole.frames is.whole.unit) (sym now.bytes) is.whole.heard };
+      number_is = is.number_is;
+      carried = is.carried;
+      level = is.level;
+    }
+
+pub all_still : (old bag : List BagUnit) (js : List Judging) → StillHas old bag → AllByRecursion (IsJudgedWell old) js → AllByRecursion (IsJudgedWell bag) js
+all_still old bag [] still all = tt
+all_still old bag (j ∷ js) still all =
+    (record { carried = λ n is. carried_still old bag j.number j.logon n still (all.0.carried n is); range = all.0.range }, all_still old bag js still all.1)
+
+none_strange : (old bag : List BagUnit) → ((n : ℕ) (unit : BagUnit) → slice_get bag n ≡ Some unit → (before : BagUnit) × (slice_get old n ≡ Some before) × (unit.kind ≡ before.kind)) → NoStrangers old →
+    NoStrangers bag
+none_strange old bag each none n unit there is = let before = each n unit there in none n before.0 before.1 (sym before.2 ∙ is)
+
+settled_kinds : (number : ℕ) (bag : List BagUnit) → NoStrangers bag → NoStrangers (settle_at number bag)
+settled_kinds number bag none =
+    none_strange bag (settle_at number bag)
+    (λ n unit there.
+    let before : (old : BagUnit) × (slice_get bag n ≡ Some old) = got_beside (settle_at number bag) bag n unit (settled_length number bag) there in
+    let now : IsStill before.0 (settle_at number bag) n = kept_settled number bag n before.0 before.1 in
+    let same : now.now ≡ unit = some_is now.now unit (sym now.there ∙ there) in
+    (before.0, before.1, sym (ap (λ (u : BagUnit). u.kind) same) ∙ now.kind)) none
+
+pub settled_stand : (number : ℕ) (bag : List BagUnit) (js : List Judging) → JudgedStand bag js → JudgedStand (settle_at number bag) js
+settled_stand number bag js stand =
+    record { kinds = settled_kinds number bag stand.kinds; judged = all_still bag (settle_at number bag) js (kept_settled number bag) stand.judged }
+
+more_stand : (bag : List BagUnit) (unit : BagUnit) (js : List Judging) → (unit.kind ≡ kind.Stranger → ⊥) → JudgedStand bag js → JudgedStand (bag ++ unit ∷ []) js
+more_stand bag unit js other stand = record {
+  kinds = λ n one there is.
+      elim (at_end bag unit one n there) [
+        | inl old ↦ stand.kinds n one old is
+        | inr new ↦ other (ap (λ (u : BagUnit). u.kind) new.1 ∙ is)
+      ];
+  judged = all_still bag (bag ++ unit ∷ []) js
+      (λ n one there. record { now = one; there = got_append bag (unit ∷ []) n one there; bytes = refl; link = refl; kind = refl; back = refl }) stand.judged;
+}
+
+bag_stand : (k : LinkKind) (back : Bool) (link : ℕ) (bytes : List ℕ) (s : State) (js : List Judging) → JudgedStand s.bag js → JudgedStand (bag_unit k back link bytes s).bag js
+bag_stand kind.Stranger back link bytes s js stand = stand
+bag_stand kind.ToMember back link bytes s js stand =
+    more_stand s.bag (record { bytes = bytes; link = link; kind = kind.ToMember; back = back; is_settled = false }) js (λ is. let never = is in cc) stand
+bag_stand kind.ToController back link bytes s js stand =
+    more_stand s.bag (record { bytes = bytes; link = link; kind = kind.ToController; back = back; is_settled = false }) js (λ is. let never = is in cc) stand
+
+send_stand : (route : Option Route) (end : EndId) (link : ℕ) (bytes : List ℕ) (s : State) (js : List Judging) → JudgedStand s.bag js → JudgedStand (send_on route end link bytes s).bag js
+send_stand None end link bytes s js stand = stand
+send_stand (Some route) end link bytes s js stand = bag_stand (kind_of route) (is_accepted_by end route) link bytes s js stand
+
+pub acts_stand : (end : EndId) (what : Action) (s : State) (js : List Judging) → JudgedStand s.bag js → JudgedStand (perform_quietly end what s).bag js
+acts_stand end (Keep bytes) s js stand = stand
+acts_stand end (Send link bytes) s js stand = send_stand (slice_get s.links link) end link bytes s js stand
+acts_stand end (Dial peer) s js stand = stand
+acts_stand end (Close link cause) s js stand = stand
+acts_stand end (Told link outcome) s js stand = stand
+acts_stand end (Judged how) s js stand = stand
+
+-- ---- where a piece comes from that a controller hears
+
+-- a controller hears on links to it and on a stranger's, and on no other
+pub route_of : (back : Bool) (route : Route) (at : ℕ) → side_of back route ≡ Some (Controller at) → (kind_of route ≡ kind.Stranger → ⊥) → (member : ℕ) × (route ≡ ToController member at)
+route_of back (Stranger to) at is between = absurd (between refl)
+route_of false (ToController member controller) at is between = (member, ap (λ (n : ℕ). ToController member n) (let same : controller ≡ at = cc in same))
+route_of true (ToController member controller) at is between = absurd cc
+route_of false (ToMember one server) at is between = absurd cc
+route_of true (ToMember one server) at is between = absurd cc
+
+-- the piece is a whole unit of the bag, on a link that a member dialled
+pub record IsWholeCarried (s : State) (number : ℕ) (w : Coming) (piece : List ℕ) : Type 0 where
+  pub unit : BagUnit
+  pub there : slice_get s.bag number ≡ Some unit
+  pub same : unit.bytes ≡ piece
+  pub send : IsWholeSend unit.bytes
+  pub own : IsOfMember s.links w.link
+
+pub whole_carried : (s : State) (number at : ℕ) (w : Coming) (piece : List ℕ) → WholeBag s.bag → NoStrangers s.bag → IsAtSide s.links w.link w.back (Controller at) → IsPieceOf s number w piece →
+    IsWholeCarried s number w piece
+whole_carried s number at w piece whole none side came =
+    let same_route : side.route ≡ came.route = some_is side.route came.route (sym side.made ∙ came.made) in
+    let route = route_of w.back side.route at side.side (λ strange. none number came.unit came.there (sym came.same_kind ∙ ap kind_of (sym same_route) ∙ strange)) in
+    let is : came.unit.kind ≡ kind.ToController = sym came.same_kind ∙ ap kind_of (sym same_route) ∙ ap kind_of route.1 in
+    let send : IsWholeSend came.unit.bytes = whole_by came.unit.kind came.unit.bytes is (whole number came.unit came.there) in
+    record {
+      unit = came.unit;
+      there = came.there;
+      same = one_piece came.unit.bytes piece send.few came.part;
+      send = send;
+      own = (route.0, at, side.made ∙ ap (λ (r : Route). Some r) route.1);
+    }
+
+-- ---- what a controller hears then
+
+-- each Logon call that is heard is so
+abbrev pub HeardSo : (ℕ → LogonCall → Type 0) → HeardUnit → Type 0
+HeardSo So (heard.Close cause) = Unit {0}
+HeardSo So (heard.Answer bytes talk) = Unit {0}
+HeardSo So (heard.Waits talk) = Unit {0}
+HeardSo So (heard.Asked line (call.Challenge c) talk) = Unit {0}
+HeardSo So (heard.Asked line (call.Authenticate c) talk) = Unit {0}
+HeardSo So (heard.Asked line (call.Logon c) talk) = So line.call c
+HeardSo So (heard.Asked line (call.Logoff c) talk) = Unit {0}
+
+heard_all : (So : ℕ → LogonCall → Type 0) (what : HeardUnit) → ((number : ℕ) (c : LogonCall) → So number c) → HeardSo So what
+heard_all So (heard.Close cause) all = tt
+heard_all So (heard.Answer bytes talk) all = tt
+heard_all So (heard.Waits talk) all = tt
+heard_all So (heard.Asked line (call.Challenge c) talk) all = tt
+heard_all So (heard.Asked line (call.Authenticate c) talk) all = tt
+heard_all So (heard.Asked line (call.Logon c) talk) all = all line.call c
+heard_all So (heard.Asked line (call.Logoff c) talk) all = tt
+
+heard_of : (So : ℕ → LogonCall → Type 0) (unit : RpcUnit) (what : HeardUnit) →
+    ((number : ℕ) (c : LogonCall) → number ≡ unit.call → carried_there unit.body ≡ Some (call.Logon c) → So number c) → IsCallOf unit what → HeardSo So what
+heard_of So unit (heard.Close cause) so is = tt
+heard_of So unit (heard.Answer bytes talk) so is = tt
+heard_of So unit (heard.Waits talk) so is = tt
+heard_of So unit (heard.Asked line (call.Challenge c) talk) so is = tt
+heard_of So unit (heard.Asked line (call.Authenticate c) talk) so is = tt
+heard_of So unit (heard.Asked line (call.Logon c) talk) so is = so line.call c is.0 is.1
+heard_of So unit (heard.Asked line (call.Logoff c) talk) so is = tt
+
+pub answer_holds : (Fits : Judging → Type 0) (So : ℕ → LogonCall → Type 0) (what : HeardUnit) (w : Where) (d : Desk) (after : Option Desk) →
+    ((line : Line) (c : LogonCall) → So line.call c → Fits (judging_of w line c d after)) → HeardSo So what → HoldsIf Fits (heard_answer what w d after).judging
+answer_holds Fits So (heard.Close cause) w d after fits is = tt
+answer_holds Fits So (heard.Answer bytes talk) w d after fits is = tt
+answer_holds Fits So (heard.Waits talk) w d after fits is = tt
+answer_holds Fits So (heard.Asked line (call.Challenge c) talk) w d after fits is = tt
+answer_holds Fits So (heard.Asked line (call.Authenticate c) talk) w d after fits is = opening_holds Fits (opened_by w.controller c d) w line.call
+answer_holds Fits So (heard.Asked line (call.Logon c) talk) w d after fits is =
+    judging_holds Fits (has_passed (judging_of w line c d after).how) (judging_of w line c d after) (fits line c is)
+answer_holds Fits So (heard.Asked line (call.Logoff c) talk) w d after fits is = tt
+
+-- of all units that are served
+abbrev pub AllHeardSo : (ℕ → LogonCall → Type 0) → ℕ → List (ServedUnit Desk Talk) → Type 0
+AllHeardSo So link units = AllByRecursion (λ (served : ServedUnit Desk Talk). HeardSo So (hear_unit link served.bytes served.talk)) units
+
+pub any_heard : (So : ℕ → LogonCall → Type 0) (link : ℕ) (units : List (ServedUnit Desk Talk)) → ((number : ℕ) (c : LogonCall) → So number c) → AllHeardSo So link units
+any_heard So link [] all = tt
+any_heard So link (served ∷ units) all = (heard_all So (hear_unit link served.bytes served.talk) all, any_heard So link units all)
+
+each_heard : (So : ℕ → LogonCall → Type 0) (link : ℕ) (unit : RpcUnit) (units : List (ServedUnit Desk Talk)) →
+    ((number : ℕ) (c : LogonCall) → number ≡ unit.call → carried_there unit.body ≡ Some (call.Logon c) → So number c) →
+    AllByRecursion (λ (served : ServedUnit Desk Talk). IsCallOf unit (hear_unit link served.bytes served.talk)) units → AllHeardSo So link units
+each_heard So link unit [] so all = tt
+each_heard So link unit (served ∷ units) so all = (heard_of So unit (hear_unit link served.bytes served.talk) so all.0, each_heard So link unit units so all.1)
+
+-- one name for two of it
+same_read : (found : Result Call StubRefused) → read_there found ≡ call_read found
+same_read (Err why) = refl
+same_read (Ok c) = refl
+
+pub same_carried : (b : Body) → carried_there b ≡ call_carried b
+same_carried (Request hint context opnum stub) = same_read (call_of opnum stub)
+same_carried (Response hint context stub) = refl
+same_carried (Bind send receive group contexts) = refl
+same_carried (BindAck send receive group results) = refl
+same_carried (BindNak reason) = refl
+same_carried Auth3 = refl
+same_carried (Fault hint context status) = refl
+
+-- the call of a whole unit of the bag is carried by it
+pub unit_so : (s : State) (number : ℕ) (w : Coming) (piece : List ℕ) (is : IsWholeCarried s number w piece) → w.unit ≡ Some number → AreBytes piece → (n : ℕ) (c : LogonCall) →
+    n ≡ is.send.unit.call → carried_there is.send.unit.body ≡ Some (call.Logon c) → CarriedIf s.bag w.unit n c
+unit_so s number w piece is came bytes n c numbered carries other there =
+    let same : number ≡ other = some_is number other (sym came ∙ there) in
+    subst (λ (m : ℕ). IsCarriedCall s.bag n c m) same (record {
+      carrier = is.unit;
+      there = is.there;
+      whole = record { frames = is.send.frames; unit = is.send.unit; heard = is.send.heard };
+      number_is = numbered;
+      carried = sym (same_carried is.send.unit.body) ∙ carries;
+      level = heard_level is.unit.bytes is.send.frames is.send.unit c (subst AreBytes (sym is.same) bytes) is.send.heard carries;
+    })
+
+module _ (c : ControllerState) (s : State) (w : Coming) (piece : List ℕ) (number : ℕ) (is : IsWholeCarried s number w piece)
+    (So : ℕ → LogonCall → Type 0) (so : (n : ℕ) (logon : LogonCall) → n ≡ is.send.unit.call → carried_there is.send.unit.body ≡ Some (call.Logon logon) → So n logon) where
+  link_so : (found : Option (LinkState Talk)) (running : Running) →
+      ((link : LinkState Talk) → found ≡ Some link → ListensWell (IsOfMember s.links) (IsMade s.links) w.link link) →
+      AllHeardSo So w.link (units_at found w.link piece c running s.moment s.chances.left)
+  link_so None running listens = tt
+  link_so (Some link) running listens =
+      let well : ListensWell (IsOfMember s.links) (IsMade s.links) w.link link = listens link refl in
+      let bytes : link.rest ++ piece ≡ is.unit.bytes = ap (λ (rest : List ℕ). rest ++ piece) (well.rest is.own) ∙ sym is.same in
+      subst (λ (all : List ℕ). AllHeardSo So w.link (served_units (controller_server c.name s.moment w.link) (cut_stream all).units (first_desk c.table running) link.talk s.chances.left)) (sym bytes)
+      (each_heard So w.link is.send.unit (served_units (controller_server c.name s.moment w.link) (cut_stream is.unit.bytes).units (first_desk c.table running) link.talk s.chances.left) so
+      (controllers_hear.calls c.name s.moment w.link is.unit.bytes is.send.frames is.send.unit (first_desk c.table running) link.talk s.chances.left is.send.heard (well.joiner is.own)))
+
+  pub running_so : (r : Option Running) → WellUnlessStopped (IsOfMember s.links) (IsMade s.links) r → AllHeardSo So w.link (units_by r w.link piece c s.moment s.chances.left)
+  running_so None well = tt
+  running_so (Some running) well =
+      link_so (lookup same_number w.link running.links) running
+      (λ link there. entries_found (ListensWell (IsOfMember s.links) (IsMade s.links)) w.link running.links link there well)

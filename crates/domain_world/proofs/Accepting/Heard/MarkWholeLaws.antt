@@ -1,0 +1,316 @@
+-- In every schedule each unit of the bag that was made for a secure channel is one whole unit, and is what its mark
+-- says. It serves `marked_units_are_whole`.
+use Rattle.std.proofs.Common.{◌≡◌, ℕ, ◌-◌, ◌%◌, ◌<◌, ◌≤◌, ◌^◌, Bool, true, false, List, ◌++◌, drop, length, map, inl, inr, Option, Some, None, Ok, slice_get, refl, sym, ap, subst, ◌∙◌, arith, length-append}
+use Rattle.std.specs.Prelude.{replicate}
+use Rattle.std.proofs.lemmas.List.{drop_at, length-replicate}
+use Rattle.wire_base.specs.Numbers.{AreBytes}
+use Rattle.authenticators.specs.Channels.{Channel}
+use Rattle.outside.specs.declared.event.Event.TheVariants as event
+use Rattle.channel_keys.specs.Credentials.{cred_of}
+use Rattle.rpc_units.specs.declared.unit.Unit.{Unit as RpcUnit}
+use Rattle.rpc_units.specs.Calls.{IsHeard}
+use Rattle.rpc_units.specs.Joining.{stub_of}
+use Rattle.logon_stubs.specs.Calls.{reply_of}
+use Rattle.logon_stubs.specs.Writing.{written_reply}
+use Rattle.logon_stubs.specs.declared.calls.Call.TheVariants as call
+use Rattle.logon_stubs.specs.declared.calls.LogonCall.{LogonCall}
+use Rattle.logon_stubs.specs.declared.calls.Reply.TheVariants as reply
+use Rattle.logon_stubs.proofs.AnswerLaws.{answers_are_long}
+use Rattle.end_links.specs.Whole.{IsWholeSend}
+use Rattle.channel_client.proofs.WholeLaws.{cred_block}
+use Rattle.domain_controller.specs.ReadBack.{IsReadBack, heard_reply, opened_reply}
+use Rattle.domain_controller.specs.State.{State as ControllerState}
+use Rattle.domain_controller.proofs.AloneLaws.{number_fits, reply_alone}
+use Rattle.domain_controller.proofs.ReadBackLaws.{replies_are_read_back}
+use Rattle.logon_client.specs.State.{State as ClientState}
+use Rattle.member_server.specs.State.{State as MemberState}
+use Rattle.member_server.specs.declared.state.Running.{Running}
+use Rattle.end_links.specs.Sending.{request_of}
+use Rattle.logon_stubs.specs.Calls.{opnum_of_call}
+use Rattle.logon_stubs.specs.Writing.{written_call}
+use Rattle.channel_client.specs.Whole.{InRangeRequester}
+use Rattle.domain_world.proofs.Accepting.CarriedLaws.{one_whole}
+use Rattle.channel_events.specs.Marks.{Mark, Plain, Opening, Opened, Calling, ReplyTo}
+use Rattle.step_notes.specs.JudgedInRange.{IsReadAsMade}
+use Rattle.step_notes.specs.MemberNotes.{turn_units}
+use Rattle.step_notes.specs.Records.{Book, Judging, Sent}
+use Rattle.step_notes.specs.ReplySends.{IsOpeningReply, IsReplyOfCall}
+use Rattle.step_notes.proofs.Controllers.JudgedInRangeLaws.{replies_are_read}
+use Rattle.world_moves.specs.declared.bag.BagUnit.{BagUnit}
+use Rattle.world_moves.specs.declared.links.EndId.{EndId}
+use Rattle.world_moves.specs.declared.links.EndId.TheVariants.{Controller, Member, Client}
+use Rattle.world_moves.specs.declared.links.LinkKind.{LinkKind}
+use Rattle.world_moves.specs.declared.links.LinkKind.TheVariants as kind
+use Rattle.world_moves.specs.declared.links.Route.{Route}
+use Rattle.world_moves.specs.declared.links.Route.TheVariants.{ToController}
+use Rattle.world_moves.specs.declared.moves.Move.{Move}
+use Rattle.world_moves.specs.declared.plan.Plan.{Plan}
+use Rattle.world_moves.specs.declared.state.State.{State}
+use Rattle.world_moves.specs.Acting.{Given, Heard, done, heard_by, hears}
+use Rattle.world_moves.specs.Bag.{AreShortUnits, HaveBytes}
+use Rattle.world_moves.specs.Ends.{controller_step, member_step}
+use Rattle.world_moves.specs.Forms.{IsSchedule}
+use Rattle.world_moves.specs.Links.{kind_of, same_kind}
+use Rattle.world_moves.proofs.LinkFrameLaws.{IsOnLink, actions_stay, heard_stays}
+use Rattle.domain_world.specs.Accepting.Carried.{IsAsMarked, IsNoAnswer, IsPlain, MarkedUnitsAreWhole, call_carried}
+use Rattle.domain_world.specs.Claims.Replies.{IsReplyOfOne}
+use Rattle.domain_world.specs.Past.{Coming, at_controller, controller_of, marks_of, note_at, note_client, note_controller, note_given, note_member, note_messages, note_turns, numbers_on, past, sent_at}
+use Rattle.channel_events.proofs.ListLaws.{got_append, got_nothing, some_is}
+use Rattle.domain_world.proofs.Accepting.Heard.HeardFrontLaws.{IsOfRequest, of_request, opens_no_logon, reply_no_call}
+use Rattle.domain_world.proofs.Accepting.Heard.HeardUnitLaws.{heard_stub}
+use Rattle.domain_world.proofs.Accepting.Heard.JudgedRunLaws.{judged_stand}
+use Rattle.domain_world.proofs.Accepting.Heard.JudgedUnitLaws.{IsCarriedCall, IsJudgedWell, JudgedStand, route_of, same_carried}
+use Rattle.domain_world.proofs.Accepting.LetInStepLaws.{IsDialledBy}
+use Rattle.domain_world.proofs.Accepting.Heard.MarkSentLaws.{CarriesMark, IsRequestSent, SendsIf, controller_sends, member_sends}
+use Rattle.domain_world.proofs.Accepting.PlacedLaws.{Placed, all_at, placed}
+use Rattle.domain_world.proofs.Accepting.Quiet.QuietRunLaws.{comes_whole, has_bytes, quiet_first, quiet_keeps, whole_by}
+use Rattle.domain_world.proofs.Accepting.Quiet.QuietStepLaws.{MemberIsQuiet, QuietAction, QuietFact, QuietState}
+use Rattle.domain_world.proofs.Accepting.Quiet.QuietTurnLaws.{IfOn}
+use Rattle.domain_world.proofs.Frames.BagFrameLaws.{IsOfUnit, IsServer, OfEachUnit, UnitFact, controller_marks, goes_on_with, member_marks, no_part, no_side, nothing_written}
+use Rattle.domain_world.proofs.Frames.BagStepLaws.{BagKeeps, BookFact, run_fits}
+use Rattle.domain_world.proofs.Frames.ComingLaws.{CameFrom, IsStill, StillHas}
+use Rattle.domain_world.proofs.Frames.FrontLaws.{controller_unit}
+use Rattle.domain_world.proofs.Frames.MarkPlaceLaws.{got_beside, got_replicate, later_or, marks_length, no_longer, plain_of_none}
+use Rattle.domain_world.proofs.Frames.NewUnitLaws.{new_or_plain}
+use Rattle.domain_world.proofs.Frames.OpenMadeLaws.{IsAtSide, IsMore, MoreOf, goes_on, no_more}
+use Rattle.domain_world.proofs.Frames.StepFrameLaws.{HoldsAfterRun, run_keeps}
+use Rattle.domain_world.proofs.Judgements.ReplyLaws.{replies_carry}
+use Rattle.domain_world.proofs.Frames.TurnFrameLaws.{turns_sent}
+use Rattle.domain_world.proofs.Frames.MoveFrameLaws.{bytes_in, HasBytes}
+
+-- ---- what is to hold of each unit
+
+-- what was made for a channel goes between a member and a controller, and is what is sent for its mark
+abbrev pub FitsMark : BagUnit → Mark → Type 0
+FitsMark unit mark = (IsPlain mark → ⊥) → (unit.kind ≡ kind.ToController) × CarriesMark mark unit.bytes
+
+abbrev pub OfMark : UnitFact (Unit {0})
+OfMark x number unit mark = FitsMark unit mark
+
+abbrev pub MarksFit : BookFact
+MarksFit bag b = OfEachUnit OfMark tt bag b.sent
+
+plain_fits : (unit : BagUnit) (mark : Mark) → mark ≡ Plain → FitsMark unit mark
+plain_fits unit mark is not = absurd (not (subst IsPlain (sym is) tt))
+
+still_fit : (old bag : List BagUnit) (b : Book) → StillHas old bag → MarksFit old b → MarksFit bag b
+still_fit old bag b still each number one there =
+    let had : IsOfUnit OfMark tt old number one.mark = each number one there in
+    let now : IsStill had.unit bag number = still number had.unit had.there in
+    record {
+      unit = now.now;
+      there = now.there;
+      holds = λ not. let is = had.holds not in (now.kind ∙ is.0, subst (λ (bytes : List ℕ). CarriesMark one.mark bytes) (sym now.bytes) is.1);
+    }
+
+-- the others are made for no channel
+over_fit : (at : ℕ) (given : Given) (s : State) (b : Book) → MarksFit s.bag b → MarksFit s.bag (note_given at given s b)
+over_fit at given s b each number one there =
+    let others : List Sent = replicate (length s.bag - length b.sent) (sent_at at Plain) in
+    let few : length b.sent ≤ length s.bag = no_longer b.sent s.bag (λ k old got. ((each k old got).unit, (each k old got).there)) in
+    let size : length (b.sent ++ others) ≡ length s.bag =
+    omega (arith, few, length-append b.sent others, length-replicate (length s.bag - length b.sent) (sent_at at Plain)) in
+    elim (later_or b.sent others number one there) [
+      | inl old ↦ each number one old
+      | inr new ↦ let beside : (unit : BagUnit) × (slice_get s.bag number ≡ Some unit) = got_beside (b.sent ++ others) s.bag number one size there in
+          record {
+            unit = beside.0;
+            there = beside.1;
+            holds = plain_fits beside.0 one.mark (ap (λ (o : Sent). o.mark) (got_replicate (length s.bag - length b.sent) (sent_at at Plain) new.place one new.there));
+          }
+    ]
+
+-- ---- where an end hears bytes
+
+-- new units get these marks
+fit_more : (bag after units : List BagUnit) (sent : List Sent) (link : ℕ) (back : Bool) (marks : List Mark) (at : ℕ) → after ≡ bag ++ units → length sent ≡ length bag →
+    ((place : ℕ) (unit : BagUnit) (mark : Mark) → slice_get units place ≡ Some unit → slice_get (marks_of link back units marks) place ≡ Some mark → FitsMark unit mark) →
+    OfEachUnit OfMark tt bag sent → OfEachUnit OfMark tt after (sent ++ map (sent_at at) (marks_of link back (drop (length bag) after) marks))
+fit_more bag after units sent link back marks at is same fresh each =
+    let new : drop (length bag) after ≡ units = ap (λ (all : List BagUnit). drop (length bag) all) is ∙ drop_at bag units (length bag) refl in
+    let all : OfEachUnit OfMark tt (bag ++ units) (sent ++ map (sent_at at) (marks_of link back units marks)) =
+    goes_on_with OfMark tt tt bag units sent (marks_of link back units marks) at same (λ number unit one there noted holds. holds) (marks_length link back units marks) fresh each in
+    subst (λ (b : List BagUnit). OfEachUnit OfMark tt b (sent ++ map (sent_at at) (marks_of link back (drop (length bag) after) marks))) (sym is)
+    (subst (λ (more : List BagUnit). OfEachUnit OfMark tt (bag ++ units) (sent ++ map (sent_at at) (marks_of link back more marks))) (sym new) all)
+
+-- a unit on a link between a member and a controller
+member_kind : (links : List Route) (unit : BagUnit) (link member controller : ℕ) → IsOnLink links unit → unit.link ≡ link → slice_get links link ≡ Some (ToController member controller) →
+    unit.kind ≡ kind.ToController
+member_kind links unit link member controller on here made =
+    let same : on.route ≡ ToController member controller =
+    some_is on.route (ToController member controller) (sym on.made ∙ ap (λ (n : ℕ). slice_get links n) here ∙ made) in
+    sym on.same_kind ∙ ap kind_of same
+
+controller_kind : (links : List Route) (unit : BagUnit) (link : ℕ) (back : Bool) (at : ℕ) → IsOnLink links unit → unit.link ≡ link → IsAtSide links link back (Controller at) →
+    unit.kind ≡ kind.ToController
+controller_kind links unit link back at on here side =
+    let same : on.route ≡ side.route = some_is on.route side.route (sym on.made ∙ ap (λ (n : ℕ). slice_get links n) here ∙ side.made) in
+    let route = route_of back side.route at side.side
+    (λ strange. let never : true ≡ false = sym (ap (λ (k : LinkKind). same_kind k kind.Stranger) (ap kind_of same ∙ strange)) ∙ on.between in cc) in
+    member_kind links unit link route.0 at on here (side.made ∙ ap (λ (r : Route). Some r) route.1)
+
+controller_fits : (found : Option ControllerState) (at : ℕ) (w : Coming) (piece : List ℕ) (s : State) (b : Book) → IsAtSide s.links w.link w.back (Controller at) → length b.sent ≡ length s.bag →
+    MarksFit s.bag b →
+    let after : State = (done (Controller at) (heard_by (controller_step found at (event.Bytes w.link piece) s.moment s.ends s.chances) s)).state in
+    MarksFit after.bag (note_controller found at w piece s after b)
+controller_fits None at w piece s b side same each = each
+controller_fits (Some c) at w piece s b side same each =
+    let heard : Heard = heard_by (controller_step (Some c) at (event.Bytes w.link piece) s.moment s.ends s.chances) s in
+    let after : State = (done (Controller at) heard).state in
+    let more : IsMore s.links s.bag after.links after.bag = actions_stay (MoreOf s.links s.bag) (goes_on s.links s.bag) (Controller at) heard.actions heard.state (no_more s.links s.bag) in
+    fit_more s.bag after.bag more.units b.sent w.link true (controller_marks at c w piece s) w.at more.is same
+    (λ place unit mark there marked.
+    elim (controller_unit c at w.link w.back piece s (at_controller at c w s) side more.units more.is more.on place unit mark there marked) [
+      | inl plain ↦ plain_fits unit mark plain
+      | inr new ↦ λ not. (
+        controller_kind s.links unit w.link w.back at (all_at (IsOnLink s.links) more.units place unit more.on there) new.on side,
+        controller_sends c at w piece s new.place mark unit.bytes new.marked new.sends,
+      )
+    ]) each
+
+known_running : (links : List Route) (k : ℕ) (r : Option Running) (running : Running) → r ≡ Some running → MemberIsQuiet links k r →
+    InRangeRequester running.logons.channel × IfOn (IsDialledBy links k) running.dialling
+known_running links k None running is quiet = absurd (let never = is in cc)
+known_running links k (Some one) running is quiet =
+    subst (λ (x : Running). InRangeRequester x.logons.channel × IfOn (IsDialledBy links k) x.dialling) (some_is one running is) (quiet.range.channel, quiet.turn)
+
+member_fits : (found : Option MemberState) (at : ℕ) (w : Coming) (piece : List ℕ) (s : State) (b : Book) → slice_get s.ends.members at ≡ found → QuietState s → CameFrom w.unit s w piece →
+    length b.sent ≡ length s.bag → MarksFit s.bag b →
+    let after : State = (done (Member at) (heard_by (member_step found at (event.Bytes w.link piece) s.moment s.ends s.chances) s)).state in
+    MarksFit after.bag (note_member found at w piece s after b)
+member_fits None at w piece s b is quiet came same each = each
+member_fits (Some m) at w piece s b is quiet came same each =
+    let heard : Heard = heard_by (member_step (Some m) at (event.Bytes w.link piece) s.moment s.ends s.chances) s in
+    let after : State = (done (Member at) heard).state in
+    let marks : List Mark = member_marks at m w piece s in
+    let more : IsMore s.links s.bag after.links after.bag = actions_stay (MoreOf s.links s.bag) (goes_on s.links s.bag) (Member at) heard.actions heard.state (no_more s.links s.bag) in
+    let sends : SendsIf (IsDialledBy s.links at w.link) w.link marks heard.actions =
+    member_sends (IsDialledBy s.links at) (controller_of at s) w.link piece s.chances.left (λ own. comes_whole w.unit s w piece quiet.bag came (at, own.controller, own.at)) m s.moment
+    (λ running runs. known_running s.links at m.running running runs (quiet.members at m is)) in
+    let old : List Sent = (note_turns (controller_of at s) (turn_units m w.link piece s.moment s.chances.left) w.unit (numbers_on w.link false s.bag after.bag) (note_messages at m w piece s b)).sent in
+    let kept : old ≡ b.sent =
+    turns_sent (controller_of at s) (turn_units m w.link piece s.moment s.chances.left) w.unit (numbers_on w.link false s.bag after.bag) (note_messages at m w piece s b) in
+    subst (λ (sent : List Sent). OfEachUnit OfMark tt after.bag (sent ++ map (sent_at w.at) (marks_of w.link false (drop (length s.bag) after.bag) marks))) (sym kept)
+    (fit_more s.bag after.bag more.units b.sent w.link false marks w.at more.is same
+    (λ place unit mark there marked.
+    elim sends [
+      | inl none ↦ plain_fits unit mark (plain_of_none w.link false more.units place mark (subst (λ (ms : List Mark). slice_get (marks_of w.link false more.units ms) place ≡ Some mark) none marked))
+      | inr own ↦ elim (new_or_plain (ToController at own.0.controller) (Member at) w.link false heard.actions marks heard.state more.units place unit mark own.0.at refl own.1.front more.is more.on there marked) [
+        | inl plain ↦ plain_fits unit mark plain
+        | inr new ↦ λ not. (
+          member_kind s.links unit w.link at own.0.controller (all_at (IsOnLink s.links) more.units place unit more.on there) new.on own.0.at,
+          own.1.carries new.place mark unit.bytes new.marked new.sends,
+        )
+      ]
+    ]) each)
+
+client_sent : (found : Option ClientState) (client : ℕ) (w : Coming) (piece : List ℕ) (s : State) (b : Book) → (note_client found client w piece s b).sent ≡ b.sent
+client_sent None client w piece s b = refl
+client_sent (Some c) client w piece s b = refl
+
+end_fits : (end : EndId) (w : Coming) (piece : List ℕ) (s : State) (b : Book) → IsAtSide s.links w.link w.back end → CameFrom w.unit s w piece → (IsServer end → length b.sent ≡ length s.bag) →
+    QuietState s → MarksFit s.bag b →
+    MarksFit (hears end (event.Bytes w.link piece) s).state.bag (note_at (Some end) w piece s (hears end (event.Bytes w.link piece) s).state b)
+end_fits (Controller at) w piece s b side came same quiet each = controller_fits (slice_get s.ends.controllers at) at w piece s b side (same tt) each
+end_fits (Member at) w piece s b side came same quiet each = member_fits (slice_get s.ends.members at) at w piece s b refl quiet came (same tt) each
+end_fits (Client at) w piece s b side came same quiet each =
+    let after : State = (hears (Client at) (event.Bytes w.link piece) s).state in
+    let more : IsMore s.links s.bag after.links after.bag = heard_stays (MoreOf s.links s.bag) (goes_on s.links s.bag) (Client at) (event.Bytes w.link piece) s (no_more s.links s.bag) in
+    subst (λ (sent : List Sent). OfEachUnit OfMark tt after.bag sent) (sym (client_sent (slice_get s.ends.clients at) at w piece s b))
+    (still_fit s.bag after.bag b
+    (λ number one there.
+    record { now = one; there = ap (λ (all : List BagUnit). slice_get all number) more.is ∙ got_append s.bag more.units number one there; bytes = refl; link = refl; kind = refl; back = refl }) each)
+
+pub marks_keep : BagKeeps QuietFact no_part no_side MarksFit
+marks_keep = record {
+  still = still_fit;
+  comes = λ n end w piece s given b side came bytes marked quiet none each. end_fits end w piece s b side came marked quiet each;
+  over = over_fit;
+}
+
+-- ---- what a whole unit of those bytes is
+
+-- it carries no Logon call, nor an answer to one
+opening_no_logon : (number : ℕ) (bytes : List ℕ) (frames : List RpcUnit) (unit : RpcUnit) (c : LogonCall) → AreBytes bytes → IsHeard bytes frames unit → IsRequestSent number 15 bytes →
+    call_carried unit.body ≡ Some (call.Logon c) → ⊥
+opening_no_logon number bytes frames unit c are heard sent carries =
+    let of : IsOfRequest number 15 unit = of_request number 15 sent.limit sent.stub bytes frames unit sent.small sent.known are sent.is heard in
+    opens_no_logon unit c (heard_stub bytes frames unit are heard) of.body (same_carried unit.body ∙ carries)
+
+reply_no_logon : (unit : RpcUnit) (number context : ℕ) (stub : List ℕ) (c : LogonCall) → unit ≡ heard_reply number context stub → call_carried unit.body ≡ Some (call.Logon c) → ⊥
+reply_no_logon unit number context stub c is carries =
+    reply_no_call unit (number % 2 ^ 32) (context % 2 ^ 16) stub (call.Logon c) is (same_carried unit.body ∙ carries)
+
+opened_is : (bytes : List ℕ) (frames : List RpcUnit) (unit : RpcUnit) (opens : IsOpeningReply bytes) → IsHeard bytes frames unit →
+    unit ≡ heard_reply opens.number opens.context (written_reply (opened_reply (cred_of opens.key opens.server) opens.offered))
+opened_is bytes frames unit opens heard =
+    let back : IsReadBack (opened_reply (cred_of opens.key opens.server) opens.offered) = replies_are_read_back.opened opens.key opens.server opens.offered in
+    reply_alone opens.number opens.context opens.limit (written_reply (opened_reply (cred_of opens.key opens.server) opens.offered)) frames unit back.few
+    (subst (λ (b : List ℕ). IsHeard b frames unit) opens.frames heard)
+
+opened_no_answer : (bytes : List ℕ) (frames : List RpcUnit) (unit : RpcUnit) → IsOpeningReply bytes → IsHeard bytes frames unit → IsNoAnswer unit
+opened_no_answer bytes frames unit opens heard read given reads returned =
+    let back : IsReadBack (opened_reply (cred_of opens.key opens.server) opens.offered) = replies_are_read_back.opened opens.key opens.server opens.offered in
+    let stub : List ℕ = written_reply (opened_reply (cred_of opens.key opens.server) opens.offered) in
+    answers_are_long.apart _ read given (cred_block opens.key opens.server).0 back.bytes
+    (subst (λ (s : List ℕ). reply_of 2 s ≡ Ok (reply.Logon read)) (ap (λ (u : RpcUnit). stub_of u.body) (opened_is bytes frames unit opens heard)) reads) returned
+
+module _ (bag : List BagUnit) (js : List Judging) (stand : JudgedStand bag js) (n : ℕ) (bytes : List ℕ) (frames : List RpcUnit) (unit : RpcUnit) (are : AreBytes bytes) (heard : IsHeard bytes frames unit) where
+  reply_marked : (channel : Channel) (number request : ℕ) → IsReplyOfOne js n bytes (ReplyTo channel number request) → IsAsMarked (ReplyTo channel number request) unit
+  reply_marked channel number request replied =
+      let one : Placed (λ (j : Judging). (j.reply ≡ Some n) × IsReplyOfCall channel number request j bytes) js =
+      placed (λ (j : Judging). (j.reply ≡ Some n) × IsReplyOfCall channel number request j bytes) js replied in
+      let j : Judging = one.item in
+      let its : IsReplyOfCall channel number request j bytes = one.is.1 in
+      let well : IsJudgedWell bag j = all_at (IsJudgedWell bag) js one.place j stand.judged one.there in
+      let carried : IsCarriedCall bag j.number j.logon request = well.carried request its.came in
+      let made : IsReadAsMade j bytes its.carries unit = replies_are_read.read j bytes its.carries frames unit well.range carried.level heard in
+      let small : j.number < 2 ^ 32 =
+      subst (λ (k : ℕ). k < 2 ^ 32) (sym carried.number_is) (number_fits carried.carrier.bytes carried.whole.frames carried.whole.unit carried.whole.heard) in
+      let same : j.number % 2 ^ 32 ≡ j.number = omega (arith, small) in (
+        (λ c carries. reply_no_logon unit j.number its.carries.context _ c made.unit_is carries),
+        ap (λ (u : RpcUnit). u.call) made.unit_is ∙ same ∙ its.call,
+      )
+
+  as_marked : (mark : Mark) → CarriesMark mark bytes → IsReplyOfOne js n bytes mark → IsAsMarked mark unit
+  as_marked Plain sent replied = tt
+  as_marked (Opening channel number) sent replied = λ c carries. opening_no_logon number bytes frames unit c are heard sent carries
+  as_marked (Opened channel number request) sent replied = (
+    (λ c carries. reply_no_logon unit sent.number sent.context _ c (opened_is bytes frames unit sent heard) carries),
+    opened_no_answer bytes frames unit sent heard,
+  )
+  as_marked (Calling channel number timestamp) sent replied =
+      ap (λ (u : RpcUnit). u.call) (one_whole bytes frames sent.frames unit (request_of number 0 (opnum_of_call sent.what) (written_call sent.what)) heard sent.heard)
+  as_marked (ReplyTo channel number request) sent replied = reply_marked channel number request replied
+
+-- ---- a run
+
+module _ (plan : Plan) (moves : List Move) (is : IsSchedule plan moves) (short : AreShortUnits (past plan moves).world.state.bag) (bytes : HaveBytes (past plan moves).world.state.bag) where
+  has : HasBytes plan moves
+  has = has_bytes plan moves is short bytes
+
+  pub marks_fit : MarksFit (past plan moves).world.state.bag (past plan moves).book
+  marks_fit =
+      run_fits QuietFact QuietAction quiet_keeps no_part no_side nothing_written MarksFit marks_keep plan moves has (quiet_first plan is.forms) tt
+      (λ number one there. absurd (got_nothing number one there))
+
+  after_quiet : QuietState (past plan moves).world.state
+  after_quiet = let ran : HoldsAfterRun QuietFact plan moves = run_keeps QuietFact QuietAction quiet_keeps plan moves has (quiet_first plan is.forms) in ran.holds
+
+-- each unit that was made for a channel is whole, and what its mark says
+pub marked_whole : (plan : Plan) (moves : List Move) → IsSchedule plan moves → AreShortUnits (past plan moves).world.state.bag → HaveBytes (past plan moves).world.state.bag →
+    MarkedUnitsAreWhole (past plan moves)
+marked_whole plan moves is short bytes n unit one there noted not =
+    let bag : List BagUnit = (past plan moves).world.state.bag in
+    let has : HasBytes plan moves = has_bytes plan moves is short bytes in
+    let quiet : QuietState (past plan moves).world.state = after_quiet plan moves is short bytes in
+    let had : IsOfUnit OfMark tt bag n one.mark = marks_fit plan moves is short bytes n one noted in
+    let same : had.unit ≡ unit = some_is had.unit unit (sym had.there ∙ there) in
+    let fits : (unit.kind ≡ kind.ToController) × CarriesMark one.mark unit.bytes =
+    subst (λ (u : BagUnit). (u.kind ≡ kind.ToController) × CarriesMark one.mark u.bytes) same (had.holds not) in
+    let send : IsWholeSend unit.bytes = whole_by unit.kind unit.bytes fits.0 (quiet.bag n unit there) in
+    record {
+      whole = record { frames = send.frames; unit = send.unit; heard = send.heard };
+      marked = as_marked bag (past plan moves).book.judged (judged_stand plan moves is short bytes) n unit.bytes send.frames send.unit (bytes_in bag has.bytes n unit there) send.heard one.mark fits.1
+          (replies_carry plan moves n unit one there noted);
+    }

@@ -1,0 +1,9 @@
+-- CHALLENGE and AUTHENTICATE: as they are made, sent, taken and written down.
+pub mod ChallengeLinkLaws
+pub mod ChallengeReadLaws
+pub mod ClientOfferLaws
+pub mod ClientPlanLaws
+pub mod KeyLaws
+pub mod MessageMadeLaws
+pub mod MessageNoteLaws
+pub mod MessageTakenLaws

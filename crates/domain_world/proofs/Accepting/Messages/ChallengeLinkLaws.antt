@@ -1,0 +1,296 @@
+-- What bytes come to at a member: a CHALLENGE goes out on a link on which nothing was bound, and only one; and a
+-- message that is taken is for the CHALLENGE of its link. It serves `messages_are_taken_as_sent`.
+use Rattle.std.proofs.Common.{◌≡◌, ◌≢◌, ℕ, Bool, true, false, List, [], ◌∷◌, ◌++◌, ◌⊎◌, inl, inr, Option, Some, None, Result, Ok, Err, refl, sym, ◌∙◌, if◌then◌else◌}
+use Rattle.std.specs.Prelude.{flat_map}
+use Rattle.std.proofs.lemmas.Bool.{eqb-false, eqb-true}
+use Rattle.wire_base.specs.Maps.{lookup, same_number, take_out}
+use Rattle.outside.specs.declared.action.StepRefused.{StepRefused}
+use Rattle.outside.specs.declared.event.Event.TheVariants as event
+use Rattle.outside.specs.Machine.{Part, left_by, step_by}
+use Rattle.ntlm_messages.specs.Challenge.{written_challenge}
+use Rattle.rpc_units.specs.Reading.{unit_of}
+use Rattle.rpc_units.specs.Stream.{Cut, cut_stream}
+use Rattle.rpc_units.specs.declared.refused.UnitRefused.{UnitRefused}
+use Rattle.rpc_units.specs.declared.unit.Unit.{Unit as RpcUnit}
+use Rattle.end_links.specs.Links.{LinkState}
+use Rattle.end_links.specs.Serving.{ServedPart, served_by, then_open, then_talk}
+use Rattle.member_server.specs.Binds.{challenge_message}
+use Rattle.member_server.specs.Machine.{actions_in, after_units, bytes_on, bytes_on_link, event_part, halted_state, state_in, step_of, step_on, work_of}
+use Rattle.member_server.specs.Outcomes.{at_link, without_link}
+use Rattle.member_server.specs.Rests.{first_rest}
+use Rattle.member_server.specs.State.{State as MemberState}
+use Rattle.member_server.specs.Turns.{Desk}
+use Rattle.member_server.specs.Units.{bound_unit, first_unit, is_fresh, link_server, unit_by}
+use Rattle.member_server.specs.Work.{Served}
+use Rattle.member_server.specs.declared.state.AtLink.{AtLink}
+use Rattle.member_server.specs.declared.state.Dialling.{Dialling}
+use Rattle.member_server.specs.declared.state.Phase.{Phase}
+use Rattle.member_server.specs.declared.state.Phase.TheVariants as phase
+use Rattle.member_server.specs.declared.state.Running.{Running}
+use Rattle.member_server.specs.declared.state.Talk.{Talk}
+use Rattle.member_server.specs.declared.state.Work.{Work}
+use Rattle.step_notes.specs.MemberNotes.{LinkAt, challenge_after, challenge_in, challenge_note, is_turn_link, link_units, link_units_by, link_units_in, link_units_on, message_after, message_note, next_draw}
+use Rattle.step_notes.specs.Records.{ChallengeSent, MessageTaken}
+use Rattle.step_notes.specs.Served.{ServedUnit, served_units, talk_after, units_if_taken, units_on, units_then}
+use Rattle.step_notes.proofs.Members.UnservedLaws.{DeskLinks, IfUnserved, IfUnservedAfter, IfUnservedPart, LinksIn, Unserved, after_known, bound_serves, bytes_hold, dialled_known, found_known, links_so, next_known, none_so, phase_so}
+use Rattle.domain_world.proofs.Accepting.Messages.ChallengeReadLaws.{AreTakenWith, CanBeReadAfter, CanBeReadAt, CanBeReadPart, IsReadAs, IsTakenWith, challenged_with, first_reads, read_again}
+use Rattle.domain_world.proofs.Challenges.OwnLinkLaws.{all_join, unit_at}
+use Rattle.domain_world.proofs.Frames.LeftLaws.{AreEights, eights_rest}
+
+-- ---- how far a link is
+
+-- something where nothing is bound, and of the challenge and the flags where a CHALLENGE was sent
+abbrev pub IsSoFar : Type 0 → (List ℕ → ℕ → Type 0) → Phase → Type 0
+IsSoFar Free Sent phase.Fresh = Free
+IsSoFar Free Sent (phase.Challenged bound challenge flags) = Sent challenge flags
+IsSoFar Free Sent (phase.Asked bound place held) = Unit {0}
+IsSoFar Free Sent (phase.In on) = Unit {0}
+IsSoFar Free Sent (phase.Out bound status) = Unit {0}
+
+pub so_far : (Free More : Type 0) (Sent Other : List ℕ → ℕ → Type 0) → (Free → More) → ((challenge : List ℕ) (flags : ℕ) → Sent challenge flags → Other challenge flags) → (p : Phase) →
+    IsSoFar Free Sent p → IsSoFar More Other p
+so_far Free More Sent Other so also phase.Fresh known = so known
+so_far Free More Sent Other so also (phase.Challenged bound challenge flags) known = also challenge flags known
+so_far Free More Sent Other so also (phase.Asked bound place held) known = tt
+so_far Free More Sent Other so also (phase.In on) known = tt
+so_far Free More Sent Other so also (phase.Out bound status) known = tt
+
+-- what holds of no link on which nothing is bound holds of a link with whatever else
+none_free : (Free : Type 0) (Sent : List ℕ → ℕ → Type 0) (p : Phase) → IsSoFar ⊥ Sent p → IsSoFar Free Sent p
+none_free Free Sent p known = so_far ⊥ Free Sent Sent (λ none. absurd none) (λ challenge flags sent. sent) p known
+
+said_more : (Known More : Phase → Type 0) → ((p : Phase) → Known p → More p) → (said : Option Talk) → IfUnservedAfter Known said → IfUnservedAfter More said
+said_more Known More so None known = tt
+said_more Known More so (Some talk) known = phase_so (Known talk.phase) (More talk.phase) (so talk.phase) talk.phase known
+
+part_more : (Known More : Phase → Type 0) → ((p : Phase) → Known p → More p) → (part : ServedPart AtLink Talk) → IfUnservedPart Known part → IfUnservedPart More part
+part_more Known More so (Err why) known = tt
+part_more Known More so (Ok part) known = said_more Known More so part.value.1 known
+
+-- a CHALLENGE that was sent, read as one of that challenge and those flags
+abbrev pub ReadOf : ChallengeSent → List ℕ → ℕ → Type 0
+ReadOf sent challenge flags = IsReadAs sent.bytes challenge flags
+
+-- the CHALLENGE that is written down
+abbrev pub sent_as : List ℕ → ℕ → LinkAt → AtLink → List (List ℕ) → ChallengeSent
+sent_as challenge flags w at left = record {
+  at = w.at;
+  member = w.member;
+  link = w.link;
+  draw = next_draw w left;
+  challenge = challenge;
+  bytes = written_challenge (challenge_message flags at.logons.plan challenge);
+}
+
+-- ---- the units of a stream
+
+-- What the units of a link come to, by what was sent: no CHALLENGE, and each message that was taken is for what was
+-- sent before; or one, on a link on which nothing was bound, and each message is for it.
+abbrev pub Comes : LinkAt → Type 0 → (List ℕ → ℕ → Type 0) → List ChallengeSent → List MessageTaken → ServedPart AtLink Talk → Type 0
+Comes w Free Sent [] messages part = AreTakenWith Sent messages × IfUnservedPart (IsSoFar Free Sent) part
+Comes w Free Sent (one ∷ []) messages part =
+    Free × (one.link ≡ w.link) × AreTakenWith (ReadOf one) messages × IfUnservedPart (IsSoFar ⊥ (ReadOf one)) part
+Comes w Free Sent (one ∷ other ∷ more) messages part = ⊥
+
+abbrev pub LaterComes : LinkAt → List (List ℕ) → Option UnitRefused → Type 1
+LaterComes w units why = (Free : Type 0) (Sent : List ℕ → ℕ → Type 0) (at : AtLink) (talk : Talk) (left : List (List ℕ)) → IfUnserved (IsSoFar Free Sent talk.phase) talk.phase → AreEights left →
+    Comes w Free Sent (flat_map (challenge_note w) (served_units link_server units at talk left)) (flat_map (message_note w) (served_units link_server units at talk left))
+    (served_by link_server units why at talk left)
+
+-- a CHALLENGE is sent before what goes on without another
+sent_before : (w : LinkAt) (Free : Type 0) (Sent : List ℕ → ℕ → Type 0) (one : ChallengeSent) (sent : List ChallengeSent) (messages : List MessageTaken) (part : ServedPart AtLink Talk) → Free →
+    one.link ≡ w.link → Comes w ⊥ (ReadOf one) sent messages part → Comes w Free Sent (one ∷ sent) messages part
+sent_before w Free Sent one [] messages part free same comes = (free, same, comes.0, comes.1)
+sent_before w Free Sent one (other ∷ []) messages part free same comes = absurd comes.0
+sent_before w Free Sent one (other ∷ another ∷ more) messages part free same comes = absurd comes
+
+-- messages are taken before what goes on without a CHALLENGE
+taken_before : (w : LinkAt) (Free : Type 0) (Sent : List ℕ → ℕ → Type 0) (front : List MessageTaken) (sent : List ChallengeSent) (messages : List MessageTaken) (part : ServedPart AtLink Talk) →
+    AreTakenWith Sent front → Comes w ⊥ Sent sent messages part → Comes w Free Sent sent (front ++ messages) part
+taken_before w Free Sent front [] messages part all comes =
+    (all_join (λ (one : MessageTaken). IsTakenWith Sent one.bytes one.logon) front messages all comes.0, part_more (IsSoFar ⊥ Sent) (IsSoFar Free Sent) (none_free Free Sent) part comes.1)
+taken_before w Free Sent front (other ∷ []) messages part all comes = absurd comes.0
+taken_before w Free Sent front (other ∷ another ∷ more) messages part all comes = absurd comes
+
+module _ (w : LinkAt) (units : List (List ℕ)) (why : Option UnitRefused) (later : LaterComes w units why) where
+  said_comes : (Free : Type 0) (Sent : List ℕ → ℕ → Type 0) (at : AtLink) (said : Option Talk) (left : List (List ℕ)) → IfUnservedAfter (IsSoFar Free Sent) said → AreEights left →
+      Comes w Free Sent (flat_map (challenge_note w) (units_on at said left (λ next talk rest. served_units link_server units next talk rest)))
+      (flat_map (message_note w) (units_on at said left (λ next talk rest. served_units link_server units next talk rest)))
+      (then_talk at said left (λ next talk rest. served_by link_server units why next talk rest))
+  said_comes Free Sent at None left known eights = (tt, tt)
+  said_comes Free Sent at (Some talk) left known eights = later Free Sent at talk left known eights
+
+  -- behind a unit where nothing was bound
+  fresh_comes : (Free : Type 0) (Sent : List ℕ → ℕ → Type 0) (p : Phase) (joiner : Option RpcUnit) (next at : AtLink) (rest left : List (List ℕ)) → Free → CanBeReadAt at.logons.plan p →
+      AreEights rest →
+      Comes w Free Sent (challenge_in p w at left ++ flat_map (challenge_note w) (served_units link_server units next (record { joiner = joiner; phase = p }) rest))
+      (flat_map (message_note w) (served_units link_server units next (record { joiner = joiner; phase = p }) rest))
+      (served_by link_server units why next (record { joiner = joiner; phase = p }) rest)
+  fresh_comes Free Sent phase.Fresh joiner next at rest left free can eights = later Free Sent next (record { joiner = joiner; phase = phase.Fresh }) rest free eights
+  fresh_comes Free Sent (phase.Challenged bound challenge flags) joiner next at rest left free can eights =
+      let talk : Talk = record { joiner = joiner; phase = phase.Challenged bound challenge flags } in
+      let one : ChallengeSent = sent_as challenge flags w at left in
+      sent_before w Free Sent one (flat_map (challenge_note w) (served_units link_server units next talk rest)) (flat_map (message_note w) (served_units link_server units next talk rest))
+      (served_by link_server units why next talk rest) free refl
+      (later ⊥ (ReadOf one) next talk rest (read_again at.logons.plan challenge flags can) eights)
+  fresh_comes Free Sent (phase.Asked bound place held) joiner next at rest left free can eights =
+      later Free Sent next (record { joiner = joiner; phase = phase.Asked bound place held }) rest tt eights
+  fresh_comes Free Sent (phase.In on) joiner next at rest left free can eights = later Free Sent next (record { joiner = joiner; phase = phase.In on }) rest tt eights
+  fresh_comes Free Sent (phase.Out bound status) joiner next at rest left free can eights = later Free Sent next (record { joiner = joiner; phase = phase.Out bound status }) rest tt eights
+
+  after_comes : (Free : Type 0) (Sent : List ℕ → ℕ → Type 0) (said : Option Talk) (next at : AtLink) (rest left : List (List ℕ)) → Free → CanBeReadAfter at.logons.plan said → AreEights rest →
+      Comes w Free Sent (challenge_after said w at left ++ flat_map (challenge_note w) (units_on next said rest (λ later_at talk more. served_units link_server units later_at talk more)))
+      (flat_map (message_note w) (units_on next said rest (λ later_at talk more. served_units link_server units later_at talk more)))
+      (then_talk next said rest (λ later_at talk more. served_by link_server units why later_at talk more))
+  after_comes Free Sent None next at rest left free can eights = (tt, tt)
+  after_comes Free Sent (Some talk) next at rest left free can eights = fresh_comes Free Sent talk.phase talk.joiner next at rest left free can eights
+
+  first_comes : (Free : Type 0) (Sent : List ℕ → ℕ → Type 0) (part : ServedPart AtLink Talk) (at : AtLink) (left : List (List ℕ)) → Free → CanBeReadPart at.logons.plan part →
+      AreEights (left_by part) →
+      Comes w Free Sent (challenge_after (talk_after part) w at left ++ flat_map (challenge_note w) (units_then part (λ next talk more. served_units link_server units next talk more)))
+      (flat_map (message_note w) (units_then part (λ next talk more. served_units link_server units next talk more)))
+      (then_open part (λ next talk more. served_by link_server units why next talk more))
+  first_comes Free Sent (Err refused) at left free can eights = (tt, tt)
+  first_comes Free Sent (Ok part) at left free can eights = after_comes Free Sent part.value.1 part.value.0 at part.left left free can eights
+
+  -- behind a unit where something was bound, of which that was taken
+  bound_comes : (Free : Type 0) (Sent : List ℕ → ℕ → Type 0) (front : List MessageTaken) (p : Phase) (bytes : List ℕ) (joiner : Option RpcUnit) (at : AtLink) (left : List (List ℕ)) →
+      AreTakenWith Sent front → AreEights left →
+      Comes w Free Sent
+      (flat_map (challenge_note w) (units_on (bound_unit p bytes joiner at).0 (bound_unit p bytes joiner at).1 left (λ next talk rest. served_units link_server units next talk rest)))
+      (front ++ flat_map (message_note w) (units_on (bound_unit p bytes joiner at).0 (bound_unit p bytes joiner at).1 left (λ next talk rest. served_units link_server units next talk rest)))
+      (then_talk (bound_unit p bytes joiner at).0 (bound_unit p bytes joiner at).1 left (λ next talk rest. served_by link_server units why next talk rest))
+  bound_comes Free Sent front p bytes joiner at left all eights =
+      let served : Served = bound_unit p bytes joiner at in
+      let rest : List (ServedUnit AtLink Talk) = units_on served.0 served.1 left (λ next talk more. served_units link_server units next talk more) in
+      taken_before w Free Sent front (flat_map (challenge_note w) rest) (flat_map (message_note w) rest)
+      (then_talk served.0 served.1 left (λ next talk more. served_by link_server units why next talk more)) all
+      (said_comes ⊥ Sent served.0 served.1 left (none_so (IsSoFar ⊥ Sent) served.1 (bound_serves p bytes joiner at)) eights)
+
+  unit_comes : (Free : Type 0) (Sent : List ℕ → ℕ → Type 0) (p : Phase) (bytes : List ℕ) (joiner : Option RpcUnit) (at : AtLink) (left : List (List ℕ)) →
+      IfUnserved (IsSoFar Free Sent p) p → AreEights left →
+      Comes w Free Sent
+      (flat_map (challenge_note w) (unit_at (is_fresh p) p bytes joiner at left
+      ∷ units_then (unit_by (is_fresh p) p bytes joiner at left) (λ next talk rest. served_units link_server units next talk rest)))
+      (flat_map (message_note w) (unit_at (is_fresh p) p bytes joiner at left
+      ∷ units_then (unit_by (is_fresh p) p bytes joiner at left) (λ next talk rest. served_units link_server units next talk rest)))
+      (then_open (unit_by (is_fresh p) p bytes joiner at left) (λ next talk rest. served_by link_server units why next talk rest))
+  unit_comes Free Sent phase.Fresh bytes joiner at left known eights =
+      let part : ServedPart AtLink Talk = first_unit (unit_of bytes) joiner at left in
+      first_comes Free Sent part at left known (first_reads (unit_of bytes) joiner at left eights) (eights_rest (left_by part) left (first_rest (unit_of bytes) joiner at left) eights)
+  unit_comes Free Sent (phase.Challenged bound challenge flags) bytes joiner at left known eights =
+      let served : Served = bound_unit (phase.Challenged bound challenge flags) bytes joiner at in
+      bound_comes Free Sent (message_after served.1 (Some served.0) w bytes) (phase.Challenged bound challenge flags) bytes joiner at left
+      (challenged_with Sent w bytes (unit_of bytes) bound challenge flags joiner at known refl) eights
+  unit_comes Free Sent (phase.Asked bound place held) bytes joiner at left known eights = bound_comes Free Sent [] (phase.Asked bound place held) bytes joiner at left tt eights
+  unit_comes Free Sent (phase.In on) bytes joiner at left known eights = bound_comes Free Sent [] (phase.In on) bytes joiner at left tt eights
+  unit_comes Free Sent (phase.Out bound status) bytes joiner at left known eights = bound_comes Free Sent [] (phase.Out bound status) bytes joiner at left tt eights
+
+units_come : (w : LinkAt) (units : List (List ℕ)) (why : Option UnitRefused) → LaterComes w units why
+units_come w [] None Free Sent at talk left known eights = (tt, known)
+units_come w [] (Some why) Free Sent at talk left known eights = (tt, tt)
+units_come w (bytes ∷ units) why Free Sent at talk left known eights = unit_comes w units why (units_come w units why) Free Sent talk.phase bytes talk.joiner at left known eights
+
+-- ---- bytes
+
+-- a link that is out of the map is in it no more (the same as in `UnservedLaws`)
+taken_if : (hit : Bool) (May : ℕ → Phase → Type 0) (k : ℕ) (entry : ℕ × LinkState Talk) (links rest : List (ℕ × LinkState Talk)) → same_number k entry.0 ≡ hit →
+    Unserved May (entry ∷ links) → Unserved (λ n p. (May n p × (n ≢ entry.0)) × (n ≢ k)) rest → Unserved (λ n p. May n p × (n ≢ k)) (if hit then links else entry ∷ rest)
+taken_if true May k entry links rest is all more =
+    links_so (λ n p. May n p × (n ≢ entry.0)) (λ n p. May n p × (n ≢ k)) (λ n p known. (known.0, λ same. known.1 (same ∙ eqb-true k entry.0 is))) links all.1
+taken_if false May k entry links rest is all more = (
+  phase_so (May entry.0 entry.1.talk.phase) (May entry.0 entry.1.talk.phase × (entry.0 ≢ k)) (λ known. (known, λ same. eqb-false k entry.0 is (sym same))) entry.1.talk.phase all.0,
+  links_so (λ n p. (May n p × (n ≢ entry.0)) × (n ≢ k)) (λ n p. (May n p × (n ≢ k)) × (n ≢ entry.0)) (λ n p known. ((known.0.0, known.1), known.0.1)) rest more,
+)
+
+taken_known : (May : ℕ → Phase → Type 0) (k : ℕ) (links : List (ℕ × LinkState Talk)) → Unserved May links → Unserved (λ n p. May n p × (n ≢ k)) (take_out same_number k links)
+taken_known May k [] all = tt
+taken_known May k (entry ∷ links) all =
+    taken_if (same_number k entry.0) May k entry links (take_out same_number k links) refl all (taken_known (λ n p. May n p × (n ≢ entry.0)) k links all.1)
+
+-- what is known of a link by its number
+abbrev pub KnownAt : (ℕ → Type 0) → (ℕ → List ℕ → ℕ → Type 0) → ℕ → Phase → Type 0
+KnownAt Free Sent n p = IsSoFar (Free n) (Sent n) p
+
+-- the same where that CHALLENGE was sent on that link
+abbrev pub KnownAfter : (ℕ → Type 0) → (ℕ → List ℕ → ℕ → Type 0) → ℕ → ChallengeSent → ℕ → Phase → Type 0
+KnownAfter Free Sent link one n p = (KnownAt Free Sent n p × (n ≢ link)) ⊎ ((n ≡ link) × IsSoFar ⊥ (ReadOf one) p)
+
+-- What bytes on a link come to, by what was sent; what is known of the links then.
+abbrev pub BytesCome : ℕ → (ℕ → Type 0) → (ℕ → List ℕ → ℕ → Type 0) → List ChallengeSent → List MessageTaken → ((ℕ → Phase → Type 0) → Type 0) → Type 0
+BytesCome link Free Sent [] messages After = AreTakenWith (Sent link) messages × After (KnownAt Free Sent)
+BytesCome link Free Sent (one ∷ []) messages After =
+    Free link × (one.link ≡ link) × AreTakenWith (ReadOf one) messages × After (KnownAfter Free Sent link one)
+BytesCome link Free Sent (one ∷ other ∷ more) messages After = ⊥
+
+come_so : (link : ℕ) (Free : ℕ → Type 0) (Sent : ℕ → List ℕ → ℕ → Type 0) (sent : List ChallengeSent) (messages : List MessageTaken) (After Later : (ℕ → Phase → Type 0) → Type 0) →
+    ((May : ℕ → Phase → Type 0) → After May → Later May) → BytesCome link Free Sent sent messages After → BytesCome link Free Sent sent messages Later
+come_so link Free Sent [] messages After Later so come = (come.0, so (KnownAt Free Sent) come.1)
+come_so link Free Sent (one ∷ []) messages After Later so come = (come.0, come.1, come.2, so (KnownAfter Free Sent link one) come.3)
+come_so link Free Sent (one ∷ other ∷ more) messages After Later so come = absurd come
+
+module _ (w : LinkAt) (Free : ℕ → Type 0) (Sent : ℕ → List ℕ → ℕ → Type 0) (piece : List ℕ) (now : ℕ) (left : List (List ℕ)) (eights : AreEights left) where
+  alone_come : (sent : List ChallengeSent) (messages : List MessageTaken) (part : ServedPart AtLink Talk) (rest : List ℕ) (how : Dialling) (work : Work) →
+      Comes w (Free w.link) (Sent w.link) sent messages part → Unserved (λ n p. KnownAt Free Sent n p × (n ≢ w.link)) work.links →
+      BytesCome w.link Free Sent sent messages (λ May. DeskLinks May (after_units part rest w.link how work))
+  alone_come [] messages part rest how work comes all = (
+    comes.0,
+    after_known (KnownAt Free Sent) part rest w.link how work comes.1
+        (links_so (λ n p. KnownAt Free Sent n p × (n ≢ w.link)) (KnownAt Free Sent) (λ n p both. both.0) work.links all),
+  )
+  alone_come (one ∷ []) messages part rest how work comes all = (
+    comes.0,
+    comes.1,
+    comes.2,
+    after_known (KnownAfter Free Sent w.link one) part rest w.link how work
+        (part_more (IsSoFar ⊥ (ReadOf one)) (KnownAfter Free Sent w.link one w.link) (λ p known. inr (refl, known)) part comes.3)
+        (links_so (λ n p. KnownAt Free Sent n p × (n ≢ w.link)) (KnownAfter Free Sent w.link one) (λ n p both. inl both) work.links all),
+  )
+  alone_come (one ∷ other ∷ more) messages part rest how work comes all = absurd comes
+
+  link_come : (running : Running) (found : Option (LinkState Talk)) (how : Dialling) → lookup same_number w.link running.links ≡ found → Unserved (KnownAt Free Sent) running.links →
+      BytesCome w.link Free Sent (flat_map (challenge_note w) (link_units_on found w.link piece running left)) (flat_map (message_note w) (link_units_on found w.link piece running left))
+      (λ May. DeskLinks May (bytes_on_link found w.link piece how (work_of running) left))
+  link_come running None how there all = (tt, all)
+  link_come running (Some link) how there all =
+      let cut : Cut = cut_stream (link.rest ++ piece) in
+      let at : AtLink = at_link w.link (work_of running) in
+      let units : List (ServedUnit AtLink Talk) = served_units link_server cut.units at link.talk left in
+      alone_come (flat_map (challenge_note w) units) (flat_map (message_note w) units) (served_by link_server cut.units cut.refused at link.talk left) cut.rest how
+      (without_link w.link (work_of running))
+      (units_come w cut.units cut.refused (Free w.link) (Sent w.link) at link.talk left (found_known (KnownAt Free Sent) w.link running.links link there all) eights)
+      (taken_known (KnownAt Free Sent) w.link running.links all)
+
+  desk_come : (running : Running) (how : Dialling) → Unserved (KnownAt Free Sent) running.links →
+      BytesCome w.link Free Sent (flat_map (challenge_note w) (link_units_by (is_turn_link how w.link) w.link piece running left))
+      (flat_map (message_note w) (link_units_by (is_turn_link how w.link) w.link piece running left)) (λ May. DeskLinks May (bytes_on how w.link piece (work_of running) left))
+  desk_come running how all =
+      bytes_hold (λ units part. BytesCome w.link Free Sent (flat_map (challenge_note w) units) (flat_map (message_note w) units) (λ May. DeskLinks May part)) w.link piece running left
+      (λ other. link_come running (lookup same_number w.link running.links) other refl all)
+      (λ said. (tt, dialled_known (KnownAt Free Sent) (cut_stream (said.rest ++ piece)) w.link said.talk (work_of running) left all)) how
+
+  stepped_come : (units : List (ServedUnit AtLink Talk)) (part : Result (Part Desk) StepRefused) →
+      BytesCome w.link Free Sent (flat_map (challenge_note w) units) (flat_map (message_note w) units) (λ May. DeskLinks May part) →
+      BytesCome w.link Free Sent (flat_map (challenge_note w) (units_if_taken (step_by actions_in state_in halted_state left part).answer units))
+      (flat_map (message_note w) (units_if_taken (step_by actions_in state_in halted_state left part).answer units))
+      (λ May. LinksIn May (step_by actions_in state_in halted_state left part).state.running)
+  stepped_come units (Err why) come = (tt, tt)
+  stepped_come units (Ok part) come = come
+
+  running_come : (m : MemberState) (r : Option Running) → LinksIn (KnownAt Free Sent) m.running → LinksIn (KnownAt Free Sent) r →
+      BytesCome w.link Free Sent (flat_map (challenge_note w) (units_if_taken (step_on r m (event.Bytes w.link piece) now left).answer (link_units_in r w.link piece left)))
+      (flat_map (message_note w) (units_if_taken (step_on r m (event.Bytes w.link piece) now left).answer (link_units_in r w.link piece left)))
+      (λ May. LinksIn May (step_on r m (event.Bytes w.link piece) now left).state.running)
+  running_come m None was all = (tt, was)
+  running_come m (Some running) was all =
+      let desk : Result (Part Desk) StepRefused = bytes_on running.dialling w.link piece (work_of running) left in
+      let units : List (ServedUnit AtLink Talk) = link_units_in (Some running) w.link piece left in
+      stepped_come units (event_part running (event.Bytes w.link piece) now left)
+      (come_so w.link Free Sent (flat_map (challenge_note w) units) (flat_map (message_note w) units) (λ May. DeskLinks May desk)
+      (λ May. DeskLinks May (event_part running (event.Bytes w.link piece) now left)) (λ May known. next_known May desk now known) (desk_come running running.dialling all))
+
+  -- what bytes on an accepted link come to at a step of a member
+  pub bytes_come : (m : MemberState) → LinksIn (KnownAt Free Sent) m.running →
+      BytesCome w.link Free Sent (flat_map (challenge_note w) (link_units m w.link piece now left)) (flat_map (message_note w) (link_units m w.link piece now left))
+      (λ May. LinksIn May (step_of m (event.Bytes w.link piece) now left).state.running)
+  bytes_come m all = running_come m m.running all all

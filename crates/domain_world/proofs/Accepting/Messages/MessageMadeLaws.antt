@@ -1,0 +1,173 @@
+-- In every schedule each AUTHENTICATE that a client made is the answer of its plan to the CHALLENGE that it heard.
+-- It serves `messages_are_made`.
+use Rattle.std.proofs.Common.{◌≡◌, ◌<◌, ◌^◌, ℕ, zero, suc, List, [], ◌∷◌, length, map, All, Option, Some, None, refl, sym, subst, arith, inl, inr, slice_get, slice_set}
+use Rattle.std.specs.Prelude.{false, flat_map}
+use Rattle.std.specs.List.{AllByRecursion}
+use Rattle.std.proofs.lemmas.Bool.{cases_lt}
+use Rattle.std.proofs.lemmas.List.{get_or_past}
+use Rattle.std.proofs.lemmas.List.Elements.{All-get_or, All-weaker, recursion_from_All}
+use Rattle.wire_base.specs.Units.{AreUnits}
+use Rattle.outside.specs.Drawing.{Drawing}
+use Rattle.outside.specs.declared.event.Event.{Event}
+use Rattle.outside.specs.declared.event.Event.TheVariants as event
+use Rattle.domain_controller.specs.State.{State as ControllerState}
+use Rattle.logon_client.specs.Machine.{begin_of, fresh_client, step_of as client_step_of}
+use Rattle.logon_client.specs.State.{State as ClientState}
+use Rattle.logon_client.specs.declared.plan.ClientPlan.{ClientPlan}
+use Rattle.member_server.specs.State.{State as MemberState}
+use Rattle.step_notes.specs.ClientNotes.{ClientAt, made_note, units_of_client}
+use Rattle.step_notes.specs.MemberNotes.{turn_units}
+use Rattle.step_notes.specs.Records.{Book, MessageMade}
+use Rattle.world_moves.specs.declared.links.EndId.{EndId}
+use Rattle.world_moves.specs.declared.links.EndId.TheVariants.{Controller, Member, Client}
+use Rattle.world_moves.specs.declared.links.Route.{Route}
+use Rattle.world_moves.specs.declared.moves.Move.{Move}
+use Rattle.world_moves.specs.declared.plan.Plan.{Plan}
+use Rattle.world_moves.specs.declared.state.State.{State}
+use Rattle.world_moves.specs.Ends.{EndStates, client_step, controller_step, end_step, member_step}
+use Rattle.world_moves.specs.Forms.{IsClientPlan, IsSchedule}
+use Rattle.world_moves.specs.Links.{acceptor_of}
+use Rattle.world_moves.specs.World.{first_world}
+use Rattle.domain_world.specs.Accepting.KeysMade.{IsMadeFrom, MessagesAreMade}
+use Rattle.domain_world.specs.Past.{Coming, controller_of, note_at, note_client, note_controller, note_member, note_messages, numbers_on, past}
+use Rattle.domain_world.proofs.Accepting.Messages.ClientOfferLaws.{AreMadeFrom, HasNames}
+use Rattle.domain_world.proofs.Accepting.Messages.ClientPlanLaws.{NamesIn, client_made, names_stay}
+use Rattle.domain_world.proofs.Accepting.PlacedLaws.{all_at}
+use Rattle.domain_world.proofs.Challenges.MessageOnceLaws.{each_put}
+use Rattle.domain_world.proofs.Challenges.OwnLinkLaws.{all_join}
+use Rattle.domain_world.proofs.Frames.FrameLaws.{HoldsAfter, HoldsByPlans, PlannedFact, StaysByPlans, StaysWrittenByPlans, run_stays_by_plans}
+use Rattle.domain_world.proofs.Frames.LeftLaws.{AreEights, client_left, controller_left, first_eights, member_left}
+use Rattle.domain_world.proofs.Frames.TurnFrameLaws.{turns_made}
+
+-- The names of the clients' plans are texts, clients go by such plans, each challenge that is left has 8 bytes, and
+-- each message that was made is the answer of its plan.
+pub record AreAnswers (made : List MessageMade) (plans : List ClientPlan) (clients : List ClientState) (left : List (List ℕ)) : Type 0 where
+  pub names : AllByRecursion HasNames plans
+  pub each : (k : ℕ) (c : ClientState) → slice_get clients k ≡ Some c → NamesIn c.running
+  pub eights : AreEights left
+  pub from : AreMadeFrom made
+
+-- so it is by the parts of a world
+abbrev pub Answers : List MessageMade → PlannedFact
+Answers made plans ends chances links = AreAnswers made plans ends.clients chances.left
+
+-- a client is changed
+client_put : (made : List MessageMade) (plans : List ClientPlan) (clients : List ClientState) (left rest : List (List ℕ)) (at : ℕ) (new : ClientState) → AreAnswers made plans clients left →
+    AreEights rest → NamesIn new.running → AreAnswers made plans (slice_set clients at new) rest
+client_put made plans clients left rest at new kept eights names = record {
+  names = kept.names;
+  each = each_put (λ (k : ℕ) (c : ClientState). NamesIn c.running) clients at new (λ k c differs there. kept.each k c there) names;
+  eights = eights;
+  from = kept.from;
+}
+
+-- ---- an end hears something
+
+controller_answers : (found : Option ControllerState) (made : List MessageMade) (at : ℕ) (what : Event) (now : ℕ) (plans : List ClientPlan) (ends : EndStates) (chances : Drawing)
+    (links : List Route) → Answers made plans ends chances links → HoldsAfter (Answers made plans) (controller_step found at what now ends chances) links
+controller_answers None made at what now plans ends chances links kept = kept
+controller_answers (Some c) made at what now plans ends chances links kept =
+    record { names = kept.names; each = kept.each; eights = controller_left (Some c) at what now ends chances kept.eights; from = kept.from }
+
+member_answers : (found : Option MemberState) (made : List MessageMade) (at : ℕ) (what : Event) (now : ℕ) (plans : List ClientPlan) (ends : EndStates) (chances : Drawing)
+    (links : List Route) → Answers made plans ends chances links → HoldsAfter (Answers made plans) (member_step found at what now ends chances) links
+member_answers None made at what now plans ends chances links kept = kept
+member_answers (Some m) made at what now plans ends chances links kept =
+    record { names = kept.names; each = kept.each; eights = member_left (Some m) at what now ends chances kept.eights; from = kept.from }
+
+client_answers : (found : Option ClientState) (made : List MessageMade) (at : ℕ) (what : Event) (now : ℕ) (plans : List ClientPlan) (ends : EndStates) (chances : Drawing)
+    (links : List Route) → slice_get ends.clients at ≡ found → Answers made plans ends chances links → HoldsAfter (Answers made plans) (client_step found at what now ends chances) links
+client_answers None made at what now plans ends chances links is kept = kept
+client_answers (Some c) made at what now plans ends chances links is kept =
+    client_put made plans ends.clients chances.left (client_step_of c what now chances.left).left at (client_step_of c what now chances.left).state kept
+    (client_left (Some c) at what now ends chances kept.eights) (names_stay c what now chances.left (kept.each at c is))
+
+hear_answers : (end : EndId) (made : List MessageMade) (what : Event) (now : ℕ) (plans : List ClientPlan) (ends : EndStates) (chances : Drawing) (links : List Route) →
+    Answers made plans ends chances links → HoldsAfter (Answers made plans) (end_step end what now ends chances) links
+hear_answers (Controller at) made what now plans ends chances links kept = controller_answers (slice_get ends.controllers at) made at what now plans ends chances links kept
+hear_answers (Member at) made what now plans ends chances links kept = member_answers (slice_get ends.members at) made at what now plans ends chances links kept
+hear_answers (Client at) made what now plans ends chances links kept = client_answers (slice_get ends.clients at) made at what now plans ends chances links refl kept
+
+answers_stay : (made : List MessageMade) → StaysByPlans (Answers made)
+answers_stay made = record {
+  hears = λ end what now plans ends chances links quiet kept. hear_answers end made what now plans ends chances links kept;
+  opens = λ route now plans ends chances links kept. hear_answers (acceptor_of route) made (event.Opened (length links)) now plans ends chances (links) kept;
+  controllers = λ c at plans ends chances links is kept. kept;
+  members = λ plan at plans ends chances links kept. kept;
+  begins = λ plan at plans ends chances links is kept.
+      client_put made plans ends.clients chances.left chances.left at (begin_of (fresh_client plan)).state kept kept.eights (all_at HasNames plans at plan kept.names is);
+  clients = λ plan at plans ends chances links is kept.
+      client_put made plans ends.clients chances.left chances.left at (fresh_client plan) kept kept.eights (all_at HasNames plans at plan kept.names is);
+}
+
+-- ---- bytes come
+
+controller_made : (found : Option ControllerState) (controller : ℕ) (w : Coming) (piece : List ℕ) (s after : State) (b : Book) → (note_controller found controller w piece s after b).made ≡ b.made
+controller_made None controller w piece s after b = refl
+controller_made (Some c) controller w piece s after b = refl
+
+member_made : (found : Option MemberState) (member : ℕ) (w : Coming) (piece : List ℕ) (s after : State) (b : Book) → (note_member found member w piece s after b).made ≡ b.made
+member_made None member w piece s after b = refl
+member_made (Some m) member w piece s after b =
+    turns_made (controller_of member s) (turn_units m w.link piece s.moment s.chances.left) w.unit (numbers_on w.link false s.bag after.bag) (note_messages member m w piece s b)
+
+client_heard : (found : Option ClientState) (at : ℕ) (w : Coming) (piece : List ℕ) (s : State) (b : Book) → slice_get s.ends.clients at ≡ found → HoldsByPlans (Answers b.made) s →
+    HoldsAfter (Answers (note_client found at w piece s b).made s.client_plans) (client_step found at (event.Bytes w.link piece) s.moment s.ends s.chances) s.links
+client_heard None at w piece s b is kept = kept
+client_heard (Some c) at w piece s b is kept =
+    let went = client_answers (Some c) b.made at (event.Bytes w.link piece) s.moment s.client_plans s.ends s.chances s.links is kept in
+    let l : ClientAt = record { at = w.at; client = at; link = w.link } in
+    record {
+      names = went.names;
+      each = went.each;
+      eights = went.eights;
+      from = all_join (λ (one : MessageMade). IsMadeFrom one) b.made (flat_map (made_note l) (units_of_client c w.link piece s.moment s.chances.left)) kept.from
+          (client_made c l w.link piece s.moment s.chances.left (kept.each at c is) kept.eights);
+    }
+
+end_heard : (end : EndId) (w : Coming) (piece : List ℕ) (s after : State) (b : Book) → HoldsByPlans (Answers b.made) s →
+    HoldsAfter (Answers (note_at (Some end) w piece s after b).made s.client_plans) (end_step end (event.Bytes w.link piece) s.moment s.ends s.chances) s.links
+end_heard (Controller at) w piece s after b kept =
+    subst (λ (made : List MessageMade). HoldsAfter (Answers made s.client_plans) (end_step (Controller at) (event.Bytes w.link piece) s.moment s.ends s.chances) s.links)
+    (sym (controller_made (slice_get s.ends.controllers at) at w piece s after b))
+    (controller_answers (slice_get s.ends.controllers at) b.made at (event.Bytes w.link piece) s.moment s.client_plans s.ends s.chances s.links kept)
+end_heard (Member at) w piece s after b kept =
+    subst (λ (made : List MessageMade). HoldsAfter (Answers made s.client_plans) (end_step (Member at) (event.Bytes w.link piece) s.moment s.ends s.chances) s.links)
+    (sym (member_made (slice_get s.ends.members at) at w piece s after b))
+    (member_answers (slice_get s.ends.members at) b.made at (event.Bytes w.link piece) s.moment s.client_plans s.ends s.chances s.links kept)
+end_heard (Client at) w piece s after b kept = client_heard (slice_get s.ends.clients at) at w piece s b refl kept
+
+-- ---- a run
+
+answers_written : StaysWrittenByPlans (λ (b : Book). b.made) Answers
+answers_written = record { stays = answers_stay; bytes = end_heard; given = λ at given after b. refl }
+
+fresh_names : (plans : List ClientPlan) (k : ℕ) (c : ClientState) → AllByRecursion HasNames plans → slice_get (map fresh_client plans) k ≡ Some c → NamesIn c.running
+fresh_names [] k c names there = absurd cc
+fresh_names (plan ∷ plans) zero c names there = let is : fresh_client plan ≡ c = cc in subst (λ (x : ClientState). NamesIn x.running) is names.0
+fresh_names (plan ∷ plans) (suc k) c names there = fresh_names plans k c names.1 there
+
+first_answers : (plan : Plan) → AllByRecursion HasNames plan.clients → HoldsByPlans (Answers []) (first_world plan).state
+first_answers plan names = record {
+  names = names;
+  each = λ k c there. fresh_names plan.clients k c names there;
+  eights = first_eights plan;
+  from = tt;
+}
+
+units_are : (units : List ℕ) → All (λ (unit : ℕ). unit < 2 ^ 16) units → AreUnits units
+units_are units all place =
+    elim (cases_lt place (length units)) [
+      | inl within ↦ omega (arith, All-get_or (λ (unit : ℕ). unit < 2 ^ 16) units place 0 within all)
+      | inr beyond ↦ rw (get_or_past units place 0 beyond) (omega arith)
+    ]
+
+form_names : (plan : ClientPlan) → IsClientPlan plan → HasNames plan
+form_names plan forms = (units_are plan.user forms.user, units_are plan.domain forms.domain)
+
+-- in every schedule each message that a client made is the answer of its plan
+pub messages_made : (plan : Plan) (moves : List Move) → IsSchedule plan moves → MessagesAreMade (past plan moves)
+messages_made plan moves schedule =
+    let names : AllByRecursion HasNames plan.clients =
+    recursion_from_All HasNames plan.clients (All-weaker IsClientPlan HasNames form_names plan.clients schedule.forms.clients) in
+    (run_stays_by_plans (λ (b : Book). b.made) Answers answers_written plan moves (first_answers plan names)).from

@@ -1,0 +1,376 @@
+-- In every run each AUTHENTICATE that a member took is for the CHALLENGE of its link: the member keeps the message that
+-- it read, the challenge that it sent, and the flags that both have. It serves `messages_are_taken_as_sent`.
+use Rattle.std.proofs.Common.{◌≡◌, ◌≢◌, ◌<◌, ◌==◌, ℕ, Bool, true, false, List, [], ◌∷◌, ◌++◌, length, inl, inr, Option, Some, None, refl, sym, ap, subst, ◌∙◌, arith, slice_get, slice_set, AllPairs, length-append}
+use Rattle.std.specs.Prelude.{flat_map}
+use Rattle.std.specs.List.{AllByRecursion}
+use Rattle.std.proofs.lemmas.List.{append-nil}
+use Rattle.std.proofs.lemmas.List.Elements.{All-from_recursion}
+use Rattle.std.proofs.lemmas.List.Quantifiers.{all_pairs_push}
+use Rattle.std.proofs.lemmas.Option.{slice_get_within}
+use Rattle.outside.specs.Drawing.{Drawing}
+use Rattle.outside.specs.declared.event.Event.{Event}
+use Rattle.outside.specs.declared.event.Event.TheVariants as event
+use Rattle.domain_controller.specs.State.{State as ControllerState}
+use Rattle.logon_client.specs.State.{State as ClientState}
+use Rattle.ntlm_flags.specs.Flags.{agreed_flags}
+use Rattle.member_server.specs.Machine.{fresh_member, step_of}
+use Rattle.member_server.specs.State.{State as MemberState}
+use Rattle.member_server.specs.declared.state.AtLink.{AtLink}
+use Rattle.member_server.specs.declared.state.AtTurn.{AtTurn}
+use Rattle.member_server.specs.declared.state.Phase.{Phase}
+use Rattle.member_server.specs.declared.state.Phase.TheVariants as phase
+use Rattle.member_server.specs.declared.state.Talk.{Talk}
+use Rattle.member_server.specs.declared.state.TurnTalk.{TurnTalk}
+use Rattle.channel_events.specs.Marks.{OneOf}
+use Rattle.step_notes.specs.MemberNotes.{LinkAt, TurnNote, challenge_note, link_of_place, link_units, message_note, taken_link, turn_units}
+use Rattle.step_notes.specs.Records.{Book, ChallengeSent, MessageTaken, blank}
+use Rattle.step_notes.specs.Served.{ServedUnit}
+use Rattle.step_notes.proofs.Members.UnservedLaws.{LinksIn, Opens, in_so, step_known}
+use Rattle.world_moves.specs.declared.links.EndId.{EndId}
+use Rattle.world_moves.specs.declared.links.EndId.TheVariants.{Controller, Member, Client}
+use Rattle.world_moves.specs.declared.links.Route.{Route}
+use Rattle.world_moves.specs.declared.moves.Move.{Move}
+use Rattle.world_moves.specs.declared.plan.Plan.{Plan}
+use Rattle.world_moves.specs.declared.state.State.{State}
+use Rattle.world_moves.specs.Ends.{EndStates, client_step, controller_step, end_step, member_step}
+use Rattle.world_moves.specs.Links.{acceptor_of}
+use Rattle.world_moves.specs.World.{first_world}
+use Rattle.domain_world.specs.Accepting.KeysMade.{IsTakenAsSent, MessagesAreTakenAsSent}
+use Rattle.domain_world.specs.Past.{Coming, Past, at_member, change_if, change_message, controller_of, note_at, note_client, note_controller, note_member, note_messages, note_turn, note_turns, numbers_on, past, with_answer, with_call}
+use Rattle.channel_events.proofs.ListLaws.{got_behind}
+use Rattle.domain_world.proofs.Accepting.Messages.ChallengeLinkLaws.{BytesCome, KnownAfter, KnownAt, ReadOf, bytes_come, so_far}
+use Rattle.domain_world.proofs.Accepting.Messages.ChallengeReadLaws.{AreTakenWith, IsTakenWith}
+use Rattle.domain_world.proofs.Accepting.PlacedLaws.{all_at, all_by_place, apart_same, placed}
+use Rattle.domain_world.proofs.Challenges.MessageOnceLaws.{each_put, fresh_links, member_is, quiet_opens, route_is}
+use Rattle.domain_world.proofs.Challenges.OwnLinkLaws.{IsLinkIn, IsTakenIn, all_join, all_so, all_taken, link_more, one_behind, one_earlier}
+use Rattle.domain_world.proofs.Frames.FrameLaws.{Fact, HoldsAfter, HoldsIn, Stays, StaysWritten, run_stays}
+use Rattle.domain_world.proofs.Frames.LeftLaws.{AreEights, client_left, controller_left, first_eights, member_left}
+use Rattle.domain_world.proofs.Frames.TurnFrameLaws.{notes_keep}
+
+-- ---- what is kept
+
+-- the challenges that were sent and the messages that were taken
+pub record Written : Type 0 where
+  pub challenges : List ChallengeSent
+  pub messages : List MessageTaken
+
+abbrev pub written_of : Book → Written
+written_of b = record { challenges = b.challenges; messages = b.messages }
+
+-- the member accepted the link, and no CHALLENGE was sent on it
+abbrev pub IsUnsent : List ChallengeSent → List Route → ℕ → ℕ → Type 0
+IsUnsent challenges links member link = IsLinkIn links link member × AllByRecursion (λ (sent : ChallengeSent). sent.link ≢ link) challenges
+
+-- a CHALLENGE of that challenge and those flags was sent on the link
+abbrev pub IsSentSo : List ChallengeSent → ℕ → List ℕ → ℕ → Type 0
+IsSentSo challenges link challenge flags = OneOf (λ (sent : ChallengeSent). (sent.link ≡ link) × ReadOf sent challenge flags) challenges
+
+-- the message is for a CHALLENGE that was sent on its link
+abbrev pub IsForSent : List ChallengeSent → MessageTaken → Type 0
+IsForSent challenges one = IsTakenWith (IsSentSo challenges one.link) one.bytes one.logon
+
+-- Each CHALLENGE was sent on a link that was made, and each on another; each link of a member is as what was sent on
+-- it, and each message is for what was sent on its link. Each challenge that is left has 8 bytes.
+pub record AreAsSent (written : Written) (members : List MemberState) (links : List Route) (left : List (List ℕ)) : Type 0 where
+  pub below : AllByRecursion (λ (sent : ChallengeSent). sent.link < length links) written.challenges
+  pub apart : AllPairs (λ (one other : ChallengeSent). one.link ≢ other.link) written.challenges
+  pub each : (k : ℕ) (m : MemberState) → slice_get members k ≡ Some m → LinksIn (KnownAt (IsUnsent written.challenges links k) (IsSentSo written.challenges)) m.running
+  pub messages : AllByRecursion (IsForSent written.challenges) written.messages
+  pub eights : AreEights left
+
+-- so it is by the parts of a world
+abbrev pub Sends : Written → Fact
+Sends written ends chances links = AreAsSent written ends.members links chances.left
+
+-- fewer challenges are left
+less_left : (written : Written) (members : List MemberState) (links : List Route) (left rest : List (List ℕ)) → AreAsSent written members links left → AreEights rest →
+    AreAsSent written members links rest
+less_left written members links left rest kept eights = record { below = kept.below; apart = kept.apart; each = kept.each; messages = kept.messages; eights = eights }
+
+-- a member is changed
+member_put : (written : Written) (members : List MemberState) (links : List Route) (left rest : List (List ℕ)) (at : ℕ) (new : MemberState) → AreAsSent written members links left → AreEights rest →
+    LinksIn (KnownAt (IsUnsent written.challenges links at) (IsSentSo written.challenges)) new.running → AreAsSent written (slice_set members at new) links rest
+member_put written members links left rest at new kept eights known = record {
+  below = kept.below;
+  apart = kept.apart;
+  each = each_put (λ (k : ℕ) (m : MemberState). LinksIn (KnownAt (IsUnsent written.challenges links k) (IsSentSo written.challenges)) m.running) members at new
+      (λ k m differs there. kept.each k m there) known;
+  messages = kept.messages;
+  eights = eights;
+}
+
+-- a link is made
+link_made : (written : Written) (members : List MemberState) (links : List Route) (left : List (List ℕ)) (route : Route) → AreAsSent written members links left →
+    AreAsSent written members (links ++ route ∷ []) left
+link_made written members links left route kept = record {
+  below = all_so (λ (sent : ChallengeSent). sent.link < length links) (λ (sent : ChallengeSent). sent.link < length (links ++ route ∷ []))
+      (λ sent lt. omega (arith, lt, length-append links (route ∷ []))) written.challenges kept.below;
+  apart = kept.apart;
+  each = λ k m there.
+      in_so (KnownAt (IsUnsent written.challenges links k) (IsSentSo written.challenges)) (KnownAt (IsUnsent written.challenges (links ++ route ∷ []) k) (IsSentSo written.challenges))
+      (λ n p known.
+      so_far (IsUnsent written.challenges links k n) (IsUnsent written.challenges (links ++ route ∷ []) k n) (IsSentSo written.challenges n) (IsSentSo written.challenges n)
+      (λ unsent. (link_more links route n k unsent.0, unsent.1)) (λ challenge flags sent. sent) p known)
+      m.running (kept.each k m there);
+  messages = kept.messages;
+  eights = kept.eights;
+}
+
+-- ---- an end hears something
+
+controller_sends : (found : Option ControllerState) (written : Written) (at : ℕ) (what : Event) (now : ℕ) (ends : EndStates) (chances : Drawing) (links : List Route) →
+    Sends written ends chances links → HoldsAfter (Sends written) (controller_step found at what now ends chances) links
+controller_sends None written at what now ends chances links kept = kept
+controller_sends (Some c) written at what now ends chances links kept =
+    less_left written ends.members links chances.left (controller_step (Some c) at what now ends chances).chances.left kept (controller_left (Some c) at what now ends chances kept.eights)
+
+client_sends : (found : Option ClientState) (written : Written) (at : ℕ) (what : Event) (now : ℕ) (ends : EndStates) (chances : Drawing) (links : List Route) →
+    Sends written ends chances links → HoldsAfter (Sends written) (client_step found at what now ends chances) links
+client_sends None written at what now ends chances links kept = kept
+client_sends (Some c) written at what now ends chances links kept =
+    less_left written ends.members links chances.left (client_step (Some c) at what now ends chances).chances.left kept (client_left (Some c) at what now ends chances kept.eights)
+
+member_sends : (found : Option MemberState) (written : Written) (at : ℕ) (what : Event) (now : ℕ) (ends : EndStates) (chances : Drawing) (links : List Route) →
+    slice_get ends.members at ≡ found → Opens what (KnownAt (IsUnsent written.challenges links at) (IsSentSo written.challenges)) → Sends written ends chances links →
+    HoldsAfter (Sends written) (member_step found at what now ends chances) links
+member_sends None written at what now ends chances links is opens kept = kept
+member_sends (Some m) written at what now ends chances links is opens kept =
+    member_put written ends.members links chances.left (step_of m what now chances.left).left at (step_of m what now chances.left).state kept
+    (member_left (Some m) at what now ends chances kept.eights)
+    (step_known (KnownAt (IsUnsent written.challenges links at) (IsSentSo written.challenges)) what m now chances.left opens (kept.each at m is))
+
+-- the end that accepted the link is that member, where it is one
+abbrev pub IsKnownAt : EndId → Written → List Route → ℕ → Phase → Type 0
+IsKnownAt (Controller at) written links link p = Unit {0}
+IsKnownAt (Member at) written links link p = KnownAt (IsUnsent written.challenges links at) (IsSentSo written.challenges) link p
+IsKnownAt (Client at) written links link p = Unit {0}
+
+-- on a link that was just made no CHALLENGE was sent
+last_unsent : (end : EndId) (written : Written) (links : List Route) (route : Route) → acceptor_of route ≡ end →
+    AllByRecursion (λ (sent : ChallengeSent). sent.link < length links) written.challenges → IsKnownAt end written (links ++ route ∷ []) (length links) phase.Fresh
+last_unsent (Controller at) written links route is below = tt
+last_unsent (Client at) written links route is below = tt
+last_unsent (Member at) written links route is below = (
+  record { route = route; at = got_behind links route []; acceptor = is },
+  all_so (λ (sent : ChallengeSent). sent.link < length links) (λ (sent : ChallengeSent). sent.link ≢ length links) (λ sent lt same. omega (arith, lt, same)) written.challenges below,
+)
+
+hear_sends : (end : EndId) (written : Written) (what : Event) (now : ℕ) (ends : EndStates) (chances : Drawing) (links : List Route) →
+    Opens what (IsKnownAt end written links) → Sends written ends chances links → HoldsAfter (Sends written) (end_step end what now ends chances) links
+hear_sends (Controller at) written what now ends chances links opens kept = controller_sends (slice_get ends.controllers at) written at what now ends chances links kept
+hear_sends (Member at) written what now ends chances links opens kept = member_sends (slice_get ends.members at) written at what now ends chances links refl opens kept
+hear_sends (Client at) written what now ends chances links opens kept = client_sends (slice_get ends.clients at) written at what now ends chances links kept
+
+sends_stay : (written : Written) → Stays (Sends written)
+sends_stay written = record {
+  hears = λ end what now ends chances links quiet kept. hear_sends end written what now ends chances links (quiet_opens what (IsKnownAt end written links) quiet) kept;
+  opens = λ route now ends chances links kept.
+      hear_sends (acceptor_of route) written (event.Opened (length links)) now ends chances (links ++ route ∷ [])
+      (last_unsent (acceptor_of route) written links route refl kept.below) (link_made written ends.members links chances.left route kept);
+  controllers = λ c at ends chances links is kept. kept;
+  members = λ plan at ends chances links kept. member_put written ends.members links chances.left chances.left at (fresh_member plan) kept kept.eights tt;
+  clients = λ client at ends chances links kept. kept;
+}
+
+-- ---- bytes come: what was sent and taken is written down
+
+-- a link was accepted by one member
+one_member : (links : List Route) (link member other : ℕ) → IsLinkIn links link member → IsLinkIn links link other → member ≡ other
+one_member links link member other one also = member_is member other (sym one.acceptor ∙ ap acceptor_of (route_is one.route also.route (sym one.at ∙ also.at)) ∙ also.acceptor)
+
+-- what was sent goes on to be so where more is sent
+sent_more : (challenges more : List ChallengeSent) (link : ℕ) (challenge : List ℕ) (flags : ℕ) → IsSentSo challenges link challenge flags → IsSentSo (challenges ++ more) link challenge flags
+sent_more challenges more link challenge flags sent = one_earlier (λ (one : ChallengeSent). (one.link ≡ link) × ReadOf one challenge flags) challenges more sent
+
+with_more : (Sent Other : List ℕ → ℕ → Type 0) (one : MessageTaken) → ((challenge : List ℕ) (flags : ℕ) → Sent challenge flags → Other challenge flags) → IsTakenWith Sent one.bytes one.logon →
+    IsTakenWith Other one.bytes one.logon
+with_more Sent Other one so its = record { read = its.read; flags = its.flags; sent = so one.logon.challenge its.flags its.sent; agreed = its.agreed }
+
+unsent_more : (challenges : List ChallengeSent) (one : ChallengeSent) (links : List Route) (member link : ℕ) → IsUnsent challenges links member link → one.link ≢ link →
+    IsUnsent (challenges ++ one ∷ []) links member link
+unsent_more challenges one links member link unsent differs = (unsent.0, all_join (λ (sent : ChallengeSent). sent.link ≢ link) challenges (one ∷ []) unsent.1 (differs, tt))
+
+known_more : (challenges : List ChallengeSent) (one : ChallengeSent) (links : List Route) (member link : ℕ) (p : Phase) → (IsLinkIn links link member → one.link ≢ link) →
+    KnownAt (IsUnsent challenges links member) (IsSentSo challenges) link p → KnownAt (IsUnsent (challenges ++ one ∷ []) links member) (IsSentSo (challenges ++ one ∷ [])) link p
+known_more challenges one links member link p differs known =
+    so_far (IsUnsent challenges links member link) (IsUnsent (challenges ++ one ∷ []) links member link) (IsSentSo challenges link) (IsSentSo (challenges ++ one ∷ []) link)
+    (λ unsent. unsent_more challenges one links member link unsent (differs unsent.0)) (sent_more challenges (one ∷ []) link) p known
+
+-- it is the one that was sent
+is_last : (challenges : List ChallengeSent) (one : ChallengeSent) (link : ℕ) (challenge : List ℕ) (flags : ℕ) → one.link ≡ link → ReadOf one challenge flags →
+    IsSentSo (challenges ++ one ∷ []) link challenge flags
+is_last challenges one link challenge flags same read = one_behind (λ (sent : ChallengeSent). (sent.link ≡ link) × ReadOf sent challenge flags) challenges (one ∷ []) (inl (same, read))
+
+-- the link on which it was sent, and another one
+known_after : (challenges : List ChallengeSent) (one : ChallengeSent) (links : List Route) (member link n : ℕ) (p : Phase) → one.link ≡ link →
+    KnownAfter (IsUnsent challenges links member) (IsSentSo challenges) link one n p → KnownAt (IsUnsent (challenges ++ one ∷ []) links member) (IsSentSo (challenges ++ one ∷ [])) n p
+known_after challenges one links member link n p same known = elim known [
+  | inl other ↦ known_more challenges one links member n p (λ its is. other.1 (sym is ∙ same)) other.0
+  | inr here ↦ so_far ⊥ (IsUnsent (challenges ++ one ∷ []) links member n) (ReadOf one) (IsSentSo (challenges ++ one ∷ []) n) (λ none. absurd none)
+      (λ challenge flags read. is_last challenges one n challenge flags (same ∙ sym here.0) read) p here.1
+]
+
+-- the messages that were taken on a link
+all_for : (challenges : List ChallengeSent) (link : ℕ) (Sent : List ℕ → ℕ → Type 0) (messages : List MessageTaken) → ((challenge : List ℕ) (flags : ℕ) → Sent challenge flags → IsSentSo challenges link challenge flags) →
+    AllByRecursion (λ (one : MessageTaken). one.link ≡ link) messages → AreTakenWith Sent messages → AllByRecursion (IsForSent challenges) messages
+all_for challenges link Sent [] so on all = tt
+all_for challenges link Sent (one ∷ messages) so on all = (
+  with_more Sent (IsSentSo challenges one.link) one (λ challenge flags sent. subst (λ (n : ℕ). IsSentSo challenges n challenge flags) (sym on.0) (so challenge flags sent)) all.0,
+  all_for challenges link Sent messages so on.1 all.1,
+)
+
+for_more : (challenges more : List ChallengeSent) (messages : List MessageTaken) → AllByRecursion (IsForSent challenges) messages → AllByRecursion (IsForSent (challenges ++ more)) messages
+for_more challenges more messages all =
+    all_so (IsForSent challenges) (IsForSent (challenges ++ more)) (λ one its. with_more (IsSentSo challenges one.link) (IsSentSo (challenges ++ more) one.link) one (sent_more challenges more one.link) its)
+    messages all
+
+abbrev pub written_more : Written → List ChallengeSent → List MessageTaken → Written
+written_more written sent messages = record { challenges = written.challenges ++ sent; messages = written.messages ++ messages }
+
+-- a member took a step at which these were sent and taken on that link
+member_came : (written : Written) (sent : List ChallengeSent) (messages : List MessageTaken) (members : List MemberState) (links : List Route) (left rest : List (List ℕ)) (at link : ℕ)
+    (new : MemberState) → AreAsSent written members links left → AreEights rest → AllByRecursion (λ (one : MessageTaken). one.link ≡ link) messages →
+    BytesCome link (IsUnsent written.challenges links at) (IsSentSo written.challenges) sent messages (λ May. LinksIn May new.running) →
+    AreAsSent (written_more written sent messages) (slice_set members at new) links rest
+member_came written [] messages members links left rest at link new kept eights on come =
+    subst (λ (challenges : List ChallengeSent). AreAsSent (record { challenges = challenges; messages = written.messages ++ messages }) (slice_set members at new) links rest)
+    (sym (append-nil written.challenges))
+    (let put = member_put written members links left rest at new kept eights come.1 in
+    record {
+      below = put.below;
+      apart = put.apart;
+      each = put.each;
+      messages = all_join (IsForSent written.challenges) written.messages messages put.messages (all_for written.challenges link (IsSentSo written.challenges link) messages (λ challenge flags sent. sent) on come.0);
+      eights = put.eights;
+    })
+member_came written (one ∷ []) messages members links left rest at link new kept eights on come =
+    let challenges : List ChallengeSent = written.challenges in
+    let all : List ChallengeSent = challenges ++ one ∷ [] in
+    let free : IsUnsent challenges links at link = come.0 in
+    let here : one.link ≡ link = come.1 in
+    record {
+      below = all_join (λ (sent : ChallengeSent). sent.link < length links) challenges (one ∷ []) kept.below (omega (arith, here, slice_get_within links link free.0.route free.0.at), tt);
+      apart = all_pairs_push (λ (a b : ChallengeSent). a.link ≢ b.link) challenges one kept.apart
+          (All-from_recursion (λ (sent : ChallengeSent). sent.link ≢ one.link) challenges
+          (subst (λ (n : ℕ). AllByRecursion (λ (sent : ChallengeSent). sent.link ≢ n) challenges) (sym here) free.1));
+      each = each_put (λ (k : ℕ) (m : MemberState). LinksIn (KnownAt (IsUnsent all links k) (IsSentSo all)) m.running) members at new
+          (λ k m differs there.
+          in_so (KnownAt (IsUnsent challenges links k) (IsSentSo challenges)) (KnownAt (IsUnsent all links k) (IsSentSo all))
+          (λ n p known.
+          known_more challenges one links k n p
+          (λ its same. differs (one_member links n k at its (subst (λ (x : ℕ). IsLinkIn links x at) (sym here ∙ same) free.0))) known)
+          m.running (kept.each k m there))
+          (in_so (KnownAfter (IsUnsent challenges links at) (IsSentSo challenges) link one) (KnownAt (IsUnsent all links at) (IsSentSo all))
+          (λ n p known. known_after challenges one links at link n p here known) new.running come.3);
+      messages = all_join (IsForSent all) written.messages messages (for_more challenges (one ∷ []) written.messages kept.messages)
+          (all_for all link (ReadOf one) messages (λ challenge flags read. is_last challenges one link challenge flags here read) on come.2);
+      eights = eights;
+    }
+member_came written (one ∷ other ∷ more) messages members links left rest at link new kept eights on come = absurd come
+
+-- ---- what is written down later of a message leaves it
+
+if_for : (here : Bool) (Holds : MessageTaken → Type 0) (change : MessageTaken → MessageTaken) (one : MessageTaken) → (Holds one → Holds (change one)) → Holds one → Holds (change_if here change one)
+if_for false Holds change one so its = its
+if_for true Holds change one so its = so its
+
+changed_for : (link : Option ℕ) (Holds : MessageTaken → Type 0) (change : MessageTaken → MessageTaken) → ((one : MessageTaken) → Holds one → Holds (change one)) → (messages : List MessageTaken) →
+    AllByRecursion Holds messages → AllByRecursion Holds (change_message link change messages)
+changed_for None Holds change so messages all = all
+changed_for (Some link) Holds change so [] all = tt
+changed_for (Some link) Holds change so (one ∷ messages) all = (if_for (one.link == link) Holds change one (so one) all.0, changed_for (Some link) Holds change so messages all.1)
+
+abbrev pub IsSoOf : Book → List MemberState → List Route → List (List ℕ) → Type 0
+IsSoOf b members links left = AreAsSent (written_of b) members links left
+
+turn_for : (note : TurnNote) (served : ServedUnit AtTurn TurnTalk) (unit number : Option ℕ) (b : Book) (members : List MemberState) (links : List Route) (left : List (List ℕ)) →
+    IsSoOf b members links left → IsSoOf (note_turn note served unit number b) members links left
+turn_for note served unit number b members links left kept =
+    let called : Option ℕ = link_of_place note.called served.work.work.logons in
+    record {
+      below = kept.below;
+      apart = kept.apart;
+      each = kept.each;
+      messages = changed_for (link_of_place note.answered served.work.work.logons) (IsForSent b.challenges) (with_answer unit) (λ one its. its) (change_message called (with_call number) b.messages)
+          (changed_for called (IsForSent b.challenges) (with_call number) (λ one its. its) b.messages kept.messages);
+      eights = kept.eights;
+    }
+
+turns_for : (controller : ℕ) (units : List (ServedUnit AtTurn TurnTalk)) (unit : Option ℕ) (numbers : List ℕ) (b : Book) (members : List MemberState) (links : List Route) (left : List (List ℕ)) →
+    IsSoOf b members links left → IsSoOf (note_turns controller units unit numbers b) members links left
+turns_for controller units unit numbers b members links left kept =
+    notes_keep (λ (later : Book). IsSoOf later members links left) unit (λ note served number later so. turn_for note served unit number later members links left so) controller units numbers b kept
+
+controller_written : (found : Option ControllerState) (controller : ℕ) (w : Coming) (piece : List ℕ) (s after : State) (b : Book) →
+    written_of (note_controller found controller w piece s after b) ≡ written_of b
+controller_written None controller w piece s after b = refl
+controller_written (Some c) controller w piece s after b = refl
+
+client_written : (found : Option ClientState) (client : ℕ) (w : Coming) (piece : List ℕ) (s : State) (b : Book) → written_of (note_client found client w piece s b) ≡ written_of b
+client_written None client w piece s b = refl
+client_written (Some c) client w piece s b = refl
+
+member_heard : (found : Option MemberState) (at : ℕ) (w : Coming) (piece : List ℕ) (s after : State) (b : Book) → slice_get s.ends.members at ≡ found → HoldsIn (Sends (written_of b)) s →
+    HoldsAfter (Sends (written_of (note_member found at w piece s after b))) (member_step found at (event.Bytes w.link piece) s.moment s.ends s.chances) s.links
+member_heard None at w piece s after b is kept = kept
+member_heard (Some m) at w piece s after b is kept =
+    let l : LinkAt = at_member at w s in
+    let units : List (ServedUnit AtLink Talk) = link_units m w.link piece s.moment s.chances.left in
+    let what : Event = event.Bytes w.link piece in
+    let new : MemberState = (step_of m what s.moment s.chances.left).state in
+    turns_for (controller_of at s) (turn_units m w.link piece s.moment s.chances.left) w.unit (numbers_on w.link false s.bag after.bag) (note_messages at m w piece s b) (slice_set s.ends.members at new)
+    s.links (step_of m what s.moment s.chances.left).left
+    (member_came (written_of b) (flat_map (challenge_note l) units) (flat_map (message_note l) units) s.ends.members s.links s.chances.left (step_of m what s.moment s.chances.left).left at w.link new kept
+    (member_left (Some m) at what s.moment s.ends s.chances kept.eights)
+    (all_so (IsTakenIn l (flat_map (taken_link l) units)) (λ (one : MessageTaken). one.link ≡ w.link) (λ one its. its.0) (flat_map (message_note l) units) (all_taken l units))
+    (bytes_come l (IsUnsent b.challenges s.links at) (IsSentSo b.challenges) piece s.moment s.chances.left kept.eights m (kept.each at m is)))
+
+end_heard : (end : EndId) (w : Coming) (piece : List ℕ) (s after : State) (b : Book) → HoldsIn (Sends (written_of b)) s →
+    HoldsAfter (Sends (written_of (note_at (Some end) w piece s after b))) (end_step end (event.Bytes w.link piece) s.moment s.ends s.chances) s.links
+end_heard (Controller at) w piece s after b kept =
+    subst (λ (written : Written). HoldsAfter (Sends written) (end_step (Controller at) (event.Bytes w.link piece) s.moment s.ends s.chances) s.links)
+    (sym (controller_written (slice_get s.ends.controllers at) at w piece s after b))
+    (controller_sends (slice_get s.ends.controllers at) (written_of b) at (event.Bytes w.link piece) s.moment s.ends s.chances s.links kept)
+end_heard (Client at) w piece s after b kept =
+    subst (λ (written : Written). HoldsAfter (Sends written) (end_step (Client at) (event.Bytes w.link piece) s.moment s.ends s.chances) s.links)
+    (sym (client_written (slice_get s.ends.clients at) at w piece s b))
+    (client_sends (slice_get s.ends.clients at) (written_of b) at (event.Bytes w.link piece) s.moment s.ends s.chances s.links kept)
+end_heard (Member at) w piece s after b kept = member_heard (slice_get s.ends.members at) at w piece s after b refl kept
+
+-- ---- a run
+
+sends_written : StaysWritten written_of Sends
+sends_written = record { stays = sends_stay; bytes = end_heard; given = λ at given after b. refl }
+
+first_sends : (plan : Plan) → HoldsIn (Sends (written_of blank)) (first_world plan).state
+first_sends plan = record {
+  below = tt;
+  apart = λ i j d lt within. absurd (omega (arith, within));
+  each = λ k m there. fresh_links plan.members (KnownAt (IsUnsent [] [] k) (IsSentSo [])) k m there;
+  messages = tt;
+  eights = first_eights plan;
+}
+
+-- the message is for the one CHALLENGE of its link
+sent_for : (challenges : List ChallengeSent) → AllPairs (λ (one other : ChallengeSent). one.link ≢ other.link) challenges → (message : MessageTaken) → IsForSent challenges message → (l : ℕ)
+    (sent : ChallengeSent) → slice_get challenges l ≡ Some sent → sent.link ≡ message.link → IsTakenAsSent message sent
+sent_for challenges apart message its l sent there same =
+    let found = placed (λ (one : ChallengeSent). (one.link ≡ message.link) × ReadOf one message.logon.challenge its.flags) challenges its.sent in
+    let is : found.item ≡ sent = apart_same (λ (one : ChallengeSent). one.link) challenges apart found.place l found.item sent found.there there (found.is.0 ∙ sym same) in
+    let read : ReadOf sent message.logon.challenge its.flags = subst (λ (one : ChallengeSent). ReadOf one message.logon.challenge its.flags) is found.is.1 in
+    record {
+      taken = its.read;
+      came = read.came;
+      read = read.read;
+      challenge = sym read.same_challenge;
+      agreed = its.agreed ∙ ap (λ (flags : ℕ). agreed_flags flags message.logon.message.flags) (sym read.same_flags);
+    }
+
+-- in every run each message is taken as it was sent for
+pub messages_taken : (plan : Plan) (moves : List Move) → MessagesAreTakenAsSent (past plan moves)
+messages_taken plan moves =
+    let run : Past = past plan moves in
+    let kept : HoldsIn (Sends (written_of run.book)) run.world.state = run_stays written_of Sends sends_written plan moves (first_sends plan) in
+    all_by_place (λ (message : MessageTaken). AllByRecursion (λ (sent : ChallengeSent). sent.link ≡ message.link → IsTakenAsSent message sent) run.book.challenges) run.book.messages
+    (λ k message here. all_by_place (λ (sent : ChallengeSent). sent.link ≡ message.link → IsTakenAsSent message sent) run.book.challenges
+    (λ l sent there same. sent_for run.book.challenges kept.apart message (all_at (IsForSent run.book.challenges) run.book.messages k message kept.messages here) l sent there same))

@@ -1,0 +1,302 @@
+-- Through all moves, the answer of each message was taken in its turn, its outcome is told, and whoever is let in is so
+-- by such an answer: three of the facts of `UnitsAreHeard`. What they rest on is `TurnSide` of TurnSideLaws.
+-- It serves `schedules_are_heard`.
+use Rattle.std.proofs.Common.{◌≡◌, ℕ, zero, suc, ◌+◌, Bool, List, [], ◌∷◌, map, length, Option, Some, None, refl, sym, subst, ◌∙◌, slice_get, true, false}
+use Rattle.std.proofs.lemmas.List.{append-nil, length-set}
+use Rattle.outside.specs.declared.action.Action.{Action}
+use Rattle.outside.specs.declared.action.Action.TheVariants as action
+use Rattle.outside.specs.declared.event.Event.{Event}
+use Rattle.outside.specs.declared.event.Event.TheVariants as event
+use Rattle.domain_controller.specs.State.{State as ControllerState}
+use Rattle.logon_client.specs.State.{State as ClientState}
+use Rattle.logon_client.specs.declared.plan.ClientPlan.{ClientPlan}
+use Rattle.member_server.specs.Laws.{LetsInTheGranted}
+use Rattle.member_server.specs.Machine.{fresh_member}
+use Rattle.member_server.specs.State.{State as MemberState}
+use Rattle.member_server.specs.declared.plan.MemberPlan.{MemberPlan}
+use Rattle.channel_events.specs.Marks.{OneOf}
+use Rattle.channel_events.proofs.ListLaws.{all_weaker, got_append, got_nothing, one_weaker, some_is}
+use Rattle.step_notes.specs.Records.{Book, MessageTaken, OutcomeTold, blank}
+use Rattle.step_notes.proofs.Members.KeptLogonLaws.{Dials, KeptIn}
+use Rattle.world_moves.specs.declared.bag.BagUnit.{BagUnit}
+use Rattle.world_moves.specs.declared.links.EndId.{EndId}
+use Rattle.world_moves.specs.declared.links.EndId.TheVariants.{Controller, Member, Client}
+use Rattle.world_moves.specs.declared.links.LinkKind.{LinkKind}
+use Rattle.world_moves.specs.declared.links.LinkKind.TheVariants as kind
+use Rattle.world_moves.specs.declared.links.Route.{Route}
+use Rattle.world_moves.specs.declared.moves.Move.{Move}
+use Rattle.world_moves.specs.declared.plan.Plan.{Plan}
+use Rattle.world_moves.specs.declared.state.State.{State}
+use Rattle.world_moves.specs.Acting.{Given, Heard, bag_unit, forget, given_by, hear, heard_by, hears, perform_quietly, send_on, shut_link}
+use Rattle.world_moves.specs.Counting.{is_in}
+use Rattle.world_moves.specs.Ends.{EndStates, member_step}
+use Rattle.world_moves.specs.Links.{acceptor_of, is_accepted_by, kind_of}
+use Rattle.world_moves.specs.Moving.{answered_link, begun, renewed, settle, tick, with_link, without_first}
+use Rattle.world_moves.specs.World.{World, first_world}
+use Rattle.domain_world.specs.Accepting.Carried.{IsTakenInTurn}
+use Rattle.domain_world.specs.Accepting.ReadBack.{IsLetInInTurn, IsToldInTurn, TurnsAreHeard}
+use Rattle.domain_world.specs.Past.{Coming, Past, any_clash, answers_of, note_at, note_client, note_controller, note_given, note_member, past}
+use Rattle.domain_world.proofs.Accepting.Turns.TurnFactLaws.{Any, AreApart, GrowsTo, HasFree, IsAnswered, IsKnown, KeepFree, MarksAreKnown, SameEnds, TurnFacts, apart_from, let_in_stays, marks_before, past_at, taken_stays, told_stays, world_in}
+use Rattle.domain_world.proofs.Accepting.Turns.TurnNotedLaws.{or_false}
+use Rattle.domain_world.proofs.Accepting.Turns.TurnQuietLaws.{action_still, acts_stay, changed_stays, client_members, clients_tell, controller_members, controllers_tell, hear_grows, others_hear, over_grows, over_stays, quiet_hears, renew_same, renew_stays, same_ends, told_yet}
+use Rattle.domain_world.proofs.Accepting.Turns.TurnMarkLaws.{marks_known}
+use Rattle.domain_world.proofs.Accepting.Turns.TurnSideLaws.{TurnSide, member_comes}
+use Rattle.domain_world.proofs.Challenges.MessageApartLaws.{links_in, messages_apart}
+use Rattle.domain_world.proofs.Frames.ComingLaws.{CameFrom, StillHas, kept_same, kept_settled}
+use Rattle.domain_world.proofs.Frames.OpenMadeLaws.{IsAtSide}
+use Rattle.domain_world.proofs.Frames.StepFrameLaws.{AnyAction, all_any, ActionFact, BothFacts, BothFine, HasHeard, HoldsAfterRun, Keeps, NoFact, RunFact, join, run_keeps, with_side}
+use Rattle.domain_world.proofs.Frames.EndFrameLaws.{IsCalm}
+use Rattle.domain_world.proofs.Frames.MoveFrameLaws.{HasBytes}
+
+-- ---- what is to hold
+
+-- what it rests on
+abbrev pub TurnsRestOn : Plan → RunFact
+TurnsRestOn plan n s given b = TurnSide plan s b
+
+-- The plans of the members stay; and where there was no clash, no two messages came on one link, and what goes back was
+-- made by controllers that are there, which all hold of what is earlier where they hold of what is later, the facts
+-- hold, of what was told also in this move.
+abbrev pub TurnsHold : Plan → RunFact
+TurnsHold plan n s given b = (s.member_plans ≡ plan.members) × (b.clash ≡ false → AreApart (links_in b.messages) → MarksAreKnown s b → TurnFacts plan s b b.messages (told_yet given b))
+
+calm_dials : (what : Event) → IsCalm what → Dials Any what
+calm_dials (event.Bytes link piece) calm = absurd calm
+calm_dials (event.Opened link) calm = absurd calm
+calm_dials (event.Dialled link) calm = absurd calm
+calm_dials (event.Closed link) calm = tt
+calm_dials event.DialFailed calm = tt
+calm_dials event.Stop calm = tt
+
+-- ---- an action leaves the plans
+
+bag_plans : (k : LinkKind) (back : Bool) (link : ℕ) (bytes : List ℕ) (s : State) → (bag_unit k back link bytes s).member_plans ≡ s.member_plans
+bag_plans kind.Stranger back link bytes s = refl
+bag_plans kind.ToMember back link bytes s = refl
+bag_plans kind.ToController back link bytes s = refl
+
+sent_plans : (route : Option Route) (end : EndId) (link : ℕ) (bytes : List ℕ) (s : State) → (send_on route end link bytes s).member_plans ≡ s.member_plans
+sent_plans None end link bytes s = refl
+sent_plans (Some route) end link bytes s = bag_plans (kind_of route) (is_accepted_by end route) link bytes s
+
+pub action_plans : (end : EndId) (what : Action) (s : State) → (perform_quietly end what s).member_plans ≡ s.member_plans
+action_plans end (action.Keep bytes) s = refl
+action_plans end (action.Send link bytes) s = sent_plans (slice_get s.links link) end link bytes s
+action_plans end (action.Dial peer) s = refl
+action_plans end (action.Close link cause) s = refl
+action_plans end (action.Told link how) s = refl
+action_plans end (action.Judged how) s = refl
+
+-- ---- through all moves
+
+module _ (law : LetsInTheGranted) (plan : Plan) where
+  quietly : (n : ℕ) (end : EndId) (what : Event) (s : State) (given : Given) (b : Book) → Dials Any what → TurnsHold plan n s given b → HasHeard (TurnsHold plan) AnyAction (n + 1) end (hear end what s) given b
+  quietly n end what s given b dials holds = record {
+    holds = (
+      holds.0,
+      λ unclashed apart marks.
+          quiet_hears law plan end what s given b dials (holds.1 unclashed apart (marks_before s (hear end what s).state b b (hear_grows end what s b b (λ k one there. there)) marks)),
+    );
+    fine = all_any (hear end what s).actions;
+  }
+
+  changed : (n : ℕ) (s t : State) (given : Given) (b : Book) → t.member_plans ≡ s.member_plans → StillHas s.bag t.bag → SameEnds s.ends t.ends →
+      (TurnFacts plan s b b.messages (told_yet given b) → TurnFacts plan t b b.messages (told_yet given b)) → TurnsHold plan n s given b → TurnsHold plan n t given b
+  changed n s t given b plans still same so holds =
+      (plans ∙ holds.0, λ unclashed apart marks. so (holds.1 unclashed apart (marks_before s t b b (record { bag = still; sent = λ k one there. there; ends = same }) marks)))
+
+  -- neither the bag nor an end is changed
+  beside : (n : ℕ) (s t : State) (given : Given) (b : Book) → t.member_plans ≡ s.member_plans → t.bag ≡ s.bag → t.ends ≡ s.ends → TurnsHold plan n s given b → TurnsHold plan n t given b
+  beside n s t given b plans bag ends =
+      let still : StillHas s.bag t.bag = subst (λ (x : List BagUnit). StillHas s.bag x) (sym bag) (kept_same s.bag) in
+      let same : SameEnds s.ends t.ends = subst (λ (x : EndStates). SameEnds s.ends x) (sym ends) (same_ends s.ends) in
+      changed n s t given b plans still same
+      (λ facts. changed_stays plan s t given b still same (subst (λ (x : EndStates). KeepFree x.members b.messages) (sym ends) facts.free) facts)
+
+  -- ---- bytes come
+
+  controller_comes : (found : Option ControllerState) (at n : ℕ) (w : Coming) (piece : List ℕ) (s after : State) (given : Given) (b : Book) → TurnsHold plan n s given b →
+      HasHeard (TurnsHold plan) AnyAction (n + 1) (Controller at) (hear (Controller at) (event.Bytes w.link piece) s) given (note_controller found at w piece s after b)
+  controller_comes None at n w piece s after given b holds =
+      let what : Event = event.Bytes w.link piece in
+      record {
+        holds = (
+          holds.0,
+          λ unclashed apart marks.
+              (let grows : GrowsTo s (hear (Controller at) what s).state b b = hear_grows (Controller at) what s b b (λ k one there. there) in
+              others_hear plan s (hear (Controller at) what s).state b b given (given_by (Controller at) (hear (Controller at) what s).actions) grows
+              (controller_members (slice_get s.ends.controllers at) at what s.moment s.ends s.chances) refl (controllers_tell at (hear (Controller at) what s).actions)
+              (holds.1 unclashed apart (marks_before s (hear (Controller at) what s).state b b grows marks))),
+        );
+        fine = all_any (hear (Controller at) what s).actions;
+      }
+  controller_comes (Some c) at n w piece s after given b holds =
+      let what : Event = event.Bytes w.link piece in
+      let d : Book = note_controller (Some c) at w piece s after b in
+      record {
+        holds = (
+          holds.0,
+          λ unclashed apart marks.
+              (let grows : GrowsTo s (hear (Controller at) what s).state b d = hear_grows (Controller at) what s b d (λ k one there. got_append b.sent _ k one there) in
+              others_hear plan s (hear (Controller at) what s).state b d given (given_by (Controller at) (hear (Controller at) what s).actions) grows
+              (controller_members (slice_get s.ends.controllers at) at what s.moment s.ends s.chances) refl (controllers_tell at (hear (Controller at) what s).actions)
+              (holds.1 (or_false b.clash (any_clash (answers_of at c w piece s) w.unit b.sent) unclashed).0 apart (marks_before s (hear (Controller at) what s).state b d grows marks))),
+        );
+        fine = all_any (hear (Controller at) what s).actions;
+      }
+
+  client_comes : (found : Option ClientState) (at n : ℕ) (w : Coming) (piece : List ℕ) (s : State) (given : Given) (b : Book) → TurnsHold plan n s given b →
+      HasHeard (TurnsHold plan) AnyAction (n + 1) (Client at) (hear (Client at) (event.Bytes w.link piece) s) given (note_client found at w piece s b)
+  client_comes None at n w piece s given b holds =
+      let what : Event = event.Bytes w.link piece in
+      record {
+        holds = (
+          holds.0,
+          λ unclashed apart marks.
+              (let grows : GrowsTo s (hear (Client at) what s).state b b = hear_grows (Client at) what s b b (λ k one there. there) in
+              others_hear plan s (hear (Client at) what s).state b b given (given_by (Client at) (hear (Client at) what s).actions) grows
+              (client_members (slice_get s.ends.clients at) at what s.moment s.ends s.chances) refl (clients_tell at (hear (Client at) what s).actions)
+              (holds.1 unclashed apart (marks_before s (hear (Client at) what s).state b b grows marks))),
+        );
+        fine = all_any (hear (Client at) what s).actions;
+      }
+  client_comes (Some c) at n w piece s given b holds =
+      let what : Event = event.Bytes w.link piece in
+      let d : Book = note_client (Some c) at w piece s b in
+      record {
+        holds = (
+          holds.0,
+          λ unclashed apart marks.
+              (let grows : GrowsTo s (hear (Client at) what s).state b d = hear_grows (Client at) what s b d (λ k one there. there) in
+              others_hear plan s (hear (Client at) what s).state b d given (given_by (Client at) (hear (Client at) what s).actions) grows
+              (client_members (slice_get s.ends.clients at) at what s.moment s.ends s.chances) refl (clients_tell at (hear (Client at) what s).actions)
+              (holds.1 unclashed apart (marks_before s (hear (Client at) what s).state b d grows marks))),
+        );
+        fine = all_any (hear (Client at) what s).actions;
+      }
+
+  member_hears : (found : Option MemberState) (at n : ℕ) (w : Coming) (piece : List ℕ) (s after : State) (given : Given) (b : Book) → slice_get s.ends.members at ≡ found →
+      CameFrom w.unit s w piece → IsAtSide s.links w.link w.back (Member at) → TurnSide plan s b → TurnsHold plan n s given b →
+      HasHeard (TurnsHold plan) AnyAction (n + 1) (Member at) (heard_by (member_step found at (event.Bytes w.link piece) s.moment s.ends s.chances) s) given (note_member found at w piece s after b)
+  member_hears None at n w piece s after given b there came side rests holds =
+      let t : Heard = heard_by (member_step None at (event.Bytes w.link piece) s.moment s.ends s.chances) s in
+      record {
+        holds = (
+          holds.0,
+          λ unclashed apart marks.
+              (let grows : GrowsTo s t.state b b = record { bag = kept_same s.bag; sent = λ k one is. is; ends = same_ends s.ends } in
+              others_hear plan s t.state b b given [] grows refl refl refl (holds.1 unclashed apart (marks_before s t.state b b grows marks))),
+        );
+        fine = tt;
+      }
+  member_hears (Some m) at n w piece s after given b there came side rests holds =
+      let t : Heard = heard_by (member_step (Some m) at (event.Bytes w.link piece) s.moment s.ends s.chances) s in
+      record {
+        holds = (holds.0, λ unclashed apart marks. member_comes law plan at w piece s after given b rests m there came side holds.0 unclashed apart marks holds.1);
+        fine = all_any t.actions;
+      }
+
+  end_comes : (end : EndId) (n : ℕ) (w : Coming) (piece : List ℕ) (s after : State) (given : Given) (b : Book) → IsAtSide s.links w.link w.back end → CameFrom w.unit s w piece → TurnSide plan s b →
+      TurnsHold plan n s given b → HasHeard (TurnsHold plan) AnyAction (n + 1) end (hear end (event.Bytes w.link piece) s) given (note_at (Some end) w piece s after b)
+  end_comes (Controller at) n w piece s after given b side came rests holds = controller_comes (slice_get s.ends.controllers at) at n w piece s after given b holds
+  end_comes (Member at) n w piece s after given b side came rests holds = member_hears (slice_get s.ends.members at) at n w piece s after given b refl came side rests holds
+  end_comes (Client at) n w piece s after given b side came rests holds = client_comes (slice_get s.ends.clients at) at n w piece s given b holds
+
+  -- a client begins
+  client_begins : (n client : ℕ) (own : ClientPlan) (s : State) (given : Given) (b : Book) → TurnsHold plan n s given b →
+      HasHeard (TurnsHold plan) AnyAction (n + 1) (Client client) (begun client own s) given b
+  client_begins n client own s given b holds = record {
+    holds = (
+      holds.0,
+      λ unclashed apart marks.
+          (let grows : GrowsTo s (begun client own s).state b b = record {
+            bag = kept_same s.bag;
+            sent = λ k one there. there;
+            ends = record { controllers = refl; members = refl; clients = sym (length-set s.ends.clients client _) };
+          } in
+          others_hear plan s (begun client own s).state b b given (given_by (Client client) (begun client own s).actions) grows refl refl (clients_tell client (begun client own s).actions)
+          (holds.1 unclashed apart (marks_before s (begun client own s).state b b grows marks))),
+    );
+    fine = all_any (begun client own s).actions;
+  }
+
+  -- through all moves
+  pub turns_keep : Keeps (TurnsRestOn plan) (TurnsHold plan) AnyAction
+  turns_keep = record {
+    calm = λ n end what s given b calm rests holds. quietly n end what s given b (calm_dials what calm) holds;
+    dialled = λ n end link s given b side rests holds. quietly n end (event.Dialled link) s given b tt holds;
+    opens = λ n route s given b rests holds.
+        quietly n (acceptor_of route) (event.Opened (length s.links)) (with_link route s) given b tt (beside n s (with_link route s) given b refl refl refl holds);
+    begins = λ n client own s given b is rests holds. client_begins n client own s given b holds;
+    comes = λ n end w piece s given b side came bytes marked rests holds.
+        end_comes end n w piece s (hears end (event.Bytes w.link piece) s).state given b side came rests holds;
+    acts = λ n end what s given b fine rests holds.
+        changed n s (perform_quietly end what s) given b (action_plans end what s) (action_still end what s).0 (subst (λ (x : EndStates). SameEnds s.ends x) (sym (action_still end what s).1) (same_ends s.ends))
+        (acts_stay plan end what s given b) holds;
+    shuts = λ n link s given b rests holds. beside n s (shut_link link s) given b refl refl refl holds;
+    answers = λ n link there s given b is rests holds. beside n s (answered_link link there s) given b refl refl refl holds;
+    forgets = λ n end s given b rests holds. beside n s (forget end s) given b refl refl refl holds;
+    settles = λ n number s given b rests holds.
+        changed n s (settle number s) given b refl (kept_settled number s.bag) (same_ends s.ends)
+        (λ facts. changed_stays plan s (settle number s) given b (kept_settled number s.bag) (same_ends s.ends) facts.free facts) holds;
+    dials = λ n s given b rests holds. beside n s (without_first s) given b refl refl refl holds;
+    renews = λ n end s given b rests holds. changed n s (renewed end s) given b refl (kept_same s.bag) (renew_same end s) (renew_stays plan end s given b) holds;
+    ticks = λ n more s given b rests holds. beside n s (tick more s) given b refl refl refl holds;
+    over = λ n at s given b rests holds.
+        (holds.0, λ unclashed apart marks. over_stays plan at s given b (holds.1 unclashed apart (marks_before s s b (note_given at given s b) (over_grows at given s b) marks)));
+  }
+
+-- ---- the first world
+
+fresh_kept : (plans : List MemberPlan) (Kept : MemberState → Type 0) → ((own : MemberPlan) → Kept (fresh_member own)) → (k : ℕ) (m : MemberState) → slice_get (map fresh_member plans) k ≡ Some m → Kept m
+fresh_kept [] Kept fresh k m there = absurd (got_nothing k m there)
+fresh_kept (own ∷ plans) Kept fresh zero m there = subst Kept (some_is (fresh_member own) m there) (fresh own)
+fresh_kept (own ∷ plans) Kept fresh (suc k) m there = fresh_kept plans Kept fresh k m there
+
+pub turns_begin : (plan : Plan) → TurnsHold plan 0 (first_world plan).state [] blank
+turns_begin plan = (
+  refl,
+  λ unclashed apart marks. record {
+    answered = tt;
+    let_in = tt;
+    free = λ k m there. fresh_kept plan.members (λ (x : MemberState). KeptIn (HasFree k []) Any x.running) (λ own. (tt, tt)) k m there;
+  },
+)
+
+-- ---- what it comes to
+
+pub turns_of : (n : ℕ) (plan : Plan) (moves : List Move) → TurnsHold plan n (past plan moves).world.state [] (past plan moves).book → TurnsAreHeard (past plan moves)
+turns_of n plan moves holds =
+    let p : Past = past plan moves in
+    let b : Book = p.book in
+    let s : State = p.world.state in
+    let v : World = world_in s in
+    let grows : GrowsTo s s b b = record { bag = kept_same s.bag; sent = λ k one there. there; ends = same_ends s.ends } in
+    let facts : b.clash ≡ false → TurnFacts plan s b b.messages b.told = λ unclashed.
+    subst (λ (told : List OutcomeTold). TurnFacts plan s b b.messages told) (append-nil b.told) (holds.1 unclashed (apart_from b.messages (messages_apart plan moves)) (marks_known plan moves)) in
+    record {
+      turns = λ unclashed.
+          all_weaker (IsAnswered plan s b b.told) (λ (message : MessageTaken). (u : ℕ) → message.reply ≡ Some u → IsTakenInTurn p message u) b.messages
+          (λ message answered u reply. taken_stays plan v p.world b b grows message u (answered u reply).0) (facts unclashed).answered;
+      told = λ unclashed.
+          all_weaker (IsAnswered plan s b b.told)
+          (λ (message : MessageTaken). (u : ℕ) → message.reply ≡ Some u → OneOf (λ (told : OutcomeTold). IsToldInTurn p message u told) b.told) b.messages
+          (λ message answered u reply.
+          one_weaker (λ (told : OutcomeTold). IsToldInTurn (past_at plan s b) message u told) (λ (told : OutcomeTold). IsToldInTurn p message u told) b.told
+          (told_stays plan v p.world b b grows message u) (answered u reply).1) (facts unclashed).answered;
+      let_in = λ unclashed.
+          all_weaker (IsKnown plan s b b.messages) (λ (told : OutcomeTold). is_in told.outcome ≡ true → OneOf (λ (message : MessageTaken). IsLetInInTurn p told message) b.messages) b.told
+          (λ told known is.
+          one_weaker (λ (message : MessageTaken). IsLetInInTurn (past_at plan s b) told message) (λ (message : MessageTaken). IsLetInInTurn p told message) b.messages
+          (let_in_stays plan v p.world b b grows told) (known is)) (facts unclashed).let_in;
+    }
+
+-- Beside any fact that is kept and gives what they rest on, they hold after a run.
+pub turns_heard : LetsInTheGranted → (A : RunFact) (F : ActionFact) → Keeps NoFact A F → (plan : Plan) → ((n : ℕ) (s : State) (given : Given) (b : Book) → A n s given b → TurnSide plan s b) →
+    (moves : List Move) → HasBytes plan moves → A 0 (first_world plan).state [] blank → TurnsAreHeard (past plan moves)
+turns_heard law A F keeps plan gives moves has first =
+    let both : Keeps NoFact (BothFacts A (TurnsHold plan)) (BothFine F AnyAction) =
+    join A (TurnsHold plan) F AnyAction keeps (with_side (TurnsRestOn plan) A (TurnsHold plan) AnyAction gives (turns_keep law plan)) in
+    let after : HoldsAfterRun (BothFacts A (TurnsHold plan)) plan moves =
+    run_keeps (BothFacts A (TurnsHold plan)) (BothFine F AnyAction) both plan moves has (first, turns_begin plan) in
+    turns_of after.steps plan moves after.holds.1

@@ -1,0 +1,168 @@
+-- In every schedule answers are taken in turn and told: what that rests on holds of each state, since calls stay apart
+-- there, what is under way is whole, and draws differ. It serves `answers_are_taken_in_turn`.
+use Rattle.std.proofs.Common.{◌≡◌, ◌≢◌, ℕ, Bool, ◌+◌, ◌*◌, ◌-◌, ◌≤◌, List, [], ◌∷◌, ◌++◌, length, Option, Some, None, slice_get, refl, ap, sym, subst, ◌∙◌, arith}
+use Rattle.std.specs.Prelude.{AllPairs}
+use Rattle.wire_base.specs.Maps.{lookup, same_number}
+use Rattle.authenticators.specs.Channels.{Channel}
+use Rattle.outside.specs.Counter.{most_draws}
+use Rattle.outside.specs.declared.action.Action.{Action}
+use Rattle.outside.specs.declared.action.Action.TheVariants.{Keep, Send, Dial, Close, Told, Judged}
+use Rattle.outside.specs.declared.event.Event.TheVariants as event
+use Rattle.outside.proofs.CounterLaws.{challenges_from-distinct, challenges_from-none}
+use Rattle.channel_client.specs.declared.state.Pending.{Pending}
+use Rattle.channel_events.specs.RequestSteps.{RequestersKeepCallsApart}
+use Rattle.channel_events.specs.Requests.{CallsStayApart}
+use Rattle.member_server.specs.ChannelSteps.{ChannelStepsKnown}
+use Rattle.member_server.specs.Laws.{LetsInTheGranted}
+use Rattle.member_server.specs.State.{State as MemberState}
+use Rattle.member_server.specs.declared.state.Logon.{Logon}
+use Rattle.member_server.specs.declared.state.Running.{Running}
+use Rattle.step_notes.specs.ChannelNames.{standing_channel}
+use Rattle.step_notes.specs.Records.{Book, MessageTaken, blank}
+use Rattle.step_notes.proofs.Members.KeptLogonLaws.{kept_so}
+use Rattle.world_moves.specs.declared.links.EndId.{EndId}
+use Rattle.world_moves.specs.declared.links.LinkKind.{LinkKind}
+use Rattle.world_moves.specs.declared.links.LinkKind.TheVariants as kind
+use Rattle.world_moves.specs.declared.links.Route.{Route}
+use Rattle.world_moves.specs.declared.moves.Move.{Move}
+use Rattle.world_moves.specs.declared.plan.Plan.{Plan}
+use Rattle.world_moves.specs.declared.state.State.{State}
+use Rattle.world_moves.specs.Acting.{Given, bag_unit, hear, perform_quietly, send_on}
+use Rattle.world_moves.specs.Moving.{begun, with_link}
+use Rattle.world_moves.specs.Bag.{AreShortUnits, HaveBytes}
+use Rattle.world_moves.specs.Forms.{IsSchedule}
+use Rattle.world_moves.specs.Links.{acceptor_of, is_accepted_by, kind_of}
+use Rattle.world_moves.specs.World.{first_world}
+use Rattle.domain_world.specs.Accepting.ReadBack.{TurnsAreHeard}
+use Rattle.domain_world.specs.Accepting.Runs.{AskedIsOut, IsOut}
+use Rattle.domain_world.specs.Past.{Past, controller_of, past}
+use Rattle.channel_events.proofs.ListLaws.{one_weaker}
+use Rattle.domain_world.proofs.Accepting.LetInStepLaws.{IsAcceptedBy, IsDialledBy}
+use Rattle.domain_world.proofs.Accepting.Quiet.QuietRunLaws.{has_bytes, is_quiet, quiet_first, quiet_keeps}
+use Rattle.domain_world.proofs.Accepting.Quiet.QuietStepLaws.{QuietAction, QuietFact}
+use Rattle.domain_world.proofs.Accepting.Turns.TurnFactLaws.{Any, past_at}
+use Rattle.domain_world.proofs.Accepting.Turns.TurnKeepLaws.{TurnsHold, TurnsRestOn, turns_begin, turns_keep, turns_of}
+use Rattle.domain_world.proofs.Frames.DrawnRunLaws.{all_of, end_all, given_all}
+use Rattle.domain_world.proofs.Frames.StepFrameLaws.{ActionFact, AnyAction, BothFacts, BothFine, HasHeard, HoldsAfterRun, Keeps, NoFact, RunFact, WhileFew, all_any, join, run_keeps, while_few, with_side}
+use Rattle.domain_world.proofs.Requests.CallFrameLaws.{CallsKept, QuietSide, calls_keep, first_calls, out_of}
+use Rattle.domain_world.proofs.Requests.CallHoldsLaws.{CallsHold, differ_front}
+use Rattle.domain_world.proofs.Requests.CallStepLaws.{CallLaws, most_steps}
+use Rattle.domain_world.proofs.Requests.OutStepLaws.{HasOne, IsOutIn, MemberHolds, OutFor}
+use Rattle.domain_world.proofs.Requests.StepApartLaws.{Differ}
+
+-- ---- what was drawn and what is left, at each state
+
+abbrev DrawnOf : Plan → RunFact
+DrawnOf plan n s given b = all_of s.chances ≡ given_all plan
+
+bag_chances : (k : LinkKind) (back : Bool) (link : ℕ) (bytes : List ℕ) (s : State) → (bag_unit k back link bytes s).chances ≡ s.chances
+bag_chances kind.Stranger back link bytes s = refl
+bag_chances kind.ToMember back link bytes s = refl
+bag_chances kind.ToController back link bytes s = refl
+
+send_chances : (route : Option Route) (end : EndId) (link : ℕ) (bytes : List ℕ) (s : State) → (send_on route end link bytes s).chances ≡ s.chances
+send_chances None end link bytes s = refl
+send_chances (Some route) end link bytes s = bag_chances (kind_of route) (is_accepted_by end route) link bytes s
+
+pub action_chances : (end : EndId) (what : Action) (s : State) → (perform_quietly end what s).chances ≡ s.chances
+action_chances end (Keep bytes) s = refl
+action_chances end (Send link bytes) s = send_chances (slice_get s.links link) end link bytes s
+action_chances end (Dial peer) s = refl
+action_chances end (Close link cause) s = refl
+action_chances end (Told link outcome) s = refl
+action_chances end (Judged how) s = refl
+
+drawn_keep : (plan : Plan) → Keeps NoFact (DrawnOf plan) AnyAction
+drawn_keep plan = record {
+  calm = λ n end what s given b calm none is. record { holds = end_all end what s.moment s.ends s.chances ∙ is; fine = all_any (hear end what s).actions };
+  dialled = λ n end link s given b at none is. record { holds = end_all end (event.Dialled link) s.moment s.ends s.chances ∙ is; fine = all_any (hear end (event.Dialled link) s).actions };
+  opens = λ n route s given b none is.
+      record { holds = end_all (acceptor_of route) (event.Opened (length s.links)) s.moment s.ends s.chances ∙ is; fine = all_any (hear (acceptor_of route) (event.Opened (length s.links)) (with_link route s)).actions };
+  begins = λ n client own s given b there none is. record { holds = is; fine = all_any (begun client own s).actions };
+  comes = λ n end w piece s given b at came bytes marked none is. record { holds = end_all end (event.Bytes w.link piece) s.moment s.ends s.chances ∙ is; fine = all_any (hear end (event.Bytes w.link piece) s).actions };
+  acts = λ n end what s given b fine none is. ap all_of (action_chances end what s) ∙ is;
+  shuts = λ n link s given b none is. is;
+  answers = λ n link there s given b found none is. is;
+  forgets = λ n end s given b none is. is;
+  settles = λ n number s given b none is. is;
+  dials = λ n s given b none is. is;
+  renews = λ n end s given b none is. is;
+  ticks = λ n more s given b none is. is;
+  over = λ n at s given b none is. is;
+}
+
+pub drawn_differ : (plan : Plan) (s : State) → all_of s.chances ≡ given_all plan → Differ s.chances.drawn
+drawn_differ plan s is =
+    differ_front s.chances.drawn s.chances.left
+    (subst (λ (all : List (List ℕ)). Differ all) (sym is) (challenges_from-distinct plan.seed 0 (most_draws - 0) (omega arith) (omega arith)))
+
+-- ---- what answers rest on, at each state
+
+-- what is under way is whole, what is known of calls, and what was drawn and is left
+abbrev pub Known : Plan → RunFact
+Known plan = BothFacts (BothFacts QuietFact CallsKept) (DrawnOf plan)
+
+-- what that asks of actions
+abbrev pub KnownAction : ActionFact
+KnownAction = BothFine (BothFine QuietAction AnyAction) AnyAction
+
+-- it is kept
+pub known_keep : CallLaws → (plan : Plan) → Keeps NoFact (Known plan) KnownAction
+known_keep laws plan =
+    join (BothFacts QuietFact CallsKept) (DrawnOf plan) (BothFine QuietAction AnyAction) AnyAction
+    (join QuietFact CallsKept QuietAction AnyAction quiet_keeps (with_side QuietSide QuietFact CallsKept AnyAction (λ n s given b quiet. is_quiet s quiet) (calls_keep laws)))
+    (with_side NoFact (BothFacts QuietFact CallsKept) (DrawnOf plan) AnyAction (λ n s given b known. tt) (drawn_keep plan))
+
+-- a call that is out is that of its message
+out_at : (plan : Plan) (n : ℕ) (s : State) (b : Book) → CallsHold n s.member_plans s.ends s.chances.drawn s.links b.sent b.messages → AskedIsOut (past_at plan s b)
+out_at plan n s b holds k m running pending logon there runs turn reply kept =
+    let out : OutFor b.sent b.messages (controller_of k s) k (Some running) =
+    subst (λ (r : Option Running). OutFor b.sent b.messages (controller_of k s) k r) runs (holds.members k m there).out in
+    one_weaker (IsOutIn b.sent k pending logon (standing_channel (controller_of k s) running.logons.channel))
+    (IsOut (past_at plan s b) k pending logon (standing_channel (controller_of k s) running.logons.channel)) b.messages
+    (λ message is. out_of (past_at plan s b) k pending logon (standing_channel (controller_of k s) running.logons.channel) message is) (out pending logon turn reply kept)
+
+-- so much holds where that is known
+pub rests_on : (plan : Plan) (n : ℕ) (s : State) (given : Given) (b : Book) → Known plan n s given b → WhileFew most_steps (TurnsRestOn plan) n s given b
+rests_on plan n s given b known few =
+    let holds : CallsHold n s.member_plans s.ends s.chances.drawn s.links b.sent b.messages = known.0.1 few (drawn_differ plan s known.1) in
+    record {
+      quiet = is_quiet s known.0.0;
+      asks = λ k m there. (holds.members k m there).asks;
+      dialled = λ k m there.
+          kept_so (HasOne k b.messages) (λ (place : ℕ) (logon : Logon). Unit {0}) (λ (number : ℕ). IsDialledBy s.links k number) (λ (number : ℕ). IsDialledBy s.links k number)
+          (λ place logon one. tt) (λ number dialled. dialled) m.running (holds.members k m there).kept;
+      accepts = λ k m there. (holds.members k m there).accepts;
+      out = out_at plan n s b holds;
+    }
+
+-- ---- a run
+
+-- what answers rest on, with what holds of them while few steps were taken
+abbrev pub TurnSide : Plan → RunFact
+TurnSide plan = BothFacts (Known plan) (WhileFew most_steps (TurnsHold plan))
+
+-- nothing is asked of actions for the latter
+abbrev pub TurnAction : ActionFact
+TurnAction = BothFine KnownAction AnyAction
+
+pub side_keeps : LetsInTheGranted → CallLaws → (plan : Plan) → Keeps NoFact (TurnSide plan) TurnAction
+side_keeps law laws plan =
+    join (Known plan) (WhileFew most_steps (TurnsHold plan)) KnownAction AnyAction (known_keep laws plan)
+    (with_side (WhileFew most_steps (TurnsRestOn plan)) (Known plan) (WhileFew most_steps (TurnsHold plan)) AnyAction (rests_on plan)
+    (while_few most_steps (TurnsRestOn plan) (TurnsHold plan) (turns_keep law plan)))
+
+-- at first
+pub side_first : (plan : Plan) (moves : List Move) → IsSchedule plan moves → TurnSide plan 0 (first_world plan).state [] blank
+side_first plan moves schedule = (
+  ((quiet_first plan schedule.forms, first_calls plan), ap (λ (drawn : List (List ℕ)). drawn ++ given_all plan) (challenges_from-none plan.seed 0 0)),
+  λ few. turns_begin plan,
+)
+
+pub turns_run : LetsInTheGranted → RequestersKeepCallsApart → CallsStayApart ℕ → ChannelStepsKnown → (plan : Plan) (moves : List Move) → IsSchedule plan moves →
+    AreShortUnits (past plan moves).world.state.bag → HaveBytes (past plan moves).world.state.bag → TurnsAreHeard (past plan moves)
+turns_run law requesters events steps plan moves schedule short bytes =
+    let laws : CallLaws = record { keep = requesters; events = events; steps = steps } in
+    let after : HoldsAfterRun (TurnSide plan) plan moves =
+    run_keeps (TurnSide plan) TurnAction (side_keeps law laws plan) plan moves (has_bytes plan moves schedule short bytes) (side_first plan moves schedule) in
+    turns_of after.steps plan moves (after.holds.1 (omega (arith, after.few, schedule.few)))

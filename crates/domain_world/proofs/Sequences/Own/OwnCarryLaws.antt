@@ -1,0 +1,174 @@
+-- What is known of the calls of members' turns is carried through a run, where it is kept as bytes come at a member.
+-- It serves `sequences_are_shared`.
+use Rattle.std.proofs.Common.{◌≡◌, ℕ, ◌+◌, false, List, [], ◌++◌, inl, inr, Option, Some, None, slice_get, refl, sym, ap, subst, arith}
+use Rattle.std.proofs.lemmas.List.{length-set}
+use Rattle.outside.specs.Drawing.{Drawing}
+use Rattle.outside.specs.declared.action.Action.{Action}
+use Rattle.outside.specs.declared.event.Event.{Event}
+use Rattle.outside.specs.declared.event.Event.TheVariants as event
+use Rattle.channel_events.specs.Marks.{Mark}
+use Rattle.domain_controller.specs.State.{State as ControllerState}
+use Rattle.logon_client.specs.declared.plan.ClientPlan.{ClientPlan}
+use Rattle.member_server.specs.Laws.{AsksWhatWaits, heard_in}
+use Rattle.member_server.specs.Machine.{fresh_member}
+use Rattle.member_server.specs.State.{State as MemberState}
+use Rattle.member_server.specs.declared.plan.MemberPlan.{MemberPlan}
+use Rattle.member_server.specs.declared.state.Dialling.{Dialling}
+use Rattle.member_server.specs.declared.state.Running.{Running}
+use Rattle.step_notes.specs.Records.{Book, LogonTurn, Sent, blank}
+use Rattle.world_moves.specs.declared.links.EndId.{EndId}
+use Rattle.world_moves.specs.declared.links.EndId.TheVariants.{Controller, Member, Client}
+use Rattle.world_moves.specs.declared.plan.Plan.{Plan}
+use Rattle.world_moves.specs.declared.state.State.{State}
+use Rattle.world_moves.specs.Acting.{Given, given_by}
+use Rattle.world_moves.specs.Ends.{EndStates, renew_client, renew_controller, renew_member}
+use Rattle.world_moves.specs.Moving.{begun, renewed}
+use Rattle.world_moves.specs.World.{first_world}
+use Rattle.domain_world.specs.Accepting.Sequences.{IsTakenFor}
+use Rattle.domain_world.specs.Past.{controller_of}
+use Rattle.domain_world.proofs.Accepting.Turns.TurnFactLaws.{AreApart, GrowsTo, SameEnds, marks_before, past_at}
+use Rattle.domain_world.proofs.Accepting.Turns.TurnQuietLaws.{renew_same, same_ends}
+use Rattle.domain_world.proofs.Challenges.MessageApartLaws.{links_in}
+use Rattle.domain_world.proofs.Challenges.MessageOnceLaws.{set_cases}
+use Rattle.domain_world.proofs.Frames.ComingLaws.{StillHas, kept_same}
+use Rattle.domain_world.proofs.Frames.MarkPlaceLaws.{got_map}
+use Rattle.domain_world.proofs.Requests.CallHoldsLaws.{marks_in}
+use Rattle.domain_world.proofs.Requests.StepApartLaws.{Differ}
+use Rattle.domain_world.proofs.Sequences.DialCountLaws.{given_append, given_other}
+use Rattle.domain_world.proofs.Sequences.Own.OwnFrameLaws.{StillDrawn, mine_drawn}
+use Rattle.domain_world.proofs.Sequences.Own.OwnKeepLaws.{OwnHolds}
+use Rattle.domain_world.proofs.Sequences.Own.OwnStayLaws.{HearsIf, MemberOwn, NoNewCalls, OwnFacts, all_stay, on_any, one_stays}
+use Rattle.domain_world.proofs.Sequences.Own.OwnTurnLaws.{AreDrawn, mine}
+use Rattle.domain_world.proofs.Sequences.SeedTurnLaws.{turned_blank}
+
+-- ---- events at which no bytes come
+
+abbrev pub IsNoBytes : Event → Type 0
+IsNoBytes (event.Bytes link piece) = ⊥
+IsNoBytes _ = Unit {0}
+
+none_heard : (what : Event) (how : Dialling) → IsNoBytes what → heard_in what how ≡ []
+none_heard (event.Opened link) how none = refl
+none_heard (event.Bytes link piece) how none = absurd none
+none_heard (event.Closed link) how none = refl
+none_heard (event.Dialled link) how none = refl
+none_heard event.DialFailed how none = refl
+none_heard event.Stop how none = refl
+
+none_in : (r : Option Running) (what : Event) → IsNoBytes what → HearsIf (Some (record { running = r })) what
+none_in None what none = tt
+none_in (Some running) what none = none_heard what running.dialling none
+
+pub none_if : (found : Option MemberState) (what : Event) → IsNoBytes what → HearsIf found what
+none_if None what none = tt
+none_if (Some m) what none = none_in m.running what none
+
+module _ (plan : Plan) where
+  -- ---- one thing changes
+
+  pub changed : (n : ℕ) (s t : State) (given : Given) (b : Book) → t.member_plans ≡ s.member_plans → StillHas s.bag t.bag → t.ends ≡ s.ends → t.chances ≡ s.chances → OwnHolds plan n s given b →
+      OwnHolds plan n t given b
+  changed n s t given b plans bag ends chances known few unclashed apart marks differ =
+      let drawn : t.chances.drawn ≡ s.chances.drawn = ap (λ (c : Drawing). c.drawn) chances in
+      let grows : GrowsTo s t b b = record { bag = bag; sent = λ k one there. there; ends = subst (λ (x : EndStates). SameEnds s.ends x) (sym ends) (same_ends s.ends) } in
+      all_stay plan s t b b given given plans grows (subst (λ (ds : List (List ℕ)). StillDrawn s.chances.drawn ds) (sym drawn) (λ challenge was. was)) refl
+      (ap (λ (e : EndStates). e.members) ends) (λ k. refl) (λ n number timestamp e there. there) (known few unclashed apart (marks_before s t b b grows marks) (subst Differ drawn differ))
+
+  -- the book changes, and no call is written down
+  pub book_changed : (n : ℕ) (t : State) (given : Given) (b d : Book) → ((k : ℕ) (one : Sent) → slice_get b.sent k ≡ Some one → slice_get d.sent k ≡ Some one) → (d.clash ≡ false → b.clash ≡ false) →
+      (AreApart (links_in d.messages) → AreApart (links_in b.messages)) → d.turns ≡ b.turns → NoNewCalls (marks_in b.sent) (marks_in d.sent) → OwnHolds plan n t given b → OwnHolds plan n t given d
+  book_changed n t given b d grown clash messages turns none known few unclashed apart marks differ =
+      let grows : GrowsTo t t b d = record { bag = kept_same t.bag; sent = grown; ends = same_ends t.ends } in
+      all_stay plan t t b d given given refl grows (λ challenge was. was) turns refl (λ k. refl) none
+      (known few (clash unclashed) (messages apart) (marks_before t t b d grows marks) differ)
+
+  -- ---- a client begins
+
+  pub client_begins : (n client : ℕ) (own : ClientPlan) (s : State) (given : Given) (b : Book) → OwnHolds plan n s given b →
+      OwnHolds plan (n + 1) (begun client own s).state (given ++ given_by (Client client) (begun client own s).actions) b
+  client_begins n client own s given b known few unclashed apart marks differ =
+      let t : State = (begun client own s).state in
+      let actions : List Action = (begun client own s).actions in
+      let grows : GrowsTo s t b b = record {
+        bag = kept_same s.bag;
+        sent = λ k one there. there;
+        ends = record { controllers = refl; members = refl; clients = sym (length-set s.ends.clients client _) };
+      } in
+      all_stay plan s t b b given (given ++ given_by (Client client) actions) refl grows (λ challenge was. was) refl refl
+      (λ k. omega (arith, given_append k given (given_by (Client client) actions), given_other k (Client client) actions refl)) (λ n number timestamp e there. there)
+      (known (omega (arith, few)) unclashed apart (marks_before s t b b grows marks) differ)
+
+  -- ---- an end is made anew
+
+  module _ (asks : AsksWhatWaits) where
+    fresh_own : (Done : ℕ → Type 0) (marks : List Mark) (drawn : List (List ℕ)) (turns : List LogonTurn) (given : Given) (controller k : ℕ) (own : MemberPlan) → AreDrawn drawn turns →
+        MemberOwn Done marks drawn turns given controller k (fresh_member own).running
+    fresh_own Done marks drawn turns given controller k own before = (
+      asks.fresh own,
+      record {
+        own = mine k turns;
+        none = λ none. refl;
+        one = λ one waits. absurd waits;
+        before = mine_drawn k drawn turns before;
+        turned = turned_blank _ _ drawn refl refl;
+        calls = λ c is. absurd (let x = is in cc);
+      },
+    )
+
+    module _ (s : State) (given : Given) (b : Book) where
+      others_same : (ends : EndStates) → ends.members ≡ s.ends.members → SameEnds s.ends ends → OwnFacts plan s given b → OwnFacts plan (record s { ends = ends }) given b
+      others_same ends members same old =
+          all_stay plan s (record s { ends = ends }) b b given given refl (record { bag = kept_same s.bag; sent = λ k one there. there; ends = same }) (λ challenge was. was) refl members (λ k. refl)
+          (λ n number timestamp e there. there) old
+
+      controller_anew : (found : Option ControllerState) (at : ℕ) → SameEnds s.ends (renew_controller found at s.ends) → OwnFacts plan s given b →
+          OwnFacts plan (record s { ends = renew_controller found at s.ends }) given b
+      controller_anew None at same old = others_same s.ends refl same old
+      controller_anew (Some c) at same old = others_same (renew_controller (Some c) at s.ends) refl same old
+
+      client_anew : (found : Option ClientPlan) (at : ℕ) → SameEnds s.ends (renew_client found at s.ends) → OwnFacts plan s given b → OwnFacts plan (record s { ends = renew_client found at s.ends }) given b
+      client_anew None at same old = others_same s.ends refl same old
+      client_anew (Some own) at same old = others_same (renew_client (Some own) at s.ends) refl same old
+
+      member_anew : (found : Option MemberPlan) (at : ℕ) → SameEnds s.ends (renew_member found at s.ends) → OwnFacts plan s given b → OwnFacts plan (record s { ends = renew_member found at s.ends }) given b
+      member_anew None at same old = others_same s.ends refl same old
+      member_anew (Some own) at same old =
+          let t : State = record s { ends = renew_member (Some own) at s.ends } in
+          let grows : GrowsTo s t b b = record { bag = kept_same s.bag; sent = λ k one there. there; ends = same } in
+          record {
+            before = old.before;
+            members = λ k m there.
+                elim (set_cases s.ends.members at k (fresh_member own) m there) [
+                  | inl here ↦
+                      subst (λ (x : MemberState). MemberOwn (IsTakenFor (past_at plan t b)) (marks_in b.sent) s.chances.drawn b.turns given (controller_of k t) k x.running) here.1
+                      (fresh_own (IsTakenFor (past_at plan t b)) (marks_in b.sent) s.chances.drawn b.turns given (controller_of k t) k own old.before)
+                  | inr other ↦
+                      one_stays plan s t b b given given refl grows (λ challenge was. was) refl k m.running refl
+                      (on_any plan s t b b given given refl grows (λ challenge was. was) refl k m.running (λ n number timestamp e is. is)) (old.members k m other.1)
+                ];
+          }
+
+      end_anew : (end : EndId) → OwnFacts plan s given b → OwnFacts plan (renewed end s) given b
+      end_anew (Controller at) old = controller_anew (slice_get s.ends.controllers at) at (renew_same (Controller at) s) old
+      end_anew (Member at) old = member_anew (slice_get s.member_plans at) at (renew_same (Member at) s) old
+      end_anew (Client at) old = client_anew (slice_get s.client_plans at) at (renew_same (Client at) s) old
+
+    pub own_anew : (n : ℕ) (end : EndId) (s : State) (given : Given) (b : Book) → OwnHolds plan n s given b → OwnHolds plan n (renewed end s) given b
+    own_anew n end s given b known few unclashed apart marks differ =
+        end_anew s given b end
+        (known few unclashed apart (marks_before s (renewed end s) b b (record { bag = kept_same s.bag; sent = λ k one there. there; ends = renew_same end s }) marks) (same_draws end differ))
+      where
+        same_draws : (one : EndId) → Differ (renewed one s).chances.drawn → Differ s.chances.drawn
+        same_draws one is = is
+
+    -- at first
+    pub first_own : OwnHolds plan 0 (first_world plan).state [] blank
+    first_own few unclashed apart marks differ =
+        let s : State = (first_world plan).state in
+        record {
+          before = tt;
+          members = λ k m there.
+              (let found = got_map fresh_member plan.members k m there in
+              subst (λ (x : MemberState). MemberOwn (IsTakenFor (past_at plan s blank)) [] s.chances.drawn [] [] (controller_of k s) k x.running) found.2
+              (fresh_own (IsTakenFor (past_at plan s blank)) [] s.chances.drawn [] [] (controller_of k s) k found.0 tt));
+        }

@@ -1,0 +1,389 @@
+-- After every run the seed of a member's open channel is that of its turns on it.
+-- It serves `sequences_are_own`.
+use Rattle.std.proofs.Common.{◌≡◌, ℕ, zero, suc, ◌+◌, ◌≤◌, ◌==◌, ◌&&◌, Bool, true, false, List, [], ◌∷◌, ◌++◌, drop, map, inl, inr, Option, Some, None, slice_get, slice_set, refl, sym, ap, subst, ◌∙◌, arith, if◌then◌else◌}
+use Rattle.std.specs.List.{filter}
+use Rattle.std.proofs.lemmas.Bool.Decides.{Decides-eqb}
+use Rattle.std.proofs.lemmas.List.{append-nil, append_assoc, length-set}
+use Rattle.std.proofs.lemmas.List.Elements.{filter-append}
+use Rattle.outside.specs.Drawing.{Drawing}
+use Rattle.outside.specs.declared.action.Action.{Action}
+use Rattle.outside.specs.declared.action.Action.TheVariants.{Keep, Send, Dial, Close, Told, Judged}
+use Rattle.outside.specs.declared.event.Event.TheVariants as event
+use Rattle.authenticators.specs.Channels.{Channel}
+use Rattle.wire_base.specs.declared.authenticator.Authenticator.{Authenticator}
+use Rattle.domain_controller.specs.State.{State as ControllerState}
+use Rattle.domain_controller.specs.Step.{first_state}
+use Rattle.logon_client.specs.Machine.{begin_of, fresh_client}
+use Rattle.logon_client.specs.declared.plan.ClientPlan.{ClientPlan}
+use Rattle.channel_client.specs.Effects.{seed_in, stands_in, step_in, view_of}
+use Rattle.channel_client.specs.Opened.{OpenState}
+use Rattle.channel_client.specs.declared.state.Standing.{Standing}
+use Rattle.channel_client.specs.declared.state.Step.{Step}
+use Rattle.channel_client.specs.declared.state.Step.TheVariants as step
+use Rattle.channel_events.specs.Seeds.{channel_seed}
+use Rattle.channel_events.proofs.ListLaws.{some_is}
+use Rattle.logon_stubs.specs.declared.calls.Call.TheVariants as call
+use Rattle.member_server.specs.Dials.{TurnsAreDialled}
+use Rattle.member_server.specs.Laws.{AsksWhatWaits}
+use Rattle.member_server.specs.Machine.{fresh_member}
+use Rattle.member_server.specs.State.{State as MemberState}
+use Rattle.member_server.specs.declared.plan.MemberPlan.{MemberPlan}
+use Rattle.member_server.specs.declared.state.Running.{Running}
+use Rattle.step_notes.specs.MemberNotes.{stamped, turn_by, turn_in, turn_of}
+use Rattle.step_notes.specs.Records.{LogonTurn}
+use Rattle.world_moves.specs.declared.links.EndId.{EndId}
+use Rattle.world_moves.specs.declared.links.EndId.TheVariants.{Controller, Member, Client}
+use Rattle.world_moves.specs.declared.moves.Move.{Move}
+use Rattle.world_moves.specs.declared.plan.Plan.{Plan}
+use Rattle.world_moves.specs.declared.state.State.{State}
+use Rattle.world_moves.specs.declared.state.Waiting.{Waiting}
+use Rattle.world_moves.specs.declared.links.LinkKind.{LinkKind}
+use Rattle.world_moves.specs.declared.links.LinkKind.TheVariants as kind
+use Rattle.world_moves.specs.declared.links.Route.{Route}
+use Rattle.world_moves.specs.Acting.{Given, bag_unit, forget, is_of_other, perform_quietly, send_on}
+use Rattle.world_moves.specs.Links.{is_accepted_by, kind_of}
+use Rattle.world_moves.specs.Moving.{renew}
+use Rattle.world_moves.specs.Ends.{EndStates, renew_client, renew_controller, renew_member, with_client, with_member}
+use Rattle.world_moves.specs.World.{first_world}
+use Rattle.domain_world.specs.Claims.SharedSequences.{SequencesAreOwn, Stands, timestamps_on}
+use Rattle.domain_world.specs.Past.{controller_of, controller_of_plan, past, running_in, turns_by, turns_in}
+use Rattle.domain_world.proofs.Challenges.MessageOnceLaws.{set_cases}
+use Rattle.domain_world.proofs.Frames.DrawnRunLaws.{draws_differ}
+use Rattle.domain_world.proofs.Frames.MarkPlaceLaws.{got_map}
+use Rattle.domain_world.proofs.Requests.CallHoldsLaws.{controller_same}
+use Rattle.domain_world.proofs.Sequences.DialCountLaws.{counted, dials_out, done_same, forgotten_few, given_dials, gone_all, is_member, none_counted, one_if, waiting_dials}
+use Rattle.domain_world.proofs.Sequences.DialWalkLaws.{AtState, KeepsDials, dials_after}
+use Rattle.domain_world.proofs.Sequences.Own.OwnFrameLaws.{TurnsHold, TurnsKnown, begin_holds, hear_holds, same_turns}
+use Rattle.domain_world.proofs.Sequences.Own.OwnTurnLaws.{AreDrawn, TurnsIf, TurnsOf, both_drawn, mine, times, turn_drawn}
+use Rattle.domain_world.proofs.Sequences.SeedTurnLaws.{Turned, on_channel, stamps_on, turned_blank}
+
+-- ---- dials
+
+first_of_dials : (dials : List Waiting) (dial : Waiting) → slice_get dials 0 ≡ Some dial → dials ≡ dial ∷ drop 1 dials
+first_of_dials [] dial is = absurd (let x = is in cc)
+first_of_dials (first ∷ dials) dial is = let same : first ≡ dial = some_is first dial is in ap (λ (one : Waiting). one ∷ dials) same
+
+-- of a member that takes no step, where nothing was given: as many dials are out, or fewer
+fewer_out : (k controller : ℕ) (d later : Option EndId) (dials waiting : List Waiting) (drawn : List (List ℕ)) (turns : List LogonTurn) (r : Option Running) →
+    dials_out k later [] waiting ≤ dials_out k d [] dials → TurnsIf k controller d [] dials drawn [] turns r → TurnsIf k controller later [] waiting drawn [] turns r
+fewer_out k controller d later dials waiting drawn turns None few old = tt
+fewer_out k controller d later dials waiting drawn turns (Some running) few old = record {
+  order = old.order;
+  out_once = omega (arith, few, old.out_once);
+  out_waits = λ some. old.out_waits (omega (arith, few, some));
+  given_once = omega arith;
+  given_waits = λ some. absurd (omega (arith, some));
+  turned = old.turned;
+}
+
+first_holds : (dial : Waiting) (s : State) (turns : List LogonTurn) → slice_get s.dials 0 ≡ Some dial → TurnsKnown None [] s.member_plans s.ends s.dials s.chances [] turns →
+    TurnsKnown (Some dial.end) [] s.member_plans s.ends (drop 1 s.dials) s.chances [] turns
+first_holds dial s turns is known differ =
+    let holds = known differ in
+    record {
+      before = holds.before;
+      members = λ k m there.
+          let count : waiting_dials k s.dials ≡ one_if (is_member k dial.end) + waiting_dials k (drop 1 s.dials) = ap (λ (l : List Waiting). waiting_dials k l) (first_of_dials s.dials dial is) in
+          fewer_out k (controller_of_plan (slice_get s.member_plans k) s.ends) None (Some dial.end) s.dials (drop 1 s.dials) s.chances.drawn turns m.running (omega (arith, count)) (holds.members k m there);
+    }
+
+forgets_hold : (end : EndId) (s : State) (turns : List LogonTurn) → TurnsKnown None [] s.member_plans s.ends s.dials s.chances [] turns →
+    TurnsKnown None [] s.member_plans s.ends (filter (is_of_other end) s.dials) s.chances [] turns
+forgets_hold end s turns known differ =
+    let holds = known differ in
+    record {
+      before = holds.before;
+      members = λ k m there.
+          fewer_out k (controller_of_plan (slice_get s.member_plans k) s.ends) None None s.dials (filter (is_of_other end) s.dials) s.chances.drawn turns m.running
+          (omega (arith, forgotten_few k end s.dials)) (holds.members k m there);
+    }
+
+-- ---- an end is made anew
+
+module _ (asks : AsksWhatWaits) (plans : List MemberPlan) (ends : EndStates) (dials : List Waiting) (drawn : List (List ℕ)) (turns : List LogonTurn) where
+  abbrev Now : EndStates → List Waiting → Type 0
+  Now now waiting = TurnsHold None [] plans now waiting drawn [] turns
+
+  anew : (k controller : ℕ) (plan : MemberPlan) (waiting : List Waiting) → waiting_dials k waiting ≡ 0 → TurnsIf k controller None [] waiting drawn [] turns (fresh_member plan).running
+  anew k controller plan waiting none = record {
+    order = asks.fresh plan;
+    out_once = omega (arith, none);
+    out_waits = λ some. absurd (omega (arith, none, some));
+    given_once = omega arith;
+    given_waits = λ some. absurd (omega (arith, some));
+    turned = turned_blank _ _ drawn refl refl;
+  }
+
+  controller_renewed : (found : Option ControllerState) (at : ℕ) → Now ends dials → Now (renew_controller found at ends) dials
+  controller_renewed None at holds = holds
+  controller_renewed (Some c) at holds = record {
+    before = holds.before;
+    members = λ k m there.
+        subst (λ (j : ℕ). TurnsIf k j None [] dials drawn [] turns m.running)
+        (sym (controller_same (slice_get plans k) ends (record ends { controllers = slice_set ends.controllers at (first_state c.table c.name) })
+        (record { controllers = length-set ends.controllers at (first_state c.table c.name); members = refl; clients = refl })))
+        (holds.members k m there);
+  }
+
+  client_renewed : (found : Option ClientPlan) (at : ℕ) → Now ends dials → Now (renew_client found at ends) dials
+  client_renewed None at holds = holds
+  client_renewed (Some plan) at holds = record {
+    before = holds.before;
+    members = λ k m there.
+        subst (λ (j : ℕ). TurnsIf k j None [] dials drawn [] turns m.running)
+        (sym (controller_same (slice_get plans k) ends (with_client at (fresh_client plan) ends)
+        (record { controllers = refl; members = refl; clients = length-set ends.clients at (fresh_client plan) })))
+        (holds.members k m there);
+  }
+
+  -- none of its dials waits
+  member_renewed : (found : Option MemberPlan) (at : ℕ) → waiting_dials at dials ≡ 0 → Now ends dials → Now (renew_member found at ends) dials
+  member_renewed None at none holds = holds
+  member_renewed (Some plan) at none holds = record {
+    before = holds.before;
+    members = λ k m there.
+        subst (λ (j : ℕ). TurnsIf k j None [] dials drawn [] turns m.running)
+        (sym (controller_same (slice_get plans k) ends (with_member at (fresh_member plan) ends)
+        (record { controllers = refl; members = length-set ends.members at (fresh_member plan); clients = refl })))
+        (elim (set_cases ends.members at k (fresh_member plan) m there) [
+          | inl here ↦
+              subst (λ (x : MemberState). TurnsIf k (controller_of_plan (slice_get plans k) ends) None [] dials drawn [] turns x.running) here.1
+              (anew k (controller_of_plan (slice_get plans k) ends) plan dials (ap (λ (j : ℕ). waiting_dials j dials) here.0 ∙ none))
+          | inr other ↦ holds.members k m other.1
+        ]);
+  }
+
+renews_hold : AsksWhatWaits → (end : EndId) (s : State) (turns : List LogonTurn) → TurnsKnown None [] s.member_plans s.ends s.dials s.chances [] turns →
+    TurnsKnown None [] s.member_plans (renew end (forget end s)) (filter (is_of_other end) s.dials) s.chances [] turns
+renews_hold asks (Controller at) s turns known differ =
+    controller_renewed asks s.member_plans s.ends (filter (is_of_other (Controller at)) s.dials) s.chances.drawn turns (slice_get s.ends.controllers at) at (forgets_hold (Controller at) s turns known differ)
+renews_hold asks (Client at) s turns known differ =
+    client_renewed asks s.member_plans s.ends (filter (is_of_other (Client at)) s.dials) s.chances.drawn turns (slice_get s.client_plans at) at (forgets_hold (Client at) s turns known differ)
+renews_hold asks (Member at) s turns known differ =
+    member_renewed asks s.member_plans s.ends (filter (is_of_other (Member at)) s.dials) s.chances.drawn turns (slice_get s.member_plans at) at (gone_all at s.dials)
+    (forgets_hold (Member at) s turns known differ)
+
+-- ---- the turns of a move are written down
+
+times_more : (a b : ℕ) (turns : List LogonTurn) → times (a + b) turns ≡ times a turns ++ times b turns
+times_more zero b turns = let same : 0 + b ≡ b = omega arith in ap (λ (n : ℕ). times n turns) same
+times_more (suc a) b turns =
+    let same : suc a + b ≡ suc (a + b) = omega arith in
+    ap (λ (n : ℕ). times n turns) same ∙ ap (λ (all : List LogonTurn). turns ++ all) (times_more a b turns) ∙ sym (append_assoc turns (times a turns) (times b turns))
+
+abbrev kept_if : Bool → List LogonTurn → List LogonTurn
+kept_if false turns = []
+kept_if true turns = turns
+
+stamped_mine : (hit : Bool) (k j : ℕ) (channel : Option Channel) (stamp : Option Authenticator) → (j == k) ≡ hit → mine k (stamped channel stamp j) ≡ kept_if hit (stamped channel stamp j)
+stamped_mine false k j None stamp is = refl
+stamped_mine true k j None stamp is = refl
+stamped_mine false k j (Some channel) None is = refl
+stamped_mine true k j (Some channel) None is = refl
+stamped_mine false k j (Some channel) (Some stamp) is = ap (λ (hit : Bool). if hit then record { member = j; channel = channel; timestamp = stamp.timestamp } ∷ [] else []) is
+stamped_mine true k j (Some channel) (Some stamp) is = ap (λ (hit : Bool). if hit then record { member = j; channel = channel; timestamp = stamp.timestamp } ∷ [] else []) is
+
+none_mine : (hit : Bool) → [] ≡ kept_if hit []
+none_mine false = refl
+none_mine true = refl
+
+by_mine : (hit : Bool) (k j : ℕ) (st : Option Step) (channel : Option Channel) → (j == k) ≡ hit → mine k (turn_by st channel j) ≡ kept_if hit (turn_by st channel j)
+by_mine hit k j None channel is = none_mine hit
+by_mine hit k j (Some (step.Bind (call.Logon c))) channel is = stamped_mine hit k j channel c.authenticator is
+by_mine hit k j (Some (step.Bind (call.Challenge c))) channel is = none_mine hit
+by_mine hit k j (Some (step.Bind (call.Authenticate c))) channel is = none_mine hit
+by_mine hit k j (Some (step.Bind (call.Logoff c))) channel is = none_mine hit
+by_mine hit k j (Some (step.Reply q)) channel is = none_mine hit
+
+in_mine : (hit : Bool) (k j controller : ℕ) (r : Option Running) → (j == k) ≡ hit → mine k (turn_in controller j r) ≡ kept_if hit (turn_in controller j r)
+in_mine hit k j controller None is = none_mine hit
+in_mine hit k j controller (Some running) is =
+    by_mine hit k j (step_in running.logons.channel.turn) (stands_in controller running.logons.channel.caller.computer running.logons.channel.standing) is
+
+module _ (s : State) where
+  -- the turn of a member, as it is read after the move
+  abbrev turn_now : ℕ → List LogonTurn
+  turn_now j = turn_in (controller_of j s) j (running_in (slice_get s.ends.members j))
+
+  dial_mine : (hit : Bool) (k j : ℕ) (peer : List ℕ) → (j == k) ≡ hit → mine k (turn_now j) ≡ times (counted hit (Dial peer)) (turn_now k)
+  dial_mine false k j peer is = in_mine false k j (controller_of j s) (running_in (slice_get s.ends.members j)) is
+  dial_mine true k j peer is =
+      in_mine true k j (controller_of j s) (running_in (slice_get s.ends.members j)) is ∙ ap turn_now ((Decides-eqb j k).0 is) ∙ sym (append-nil (turn_now k))
+
+  quiet_mine : (hit : Bool) (k : ℕ) (what : Action) → counted hit what ≡ 0 → [] ≡ times (counted hit what) (turn_now k)
+  quiet_mine hit k what none = ap (λ (n : ℕ). times n (turn_now k)) (sym none)
+
+  one_mine : (k : ℕ) (end : EndId) (what : Action) → mine k (turns_by end what s) ≡ times (counted (is_member k end) what) (turn_now k)
+  one_mine k (Controller at) what = refl
+  one_mine k (Client at) what = refl
+  one_mine k (Member j) (Dial peer) = dial_mine (j == k) k j peer refl
+  one_mine k (Member j) (Keep bytes) = quiet_mine (j == k) k (Keep bytes) (none_counted (j == k) (Keep bytes) refl)
+  one_mine k (Member j) (Send link bytes) = quiet_mine (j == k) k (Send link bytes) (none_counted (j == k) (Send link bytes) refl)
+  one_mine k (Member j) (Close link cause) = quiet_mine (j == k) k (Close link cause) (none_counted (j == k) (Close link cause) refl)
+  one_mine k (Member j) (Told link outcome) = quiet_mine (j == k) k (Told link outcome) (none_counted (j == k) (Told link outcome) refl)
+  one_mine k (Member j) (Judged how) = quiet_mine (j == k) k (Judged how) (none_counted (j == k) (Judged how) refl)
+
+  -- those of a member are its turn, as often as it dialled
+  pub all_mine : (k : ℕ) (given : Given) → mine k (turns_in given s) ≡ times (given_dials k given) (turn_now k)
+  all_mine k [] = refl
+  all_mine k (one ∷ given) =
+      filter-append (λ (turn : LogonTurn). turn.member == k) (turns_by one.0 one.1 s) (turns_in given s)
+      ∙ ap (λ (l : List LogonTurn). l ++ mine k (turns_in given s)) (one_mine k one.0 one.1)
+      ∙ ap (λ (l : List LogonTurn). times (counted (is_member k one.0) one.1) (turn_now k) ++ l) (all_mine k given)
+      ∙ sym (times_more (counted (is_member k one.0) one.1) (given_dials k given) (turn_now k))
+
+  -- ---- they were on channels whose client's challenge was drawn
+
+  module _ (given : Given) (turns : List LogonTurn) (holds : TurnsHold None [] s.member_plans s.ends s.dials s.chances.drawn given turns) where
+    running_drawn : (j : ℕ) (r : Option Running) → TurnsIf j (controller_of j s) None [] s.dials s.chances.drawn given turns r → AreDrawn s.chances.drawn (turn_in (controller_of j s) j r)
+    running_drawn j None known = tt
+    running_drawn j (Some running) known = turn_drawn (controller_of j s) j running.logons.channel _ s.chances.drawn known.turned
+
+    found_drawn : (j : ℕ) (found : Option MemberState) → slice_get s.ends.members j ≡ found → AreDrawn s.chances.drawn (turn_in (controller_of j s) j (running_in found))
+    found_drawn j None is = tt
+    found_drawn j (Some m) is = running_drawn j m.running (holds.members j m is)
+
+    one_drawn : (end : EndId) (what : Action) → AreDrawn s.chances.drawn (turns_by end what s)
+    one_drawn (Controller at) what = tt
+    one_drawn (Client at) what = tt
+    one_drawn (Member j) (Dial peer) = found_drawn j (slice_get s.ends.members j) refl
+    one_drawn (Member j) (Keep bytes) = tt
+    one_drawn (Member j) (Send link bytes) = tt
+    one_drawn (Member j) (Close link cause) = tt
+    one_drawn (Member j) (Told link outcome) = tt
+    one_drawn (Member j) (Judged how) = tt
+
+    all_drawn : (some : Given) → AreDrawn s.chances.drawn (turns_in some s)
+    all_drawn [] = tt
+    all_drawn (one ∷ some) = both_drawn s.chances.drawn (turns_by one.0 one.1 s) (turns_in some s) (one_drawn one.0 one.1) (all_drawn some)
+
+    -- ---- so what is known stays known
+
+    member_over : (k : ℕ) (m : MemberState) (r : Option Running) → slice_get s.ends.members k ≡ Some m → m.running ≡ r →
+        TurnsIf k (controller_of k s) None [] s.dials s.chances.drawn given turns r → TurnsIf k (controller_of k s) None [] s.dials s.chances.drawn [] (turns ++ turns_in given s) r
+    member_over k m None there runs old = tt
+    member_over k m (Some running) there runs old =
+        let turn : List LogonTurn = turn_of (controller_of k s) k running.logons.channel in
+        let same : turn_now k ≡ turn =
+        ap (λ (found : Option MemberState). turn_in (controller_of k s) k (running_in found)) there ∙ ap (λ (x : Option Running). turn_in (controller_of k s) k x) runs in
+        let all : mine k (turns ++ turns_in given s) ++ [] ≡ mine k turns ++ times (given_dials k given) turn =
+        append-nil (mine k (turns ++ turns_in given s))
+        ∙ filter-append (λ (one : LogonTurn). one.member == k) turns (turns_in given s)
+        ∙ ap (λ (l : List LogonTurn). mine k turns ++ l) (all_mine k given)
+        ∙ ap (λ (l : List LogonTurn). mine k turns ++ times (given_dials k given) l) same in
+        record {
+          order = old.order;
+          out_once = old.out_once;
+          out_waits = old.out_waits;
+          given_once = omega arith;
+          given_waits = λ some. absurd (omega (arith, some));
+          turned = subst (λ (l : List LogonTurn). Turned (view_of (controller_of k s) running.logons.channel) l s.chances.drawn) (sym all) old.turned;
+        }
+
+    pub hold_over : TurnsHold None [] s.member_plans s.ends s.dials s.chances.drawn [] (turns ++ turns_in given s)
+    hold_over = record {
+      before = both_drawn s.chances.drawn turns (turns_in given s) holds.before (all_drawn given);
+      members = λ k m there. member_over k m m.running there refl (holds.members k m there);
+    }
+
+-- ---- an action is done
+
+-- of the rest of the world it changes nothing
+module _ (P : List MemberPlan → EndStates → Drawing → Type 0) where
+  bag_parts : (how : LinkKind) (back : Bool) (link : ℕ) (bytes : List ℕ) (s : State) → P s.member_plans s.ends s.chances →
+      P (bag_unit how back link bytes s).member_plans (bag_unit how back link bytes s).ends (bag_unit how back link bytes s).chances
+  bag_parts kind.Stranger back link bytes s is = is
+  bag_parts kind.ToMember back link bytes s is = is
+  bag_parts kind.ToController back link bytes s is = is
+
+  send_parts : (route : Option Route) (end : EndId) (link : ℕ) (bytes : List ℕ) (s : State) → P s.member_plans s.ends s.chances →
+      P (send_on route end link bytes s).member_plans (send_on route end link bytes s).ends (send_on route end link bytes s).chances
+  send_parts None end link bytes s is = is
+  send_parts (Some route) end link bytes s is = bag_parts (kind_of route) (is_accepted_by end route) link bytes s is
+
+  quiet_parts : (end : EndId) (what : Action) (s : State) → P s.member_plans s.ends s.chances →
+      P (perform_quietly end what s).member_plans (perform_quietly end what s).ends (perform_quietly end what s).chances
+  quiet_parts end (Keep bytes) s is = is
+  quiet_parts end (Send link bytes) s is = send_parts (slice_get s.links link) end link bytes s is
+  quiet_parts end (Dial peer) s is = is
+  quiet_parts end (Close link cause) s is = is
+  quiet_parts end (Told link outcome) s is = is
+  quiet_parts end (Judged how) s is = is
+
+acts_hold : (d : Option EndId) (rest : Given) (end : EndId) (what : Action) (s : State) (given : Given) (turns : List LogonTurn) →
+    AtState TurnsKnown d ((end, what) ∷ rest) s given turns → AtState TurnsKnown d rest (perform_quietly end what s) given turns
+acts_hold d rest end what s given turns known =
+    quiet_parts (λ plans ends chances. TurnsKnown d rest plans ends (perform_quietly end what s).dials chances given turns) end what s
+    (λ differ.
+    let holds = known differ in
+    record {
+      before = holds.before;
+      members = λ k m there.
+          same_turns k (controller_of_plan (slice_get s.member_plans k) s.ends) d d ((end, what) ∷ rest) rest s.dials (perform_quietly end what s).dials s.chances.drawn s.chances.drawn given given
+          turns m.running (omega (arith, done_same k d rest end what s)) (omega arith) refl (λ challenge is. is) (holds.members k m there);
+    })
+
+-- ---- through a run
+
+pub turns_keep : AsksWhatWaits → TurnsAreDialled → KeepsDials TurnsKnown
+turns_keep asks dialled = record {
+  closes = λ d rest end link s given turns known. hear_holds asks dialled d d rest end (event.Closed link) s given turns (inl (tt, refl)) known;
+  opens = λ d end link s given turns known. hear_holds asks dialled d d [] end (event.Opened link) s given turns (inl (tt, refl)) known;
+  comes = λ end link piece s given turns known. hear_holds asks dialled None None [] end (event.Bytes link piece) s given turns (inl (tt, refl)) known;
+  dialled = λ end link s given turns known. hear_holds asks dialled (Some end) None [] end (event.Dialled link) s given turns (inr (refl, refl, refl)) known;
+  fails = λ end s given turns known. hear_holds asks dialled (Some end) None [] end event.DialFailed s given turns (inr (refl, refl, refl)) known;
+  begins = λ client plan s turns known.
+      begin_holds client (begin_of (fresh_client plan)).state (begin_of (fresh_client plan)).actions s.member_plans s.ends s.dials s.chances turns known;
+  acts = λ d rest end what s given turns known. acts_hold d rest end what s given turns known;
+  first = λ dial s turns is known. first_holds dial s turns is known;
+  forgets = λ end s turns known. forgets_hold end s turns known;
+  renews = λ end s turns known. renews_hold asks end s turns known;
+  over = λ s given turns known differ. hold_over s given turns (known differ);
+}
+
+-- at first
+pub first_known : AsksWhatWaits → (plan : Plan) → AtState TurnsKnown None [] (first_world plan).state [] []
+first_known asks plan differ =
+    let s : State = (first_world plan).state in
+    record {
+      before = tt;
+      members = λ k m there.
+          let found = got_map fresh_member plan.members k m there in
+          subst (λ (x : MemberState). TurnsIf k (controller_of k s) None [] [] s.chances.drawn [] [] x.running) found.2
+          (anew asks s.member_plans s.ends [] s.chances.drawn [] k (controller_of k s) found.0 [] refl);
+    }
+
+-- ---- the claim
+
+and_filter : (one other : LogonTurn → Bool) (turns : List LogonTurn) → filter (λ (turn : LogonTurn). one turn && other turn) turns ≡ filter other (filter one turns)
+and_filter one other [] = refl
+and_filter one other (turn ∷ turns) = and_one (one turn) turn (filter one turns) (filter (λ (t : LogonTurn). one t && other t) turns) (and_filter one other turns)
+  where
+    and_one : (hit : Bool) (turn : LogonTurn) (first both : List LogonTurn) → both ≡ filter other first →
+        (if hit && other turn then turn ∷ both else both) ≡ filter other (if hit then turn ∷ first else first)
+    and_one true turn first both is = ap (λ (l : List LogonTurn). if other turn then turn ∷ l else l) is
+    and_one false turn first both is = is
+
+-- the timestamps of a member's turns on a channel
+pub own_stamps : (k : ℕ) (channel : Channel) (turns : List LogonTurn) → stamps_on channel (mine k turns) ≡ timestamps_on k channel turns
+own_stamps k channel turns = ap (λ (l : List LogonTurn). map (λ (turn : LogonTurn). turn.timestamp) l) (sym (and_filter (λ (turn : LogonTurn). turn.member == k) (on_channel channel) turns))
+
+own_seed : (s : State) (k : ℕ) (channel : Channel) (o : OpenState) (turns : List LogonTurn) → TurnsHold None [] s.member_plans s.ends s.dials s.chances.drawn [] turns →
+    Stands s k channel o → o.seed ≡ channel_seed channel (timestamps_on k channel turns)
+own_seed s k channel o turns holds stands =
+    let c : ℕ = controller_of k s in
+    let running : Running = stands.running in
+    let known : TurnsOf k c None [] s.dials s.chances.drawn [] turns running =
+    subst (λ (r : Option Running). TurnsIf k c None [] s.dials s.chances.drawn [] turns r) stands.runs (holds.members k stands.state stands.at) in
+    let open_channel : stands_in c running.logons.channel.caller.computer running.logons.channel.standing ≡ Some channel =
+    ap (λ (how : Standing). stands_in c running.logons.channel.caller.computer how) stands.open_so ∙ ap Some (sym stands.is) in
+    let seed : Some o.seed ≡ Some (channel_seed channel (stamps_on channel (mine k turns ++ []))) = sym (ap seed_in stands.open_so) ∙ known.turned.seed channel open_channel in
+    some_is o.seed (channel_seed channel (stamps_on channel (mine k turns ++ []))) seed
+    ∙ ap (λ (l : List LogonTurn). channel_seed channel (stamps_on channel l)) (append-nil (mine k turns))
+    ∙ ap (channel_seed channel) (own_stamps k channel turns)
+
+pub sequences_own : AsksWhatWaits → TurnsAreDialled → (plan : Plan) (moves : List Move) → SequencesAreOwn (past plan moves)
+sequences_own asks dialled plan moves member channel o stands =
+    let known : AtState TurnsKnown None [] (past plan moves).world.state [] (past plan moves).book.turns =
+    dials_after TurnsKnown (turns_keep asks dialled) plan moves (first_known asks plan) in
+    own_seed (past plan moves).world.state member channel o (past plan moves).book.turns (known (draws_differ plan moves)) stands

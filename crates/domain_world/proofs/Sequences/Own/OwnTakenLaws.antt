@@ -1,0 +1,155 @@
+-- Where a whole unit comes on the link of a member's turn: a call that goes out is on the channel that stands, and the
+-- call whose answer is taken is that of a message. It serves `sequences_are_shared`.
+use Rattle.std.proofs.Common.{◌≡◌, ℕ, List, [], ◌∷◌, map, inl, inr, Option, Some, slice_get, refl, sym, ap, subst, ◌∙◌}
+use Rattle.std.specs.List.{AllByRecursion}
+use Rattle.wire_base.specs.Maps.{lookup, same_number}
+use Rattle.wire_base.proofs.NameLaws.{IsSameness-same_number}
+use Rattle.authenticators.specs.Channels.{Channel}
+use Rattle.outside.specs.Machine.{Part}
+use Rattle.rpc_units.specs.declared.unit.Unit.{Unit as RpcUnit}
+use Rattle.channel_client.specs.Effects.{IsForFirst, asking_in, channel_of, number_in, stands_in, step_in, view_of}
+use Rattle.channel_client.specs.Machine.{act, hear, judge, settle, take_of}
+use Rattle.channel_client.specs.State.{Requester}
+use Rattle.channel_client.specs.declared.answers.Taken.{Taken}
+use Rattle.channel_client.specs.declared.answers.Taken.TheVariants as taken
+use Rattle.channel_client.specs.declared.hearing.Hearing.{Hearing}
+use Rattle.channel_client.specs.declared.hearing.Hearing.TheVariants as hearing
+use Rattle.channel_client.specs.declared.judging.Judgement.{Judgement}
+use Rattle.channel_client.specs.declared.judging.Judgement.TheVariants as judgement
+use Rattle.channel_client.specs.declared.state.Pending.{Pending}
+use Rattle.channel_client.specs.declared.state.Question.{Question}
+use Rattle.channel_client.specs.declared.state.Question.TheVariants as question
+use Rattle.channel_client.specs.declared.state.Standing.{Standing}
+use Rattle.channel_client.specs.declared.state.Standing.TheVariants as standing
+use Rattle.channel_client.specs.declared.state.Step.{Step}
+use Rattle.channel_client.specs.declared.state.Step.TheVariants as step
+use Rattle.channel_client.specs.declared.state.Waiting.{Waiting}
+use Rattle.logon_stubs.specs.declared.info.Verdict.{Verdict}
+use Rattle.channel_events.specs.Marks.{Mark, Calling, OneOf}
+use Rattle.channel_events.proofs.ListLaws.{some_is}
+use Rattle.member_server.specs.Turns.{Desk}
+use Rattle.member_server.specs.declared.state.Logon.{Logon}
+use Rattle.member_server.specs.declared.state.Running.{Running}
+use Rattle.step_notes.specs.CallLogons.{waiting_for}
+use Rattle.step_notes.specs.ChannelNames.{place_answered, standing_channel}
+use Rattle.step_notes.specs.MemberNotes.{asked_note, taking_note}
+use Rattle.step_notes.specs.Records.{Book, MessageTaken, OutcomeTold}
+use Rattle.step_notes.proofs.Channels.ChannelNameLaws.{channels_are_named_alike}
+use Rattle.step_notes.proofs.Members.TurnRequestLaws.{found_if}
+use Rattle.world_moves.specs.declared.plan.Plan.{Plan}
+use Rattle.world_moves.specs.declared.state.State.{State}
+use Rattle.domain_world.specs.Accepting.Runs.{IsOut}
+use Rattle.domain_world.specs.Accepting.Sequences.{IsTakenFor}
+use Rattle.domain_world.specs.Past.{with_answer}
+use Rattle.domain_world.proofs.Accepting.Heard.AnswerReadLaws.{IsAnswerOf, answer_is}
+use Rattle.domain_world.proofs.Accepting.Turns.TurnFactLaws.{IsFree, TurnFacts, past_at}
+use Rattle.domain_world.proofs.Accepting.Turns.TurnWholeLaws.{ComesWhole, own_all, taken_there}
+use Rattle.domain_world.proofs.Requests.CallHoldsLaws.{marks_in}
+use Rattle.domain_world.proofs.Sequences.CallTakenLaws.{IsAnswer}
+use Rattle.domain_world.proofs.Sequences.CalledLaws.{mark_there}
+
+-- ---- a call that goes out
+
+module _ (controller : ℕ) (s : Requester) (c : Channel) (number timestamp : ℕ) where
+  abbrev Stands : Type 0
+  Stands = stands_in controller s.caller.computer s.standing ≡ Some c
+
+  asked_by : (q : Question) (frames : List (List ℕ)) (how : Standing) → s.standing ≡ how →
+      (asked_note (Some (step.Reply q)) how controller s (act (hearing.Next q frames) s).state).mark ≡ Calling c number timestamp → Stands
+  asked_by (question.Challenge client) frames how is mark = absurd (let x = mark in cc)
+  asked_by question.Authenticate frames standing.Nothing is mark = absurd (let x = mark in cc)
+  asked_by question.Authenticate frames (standing.Half client server) is mark = absurd (let x = mark in cc)
+  asked_by question.Authenticate frames (standing.Open o) is mark = absurd (let x = mark in cc)
+  asked_by question.Logon frames standing.Nothing is mark = absurd (let x = mark in cc)
+  asked_by question.Logon frames (standing.Half client server) is mark = absurd (let x = mark in cc)
+  asked_by question.Logon frames (standing.Open o) is mark =
+      let same : channel_of controller s.caller.computer o ≡ c = (let x = mark in cc) in
+      ap (λ (how : Standing). stands_in controller s.caller.computer how) is ∙ ap (λ (x : Channel). Some x) same
+
+  settled_by : (j : Judgement) → (taking_note (Some (settle j s)) controller s).mark ≡ Calling c number timestamp → Stands
+  settled_by (judgement.Half client server) mark = absurd (let x = mark in cc)
+  settled_by (judgement.Opened o) mark = absurd (let x = mark in cc)
+  settled_by (judgement.Answer o v) mark = absurd (let x = mark in cc)
+  settled_by (judgement.Drop cause) mark = absurd (let x = mark in cc)
+
+  acted_by : (h : Hearing) → (taking_note (Some (act h s)) controller s).mark ≡ Calling c number timestamp → Stands
+  acted_by hearing.Skip mark = absurd (let x = mark in cc)
+  acted_by (hearing.Next q frames) mark = asked_by q frames s.standing refl mark
+  acted_by (hearing.Reply q r) mark = settled_by (judge q r s.standing s.caller.secret) mark
+  acted_by (hearing.Drop cause) mark = absurd (let x = mark in cc)
+
+  -- it is on the channel that stands
+  pub called_on : (unit : RpcUnit) → (taking_note (Some (take_of s unit)) controller s).mark ≡ Calling c number timestamp → Stands
+  called_on unit mark = acted_by (hear s.turn unit s.next_call) mark
+
+-- ---- an answer that is taken
+
+record AnswersPlace (t : Taken) : Type 0 where
+  place : ℕ
+  verdict : Verdict
+  is : t ≡ taken.Answer place verdict
+
+answer_of : (t : Taken) → IsAnswer t → AnswersPlace t
+answer_of (taken.Skip right) is = absurd is
+answer_of (taken.Next right frames) is = absurd is
+answer_of taken.Half is = absurd is
+answer_of taken.Opened is = absurd is
+answer_of (taken.Answer place v) is = record { place = place; verdict = v; is = refl }
+answer_of (taken.Dropped place cause) is = absurd is
+
+-- the logon of the turn is kept
+record KeepsFirst (place : ℕ) (asked : List (ℕ × Logon)) : Type 0 where
+  logon : Logon
+  kept : lookup same_number place asked ≡ Some logon
+
+kept_first : (pending : Pending) (asked : List (ℕ × Logon)) → IsForFirst (Some pending) (map waiting_for asked) → KeepsFirst pending.place asked
+kept_first pending [] first = absurd first
+kept_first pending (entry ∷ asked) first = record {
+  logon = entry.1;
+  kept = found_if (same_number pending.place entry.0) entry.1 (lookup same_number pending.place asked)
+      (ap (λ (n : ℕ). same_number pending.place n) (sym first.0) ∙ IsSameness-same_number.reflexive pending.place);
+}
+
+with_both : (X : Type 0) (P Q : MessageTaken → Type 0) (messages : List MessageTaken) → ((message : MessageTaken) → P message → Q message → X) → OneOf P messages → AllByRecursion Q messages → X
+with_both X P Q [] so one all = absurd one
+with_both X P Q (message ∷ messages) so one all = elim one [ inl here ↦ so message here all.0 | inr later ↦ with_both X P Q messages so later all.1 ]
+
+module _ (plan : Plan) (k number u : ℕ) (s t : State) (b d : Book) (messages : List MessageTaken) (running : Running) (bytes : List ℕ) (unit : RpcUnit) (controller now : ℕ) (left : List (List ℕ))
+    (part : Part Desk) (comes : ComesWhole plan k number u s t b d messages running bytes unit controller now left part) (told : List OutcomeTold) (facts : TurnFacts plan t d messages told)
+    (distinct : (one other called timestamp later : ℕ) (c d : Channel) → slice_get (marks_in b.sent) one ≡ Some (Calling c called timestamp) →
+    slice_get (marks_in b.sent) other ≡ Some (Calling d called later) → c.client ≡ d.client → one ≡ other) where
+  abbrev c : Requester
+  c = running.logons.channel
+
+  -- the call is that of the message whose answer is taken
+  pub taken_for : (channel : Channel) (called : ℕ) → IsAnswer (take_of c unit).taken → (view_of controller c).stands ≡ Some channel → (view_of controller c).asking ≡ Some called → (n timestamp : ℕ) →
+      slice_get (marks_in b.sent) n ≡ Some (Calling channel called timestamp) → IsTakenFor (past_at plan t d) n
+  taken_for channel called is stands asking n timestamp there =
+      let answer : AnswersPlace (take_of c unit).taken = answer_of (take_of c unit).taken is in
+      let its : IsAnswerOf c unit answer.place answer.verdict = answer_is c unit answer.place answer.verdict answer.is in
+      let takes = channels_are_named_alike.calls.takes controller c unit answer.place (ap place_answered answer.is) in
+      let kept : KeepsFirst its.pending.place running.logons.asked =
+      kept_first its.pending running.logons.asked
+      (subst (λ (waiting : List Waiting). IsForFirst (Some its.pending) waiting) comes.asks.waits
+      (subst (λ (turn : Option Pending). IsForFirst turn c.waiting) its.turn comes.asks.coherent.first)) in
+      let there_kept : lookup same_number answer.place running.logons.asked ≡ Some kept.logon =
+      ap (λ (n : ℕ). lookup same_number n running.logons.asked) its.same_place ∙ kept.kept in
+      let asked : (view_of controller c).asking ≡ Some its.pending.number =
+      ap (λ (how : Standing). asking_in how (step_in c.turn) (number_in c.turn)) its.stands
+      ∙ ap (λ (turn : Option Pending). asking_in (standing.Open its.stood) (step_in turn) (number_in turn)) its.turn
+      ∙ ap (λ (st : Step). asking_in (standing.Open its.stood) (Some st) its.pending.number) its.asked in
+      let same : its.pending.number ≡ called = some_is its.pending.number called (sym asked ∙ asking) in
+      with_both (IsTakenFor (past_at plan t d) n) (IsOut (past_at plan s b) k its.pending kept.logon (standing_channel controller c))
+      (λ (message : MessageTaken). message.link ≡ kept.logon.link → IsFree k answer.place kept.logon message) messages
+      (λ message out free.
+      let one : out.channel ≡ channel = some_is out.channel channel (sym out.stands ∙ stands) in
+      let call : slice_get (marks_in b.sent) out.request ≡ Some (Calling out.channel called out.timestamp) =
+      mark_there b.sent out.request out.sent out.there ∙ ap (λ (m : Mark). Some m) out.mark ∙ ap (λ (i : ℕ). Some (Calling out.channel i out.timestamp)) same in
+      record {
+        message = with_answer (Some u) message;
+        call = out.call ∙ ap (λ (i : ℕ). Some i) (distinct out.request n called out.timestamp timestamp out.channel channel call there (ap (λ (x : Channel). x.client) one));
+        unit = u;
+        taken = taken_there plan k number u s t b d messages running bytes unit controller now left part comes told facts answer.place answer.verdict answer.is takes.0 takes.1 takes.3 kept.logon there_kept
+            message (free out.link) out;
+      }) (comes.out its.pending kept.logon its.turn its.asked kept.kept)
+      (own_all plan k number u s t b d messages running bytes unit controller now left part comes told facts answer.place kept.logon there_kept)

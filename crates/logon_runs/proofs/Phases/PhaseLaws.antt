@@ -1,0 +1,217 @@
+-- One logon that is granted, move by move.
+-- Of `phases_go_on`.
+use Rattle.std.proofs.Common.{◌≡◌, ℕ, refl, subst, List, [], ◌∷◌, inl, inr}
+use Rattle.world_moves.specs.declared.moves.Move.{Move}
+use Rattle.world_moves.specs.declared.moves.Move.TheVariants as move
+use Rattle.world_moves.specs.declared.state.State.{State}
+use Rattle.world_moves.specs.Moving.{act, moment_after, onward, tick}
+use Rattle.logon_runs.specs.Phases.{Progress, Aim, First, Second, Third, TurnAt, WhoAsked, HasUser, HasUserAt, MayLogOnAt, ArrivesAt, ComesTo, ComesSoFar, Coming, progress_after, progress_of, progress_onward, Fits, IsOver, IsReady, IsUnderWay, IsKnown, LogonPhase, PhasesGoOn, scene_of, with_its_controller}
+use Rattle.logon_runs.specs.Phases.{Acked, Answers, Binds, BindsBefore, BindsHeld, Calls, Challenged, Dials, DialsBefore, DialsHeld, Echoed, Echoes, Granted, Halved, Named, Proved}
+use Rattle.logon_runs.specs.Seen.Others.{IsStepOn}
+use Rattle.logon_runs.specs.Runs.{Asked}
+use Rattle.logon_runs.specs.Scenes.{Scene, Shows}
+use Rattle.logon_runs.specs.Seen.Waiting.{waiting}
+use Rattle.logon_runs.proofs.Seen.StartLaws.{starts_are_seen}
+use Rattle.logon_runs.proofs.Seen.TurningSceneLaws.{scenes_turn}
+use Rattle.logon_runs.proofs.Phases.PhaseStartLaws.{ComesBy, left_seen, answers_on, binds_on, challenged_on, connects_on, under}
+use Rattle.logon_runs.proofs.Phases.PhaseTurnLaws.{acked_on, binds_held, bound_on, calls_on, dials_held, halved_on, proved_on}
+use Rattle.logon_runs.proofs.Phases.PhaseEndLaws.{echoed_on, echoes_on, granted_on, named_on}
+
+-- ---- a unit comes
+
+-- where none waits
+stays_heard : (p : Coming) (s : State) (phase : LogonPhase p) (left : List (List ℕ)) (moment : ℕ) → Fits p phase → (scene_of p phase left moment).units ≡ [] →
+    Shows s (scene_of p phase left moment) → ComesBy p (progress_of phase) s (onward s).state
+stays_heard p s phase left moment fits none shows = under p s _ phase left moment (left_seen p s phase left moment shows) fits (starts_are_seen.no_unit s (scene_of p phase left moment) none shows)
+
+comes_on : (p : Coming) (s : State) (phase : LogonPhase p) (left : List (List ℕ)) (moment : ℕ) → IsKnown p → IsReady p s → Fits p phase → HasUserAt p s phase move.Onward → ArrivesAt p phase move.Onward →
+    Shows s (scene_of p phase left moment) → ComesBy p (progress_onward phase) s (onward s).state
+comes_on p s Dials left moment known ready fits user arrives shows = stays_heard p s Dials left moment fits refl shows
+comes_on p s Binds left moment known ready fits user arrives shows = binds_on p s left moment known ready shows
+comes_on p s (Challenged challenge) left moment known ready fits user arrives shows = challenged_on p s challenge left moment known ready fits shows
+comes_on p s (Answers a who) left moment known ready fits user arrives shows = answers_on p s a who left moment known ready fits known.stands shows
+comes_on p s (DialsBefore a who v aim) left moment known ready fits user arrives shows = dials_held p s a who v aim left moment fits shows
+comes_on p s (DialsHeld a who v aim) left moment known ready fits user arrives shows = stays_heard p s (DialsHeld a who v aim) left moment fits refl shows
+comes_on p s (BindsBefore a who v aim) left moment known ready fits user arrives shows = binds_held p s a who v aim left moment fits shows
+comes_on p s (BindsHeld a who v aim) left moment known ready fits user arrives shows = bound_on p s a who v aim left moment fits shows
+comes_on p s (Acked a who v aim) left moment known ready fits user arrives shows = acked_on p s a who v aim left moment fits shows
+comes_on p s (Calls a who v aim) left moment known ready fits user arrives shows = calls_on p s a who v aim left moment known ready fits user arrives shows
+comes_on p s (Halved a who v client server) left moment known ready fits user arrives shows = halved_on p s a who v client server left moment fits shows
+comes_on p s (Proved a who v client server) left moment known ready fits user arrives shows = proved_on p s a who v client server left moment fits shows
+comes_on p s (Granted a who v o c timestamp judged_at accounts) left moment known ready fits user arrives shows =
+    granted_on p s a who v o c timestamp judged_at accounts left moment known fits shows
+comes_on p s (Named a e on one other back) left moment known ready fits user arrives shows = named_on p s a e on one other back left moment known fits shows
+comes_on p s (Echoes a e on one asks) left moment known ready fits user arrives shows = echoes_on p s a e on one asks left moment known fits shows
+comes_on p s (Echoed a e talk one other back) left moment known ready fits user arrives shows = echoed_on p s a e talk one other back left moment known fits shows
+
+-- ---- time passes
+
+-- the scene at another moment
+abbrev pub at_moment : ℕ → Scene → Scene
+at_moment moment v = record v { moment = moment }
+
+pub same_scene : (p : Coming) (phase : LogonPhase p) (left : List (List ℕ)) (moment later : ℕ) → at_moment later (scene_of p phase left moment) ≡ scene_of p phase left later
+same_scene p Dials left moment later = refl
+same_scene p Binds left moment later = refl
+same_scene p (Challenged challenge) left moment later = refl
+same_scene p (Answers a who) left moment later = refl
+same_scene p (DialsBefore a who v aim) left moment later = refl
+same_scene p (DialsHeld a who v aim) left moment later = refl
+same_scene p (BindsBefore a who v aim) left moment later = refl
+same_scene p (BindsHeld a who v aim) left moment later = refl
+same_scene p (Acked a who v aim) left moment later = refl
+same_scene p (Calls a who v aim) left moment later = refl
+same_scene p (Halved a who v client server) left moment later = refl
+same_scene p (Proved a who v client server) left moment later = refl
+same_scene p (Granted a who v o c timestamp judged_at accounts) left moment later = refl
+same_scene p (Named a e on one other back) left moment later = refl
+same_scene p (Echoes a e on one asks) left moment later = refl
+same_scene p (Echoed a e talk one other back) left moment later = refl
+
+ticks_on : (p : Coming) (s : State) (phase : LogonPhase p) (left : List (List ℕ)) (moment more : ℕ) → Fits p phase → Shows s (scene_of p phase left moment) → ComesBy p (progress_of phase) s (tick more s)
+ticks_on p s phase left moment more fits shows =
+    under p s _ phase left (moment_after more (scene_of p phase left moment).moment) (left_seen p s phase left moment shows) fits
+    (subst (λ (v : Scene). Shows (tick more s) v) (same_scene p phase left moment (moment_after more (scene_of p phase left moment).moment))
+    (scenes_turn.ticks s (scene_of p phase left moment) more shows))
+
+-- ---- a move
+
+goes_so : (p : Coming) (s : State) (what : Move) → IsKnown p → IsReady p s → IsStepOn what → (at : IsUnderWay p s) → HasUserAt p s at.phase what → ArrivesAt p at.phase what →
+    ComesBy p (progress_after what at.phase) s (act s what).state
+goes_so p s move.Connect known ready goes at user arrives = connects_on p s at.phase at.left at.moment ready at.fits at.shows
+goes_so p s move.Onward known ready goes at user arrives = comes_on p s at.phase at.left at.moment known ready at.fits user arrives at.shows
+goes_so p s (move.Tick more) known ready goes at user arrives = ticks_on p s at.phase at.left at.moment more at.fits at.shows
+goes_so p s (move.Start number) known ready goes at user arrives = absurd goes
+goes_so p s (move.Stranger number) known ready goes at user arrives = absurd goes
+goes_so p s move.FailDial known ready goes at user arrives = absurd goes
+goes_so p s move.Lose known ready goes at user arrives = absurd goes
+goes_so p s (move.Deliver unit link) known ready goes at user arrives = absurd goes
+goes_so p s (move.Hand link back bytes) known ready goes at user arrives = absurd goes
+goes_so p s (move.Shut number) known ready goes at user arrives = absurd goes
+goes_so p s (move.Restart number) known ready goes at user arrives = absurd goes
+
+-- ---- once it is over
+
+rests_so : (p : Coming) (s : State) (what : Move) → IsStepOn what → (over : IsOver p s) → (later : IsOver p (act s what).state) × (later.asked ≡ over.asked)
+rests_so p s move.Connect goes over = (
+  record {
+    asked = over.asked;
+    ending = over.ending;
+    left = over.left;
+    moment = over.moment;
+    fits = over.fits;
+    shows = starts_are_seen.no_dial s _ refl over.shows;
+  },
+  refl,
+)
+rests_so p s move.Onward goes over = (
+  record {
+    asked = over.asked;
+    ending = over.ending;
+    left = over.left;
+    moment = over.moment;
+    fits = over.fits;
+    shows = starts_are_seen.no_unit s _ refl over.shows;
+  },
+  refl,
+)
+rests_so p s (move.Tick more) goes over = (
+  record {
+    asked = over.asked;
+    ending = over.ending;
+    left = over.left;
+    moment = moment_after more over.moment;
+    fits = over.fits;
+    shows = scenes_turn.ticks s _ more over.shows;
+  },
+  refl,
+)
+rests_so p s (move.Start number) goes over = absurd goes
+rests_so p s (move.Stranger number) goes over = absurd goes
+rests_so p s move.FailDial goes over = absurd goes
+rests_so p s move.Lose goes over = absurd goes
+rests_so p s (move.Deliver unit link) goes over = absurd goes
+rests_so p s (move.Hand link back bytes) goes over = absurd goes
+rests_so p s (move.Shut number) goes over = absurd goes
+rests_so p s (move.Restart number) goes over = absurd goes
+
+-- whatever is told
+comes_of : (p : Coming) (far : Progress) (s : State) → ComesSoFar p far s → ComesTo p s
+comes_of p far s (inl at) = inl at.0
+comes_of p far s (inr over) = inr over.0
+
+-- ---- something waits
+
+pub one_waits : {T : Type 0} (items : List T) (one : T) (more : List T) → items ≡ one ∷ more → items ≡ [] → ⊥
+one_waits items one more are none = absurd cc
+
+pub waits_so : (p : Coming) (s : State) (phase : LogonPhase p) (left : List (List ℕ)) (moment : ℕ) → Shows s (scene_of p phase left moment) → s.dials ≡ [] → waiting s.bag ≡ [] → ⊥
+waits_so p s Dials left moment shows dials units = one_waits s.dials _ [] shows.dials dials
+waits_so p s Binds left moment shows dials units = one_waits (waiting s.bag) _ [] shows.units units
+waits_so p s (Challenged challenge) left moment shows dials units = one_waits (waiting s.bag) _ [] shows.units units
+waits_so p s (Answers a who) left moment shows dials units = one_waits (waiting s.bag) _ _ shows.units units
+waits_so p s (DialsBefore a who v aim) left moment shows dials units = one_waits s.dials _ [] shows.dials dials
+waits_so p s (DialsHeld a who v aim) left moment shows dials units = one_waits s.dials _ [] shows.dials dials
+waits_so p s (BindsBefore a who v aim) left moment shows dials units = one_waits (waiting s.bag) _ _ shows.units units
+waits_so p s (BindsHeld a who v aim) left moment shows dials units = one_waits (waiting s.bag) _ [] shows.units units
+waits_so p s (Acked a who v aim) left moment shows dials units = one_waits (waiting s.bag) _ [] shows.units units
+waits_so p s (Calls a who v aim) left moment shows dials units = one_waits (waiting s.bag) _ [] shows.units units
+waits_so p s (Halved a who v client server) left moment shows dials units = one_waits (waiting s.bag) _ [] shows.units units
+waits_so p s (Proved a who v client server) left moment shows dials units = one_waits (waiting s.bag) _ [] shows.units units
+waits_so p s (Granted a who v o c timestamp judged_at accounts) left moment shows dials units = one_waits (waiting s.bag) _ [] shows.units units
+waits_so p s (Named a e on one other back) left moment shows dials units = one_waits (waiting s.bag) _ [] shows.units units
+waits_so p s (Echoes a e on one asks) left moment shows dials units = one_waits (waiting s.bag) _ [] shows.units units
+waits_so p s (Echoed a e talk one other back) left moment shows dials units = one_waits (waiting s.bag) _ [] shows.units units
+
+-- ---- the user's hash
+
+user_at_call : (p : Coming) (s : State) (a : Asked) (who : WhoAsked p a) (v : TurnAt) (aim : Aim) (what : Move) → HasUser p → MayLogOnAt p s → HasUserAt p s (Calls a who v aim) what
+user_at_call p s a who v (First client) what user may = tt
+user_at_call p s a who v (Second client server) what user may = tt
+user_at_call p s a who v (Third o c timestamp) move.Onward user may = (user, may)
+user_at_call p s a who v (Third o c timestamp) move.Connect user may = tt
+user_at_call p s a who v (Third o c timestamp) (move.Tick more) user may = tt
+user_at_call p s a who v (Third o c timestamp) (move.Start number) user may = tt
+user_at_call p s a who v (Third o c timestamp) (move.Stranger number) user may = tt
+user_at_call p s a who v (Third o c timestamp) move.FailDial user may = tt
+user_at_call p s a who v (Third o c timestamp) move.Lose user may = tt
+user_at_call p s a who v (Third o c timestamp) (move.Deliver unit link) user may = tt
+user_at_call p s a who v (Third o c timestamp) (move.Hand link back bytes) user may = tt
+user_at_call p s a who v (Third o c timestamp) (move.Shut number) user may = tt
+user_at_call p s a who v (Third o c timestamp) (move.Restart number) user may = tt
+
+user_at : (p : Coming) (s : State) (phase : LogonPhase p) (what : Move) → HasUser p → MayLogOnAt p s → HasUserAt p s phase what
+user_at p s Dials what user may = tt
+user_at p s Binds what user may = tt
+user_at p s (Challenged challenge) what user may = tt
+user_at p s (Answers a who) what user may = tt
+user_at p s (DialsBefore a who v aim) what user may = tt
+user_at p s (DialsHeld a who v aim) what user may = tt
+user_at p s (BindsBefore a who v aim) what user may = tt
+user_at p s (BindsHeld a who v aim) what user may = tt
+user_at p s (Acked a who v aim) what user may = tt
+user_at p s (Calls a who v aim) what user may = user_at_call p s a who v aim what user may
+user_at p s (Halved a who v one other) what user may = tt
+user_at p s (Proved a who v one other) what user may = tt
+user_at p s (Granted a who v o c timestamp judged_at accounts) what user may = tt
+user_at p s (Named a e on one other back) what user may = tt
+user_at p s (Echoes a e on one asks) what user may = tt
+user_at p s (Echoed a e talk one other back) what user may = tt
+
+pub phases_go_on : PhasesGoOn
+phases_go_on = record {
+  begins = λ p s number before left moment chosen planned shows. record {
+    phase = Dials;
+    left = left;
+    moment = moment;
+    fits = tt;
+    shows = starts_are_seen.starts s (with_its_controller p p.meeting) number before p.meeting.links left moment chosen planned shows;
+  };
+  goes_on = λ p s what known ready goes at user arrives. comes_of p (progress_after what at.phase) (act s what).state (goes_so p s what known ready goes at user arrives).0;
+  goes_so_far = λ p s what known ready goes at user arrives. (goes_so p s what known ready goes at user arrives).0;
+  draws = λ p s what known ready goes at user arrives. (goes_so p s what known ready goes at user arrives).1;
+  has_user = user_at;
+  waits = λ p s at dials units. waits_so p s at.phase at.left at.moment at.shows dials units;
+  rests = λ p s what goes over. (rests_so p s what goes over).0;
+  rests_same = rests_so;
+}

@@ -1,0 +1,176 @@
+-- What comes of a unit at a scene's ends.
+-- Of `scenes_go_on`.
+use Rattle.std.proofs.Common.{◌≡◌, ℕ, suc, zero, List, [], ◌∷◌, ◌++◌, Option, Some, None, refl, sym, ap, ap₂, subst, ◌∙◌, append-nil, append_assoc, slice_get, slice_set}
+use Rattle.std.specs.List.{AllByRecursion}
+use Rattle.wire_base.specs.Maps.{lookup, same_number}
+use Rattle.outside.specs.declared.action.Action.{Action}
+use Rattle.outside.specs.declared.action.Action.TheVariants as action
+use Rattle.outside.specs.declared.event.Event.TheVariants as event
+use Rattle.outside.specs.Drawing.{Drawing}
+use Rattle.outside.specs.Machine.{whole_step}
+use Rattle.domain_controller.specs.State.{State as ControllerState}
+use Rattle.domain_controller.specs.Step.{step_of as controller_step_of}
+use Rattle.logon_client.specs.State.{State as ClientState}
+use Rattle.logon_client.specs.Machine.{step_of as client_step_of}
+use Rattle.member_server.specs.State.{State as MemberState}
+use Rattle.member_server.specs.Machine.{step_of as member_step_of}
+use Rattle.world_moves.specs.declared.bag.BagUnit.{BagUnit}
+use Rattle.world_moves.specs.declared.links.EndId.{EndId}
+use Rattle.world_moves.specs.declared.links.EndId.TheVariants.{Controller, Member, Client}
+use Rattle.world_moves.specs.declared.links.Route.{Route}
+use Rattle.world_moves.specs.declared.links.Route.TheVariants.{ToMember, ToController, Stranger}
+use Rattle.world_moves.specs.declared.state.State.{State}
+use Rattle.world_moves.specs.declared.state.Waiting.{Waiting}
+use Rattle.world_moves.specs.Acting.{Heard, done, hear, perform_all, perform_all_quietly, perform_quietly, send_on}
+use Rattle.world_moves.specs.Ends.{EndStates}
+use Rattle.world_moves.specs.Links.{OpenMap}
+use Rattle.world_moves.specs.Moving.{onward, settle}
+use Rattle.logon_runs.specs.Scenes.{HasFirst, IsNoClose, Scene, ScenesGoOn, Shows, dials_made, dials_of_action, sent_if, units_of_action, units_sent, with_actions}
+use Rattle.logon_runs.specs.Seen.Waiting.{Comes, after_hearing, unit_on, waiting, with_client_at, with_controller_at, with_member_at}
+use Rattle.logon_runs.proofs.Seen.WaitingLaws.{waiting_comes}
+
+-- ---- lists of ends
+
+pub got_same : {A : Type 0} (items : List A) (at : ℕ) (one other : A) → slice_get items at ≡ Some one → slice_get (slice_set items at other) at ≡ Some other
+got_same [] at one other found = absurd cc
+got_same (item ∷ items) zero one other found = refl
+got_same (item ∷ items) (suc at) one other found = got_same items at one other found
+
+-- ---- actions that close nothing
+
+pub performed_quietly : (end : EndId) (actions : List Action) (s : State) → AllByRecursion IsNoClose actions → (perform_all end actions s).state ≡ perform_all_quietly end actions s
+performed_quietly end [] s none_close = refl
+performed_quietly end (action.Keep bytes ∷ actions) s none_close = performed_quietly end actions s none_close.1
+performed_quietly end (action.Send link bytes ∷ actions) s none_close = performed_quietly end actions (perform_quietly end (action.Send link bytes) s) none_close.1
+performed_quietly end (action.Dial peer ∷ actions) s none_close = performed_quietly end actions (perform_quietly end (action.Dial peer) s) none_close.1
+performed_quietly end (action.Close link cause ∷ actions) s none_close = absurd none_close.0
+performed_quietly end (action.Told link what ∷ actions) s none_close = performed_quietly end actions s none_close.1
+performed_quietly end (action.Judged how ∷ actions) s none_close = performed_quietly end actions s none_close.1
+
+-- what they change
+pub record Leaves (end : EndId) (actions : List Action) (s after : State) : Type 0 where
+  pub ends : after.ends ≡ s.ends
+  pub links : after.links ≡ s.links
+  pub opened : after.open_links ≡ s.open_links
+  pub units : waiting after.bag ≡ waiting s.bag ++ units_sent s.links end actions
+  pub dials : after.dials ≡ s.dials ++ dials_made end actions
+  pub left : after.chances ≡ s.chances
+  pub moment : after.moment ≡ s.moment
+
+sends_leave : (route : Option Route) (end : EndId) (link : ℕ) (bytes : List ℕ) (s : State) →
+    waiting (send_on route end link bytes s).bag ≡ waiting s.bag ++ sent_if route end link bytes
+sends_leave None end link bytes s = sym (append-nil (waiting s.bag))
+sends_leave (Some (Stranger to)) end link bytes s = sym (append-nil (waiting s.bag))
+sends_leave (Some (ToMember client member)) end link bytes s = waiting_comes.added s.bag (unit_on (ToMember client member) end link bytes) refl
+sends_leave (Some (ToController member controller)) end link bytes s = waiting_comes.added s.bag (unit_on (ToController member controller) end link bytes) refl
+
+-- one more before the others
+more_leave : (end : EndId) (what : Action) (actions : List Action) (s next after : State) → next.ends ≡ s.ends → next.links ≡ s.links → next.open_links ≡ s.open_links →
+    waiting next.bag ≡ waiting s.bag ++ units_of_action s.links end what → next.dials ≡ s.dials ++ dials_of_action end what → next.chances ≡ s.chances → next.moment ≡ s.moment →
+    Leaves end actions next after → Leaves end (what ∷ actions) s after
+more_leave end what actions s next after ends links opened units dials left moment leaves = record {
+  ends = leaves.ends ∙ ends;
+  links = leaves.links ∙ links;
+  opened = leaves.opened ∙ opened;
+  units = leaves.units ∙ ap₂ (λ (u : List BagUnit) (l : List Route). u ++ units_sent l end actions) units links
+      ∙ append_assoc (waiting s.bag) (units_of_action s.links end what) (units_sent s.links end actions);
+  dials = leaves.dials ∙ ap (λ (d : List Waiting). d ++ dials_made end actions) dials ∙ append_assoc s.dials (dials_of_action end what) (dials_made end actions);
+  left = leaves.left ∙ left;
+  moment = leaves.moment ∙ moment;
+}
+
+sent_alone : (route : Option Route) (end : EndId) (link : ℕ) (bytes : List ℕ) (s : State) (actions : List Action) (after : State) →
+    slice_get s.links link ≡ route → Leaves end actions (send_on route end link bytes s) after → Leaves end (action.Send link bytes ∷ actions) s after
+sent_alone None end link bytes s actions after is leaves =
+    more_leave end (action.Send link bytes) actions s (send_on None end link bytes s) after refl refl refl
+    (sends_leave None end link bytes s ∙ ap (λ (r : Option Route). waiting s.bag ++ sent_if r end link bytes) (sym is)) (sym (append-nil s.dials)) refl refl leaves
+sent_alone (Some (Stranger to)) end link bytes s actions after is leaves =
+    more_leave end (action.Send link bytes) actions s (send_on (Some (Stranger to)) end link bytes s) after refl refl refl
+    (sends_leave (Some (Stranger to)) end link bytes s ∙ ap (λ (r : Option Route). waiting s.bag ++ sent_if r end link bytes) (sym is)) (sym (append-nil s.dials)) refl refl leaves
+sent_alone (Some (ToMember client member)) end link bytes s actions after is leaves =
+    more_leave end (action.Send link bytes) actions s (send_on (Some (ToMember client member)) end link bytes s) after refl refl refl
+    (sends_leave (Some (ToMember client member)) end link bytes s ∙ ap (λ (r : Option Route). waiting s.bag ++ sent_if r end link bytes) (sym is)) (sym (append-nil s.dials)) refl refl leaves
+sent_alone (Some (ToController member controller)) end link bytes s actions after is leaves =
+    more_leave end (action.Send link bytes) actions s (send_on (Some (ToController member controller)) end link bytes s) after refl refl refl
+    (sends_leave (Some (ToController member controller)) end link bytes s ∙ ap (λ (r : Option Route). waiting s.bag ++ sent_if r end link bytes) (sym is)) (sym (append-nil s.dials)) refl refl leaves
+
+pub quietly_leave : (end : EndId) (actions : List Action) (s : State) → AllByRecursion IsNoClose actions → Leaves end actions s (perform_all_quietly end actions s)
+quietly_leave end [] s none_close = record {
+  ends = refl;
+  links = refl;
+  opened = refl;
+  units = sym (append-nil (waiting s.bag));
+  dials = sym (append-nil s.dials);
+  left = refl;
+  moment = refl;
+}
+quietly_leave end (action.Keep bytes ∷ actions) s none_close =
+    more_leave end (action.Keep bytes) actions s s _ refl refl refl (sym (append-nil (waiting s.bag))) (sym (append-nil s.dials)) refl refl (quietly_leave end actions s none_close.1)
+quietly_leave end (action.Send link bytes ∷ actions) s none_close =
+    sent_alone (slice_get s.links link) end link bytes s actions _ refl (quietly_leave end actions (send_on (slice_get s.links link) end link bytes s) none_close.1)
+quietly_leave end (action.Dial peer ∷ actions) s none_close =
+    more_leave end (action.Dial peer) actions s (perform_quietly end (action.Dial peer) s) _ refl refl refl (sym (append-nil (waiting s.bag))) refl refl refl
+    (quietly_leave end actions (perform_quietly end (action.Dial peer) s) none_close.1)
+quietly_leave end (action.Close link cause ∷ actions) s none_close = absurd none_close.0
+quietly_leave end (action.Told link what ∷ actions) s none_close =
+    more_leave end (action.Told link what) actions s s _ refl refl refl (sym (append-nil (waiting s.bag))) (sym (append-nil s.dials)) refl refl (quietly_leave end actions s none_close.1)
+quietly_leave end (action.Judged how ∷ actions) s none_close =
+    more_leave end (action.Judged how) actions s s _ refl refl refl (sym (append-nil (waiting s.bag))) (sym (append-nil s.dials)) refl refl (quietly_leave end actions s none_close.1)
+
+-- ---- a unit comes, and what its end then does is done
+
+abbrev seen : ClientState → MemberState → ControllerState → List BagUnit → Scene → Scene
+seen client member controller units v = record v { client = client; member = member; controller = controller; units = units }
+
+lands : (s : State) (v : Scene) (unit : BagUnit) (later : List BagUnit) (end : EndId) (ends : EndStates) (left : List (List ℕ)) (actions : List Action)
+    (client : ClientState) (member : MemberState) (controller : ControllerState) → Shows s v → (comes : Comes s unit later end) → AllByRecursion IsNoClose actions →
+    hear end (event.Bytes unit.link unit.bytes) (settle comes.number s) ≡ after_hearing ends left actions (settle comes.number s) →
+    slice_get ends.clients v.at_client ≡ Some client → slice_get ends.members v.at_member ≡ Some member → slice_get ends.controllers v.at_controller ≡ Some controller →
+    Shows (onward s).state (with_actions end actions left (seen client member controller later v))
+lands s v unit later end ends left actions client member controller shows comes none_close heard is_client is_member is_controller =
+    let s1 : State = settle comes.number s in
+    let s2 : State = (after_hearing ends left actions s1).state in
+    let s3 : State = perform_all_quietly end actions s2 in
+    let leaves : Leaves end actions s2 s3 = quietly_leave end actions s2 none_close in
+    let is : (onward s).state ≡ s3 = comes.state ∙ ap (λ (h : Heard). (done end h).state) heard ∙ performed_quietly end actions s2 none_close in
+    subst (λ (t : State). Shows t (with_actions end actions left (seen client member controller later v))) (sym is) (record {
+      client = ap (λ (e : EndStates). slice_get e.clients v.at_client) leaves.ends ∙ is_client;
+      member = ap (λ (e : EndStates). slice_get e.members v.at_member) leaves.ends ∙ is_member;
+      controller = ap (λ (e : EndStates). slice_get e.controllers v.at_controller) leaves.ends ∙ is_controller;
+      links = leaves.links ∙ shows.links;
+      opened = leaves.opened ∙ shows.opened;
+      units = leaves.units ∙ ap₂ (λ (u : List BagUnit) (l : List Route). u ++ units_sent l end actions) comes.behind shows.links;
+      dials = leaves.dials ∙ ap (λ (d : List Waiting). d ++ dials_made end actions) shows.dials;
+      left = ap (λ (c : Drawing). c.left) leaves.left;
+      moment = leaves.moment ∙ shows.moment;
+    })
+
+pub first_comes : (s : State) (v : Scene) (unit : BagUnit) (later : List BagUnit) (end : EndId) → Shows s v → HasFirst v unit later end → Comes s unit later end
+first_comes s v unit later end shows first =
+    waiting_comes.comes s unit later first.there end (shows.units ∙ first.units) first.some first.short
+    (ap (λ (o : OpenMap). lookup same_number unit.link o) shows.opened ∙ first.found) first.hearer
+
+pub scenes_go_on : ScenesGoOn
+scenes_go_on = record {
+  to_client = λ s v unit later after left actions shows first none_close step.
+      let comes : Comes s unit later (Client v.at_client) = first_comes s v unit later (Client v.at_client) shows first in
+      lands s v unit later (Client v.at_client) (with_client_at v.at_client after s.ends) left actions after v.member v.controller shows comes none_close
+      (waiting_comes.client (settle comes.number s) v.at_client v.client after (event.Bytes unit.link unit.bytes) left actions shows.client
+      (ap₂ (λ (now : ℕ) (l : List (List ℕ)). client_step_of v.client (event.Bytes unit.link unit.bytes) now l) shows.moment shows.left ∙ step
+      ∙ ap (λ (l : List (List ℕ)). whole_step l left actions after) (sym shows.left)))
+      (got_same s.ends.clients v.at_client v.client after shows.client) shows.member shows.controller;
+  to_member = λ s v unit later after left actions shows first none_close step.
+      let comes : Comes s unit later (Member v.at_member) = first_comes s v unit later (Member v.at_member) shows first in
+      lands s v unit later (Member v.at_member) (with_member_at v.at_member after s.ends) left actions v.client after v.controller shows comes none_close
+      (waiting_comes.member (settle comes.number s) v.at_member v.member after (event.Bytes unit.link unit.bytes) left actions shows.member
+      (ap₂ (λ (now : ℕ) (l : List (List ℕ)). member_step_of v.member (event.Bytes unit.link unit.bytes) now l) shows.moment shows.left ∙ step
+      ∙ ap (λ (l : List (List ℕ)). whole_step l left actions after) (sym shows.left)))
+      shows.client (got_same s.ends.members v.at_member v.member after shows.member) shows.controller;
+  to_controller = λ s v unit later after left actions shows first none_close step.
+      let comes : Comes s unit later (Controller v.at_controller) = first_comes s v unit later (Controller v.at_controller) shows first in
+      lands s v unit later (Controller v.at_controller) (with_controller_at v.at_controller after s.ends) left actions v.client v.member after shows comes none_close
+      (waiting_comes.controller (settle comes.number s) v.at_controller v.controller after (event.Bytes unit.link unit.bytes) left actions shows.controller
+      (ap₂ (λ (now : ℕ) (l : List (List ℕ)). controller_step_of v.controller (event.Bytes unit.link unit.bytes) now l) shows.moment shows.left ∙ step
+      ∙ ap (λ (l : List (List ℕ)). whole_step l left actions after) (sym shows.left)))
+      shows.client shows.member (got_same s.ends.controllers v.at_controller v.controller after shows.controller);
+}

@@ -1,0 +1,10 @@
+-- What is seen of a world at each move, by what an end hears and does.
+pub mod AskScenes
+pub mod LinkScenes
+pub mod Others
+pub mod Starts
+pub mod Staying
+pub mod TurnScenes
+pub mod Turnings
+pub mod TwoLinks
+pub mod Waiting
