@@ -1,3 +1,4 @@
+mod AnnBagLaws
 mod ClaimLaws
 mod ClearRunLaws
 mod ClearSuccessLaws
