@@ -1,3 +1,4 @@
+mod AnnBagLaws
 mod ClaimLaws
 mod CompletenessLaws
 mod GrantExampleLaws

@@ -1,3 +1,4 @@
+pub mod AnnAccepted
 pub mod ClaimExamples
 pub mod ClearRuns
 pub mod ClearSuccess

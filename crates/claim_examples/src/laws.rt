@@ -1,5 +1,6 @@
 //! No claim is true, or false, of everything that could be written down of a run.
 
+ghost use Rattle.claim_examples.specs.AnnAccepted.{AnnIsAccepted};
 ghost use Rattle.claim_examples.specs.TellApart.{ClaimsTellApart};
 ghost use Rattle.claim_examples.specs.ClearRuns.{FirstLogonsAreClear};
 ghost use Rattle.claim_examples.specs.ClearSuccess.{AnnCanSucceed};
@@ -86,3 +87,12 @@ pub fn ann_can_succeed()
 pub fn success_tells_apart()
     ensures { SuccessTellsApart }
 {}
+
+/// All that is proved of runs is so of the run of that example, which is a clear schedule. So a message of it is
+/// accepted, on its controller's answer and by the link's unused challenge.
+pub fn ann_is_accepted()
+    ensures { AnnIsAccepted }
+{
+    a_run_is_clear();
+    claims_hold_of_runs();
+}

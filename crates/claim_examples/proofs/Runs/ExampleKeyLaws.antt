@@ -40,12 +40,18 @@ use Rattle.logon_runs.proofs.First.ExampleLogonLaws.{ann_can}
 abbrev maker_key : List ℕ
 maker_key = 0x76 ∷ 0xB8 ∷ 0xE0 ∷ 0xAD ∷ 0xA0 ∷ 0xF1 ∷ 0x3D ∷ 0x90 ∷ 0x40 ∷ 0x5D ∷ 0x6A ∷ 0xE5 ∷ 0x53 ∷ 0x86 ∷ 0xBD ∷ 0x28 ∷ []
 
--- the challenge of the member's CHALLENGE, the client's, and those of the channel
+-- the challenge of the member's CHALLENGE, the client's, both halves of the exported key, and those of the channel
 abbrev of_member : List ℕ
 of_member = 0x01 ∷ 0x68 ∷ 0x07 ∷ 0xCB ∷ 0x35 ∷ 0x3B ∷ 0xFF ∷ 0x03 ∷ []
 
 abbrev of_client : List ℕ
 of_client = 0x54 ∷ 0x5C ∷ 0x2B ∷ 0xBD ∷ 0xD3 ∷ 0xAD ∷ 0x3E ∷ 0x01 ∷ []
+
+abbrev first_half : List ℕ
+first_half = 0x7C ∷ 0x06 ∷ 0x50 ∷ 0xAA ∷ 0xB0 ∷ 0x24 ∷ 0xBD ∷ 0x75 ∷ []
+
+abbrev second_half : List ℕ
+second_half = 0x84 ∷ 0x93 ∷ 0x86 ∷ 0x7B ∷ 0xC5 ∷ 0x0A ∷ 0xE4 ∷ 0xA8 ∷ []
 
 abbrev of_computer : List ℕ
 of_computer = 0x4C ∷ 0x26 ∷ 0x3B ∷ 0xEC ∷ 0x95 ∷ 0x7D ∷ 0x39 ∷ 0x31 ∷ []
@@ -65,6 +71,14 @@ second_cred : cred_of maker_key (1 ∷ replicate 7 0) ≡ of_client
 unfolding cred_of des_of spread_of permuted combined number_bits number_of bits_of bytes_of box_place substituted substitutions mixed rounds cipher round_keys round_keys_from xor
 second_cred = refl
 
+third_cred : cred_of maker_key (2 ∷ replicate 7 0) ≡ first_half
+unfolding cred_of des_of spread_of permuted combined number_bits number_of bits_of bytes_of box_place substituted substitutions mixed rounds cipher round_keys round_keys_from xor
+third_cred = refl
+
+fourth_cred : cred_of maker_key (3 ∷ replicate 7 0) ≡ second_half
+unfolding cred_of des_of spread_of permuted combined number_bits number_of bits_of bytes_of box_place substituted substitutions mixed rounds cipher round_keys round_keys_from xor
+fourth_cred = refl
+
 fifth_cred : cred_of maker_key (4 ∷ replicate 7 0) ≡ of_computer
 unfolding cred_of des_of spread_of permuted combined number_bits number_of bits_of bytes_of box_place substituted substitutions mixed rounds cipher round_keys round_keys_from xor
 fifth_cred = refl
@@ -76,6 +90,17 @@ sixth_cred = refl
 drawn_so : (count : ℕ) (challenge : List ℕ) → cred_of maker_key (to_le_bytes w64 (0 + count)) ≡ challenge → draw ann_plan count ≡ challenge
 unfolding challenge_of
 drawn_so count challenge is = ap (λ (key : List ℕ). cred_of key (to_le_bytes w64 (0 + count))) maker_key_so ∙ is
+
+-- all six, in order
+abbrev pub ann_draws : List (List ℕ)
+ann_draws = of_member ∷ of_client ∷ first_half ∷ second_half ∷ of_computer ∷ of_controller ∷ []
+
+pub drawn_first : (left : List (List ℕ)) →
+    draw ann_plan 0 ∷ draw ann_plan 1 ∷ draw ann_plan 2 ∷ draw ann_plan 3 ∷ draw ann_plan 4 ∷ draw ann_plan 5 ∷ left ≡ ann_draws ++ left
+drawn_first left =
+    ap₂ (λ (one other : List ℕ). one ∷ other ∷ draw ann_plan 2 ∷ draw ann_plan 3 ∷ draw ann_plan 4 ∷ draw ann_plan 5 ∷ left) (drawn_so 0 of_member first_cred) (drawn_so 1 of_client second_cred)
+    ∙ ap₂ (λ (one other : List ℕ). of_member ∷ of_client ∷ one ∷ other ∷ draw ann_plan 4 ∷ draw ann_plan 5 ∷ left) (drawn_so 2 first_half third_cred) (drawn_so 3 second_half fourth_cred)
+    ∙ ap₂ (λ (one other : List ℕ). of_member ∷ of_client ∷ first_half ∷ second_half ∷ one ∷ other ∷ left) (drawn_so 4 of_computer fifth_cred) (drawn_so 5 of_controller sixth_cred)
 
 -- ---- the key of the channel
 
