@@ -11,6 +11,7 @@ use Rattle.sam_logon.specs.MayLogOn.{MayLogOn}
 use Rattle.outside.specs.declared.action.Judged.TheVariants as judged
 use Rattle.logon_client.specs.Plans.{CanLogOn}
 use Rattle.logon_client.specs.declared.plan.AuthKind.{AuthKind}
+use Rattle.logon_client.specs.declared.plan.AuthKind.TheVariants.{V2}
 use Rattle.member_server.specs.declared.plan.MemberPlan.{MemberPlan}
 use Rattle.channel_events.proofs.ListLaws.{one_found}
 use Rattle.channel_events.specs.Marks.{OneOf}
@@ -28,7 +29,7 @@ use Rattle.domain_world.specs.Claims.Completeness.{CanSucceed, ComesOneAtATime, 
 use Rattle.domain_world.specs.Past.{Past, past}
 use Rattle.claim_examples.specs.ClaimExamples.{small_account, small_hash}
 use Rattle.claim_examples.specs.CompletenessExamples.{able_client, able_member, able_table, ann_accounts, machine_account, machine_secret}
-use Rattle.claim_examples.specs.SuccessMisses.{OfEachClient, OfMoves, OfSucceeding, SuccessTellsApart, asking_plan, beside_plan, bind_moves, two_lost, two_moves}
+use Rattle.claim_examples.specs.SuccessMisses.{OfEachClient, OfMoves, OfSucceeding, SuccessTellsApart, asking_plan, beside_plan, bind_moves, strict_plan, strict_table, two_lost, two_moves}
 use Rattle.claim_examples.proofs.CompletenessLaws.{ann_can, ann_found, ann_may, client_follows, client_form, lost_schedule, machine_found}
 use Rattle.claim_examples.proofs.SequenceLaws.{one_apart}
 
@@ -111,6 +112,45 @@ beside_can = record {
   may = (ann_may 0, ann_may 0);
 }
 
+strict_may : (now : ℕ) → MayLogOn strict_table (info_planned (record (able_client small_hash) { auth = V2; echo = 16 })) now
+unfolding place_in same_name names.upper_of
+strict_may now = record {
+  there = record {
+    domain = inl refl;
+    account = record {
+      user = refl;
+      unlocked = refl;
+      below_lockout = inl refl;
+      enabled = refl;
+      not_expired = inl refl;
+      workstation = inl refl;
+      no_change_due = refl;
+      password_not_expired = inl refl;
+    };
+  };
+  taken_response = inr (λ short. absurd (let never : 44 ≡ 24 = short in cc));
+}
+
+strict_can : CanSucceed strict_plan (move.Start 0 ∷ []) 0
+strict_can = record {
+  task = record (able_client small_hash) { auth = V2; echo = 16 };
+  is_task = refl;
+  member = 0;
+  is_member = refl;
+  member_plan = able_member machine_secret;
+  is_member_plan = refl;
+  controller = 0;
+  is_controller = refl;
+  table = strict_table;
+  is_table = refl;
+  apart = one_apart (λ (one other : MemberPlan). SameName one.computer other.computer → ⊥) (able_member machine_secret);
+  computer = record { account = machine_account; found = machine_found; kind = refl; enabled = refl; secret = refl };
+  account = small_account;
+  found = ann_found;
+  hash = refl;
+  may = (strict_may 0, strict_may 0);
+}
+
 -- ---- moves
 
 two_schedule : IsSchedule two_lost two_moves
@@ -190,4 +230,4 @@ second_fails = record {
 }
 
 pub success_misses : SuccessTellsApart
-success_misses = record { succeeding = of_succeeding; who = record { each = each_can; beside = beside_can }; moves = of_moves; each = second_fails }
+success_misses = record { succeeding = of_succeeding; who = record { each = each_can; beside = beside_can; strict = strict_can }; moves = of_moves; each = second_fails }

@@ -1,7 +1,8 @@
 -- Near misses of completeness beside those of `CompletenessExamples` (this project's own choice): what differs in one
 -- thing more from what meets its parts, so that a part which leaves that thing out, or asks it besides, is told apart.
-use Rattle.std.specs.Prelude.{ℕ, ◌≡◌, false, List, [], ◌∷◌, length, None, Some, codes}
+use Rattle.std.specs.Prelude.{ℕ, ◌≡◌, true, false, List, [], ◌∷◌, length, None, Some, codes}
 use Rattle.std.specs.List.{AllByRecursion}
+use Rattle.account_table.specs.AccountTable.{AccountTable}
 use Rattle.outside.specs.declared.action.Judged.TheVariants as judged
 use Rattle.outside.specs.declared.action.Outcome.{Outcome}
 use Rattle.outside.specs.declared.action.Outcome.TheVariants as outcome
@@ -9,6 +10,7 @@ use Rattle.logon_client.specs.declared.outcome.ClientOutcome.{ClientOutcome}
 use Rattle.logon_client.specs.declared.outcome.ClientOutcome.TheVariants as client_outcome
 use Rattle.logon_client.specs.declared.outcome.RefusedCause.TheVariants as refused
 use Rattle.logon_client.specs.declared.plan.AuthKind.{AuthKind}
+use Rattle.logon_client.specs.declared.plan.AuthKind.TheVariants.{V2}
 use Rattle.channel_events.specs.Marks.{OneOf}
 use Rattle.step_notes.specs.Records.{Judging, OutcomeTold}
 use Rattle.world_moves.specs.declared.links.Route.TheVariants.{ToMember}
@@ -84,11 +86,19 @@ beside_plan = record {
   seed = ann_plan.seed;
 }
 
+-- responses of 24 bytes are refused
+abbrev pub strict_table : AccountTable
+strict_table = record (able_table ann_accounts) { policy = record { lockout = 0; ntlmv2_only = true } }
+
+abbrev pub strict_plan : Plan
+strict_plan = record (asking_plan 2 V2 16) { tables = strict_table ∷ [] }
+
 -- She can by each kind of response, at each level, with each Echo; and though a member of another controller has the
--- name of hers, and another client none.
+-- name of hers, and another client no member. By NTLMv2 she can where responses of 24 bytes are refused.
 pub record OfWhoCan : Type 0 where
   pub each : (level : ℕ) (auth : AuthKind) (echo : ℕ) → CanSucceed (asking_plan level auth echo) ann_starts 0
   pub beside : CanSucceed beside_plan ann_starts 0
+  pub strict : CanSucceed strict_plan ann_starts 0
 
 -- ---- moves
 
