@@ -13,5 +13,6 @@ pub mod MarkPlaceLaws
 pub mod MoveFrameLaws
 pub mod NewUnitLaws
 pub mod OpenMadeLaws
+pub mod PlacedLaws
 pub mod StepFrameLaws
 pub mod TurnFrameLaws
