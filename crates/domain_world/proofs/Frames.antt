@@ -1,4 +1,5 @@
 -- How a fact is carried through all moves of a run.
+pub mod AllLaws
 pub mod BagFrameLaws
 pub mod BagRunLaws
 pub mod BagStepLaws
