@@ -77,11 +77,11 @@ use Rattle.world_moves.specs.declared.bag.BagUnit.{BagUnit}
 use Rattle.world_moves.specs.Bag.{AreShortUnits, HaveBytes}
 use Rattle.world_moves.specs.World.{World, first_world, run}
 use Rattle.logon_steps.proofs.CallingLaws.{are_bytes}
-use Rattle.logon_runs.specs.ExampleLogon.{ann_moves, ann_plan}
-use Rattle.logon_runs.specs.FirstWorlds.{draw, left_then}
-use Rattle.logon_runs.proofs.ExampleLogonLaws.{ann_can}
-use Rattle.logon_runs.proofs.FirstWorldLaws.{first_shows}
-use Rattle.claim_examples.proofs.ExampleKeyLaws.{ann_draws, drawn_first}
+use Rattle.logon_runs.specs.First.ExampleLogon.{ann_moves, ann_plan}
+use Rattle.logon_runs.specs.First.FirstWorlds.{draw, left_then}
+use Rattle.logon_runs.proofs.First.ExampleLogonLaws.{ann_can}
+use Rattle.logon_runs.proofs.First.FirstWorldLaws.{first_shows}
+use Rattle.claim_examples.proofs.Runs.ExampleKeyLaws.{ann_draws, drawn_first}
 
 -- ---- the test
 

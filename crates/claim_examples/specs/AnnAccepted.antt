@@ -1,6 +1,6 @@
 -- All that is proved of runs is so of the example's, and a message of it is accepted (this project's own choice).
 use Rattle.channel_events.specs.Marks.{OneOf}
-use Rattle.logon_runs.specs.ExampleLogon.{ann_moves, ann_plan}
+use Rattle.logon_runs.specs.First.ExampleLogon.{ann_moves, ann_plan}
 use Rattle.domain_world.specs.Claims.{AcceptsAllGranted, AcceptsOnlyGranted, IsAccepted, KeysAgree}
 use Rattle.domain_world.specs.Headline.{Proved}
 use Rattle.domain_world.specs.Past.{past}

@@ -1,4 +1,5 @@
 -- How a fact is carried through all moves of a run.
+pub mod AllLaws
 pub mod BagFrameLaws
 pub mod BagRunLaws
 pub mod BagStepLaws
@@ -13,5 +14,6 @@ pub mod MarkPlaceLaws
 pub mod MoveFrameLaws
 pub mod NewUnitLaws
 pub mod OpenMadeLaws
+pub mod PlacedLaws
 pub mod StepFrameLaws
 pub mod TurnFrameLaws

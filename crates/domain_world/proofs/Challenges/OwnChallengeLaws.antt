@@ -45,9 +45,10 @@ use Rattle.domain_world.specs.Past.{Coming, Past, at_member, change_if, change_m
 use Rattle.channel_events.proofs.ListLaws.{got_append, got_behind}
 use Rattle.step_notes.proofs.Members.UnservedLaws.{LinksIn, Opens, in_so, step_known}
 use Rattle.domain_world.proofs.Challenges.MessageOnceLaws.{each_put, fresh_links, messages_once, quiet_opens}
-use Rattle.domain_world.proofs.Challenges.OwnLinkLaws.{AtMostOne, IsDrawn, IsLinkIn, IsOwn, IsSentAt, IsSentOn, IsTakenIn, all_join, all_sent, all_so, all_taken, bytes_drawn, bytes_one, bytes_own, link_more, one_behind, one_earlier, own_more, own_opened, sent_among}
+use Rattle.domain_world.proofs.Challenges.OwnLinkLaws.{AtMostOne, IsDrawn, IsLinkIn, IsOwn, IsSentAt, IsSentOn, IsTakenIn, all_sent, all_so, all_taken, bytes_drawn, bytes_one, bytes_own, link_more, one_behind, one_earlier, own_more, own_opened, sent_among}
 use Rattle.domain_world.proofs.Frames.FrameLaws.{Fact, HoldsAfter, HoldsIn, Stays, StaysWritten, run_stays}
 use Rattle.domain_world.proofs.Frames.TurnFrameLaws.{notes_leave}
+use Rattle.domain_world.proofs.Frames.AllLaws.{all_join}
 
 -- ---- lists
 

@@ -65,16 +65,13 @@ use Rattle.world_moves.specs.Links.{acceptor_of}
 use Rattle.channel_events.proofs.ListLaws.{got_append, got_behind}
 use Rattle.step_notes.proofs.Members.RestLaws.{next_rest}
 use Rattle.step_notes.proofs.Members.UnservedLaws.{DeskLinks, HasServed, IfUnserved, IfUnservedAfter, IfUnservedPart, LinksIn, Unserved, after_known, bound_serves, bytes_hold, dialled_known, fewer_known, found_known, next_known, none_so}
+use Rattle.domain_world.proofs.Frames.AllLaws.{all_join, all_flat}
 
 -- ---- lists
 
 pub all_so : {T : Type 0} (P Q : T → Type 0) → ((item : T) → P item → Q item) → (items : List T) → AllByRecursion P items → AllByRecursion Q items
 all_so P Q so [] all = tt
 all_so P Q so (item ∷ items) all = (so item all.0, all_so P Q so items all.1)
-
-pub all_join : {T : Type 0} (P : T → Type 0) (items more : List T) → AllByRecursion P items → AllByRecursion P more → AllByRecursion P (items ++ more)
-all_join P [] more all others = others
-all_join P (item ∷ items) more all others = (all.0, all_join P items more all.1 others)
 
 all_parts : {T : Type 0} (P : T → Type 0) (items more : List T) → AllByRecursion P (items ++ more) → AllByRecursion P items × AllByRecursion P more
 all_parts P [] more all = (tt, all)
@@ -169,9 +166,7 @@ module _ (w : LinkAt) where
   sent_by true unit = sent_after (talk_after unit.part) unit.work unit.left
 
   pub all_sent : (units : List (ServedUnit AtLink Talk)) → AllByRecursion (IsSentAt w) (flat_map (challenge_note w) units)
-  all_sent [] = tt
-  all_sent (unit ∷ units) =
-      all_join (IsSentAt w) (challenge_note w unit) (flat_map (challenge_note w) units) (sent_by (is_fresh unit.talk.phase) unit) (all_sent units)
+  all_sent units = all_flat (IsSentAt w) (challenge_note w) (λ unit. sent_by (is_fresh unit.talk.phase) unit) units
 
   -- a message is written down of this link and member, which took an AUTHENTICATE
 

@@ -18,7 +18,7 @@ use Rattle.domain_world.specs.Past.{Coming, answers_of, book, controller_of, jud
 use Rattle.domain_world.proofs.Challenges.OwnLinkLaws.{one_earlier}
 use Rattle.domain_world.proofs.Frames.BookFrameLaws.{book_stays}
 use Rattle.domain_world.proofs.Frames.FrameLaws.{Fact, StaysWritten, later_stays}
-use Rattle.domain_world.proofs.Frames.MoveFrameLaws.{IsPlaced}
+use Rattle.domain_world.proofs.Frames.PlacedLaws.{IsPlaced}
 use Rattle.domain_world.proofs.Frames.TurnFrameLaws.{turns_told}
 use Rattle.domain_world.proofs.Judgements.ReplayLaws.{client_judged, member_judged}
 

@@ -30,7 +30,7 @@ use Rattle.logon_runs.proofs.GrantsToldLaws.{grants_tell}
 use Rattle.domain_world.specs.Claims.{TravelsAsZeros}
 use Rattle.domain_world.specs.Past.{book, note, told_in}
 use Rattle.domain_world.proofs.Accepting.Turns.TurnChangedLaws.{one_after}
-use Rattle.domain_world.proofs.Frames.MoveFrameLaws.{IsPlaced}
+use Rattle.domain_world.proofs.Frames.PlacedLaws.{IsPlaced}
 use Rattle.domain_world.proofs.Completeness.BookStayLaws.{judged_stays, told_stays}
 use Rattle.domain_world.proofs.Completeness.JudgedNoteLaws.{IsGrant, grant_noted}
 

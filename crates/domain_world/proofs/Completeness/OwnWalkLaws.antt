@@ -33,7 +33,8 @@ use Rattle.logon_runs.proofs.Failing.TurnedAwayLaws.{logons_are_turned_away}
 use Rattle.domain_world.specs.Claims.Completeness.{InEachState, IsQuiet, MayLogOnIn, info_planned, started_in}
 use Rattle.domain_world.specs.Past.{book, note}
 use Rattle.domain_world.proofs.Completeness.ApartLaws.{info_same}
-use Rattle.domain_world.proofs.Frames.MoveFrameLaws.{IsPlaced, placed_next}
+use Rattle.domain_world.proofs.Frames.MoveFrameLaws.{placed_next}
+use Rattle.domain_world.proofs.Frames.PlacedLaws.{IsPlaced}
 use Rattle.domain_world.proofs.Completeness.BookStayLaws.{link_stays, told_stays}
 use Rattle.domain_world.proofs.Completeness.OwnLogonLaws.{AreSafe, IsSafe, IsTold, IsWritten, onward_arrives, onward_written, safe_then, written_stays}
 use Rattle.domain_world.proofs.Completeness.RestingLaws.{Along, Started, along_next, goes_further, rests_then, stays_so, units_quiet}

@@ -36,7 +36,8 @@ use Rattle.logon_runs.proofs.Seen.StayingLaws.{both_same, ends_stay}
 use Rattle.logon_runs.proofs.Seen.WaitingLaws.{waiting_comes}
 use Rattle.step_notes.specs.Records.{blank}
 use Rattle.domain_world.specs.Claims.Completeness.{IsPlainMove, IsQuiet, OneAtATime, started_in}
-use Rattle.domain_world.proofs.Frames.MoveFrameLaws.{IsPlaced, placed_next}
+use Rattle.domain_world.proofs.Frames.MoveFrameLaws.{placed_next}
+use Rattle.domain_world.proofs.Frames.PlacedLaws.{IsPlaced}
 use Rattle.domain_world.proofs.Completeness.MomentLaws.{moment_below, start_chances}
 
 -- ---- challenges

@@ -39,7 +39,7 @@ use Rattle.domain_world.proofs.Completeness.ApartLaws.{can_be_granted, has_serve
 use Rattle.domain_world.proofs.Completeness.MomentLaws.{start_bag, start_chances}
 use Rattle.domain_world.proofs.Completeness.OwnLogonLaws.{AreSafe, IsTold}
 use Rattle.domain_world.proofs.Completeness.OwnWalkLaws.{IsSoFar, OwnEnds, own_goes}
-use Rattle.domain_world.proofs.Frames.MoveFrameLaws.{placed_first}
+use Rattle.domain_world.proofs.Frames.PlacedLaws.{placed_first}
 use Rattle.domain_world.proofs.Completeness.RestingLaws.{Along, BeginsSo, along_next, Resting, Started, begins_so, fewer_moves, goes_further, rests_on, rests_then}
 
 -- ---- a logon that starts isn't judged yet

@@ -20,7 +20,8 @@ use Rattle.domain_world.proofs.Frames.ComingLaws.{CameFrom, StillHas, kept_same,
 use Rattle.domain_world.proofs.Frames.FrameLaws.{Fact, HoldsIn, StaysWritten, OfSide}
 use Rattle.domain_world.proofs.Frames.OpenMadeLaws.{IsAtSide}
 use Rattle.domain_world.proofs.Frames.StepFrameLaws.{ActionFact, Keeps, NoFact, RunFact, OfSteps, steps_keep}
-use Rattle.domain_world.proofs.Frames.MoveFrameLaws.{Both, HasBytes, HoldsAfterMoves, KeepsMoves, MoveFact, NoSide, join_moves, moves_keep, quiet_stays}
+use Rattle.domain_world.proofs.Frames.MoveFrameLaws.{Both, HoldsAfterMoves, KeepsMoves, MoveFact, NoSide, join_moves, moves_keep, quiet_stays}
+use Rattle.domain_world.proofs.Frames.PlacedLaws.{HasBytes}
 use Rattle.outside.specs.declared.action.Action.{Action}
 
 -- ---- what is to hold

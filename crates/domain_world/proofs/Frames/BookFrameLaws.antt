@@ -12,7 +12,7 @@ use Rattle.world_moves.specs.Acting.{Given, hears}
 use Rattle.world_moves.specs.World.{World}
 use Rattle.domain_world.specs.Past.{Coming, book, note_at, note_given, past}
 use Rattle.domain_world.proofs.Frames.EndFrameLaws.{EndFact, KeepsEnds, ends_after, ends_later}
-use Rattle.domain_world.proofs.Frames.MoveFrameLaws.{IsPlaced}
+use Rattle.domain_world.proofs.Frames.PlacedLaws.{IsPlaced}
 
 module _ (Holds : Book → Type 0)
     (bytes : (end : EndId) (w : Coming) (piece : List ℕ) (s after : State) (b : Book) → Holds b → Holds (note_at (Some end) w piece s after b))

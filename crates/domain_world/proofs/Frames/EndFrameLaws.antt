@@ -27,7 +27,8 @@ use Rattle.world_moves.specs.Moving.{begun, renewed, with_link}
 use Rattle.world_moves.specs.World.{World, first_world, run}
 use Rattle.domain_world.specs.Past.{Coming, book, note_at, note_given, past}
 use Rattle.domain_world.proofs.Frames.ComingLaws.{CameFrom}
-use Rattle.domain_world.proofs.Frames.MoveFrameLaws.{HoldsAfterMoves, IsPlaced, KeepsMoves, MoveFact, NoSide, later_keeps, moves_keep}
+use Rattle.domain_world.proofs.Frames.MoveFrameLaws.{HoldsAfterMoves, KeepsMoves, MoveFact, NoSide, later_keeps, moves_keep}
+use Rattle.domain_world.proofs.Frames.PlacedLaws.{IsPlaced}
 use Rattle.domain_world.proofs.Frames.OpenMadeLaws.{IsAtSide}
 
 -- ---- what is to hold

@@ -26,7 +26,8 @@ use Rattle.world_moves.specs.Moving.{renewed}
 use Rattle.world_moves.specs.World.{World, first_world, run}
 use Rattle.domain_world.specs.Past.{Coming, book, note_at, note_given, past}
 use Rattle.domain_world.proofs.Frames.EndFrameLaws.{EndFact, IsCalm, KeepsEnds, ends_after, ends_keep, ends_later}
-use Rattle.domain_world.proofs.Frames.MoveFrameLaws.{IsPlaced, KeepsMoves, MoveFact, NoSide}
+use Rattle.domain_world.proofs.Frames.MoveFrameLaws.{KeepsMoves, MoveFact, NoSide}
+use Rattle.domain_world.proofs.Frames.PlacedLaws.{IsPlaced}
 use Rattle.world_moves.specs.declared.plan.Plan.{Plan}
 
 -- ---- what is to hold

@@ -2,17 +2,15 @@
 -- each single change beside that. This is the one induction over the kinds of moves; the other frames are instances of
 -- it, each with less to be shown. It serves `drive`, `schedules_are_heard`, `sequences_are_own` and all other laws of
 -- runs.
-use Rattle.std.proofs.Common.{◌≡◌, ℕ, zero, suc, ◌+◌, ◌*◌, ◌≤◌, Bool, true, false, List, [], ◌∷◌, ◌++◌, drop, length, inl, inr, Option, Some, None, IsSome, slice_get, refl, sym, ap, subst, ◌∙◌, arith, length-append}
+use Rattle.std.proofs.Common.{◌≡◌, ℕ, suc, ◌+◌, ◌*◌, ◌≤◌, Bool, true, false, List, [], ◌∷◌, ◌++◌, drop, length, inl, inr, Option, Some, None, IsSome, slice_get, refl, sym, ap, subst, ◌∙◌, arith, length-append}
 use Rattle.std.specs.Prelude.{◌%◌}
 use Rattle.std.specs.List.{AllByRecursion}
 use Rattle.std.proofs.lemmas.List.{append_assoc, append-nil}
-use Rattle.std.proofs.lemmas.List.Elements.{All-head, All-tail}
 use Rattle.wire_base.specs.Maps.{lookup, same_number, take_out}
 use Rattle.wire_base.specs.Numbers.{AreBytes}
 use Rattle.outside.specs.declared.action.Action.{Action}
 use Rattle.outside.specs.declared.action.Action.TheVariants.{Keep, Send, Dial, Close, Told, Judged}
 use Rattle.outside.specs.declared.event.Event.TheVariants as event
-use Rattle.end_links.specs.Bounds.{send_limit}
 use Rattle.logon_client.specs.declared.plan.ClientPlan.{ClientPlan}
 use Rattle.channel_events.specs.Marks.{OneOf}
 use Rattle.step_notes.specs.Records.{Book, blank}
@@ -30,22 +28,22 @@ use Rattle.world_moves.specs.declared.plan.Plan.{Plan}
 use Rattle.world_moves.specs.declared.state.State.{State}
 use Rattle.world_moves.specs.declared.state.Waiting.{Waiting}
 use Rattle.world_moves.specs.Acting.{Acted, Given, Heard, bag_unit, close_open, closed_at, done, forget, given_by, hear, hears, hears_if, nothing_done, perform, perform_all, perform_all_quietly, perform_quietly, piece_comes, pieces_come, send_on, shut_link, then_act}
-use Rattle.world_moves.specs.Bag.{AreShortUnits, HaveBytes, first_waiting, pieces_of, settle_at}
+use Rattle.world_moves.specs.Bag.{first_waiting, pieces_of}
 use Rattle.world_moves.specs.Choosing.{chosen_in, chosen_place}
 use Rattle.world_moves.specs.Ends.{acceptors_in, count_of, end_at}
-use Rattle.world_moves.specs.Links.{OpenMap, accepted, acceptor_of, answered, dialler_of, handed_links, hearer_of, hearer_on, is_accepted_by, kind_of, links_of, other_hearer}
+use Rattle.world_moves.specs.Links.{accepted, acceptor_of, answered, dialler_of, handed_links, hearer_of, hearer_on, is_accepted_by, kind_of, links_of, other_hearer}
 use Rattle.world_moves.specs.Moving.{act, answer_by, answered_link, begun, come_by, come_on_own, connect_by, connect_first, deliver_by, deliver_on, deliver_unit, end_of_peer, fail_first, hand_on, lose_by, onward_by, open_link, renewed, restart_at, restart_by, route_to, settle, shut_at, shut_by, start_at, start_by, stranger_at, stranger_by, tick, with_link, without_first}
 use Rattle.world_moves.specs.World.{World, first_world, happens, run}
 use Rattle.domain_world.specs.Past.{Coming, book, note, note_at, note_chosen, note_coming, note_deliver, note_given, note_hand, note_on, note_onward, note_own, note_pieces, note_unit, past}
-use Rattle.channel_events.proofs.ListLaws.{got_last, got_nothing, some_is}
+use Rattle.channel_events.proofs.ListLaws.{got_last, got_nothing}
 use Rattle.world_moves.proofs.BagLaws.{pieces_few}
 use Rattle.world_moves.proofs.BoundLaws.{hears_links}
 use Rattle.world_moves.proofs.LevelLaws.{unit_short}
-use Rattle.world_moves.proofs.LinkFrameLaws.{FitsIn, HasNoBytes, actions_stay, LinkFact, StaysAlways, StaysOnLinks, closed_stays, heard_if_stays, move_stays}
+use Rattle.world_moves.proofs.LinkFrameLaws.{FitsIn, HasNoBytes, actions_stay, LinkFact, StaysOnLinks, closed_stays, heard_if_stays, move_stays}
 use Rattle.world_moves.proofs.OpenLaws.{forgotten_fewer, put_more, taken_fewer, taken_one}
-use Rattle.domain_world.proofs.Frames.ComingLaws.{CameFrom, HaveKinds, IsFromOutside, IsLinkOf, IsPieceOf, IsStill, StillHas, chosen_of, handed_outside, kept_same, kept_sent, kept_settled, kinds_sent, kinds_stay, piece_bytes, route_dials, run_still}
-use Rattle.domain_world.proofs.Frames.MarkPlaceLaws.{got_beside, settled_length}
-use Rattle.domain_world.proofs.Frames.OpenMadeLaws.{IsAtSide, OpenAsMade, as_made, hears_side}
+use Rattle.domain_world.proofs.Frames.ComingLaws.{CameFrom, IsFromOutside, IsLinkOf, chosen_of, handed_outside, kept_same, piece_bytes, route_dials, run_still}
+use Rattle.domain_world.proofs.Frames.OpenMadeLaws.{IsAtSide, hears_side}
+use Rattle.domain_world.proofs.Frames.PlacedLaws.{Placed, IsPlaced, placed_stay, Since, since_sent, HandsBytes, IsBytesBag, bag_before, settled_bag, settled_link, same_piece, HasBytes, bytes_in}
 
 -- ---- what is to hold
 
@@ -210,117 +208,10 @@ send_open : (route : Option Route) (end : EndId) (link : ℕ) (bytes : List ℕ)
 send_open None end link bytes s = refl
 send_open (Some route) end link bytes s = bag_unit_open (kind_of route) (is_accepted_by end route) link bytes s
 
--- ---- where links and units are
-
--- each link that is open is one that was made, and each unit is on a link of its kind
-pub record Placed (links : List Route) (map : OpenMap) (bag : List BagUnit) : Type 0 where
-  pub made : OpenAsMade links map bag
-  pub kinds : HaveKinds links [] bag
-
-abbrev pub IsPlaced : State → Type 0
-IsPlaced s = Placed s.links s.open_links s.bag
-
-placed_stay : StaysAlways Placed
-placed_stay = record {
-  steps = record {
-    sends = λ unit links map bag on placed. record { made = placed.made; kinds = kinds_sent.sends unit links [] bag on placed.kinds };
-    shuts = λ link links map bag placed. record { made = as_made.steps.shuts link links map bag placed.made; kinds = placed.kinds };
-  };
-  opens = λ route links map bag placed. record { made = as_made.opens route links map bag placed.made; kinds = kinds_stay.opens route links [] bag placed.kinds };
-  answers = λ link there links map bag is placed. record { made = as_made.answers link there links map bag is placed.made; kinds = placed.kinds };
-  forgets = λ end links map bag placed. record { made = as_made.forgets end links map bag placed.made; kinds = placed.kinds };
-  settles = λ number links map bag placed. record { made = placed.made; kinds = kinds_stay.settles number links [] bag placed.kinds };
-}
-
--- the links are as they were when bytes began to come, and the units of the bag are still there
-pub record Since (links : List Route) (old : List BagUnit) (now : List Route) (map : OpenMap) (bag : List BagUnit) : Type 0 where
-  pub same : now ≡ links
-  pub still : StillHas old bag
-  pub placed : Placed now map bag
-
-since_sent : (links : List Route) (old : List BagUnit) → StaysOnLinks (Since links old)
-since_sent links old = record {
-  sends = λ unit now map bag on since. record {
-    same = since.same;
-    still = (kept_sent old).sends unit now map bag on since.still;
-    placed = placed_stay.steps.sends unit now map bag on since.placed;
-  };
-  shuts = λ link now map bag since. record { same = since.same; still = since.still; placed = placed_stay.steps.shuts link now map bag since.placed };
-}
-
--- ---- what may be known of a run
-
--- the bytes of each unit are such
-abbrev pub EachHas : (List ℕ → Type 0) → List BagUnit → Type 0
-EachHas Fits bag = (k : ℕ) (unit : BagUnit) → slice_get bag k ≡ Some unit → Fits unit.bytes
-
-each_before : (Fits : List ℕ → Type 0) (old bag : List BagUnit) → StillHas old bag → EachHas Fits bag → EachHas Fits old
-each_before Fits old bag still have k unit there = let now : IsStill unit bag k = still k unit there in subst Fits now.bytes (have k now.now now.there)
-
-each_settled : (Fits : List ℕ → Type 0) (number : ℕ) (bag : List BagUnit) → EachHas Fits bag → EachHas Fits (settle_at number bag)
-each_settled Fits number bag have k unit there =
-    let before : (old : BagUnit) × (slice_get bag k ≡ Some old) = got_beside (settle_at number bag) bag k unit (settled_length number bag) there in
-    let now : IsStill before.0 (settle_at number bag) k = kept_settled number bag k before.0 before.1 in
-    let same : now.now ≡ unit = some_is now.now unit (sym now.there ∙ there) in
-    subst (λ (u : BagUnit). Fits u.bytes) same (subst Fits (sym now.bytes) (have k before.0 before.1))
-
--- no unit is longer than an end sends at once
-abbrev pub ShortBag : List BagUnit → Type 0
-ShortBag bag = EachHas (λ (bytes : List ℕ). length bytes ≤ send_limit) bag
-
--- each unit has bytes
-abbrev pub BytesIn : List BagUnit → Type 0
-BytesIn bag = EachHas AreBytes bag
-
--- what is handed in are bytes
-abbrev pub HandsBytes : Move → Type 0
-HandsBytes (move.Hand link back piece) = AreBytes piece
-HandsBytes _ = Unit {0}
-
--- the units of a bag are short, and have bytes
-pub record IsBytesBag (bag : List BagUnit) : Type 0 where
-  pub short : ShortBag bag
-  pub bytes : BytesIn bag
-
-bag_before : (old bag : List BagUnit) → StillHas old bag → IsBytesBag bag → IsBytesBag old
-bag_before old bag still have = record {
-  short = each_before (λ (bytes : List ℕ). length bytes ≤ send_limit) old bag still have.short;
-  bytes = each_before AreBytes old bag still have.bytes;
-}
-
-settled_bag : (number : ℕ) (bag : List BagUnit) → IsBytesBag bag → IsBytesBag (settle_at number bag)
-settled_bag number bag have = record {
-  short = each_settled (λ (bytes : List ℕ). length bytes ≤ send_limit) number bag have.short;
-  bytes = each_settled AreBytes number bag have.bytes;
-}
-
 -- no dial waits: the first isn't taken
 none_dialled : (dials : List Waiting) → slice_get dials 0 ≡ None → drop 1 dials ≡ dials
 none_dialled [] none = refl
 none_dialled (dial ∷ dials) none = absurd (let x = none in cc)
-
--- its kind and its link stay as a unit is settled
-settled_link : (number link : ℕ) (unit found : BagUnit) (s : State) → slice_get s.bag number ≡ Some unit → IsLinkOf s.links link unit.kind →
-    slice_get (settle_at number s.bag) number ≡ Some found → IsLinkOf s.links link found.kind
-settled_link number link unit found s there of is =
-    let now : IsStill unit (settle_at number s.bag) number = kept_settled number s.bag number unit there in
-    let same : now.now ≡ found = (let both : Some now.now ≡ Some found = sym now.there ∙ is in cc) in (of.0, of.1, of.2 ∙ sym now.kind ∙ ap (λ (u : BagUnit). u.kind) same)
-
--- a piece of the unit as the bag was when it began to come is one of it now
-same_piece : (number : ℕ) (unit : BagUnit) (link at : ℕ) (s later : State) (piece : List ℕ) → slice_get s.bag number ≡ Some unit → IsLinkOf s.links link unit.kind →
-    Since s.links s.bag later.links later.open_links later.bag → OneOf (λ (one : List ℕ). one ≡ piece) (pieces_of unit.bytes) →
-    IsPieceOf later number (record { at = at; unit = Some number; link = link; back = unit.back }) piece
-same_piece number unit link at s later piece there of since one =
-    let now : IsStill unit later.bag number = since.still number unit there in
-    record {
-      unit = now.now;
-      there = now.there;
-      back = now.back;
-      route = of.0;
-      made = ap (λ (l : List Route). slice_get l link) since.same ∙ of.1;
-      same_kind = of.2 ∙ sym now.kind;
-      part = subst (λ (bytes : List ℕ). OneOf (λ (one : List ℕ). one ≡ piece) (pieces_of bytes)) (sym now.bytes) one;
-    }
 
 -- ---- a part of a move
 
@@ -715,18 +606,6 @@ pub record HoldsAfterMoves (Known : Type 0) (Holds : MoveFact) (plan : Plan) (mo
   pub holds : Holds steps (started (past plan moves).world.moves None) (past plan moves).world.state [] (past plan moves).book
   pub few : Known → steps + 2 * length (past plan moves).world.state.open_links ≤ 10 * length moves
 
--- what is known of the units of a world, and of the bytes that are handed in
-pub record HasBytes (plan : Plan) (moves : List Move) : Type 0 where
-  pub short : AreShortUnits (past plan moves).world.state.bag
-  pub bytes : HaveBytes (past plan moves).world.state.bag
-  pub handed : AllByRecursion HandsBytes moves
-
-pub bytes_in : (bag : List BagUnit) → HaveBytes bag → BytesIn bag
-bytes_in [] have number unit there = absurd (got_nothing number unit there)
-bytes_in (first ∷ bag) have zero unit there =
-    let here : first ≡ unit = cc in subst (λ (u : BagUnit). AreBytes u.bytes) here (All-head (λ (u : BagUnit). AreBytes u.bytes) first bag have)
-bytes_in (first ∷ bag) have (suc number) unit there = bytes_in bag (All-tail (λ (u : BagUnit). AreBytes u.bytes) first bag have) number unit there
-
 pub moves_keep : (Known : Type 0) (Holds : MoveFact) → KeepsMoves Known NoSide Holds → (plan : Plan) (moves : List Move) → (Known → HasBytes plan moves) →
     ((on : Option Coming) → Holds 0 (started 0 on) (first_world plan).state [] blank) → HoldsAfterMoves Known Holds plan moves
 moves_keep Known Holds keeps plan moves has holds =
@@ -769,10 +648,7 @@ any_keeps = record {
   over = λ n at on next s given b none holds. tt;
 }
 
--- they have their places in the first world, and after each move
-pub placed_first : (plan : Plan) → IsPlaced (first_world plan).state
-placed_first plan = record { made = tt; kinds = λ k unit there. absurd (got_nothing k unit there) }
-
+-- they have their places after each move
 pub placed_next : (what : Move) (w : World) (b : Book) → IsPlaced w.state → IsPlaced (act w.state what).state
 placed_next what w b placed =
     let moved : Moved ⊥ AnyMove any_keeps 0 w.moves w.state (act w.state what) (note_coming what w.moves w.state b) =

@@ -28,7 +28,8 @@ use Rattle.domain_world.proofs.Frames.BagFrameLaws.{IsServer, no_more_of, no_par
 use Rattle.domain_world.proofs.Frames.ComingLaws.{CameFrom}
 use Rattle.domain_world.proofs.Frames.OpenMadeLaws.{IsAtSide}
 use Rattle.domain_world.proofs.Frames.EndFrameLaws.{IsCalm}
-use Rattle.domain_world.proofs.Frames.MoveFrameLaws.{Both, HasBytes, HoldsAfterMoves, IsHeard, KeepsMoves, MoveFact, NoSide, Progress, beside, coming, join_moves, moves_keep, started, waiting}
+use Rattle.domain_world.proofs.Frames.MoveFrameLaws.{Both, HoldsAfterMoves, IsHeard, KeepsMoves, MoveFact, NoSide, Progress, beside, coming, join_moves, moves_keep, started, waiting}
+use Rattle.domain_world.proofs.Frames.PlacedLaws.{HasBytes}
 use Rattle.domain_world.proofs.Frames.FrameLaws.{OfSide, side_keeps}
 
 -- ---- what is to hold

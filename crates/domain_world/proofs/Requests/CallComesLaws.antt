@@ -48,12 +48,13 @@ use Rattle.domain_world.proofs.Requests.CallHoldsLaws.{CallsHold, differ_front, 
 use Rattle.domain_world.proofs.Requests.CallStepLaws.{CallLaws, KeptSo, client_hears, coherent_if, controller_hears}
 use Rattle.domain_world.proofs.Requests.LooserLaws.{IsPlaced, NoCalls}
 use Rattle.domain_world.proofs.Requests.MarkWayLaws.{answers_way}
-use Rattle.domain_world.proofs.Requests.NewMessageLaws.{all_join, new_accepted}
+use Rattle.domain_world.proofs.Requests.NewMessageLaws.{new_accepted}
 use Rattle.domain_world.proofs.Requests.OutStepLaws.{IsOf, IsOther, IsOutIn, MemberHolds, StaysKnown, heard_not, other_holds}
 use Rattle.domain_world.proofs.Requests.StepApartLaws.{HearsNone, other_apart, requests_after, whole_apart}
 use Rattle.domain_world.proofs.Requests.WholeNotedLaws.{IsFirstNew, SendsFirst, no_calls_marked, none_marked, note_for, placed_first, placed_part, sent_as, sent_first, sent_marks, whole_first, whole_messages, whole_units}
 use Rattle.domain_world.proofs.Requests.WholeOutLaws.{AreAccepted, IsSentAs, noted, noted_accepted, others_known, out_more, whole_holds}
 use Rattle.domain_world.proofs.Frames.TurnFrameLaws.{turns_sent}
+use Rattle.domain_world.proofs.Frames.AllLaws.{all_join}
 
 -- what is kept, of a state and the book
 abbrev pub KeptIn : ℕ → State → Book → Type 0

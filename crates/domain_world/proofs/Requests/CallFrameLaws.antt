@@ -65,7 +65,7 @@ use Rattle.domain_world.proofs.Requests.CallHoldsLaws.{CallsHold, differ_front, 
 use Rattle.domain_world.proofs.Requests.CallStepLaws.{CallLaws, client_anew, client_hears, controller_anew, controller_hears, member_anew, member_hears}
 use Rattle.domain_world.proofs.Requests.LooserLaws.{NoCalls}
 use Rattle.domain_world.proofs.Requests.OutStepLaws.{IsOther, IsOutIn, MemberHolds, OutFor, none_out}
-use Rattle.domain_world.proofs.Frames.MoveFrameLaws.{HasBytes}
+use Rattle.domain_world.proofs.Frames.PlacedLaws.{HasBytes}
 
 -- ---- a unit that comes on the link of a turn is whole, and comes in one piece
 

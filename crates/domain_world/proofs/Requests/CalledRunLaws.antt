@@ -34,7 +34,7 @@ use Rattle.domain_world.proofs.Frames.BagStepLaws.{run_fits}
 use Rattle.domain_world.proofs.Frames.StepFrameLaws.{ActionFact, Keeps, NoFact, RunFact}
 use Rattle.domain_world.proofs.Requests.CalledUnitLaws.{CallSide, CalledIn, IsAskedOn, IsCallAt, IsGood, called_keep}
 use Rattle.domain_world.proofs.Requests.OwnMessageLaws.{AllKept, all_fresh, kept_written, messages_in}
-use Rattle.domain_world.proofs.Frames.MoveFrameLaws.{HasBytes}
+use Rattle.domain_world.proofs.Frames.PlacedLaws.{HasBytes}
 
 -- ---- the message of a link is one
 

@@ -70,6 +70,7 @@ use Rattle.domain_world.proofs.Frames.StepFrameLaws.{RunFact}
 use Rattle.domain_world.proofs.Requests.CallMessageLaws.{bytes_are, last_is}
 use Rattle.domain_world.proofs.Requests.CallWholeLaws.{IsCallOut, IsLogonSent, IsReadyUnit, OutBy, ReadyIn, ReadyOn, turns_ready}
 use Rattle.domain_world.proofs.Requests.OwnMessageLaws.{AllKept, HasMessage, IsOfLogon, KeptOf, has_still, member_messages, member_stays, messages_in, one_kept}
+use Rattle.domain_world.proofs.Frames.AllLaws.{all_join, all_flat}
 
 -- ---- what it rests on, at each moment between steps of ends
 
@@ -156,13 +157,8 @@ module _ (Good : ℕ → ℕ → Type 0) where
   by_good false unit w = tt
   by_good true unit w = after_good (talk_after unit.part) (work_after unit.part) w unit.bytes
 
-  good_append : (messages more : List MessageTaken) → AllGood messages → AllGood more → AllGood (messages ++ more)
-  good_append [] more good all = all
-  good_append (message ∷ messages) more good all = (good.0, good_append messages more good.1 all)
-
   notes_good : (w : LinkAt) (units : List (ServedUnit AtLink Talk)) → AllGood (flat_map (message_note w) units)
-  notes_good w [] = tt
-  notes_good w (unit ∷ units) = good_append (message_note w unit) (flat_map (message_note w) units) (by_good (is_challenged unit.talk.phase) unit w) (notes_good w units)
+  notes_good w units = all_flat (IsGood Good) (message_note w) (λ unit. by_good (is_challenged unit.talk.phase) unit w) units
 
 good_so : (Good More : ℕ → ℕ → Type 0) → ((link n : ℕ) → Good link n → More link n) → (messages : List MessageTaken) → AllGood Good messages → AllGood More messages
 good_so Good More so messages good = all_weaker (IsGood Good) (IsGood More) messages (λ message is n there. so message.link n (is n there)) good
@@ -372,7 +368,7 @@ module _ (m : MemberState) (at : ℕ) (w : Coming) (piece : List ℕ) (s : State
       (λ link n one. call_still s.bag member_after.bag b.messages now_messages link n still
       (λ logon asked. member_stays (IsAskedOn link logon) (asked_call link logon) (asked_answer link logon) at m w piece s member_after b asked) one) b.messages called in
       turns_good Now (controller_of at s) own_units w.unit own_numbers first (turns_called (controller_of at s) there side kept)
-      (good_append Now b.messages (flat_map (message_note (at_member at w s)) (link_units m w.link piece s.moment s.chances.left)) old
+      (all_join (IsGood Now) b.messages (flat_map (message_note (at_member at w s)) (link_units m w.link piece s.moment s.chances.left)) old
       (notes_good Now (at_member at w s) (link_units m w.link piece s.moment s.chances.left)))
 
 -- ---- any end

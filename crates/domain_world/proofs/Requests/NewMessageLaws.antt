@@ -18,12 +18,9 @@ use Rattle.step_notes.proofs.Members.UnservedLaws.{LinksIn, Took, bytes_took}
 use Rattle.world_moves.specs.declared.links.Route.{Route}
 use Rattle.domain_world.proofs.Accepting.LetInStepLaws.{IsAcceptedBy}
 use Rattle.domain_world.proofs.Requests.WholeOutLaws.{AreAccepted}
+use Rattle.domain_world.proofs.Frames.AllLaws.{all_flat}
 
 -- what holds of both parts holds of all
-pub all_join : {T : Type 0} (P : T → Type 0) (items more : List T) → AllByRecursion P items → AllByRecursion P more → AllByRecursion P (items ++ more)
-all_join P [] more all later = later
-all_join P (item ∷ items) more all later = (all.0, all_join P items more all.1 later)
-
 module _ (P : MessageTaken → Type 0) (w : LinkAt) (here : (bytes : List ℕ) (place : ℕ) (logon : Logon) → AllByRecursion P (message_kept (Some logon) place w bytes)) where
   kept_all : (found : Option Logon) (place : ℕ) (bytes : List ℕ) → AllByRecursion P (message_kept found place w bytes)
   kept_all None place bytes = tt
@@ -46,8 +43,7 @@ module _ (P : MessageTaken → Type 0) (w : LinkAt) (here : (bytes : List ℕ) (
   by_all true unit = after_all (talk_after unit.part) (work_after unit.part) unit.bytes
 
   units_all : (units : List (ServedUnit AtLink Talk)) → AllByRecursion P (flat_map (message_note w) units)
-  units_all [] = tt
-  units_all (unit ∷ units) = all_join P (message_note w unit) (flat_map (message_note w) units) (by_all (is_challenged unit.talk.phase) unit) (units_all units)
+  units_all units = all_flat P (message_note w) (λ unit. by_all (is_challenged unit.talk.phase) unit) units
 
 -- ---- where no message was taken, none is written down
 
@@ -92,9 +88,7 @@ by_here false said link = tt
 by_here true said link = after_here said link
 
 taken_here : (w : LinkAt) (units : List (ServedUnit AtLink Talk)) → AllByRecursion (λ (one : ℕ). one ≡ w.link) (flat_map (taken_link w) units)
-taken_here w [] = tt
-taken_here w (unit ∷ units) =
-    all_join (λ (one : ℕ). one ≡ w.link) (taken_link w unit) (flat_map (taken_link w) units) (by_here (is_challenged unit.talk.phase) (talk_after unit.part) w.link) (taken_here w units)
+taken_here w units = all_flat (λ (one : ℕ). one ≡ w.link) (taken_link w) (λ unit. by_here (is_challenged unit.talk.phase) (talk_after unit.part) w.link) units
 
 took_accepted : (links : List Route) (w : LinkAt) (taken : List ℕ) (new : List MessageTaken) (After : (ℕ → Type 0) → Type 0) → AllByRecursion (λ (one : ℕ). one ≡ w.link) taken →
     (taken ≡ [] → new ≡ []) → (IsAcceptedBy links w.member w.link → AreAccepted links new) → Took (λ number. IsAcceptedBy links w.member number) taken After → AreAccepted links new

@@ -29,7 +29,7 @@ use Rattle.domain_world.proofs.Accepting.Heard.MarkSentLaws.{IsCallSent, IsStamp
 use Rattle.domain_world.proofs.Accepting.Heard.MarkWholeLaws.{FitsMark, OfMark, marks_fit}
 use Rattle.domain_world.proofs.Accepting.Quiet.QuietRunLaws.{has_bytes}
 use Rattle.domain_world.proofs.Frames.BagFrameLaws.{IsOfUnit}
-use Rattle.domain_world.proofs.Frames.MoveFrameLaws.{HasBytes, bytes_in}
+use Rattle.domain_world.proofs.Frames.PlacedLaws.{HasBytes, bytes_in}
 
 read_is : (read : Result Call StubRefused) (c : LogonCall) → call_read read ≡ Some (call.Logon c) → read ≡ Ok (call.Logon c)
 read_is (Err why) c is = absurd (let x = is in cc)

@@ -76,7 +76,7 @@ use Rattle.domain_world.proofs.Frames.OpenMadeLaws.{IsAtSide, IsMore, MoreOf, go
 use Rattle.domain_world.proofs.Frames.StepFrameLaws.{HoldsAfterRun, run_keeps}
 use Rattle.domain_world.proofs.Judgements.ReplyLaws.{replies_carry}
 use Rattle.domain_world.proofs.Frames.TurnFrameLaws.{turns_sent}
-use Rattle.domain_world.proofs.Frames.MoveFrameLaws.{bytes_in, HasBytes}
+use Rattle.domain_world.proofs.Frames.PlacedLaws.{bytes_in, HasBytes}
 
 -- ---- what is to hold of each unit
 

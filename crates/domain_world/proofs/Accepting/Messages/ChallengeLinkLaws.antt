@@ -34,8 +34,9 @@ use Rattle.step_notes.specs.Records.{ChallengeSent, MessageTaken}
 use Rattle.step_notes.specs.Served.{ServedUnit, served_units, talk_after, units_if_taken, units_on, units_then}
 use Rattle.step_notes.proofs.Members.UnservedLaws.{DeskLinks, IfUnserved, IfUnservedAfter, IfUnservedPart, LinksIn, Unserved, after_known, bound_serves, bytes_hold, dialled_known, found_known, links_so, next_known, none_so, phase_so}
 use Rattle.domain_world.proofs.Accepting.Messages.ChallengeReadLaws.{AreTakenWith, CanBeReadAfter, CanBeReadAt, CanBeReadPart, IsReadAs, IsTakenWith, challenged_with, first_reads, read_again}
-use Rattle.domain_world.proofs.Challenges.OwnLinkLaws.{all_join, unit_at}
+use Rattle.domain_world.proofs.Challenges.OwnLinkLaws.{unit_at}
 use Rattle.domain_world.proofs.Frames.LeftLaws.{AreEights, eights_rest}
+use Rattle.domain_world.proofs.Frames.AllLaws.{all_join}
 
 -- ---- how far a link is
 

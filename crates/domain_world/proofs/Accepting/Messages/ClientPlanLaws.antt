@@ -36,8 +36,8 @@ use Rattle.step_notes.specs.Records.{MessageMade}
 use Rattle.step_notes.specs.Served.{ServedUnit, served_units, units_if_taken, units_on, units_then}
 use Rattle.domain_world.specs.Accepting.KeysMade.{IsMadeFrom}
 use Rattle.domain_world.proofs.Accepting.Messages.ClientOfferLaws.{AreMadeFrom, HasNames, HeardOf, asks_of, heard_of, made_from}
-use Rattle.domain_world.proofs.Challenges.OwnLinkLaws.{all_join}
 use Rattle.domain_world.proofs.Frames.LeftLaws.{AreEights, eights_rest}
+use Rattle.domain_world.proofs.Frames.AllLaws.{all_join}
 
 -- ---- the plan is kept
 

@@ -34,10 +34,10 @@ use Rattle.domain_world.proofs.Accepting.Messages.ClientOfferLaws.{AreMadeFrom, 
 use Rattle.domain_world.proofs.Accepting.Messages.ClientPlanLaws.{NamesIn, client_made, names_stay}
 use Rattle.domain_world.proofs.Accepting.PlacedLaws.{all_at}
 use Rattle.domain_world.proofs.Challenges.MessageOnceLaws.{each_put}
-use Rattle.domain_world.proofs.Challenges.OwnLinkLaws.{all_join}
 use Rattle.domain_world.proofs.Frames.FrameLaws.{HoldsAfter, HoldsByPlans, PlannedFact, StaysByPlans, StaysWrittenByPlans, run_stays_by_plans}
 use Rattle.domain_world.proofs.Frames.LeftLaws.{AreEights, client_left, controller_left, first_eights, member_left}
 use Rattle.domain_world.proofs.Frames.TurnFrameLaws.{turns_made}
+use Rattle.domain_world.proofs.Frames.AllLaws.{all_join}
 
 -- The names of the clients' plans are texts, clients go by such plans, each challenge that is left has 8 bytes, and
 -- each message that was made is the answer of its plan.

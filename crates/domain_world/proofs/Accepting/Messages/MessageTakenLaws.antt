@@ -42,10 +42,11 @@ use Rattle.domain_world.proofs.Accepting.Messages.ChallengeLinkLaws.{BytesCome, 
 use Rattle.domain_world.proofs.Accepting.Messages.ChallengeReadLaws.{AreTakenWith, IsTakenWith}
 use Rattle.domain_world.proofs.Accepting.PlacedLaws.{all_at, all_by_place, apart_same, placed}
 use Rattle.domain_world.proofs.Challenges.MessageOnceLaws.{each_put, fresh_links, member_is, quiet_opens, route_is}
-use Rattle.domain_world.proofs.Challenges.OwnLinkLaws.{IsLinkIn, IsTakenIn, all_join, all_so, all_taken, link_more, one_behind, one_earlier}
+use Rattle.domain_world.proofs.Challenges.OwnLinkLaws.{IsLinkIn, IsTakenIn, all_so, all_taken, link_more, one_behind, one_earlier}
 use Rattle.domain_world.proofs.Frames.FrameLaws.{Fact, HoldsAfter, HoldsIn, Stays, StaysWritten, run_stays}
 use Rattle.domain_world.proofs.Frames.LeftLaws.{AreEights, client_left, controller_left, first_eights, member_left}
 use Rattle.domain_world.proofs.Frames.TurnFrameLaws.{notes_keep}
+use Rattle.domain_world.proofs.Frames.AllLaws.{all_join}
 
 -- ---- what is kept
 

@@ -74,7 +74,7 @@ use Rattle.domain_world.proofs.Frames.MarkPlaceLaws.{got_beside, settled_length}
 use Rattle.domain_world.proofs.Frames.OpenMadeLaws.{IsAtSide}
 use Rattle.domain_world.proofs.Frames.StepFrameLaws.{HasHeard, Keeps, NoFact}
 use Rattle.domain_world.proofs.Frames.EndFrameLaws.{IsCalm}
-use Rattle.domain_world.proofs.Frames.MoveFrameLaws.{HandsBytes, HasBytes}
+use Rattle.domain_world.proofs.Frames.PlacedLaws.{HandsBytes, HasBytes}
 
 -- ---- links
 

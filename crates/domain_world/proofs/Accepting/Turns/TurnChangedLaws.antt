@@ -14,8 +14,9 @@ use Rattle.world_moves.specs.Counting.{is_in}
 use Rattle.domain_world.specs.Accepting.Carried.{IsTakenInTurn}
 use Rattle.domain_world.specs.Accepting.ReadBack.{IsLetInInTurn, IsToldInTurn}
 use Rattle.domain_world.specs.Past.{change_message, with_answer, with_call}
-use Rattle.domain_world.proofs.Accepting.Turns.TurnFactLaws.{Any, HasFree, IsAnswered, IsFree, IsKnown, TurnFacts, both_all, past_at}
+use Rattle.domain_world.proofs.Accepting.Turns.TurnFactLaws.{Any, HasFree, IsAnswered, IsFree, IsKnown, TurnFacts, past_at}
 use Rattle.domain_world.proofs.Accepting.Turns.TurnNotedLaws.{each_changed, one_changed}
+use Rattle.domain_world.proofs.Frames.AllLaws.{all_join}
 
 pub all_pair : {T : Type 0} (P Q : T → Type 0) (items : List T) → AllByRecursion P items → AllByRecursion Q items → AllByRecursion (λ (item : T). P item × Q item) items
 all_pair P Q [] one other = tt
@@ -89,7 +90,7 @@ module _ (plan : Plan) (t : State) (d : Book) (messages : List MessageTaken) (to
               let its = fits.0 n reply in
               (its.0, one_before (one_told message n) told more its.1)) messages
               (all_pair (IsAnswered plan t d told) Taken messages facts.answered taken);
-          let_in = both_all (IsKnown plan t d after) told more
+          let_in = all_join (IsKnown plan t d after) told more
               (all_weaker (IsKnown plan t d messages) (IsKnown plan t d after) told
               (λ one known is.
               one_changed link (with_answer (Some u)) (λ (message : MessageTaken). IsLetInInTurn (past_at plan t d) one message × Own message) (IsLetInInTurn (past_at plan t d) one)

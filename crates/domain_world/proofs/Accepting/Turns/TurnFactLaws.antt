@@ -28,6 +28,7 @@ use Rattle.domain_world.specs.Claims.{HasController}
 use Rattle.domain_world.specs.Past.{Past}
 use Rattle.domain_world.proofs.Challenges.MessageApartLaws.{links_in}
 use Rattle.domain_world.proofs.Frames.ComingLaws.{IsStill, StillHas}
+use Rattle.domain_world.proofs.Frames.AllLaws.{all_join}
 
 -- ---- messages on different links
 
@@ -72,10 +73,6 @@ module _ (link : ℕ) (P : MessageTaken → Type 0) (so : (message : MessageTake
     | inl here ↦ ((λ is. here), none_there message.link messages (so message here) apart.0)
     | inr later ↦ ((λ is. absurd (not_there message.link messages is apart.0 later)), one_is_all messages apart.1 later)
   ]
-
-pub both_all : {T : Type 0} (P : T → Type 0) (items more : List T) → AllByRecursion P items → AllByRecursion P more → AllByRecursion P (items ++ more)
-both_all P [] more all other = other
-both_all P (item ∷ items) more all other = (all.0, both_all P items more all.1 other)
 
 -- ---- what holds
 
@@ -256,7 +253,7 @@ module _ (plan : Plan) (s t : State) (b d : Book) (grows : GrowsTo s t b d) wher
       TurnFacts plan s b messages told → TurnFacts plan t d messages (told ++ more)
   facts_stay messages told more known free facts = record {
     answered = all_weaker (IsAnswered plan s b told) (IsAnswered plan t d (told ++ more)) messages (answered_stays told more) facts.answered;
-    let_in = both_all (IsKnown plan t d messages) told more
+    let_in = all_join (IsKnown plan t d messages) told more
         (all_weaker (IsKnown plan s b messages) (IsKnown plan t d messages) told
         (λ one is. known_stays messages messages one (λ P Q so reply any. one_weaker P Q messages so any) is) facts.let_in) known;
     free = free;

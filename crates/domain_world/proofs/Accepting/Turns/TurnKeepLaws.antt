@@ -46,7 +46,7 @@ use Rattle.domain_world.proofs.Frames.ComingLaws.{CameFrom, StillHas, kept_same,
 use Rattle.domain_world.proofs.Frames.OpenMadeLaws.{IsAtSide}
 use Rattle.domain_world.proofs.Frames.StepFrameLaws.{AnyAction, all_any, ActionFact, BothFacts, BothFine, HasHeard, HoldsAfterRun, Keeps, NoFact, RunFact, join, run_keeps, with_side}
 use Rattle.domain_world.proofs.Frames.EndFrameLaws.{IsCalm}
-use Rattle.domain_world.proofs.Frames.MoveFrameLaws.{HasBytes}
+use Rattle.domain_world.proofs.Frames.PlacedLaws.{HasBytes}
 
 -- ---- what is to hold
 

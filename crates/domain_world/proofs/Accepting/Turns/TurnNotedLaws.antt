@@ -41,9 +41,10 @@ use Rattle.step_notes.proofs.Members.KeptLogonLaws.{HasFor, IsFor, KeptIn, bytes
 use Rattle.step_notes.proofs.Members.UnservedLaws.{LinksIn}
 use Rattle.domain_world.specs.Past.{change_if, change_message, first_of, later_of, note_turn, note_turns}
 use Rattle.domain_world.proofs.Accepting.Heard.AnswerReadLaws.{HearsWhole}
-use Rattle.domain_world.proofs.Accepting.Turns.TurnFactLaws.{Any, HasFree, IsFree, both_all}
+use Rattle.domain_world.proofs.Accepting.Turns.TurnFactLaws.{Any, HasFree, IsFree}
 use Rattle.domain_world.proofs.Requests.WholeNotedLaws.{last_noted, note_for, whole_messages, whole_units}
 use Rattle.domain_world.proofs.Requests.WholeOutLaws.{noted}
+use Rattle.domain_world.proofs.Frames.AllLaws.{all_flat}
 
 -- ---- a message that is taken then has no answer
 
@@ -71,8 +72,7 @@ by_new false unit w = tt
 by_new true unit w = after_new (talk_after unit.part) (work_after unit.part) w unit.bytes
 
 pub units_new : (w : LinkAt) (units : List (ServedUnit AtLink Talk)) → AllByRecursion (λ (message : MessageTaken). message.reply ≡ None) (flat_map (message_note w) units)
-units_new w [] = tt
-units_new w (unit ∷ units) = both_all IsNew (message_note w unit) (flat_map (message_note w) units) (by_new (is_challenged unit.talk.phase) unit w) (units_new w units)
+units_new w units = all_flat IsNew (message_note w) (λ unit. by_new (is_challenged unit.talk.phase) unit w) units
 
 -- ---- the logons that a member keeps are those of messages without an answer, also where bytes come
 

@@ -53,7 +53,7 @@ use Rattle.domain_world.specs.Past.{Coming, at_member, controller_number, contro
 use Rattle.domain_world.proofs.Accepting.Heard.AnswerReadLaws.{HearsWhole}
 use Rattle.domain_world.proofs.Accepting.LetInStepLaws.{IsAcceptedBy, IsDialledBy}
 use Rattle.domain_world.proofs.Accepting.Quiet.QuietRunLaws.{one_piece}
-use Rattle.domain_world.proofs.Accepting.Turns.TurnFactLaws.{Any, AreApart, GrowsTo, HasFree, IsAnswered, IsKnown, MarksAreKnown, SameEnds, TurnFacts, answered_stays, apart_front, both_all, controller_stays, facts_stay, known_stays, marks_before, past_at}
+use Rattle.domain_world.proofs.Accepting.Turns.TurnFactLaws.{Any, AreApart, GrowsTo, HasFree, IsAnswered, IsKnown, MarksAreKnown, SameEnds, TurnFacts, answered_stays, apart_front, controller_stays, facts_stay, known_stays, marks_before, past_at}
 use Rattle.domain_world.proofs.Accepting.Turns.TurnNotedLaws.{IsTurnNoted, bytes_free, or_false, turn_noted, units_new}
 use Rattle.domain_world.proofs.Accepting.Turns.TurnQuietLaws.{IsSilent, free_put, member_silent, members_same, same_ends, told_yet, yet_more}
 use Rattle.domain_world.proofs.Accepting.Turns.TurnWholeLaws.{ComesWhole, whole_facts}
@@ -64,6 +64,7 @@ use Rattle.domain_world.proofs.Frames.OpenMadeLaws.{IsAtSide, side_of}
 use Rattle.domain_world.proofs.Frames.TurnFrameLaws.{notes_keep, turns_sent, turns_told}
 use Rattle.domain_world.proofs.Requests.WholeOutLaws.{noted as noted_by}
 use Rattle.domain_world.proofs.Accepting.LetInLaws.{none_if_taken}
+use Rattle.domain_world.proofs.Frames.AllLaws.{all_join}
 
 -- ---- what the facts rest on, at each time of a run
 
@@ -188,12 +189,12 @@ module _ (law : LetsInTheGranted) (plan : Plan) (k : ℕ) (w : Coming) (piece : 
       let d : Book = book_after r in
       let grows : GrowsTo s t b d = record { bag = kept_same s.bag; sent = sent_stays r; ends = ends_same r } in
       subst (λ (all : List OutcomeTold). TurnFacts plan t d (messages_in r) all) (append-nil told) (record {
-        answered = both_all (IsAnswered plan t d (told ++ [])) b.messages (new_in r)
+        answered = all_join (IsAnswered plan t d (told ++ [])) b.messages (new_in r)
             (all_weaker (IsAnswered plan s b told) (IsAnswered plan t d (told ++ [])) b.messages (answered_stays plan s t b d grows told []) facts.answered)
             (all_weaker (λ (message : MessageTaken). message.reply ≡ None) (IsAnswered plan t d (told ++ [])) (new_in r)
             (λ message none u reply. let both : None ≡ Some u = sym none ∙ reply in absurd (let x = both in cc))
             (units_new (at_member k w s) (link_units (member r) w.link piece s.moment s.chances.left)));
-        let_in = both_all (IsKnown plan t d (messages_in r)) told []
+        let_in = all_join (IsKnown plan t d (messages_in r)) told []
             (all_weaker (IsKnown plan s b b.messages) (IsKnown plan t d (messages_in r)) told
             (λ one known. known_stays plan s t b d grows b.messages (messages_in r) one
             (λ P Q so reply any. one_before Q b.messages (new_in r) (one_weaker P Q b.messages so any)) known) facts.let_in) tt;

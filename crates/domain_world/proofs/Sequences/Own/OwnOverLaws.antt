@@ -23,7 +23,7 @@ use Rattle.domain_world.proofs.Sequences.DialWalkLaws.{AtState, OfDials, dials_k
 use Rattle.domain_world.proofs.Sequences.Own.OwnFrameLaws.{TurnsKnown}
 use Rattle.domain_world.proofs.Sequences.Own.OwnRunLaws.{all_mine, first_known, turns_keep}
 use Rattle.domain_world.proofs.Sequences.Own.OwnTurnLaws.{TurnsOf, mine, no_times, none_or_one, one_time, times}
-use Rattle.domain_world.proofs.Frames.MoveFrameLaws.{HasBytes}
+use Rattle.domain_world.proofs.Frames.PlacedLaws.{HasBytes}
 
 -- ---- of one member
 
