@@ -1,4 +1,3 @@
-mod AnnBagLaws
 mod ClaimLaws
 mod CompletenessLaws
 mod GrantExampleLaws

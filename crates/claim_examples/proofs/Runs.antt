@@ -1,6 +1,7 @@
 -- Runs that a world made itself: logons of its clients, move by move.
-mod ClearRunLaws
-mod ClearSuccessLaws
+pub mod AnnBagLaws
+pub mod ClearRunLaws
+pub mod ClearSuccessLaws
 mod ExampleKeyLaws
 mod JudgedOnLaws
 mod LogonTrailLaws

@@ -1,6 +1,6 @@
 use Rattle.logon_runs.specs.First.ExampleLogon.{ann_moves, ann_plan}
 use Rattle.domain_world.specs.Headline.{Proved}
-use Rattle.claim_examples.proofs.AnnBagLaws.{ann_bytes, ann_short}
+use Rattle.claim_examples.proofs.Runs.AnnBagLaws.{ann_bytes, ann_short}
 use Rattle.claim_examples.proofs.laws.ann_is_accepted.Goals as goal
 
 pub returns : goal.returns
