@@ -5,8 +5,8 @@ use Rattle.domain_world.specs.Claims.{AcceptsAllGranted, AcceptsOnlyGranted, IsA
 use Rattle.domain_world.specs.Headline.{Proved}
 use Rattle.domain_world.specs.Past.{past}
 
--- The run is a schedule, and clear, so that the claims on clear schedules speak of it. By the first of them a message of
--- the run is accepted, since somebody is let in.
+-- The run is a schedule, and clear, so that the claims on clear schedules speak of it. By the first of them a message
+-- of the run is accepted, since somebody is let in.
 pub record AnnIsAccepted : Type 0 where
   pub proved : Proved ann_plan ann_moves
   pub only : AcceptsOnlyGranted (past ann_plan ann_moves)
