@@ -157,8 +157,9 @@ pub fn links_reach_the_named()
     ensures { LinksReachTheNamed }
 {}
 
-/// In every run, over all moves from a plan on, in which logons come one at a time (MS-NLMP 3.2.5.1.2), each client
-/// that is started and can succeed is let in, with its member's key, the domain, the account's name and its whole echo.
+/// In every schedule in which logons come one at a time (MS-NLMP 3.2.5.1.2), and no granted call's base key travels as
+/// zeros, each client that is started and can succeed is let in, with its member's key, the domain, the account's name
+/// and its whole echo.
 #[tactic(auto, using(crate::proofs::Completeness::SuccessLaws::each_succeeds))]
 pub fn logons_succeed()
     ensures { (plan : Plan) (moves : List Move) → EachSucceeds (past plan moves) moves }

@@ -171,8 +171,9 @@ pub fn others_are_left()
     ensures { OthersAreLeft }
 {}
 
-/// The first world rests: no link is open, and nothing waits. A logon that is granted starts at rest
-/// and leads to rest, with the channel of each member that has one in step with its controller's.
+/// The first world rests: no link is open, and nothing waits. A logon at a member that has its own
+/// computer starts at rest and leads to rest, granted or not. A channel that such a member has is in
+/// step with its controller's then.
 #[tactic(auto, using(crate::proofs::RestLaws::logons_come_to_rest))]
 pub fn logons_come_to_rest()
     ensures { LogonsComeToRest }
@@ -256,7 +257,7 @@ pub fn grants_rest()
 {}
 
 /// A logon at any member goes on at each move, whatever its controller answers, to its end or to
-/// where the member lets the client in. The client then has its outcome, and no link is open.
+/// where the member lets the client in. At its end the client has its outcome, and no link is open.
 #[tactic(auto, using(crate::proofs::Any::AnyPhaseLaws::any_phases_go_on))]
 pub fn any_phases_go_on()
     ensures { AnyPhasesGoOn }
@@ -269,8 +270,8 @@ pub fn any_logons_start()
     ensures { AnyLogonsStart }
 {}
 
-/// Whichever client starts at rest, and whatever its member and its controller make of it: once
-/// nothing waits the world rests, and the client has an outcome.
+/// Whichever client starts at rest, in a plan with a member and a controller, and whatever these
+/// make of it: once nothing waits the world rests, and the client has an outcome.
 #[tactic(auto, using(crate::proofs::Any::AnyLogonLaws::logons_rest))]
 pub fn logons_rest()
     ensures { LogonsRest }
