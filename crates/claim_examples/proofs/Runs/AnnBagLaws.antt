@@ -1,6 +1,6 @@
 -- The run of the example, computed move by move: each unit of its bag has bytes, and no more than an end sends at once.
 -- It serves `ann_is_accepted`.
-use Rattle.std.proofs.Common.{◌≡◌, ℕ, ◌<◌, ◌≤◌, ◌&&◌, Bool, true, All, List, [], ◌∷◌, ◌++◌, length, refl, sym, ap, ap₂, subst, ◌∙◌, nat_le, nat_lt}
+use Rattle.std.proofs.Common.{◌≡◌, ℕ, ◌≤◌, ◌&&◌, Bool, true, List, ◌++◌, length, refl, sym, ap, ◌∙◌, nat_le, nat_lt}
 use Rattle.std.specs.List.{list_all}
 use Rattle.std.proofs.Math.Bool.{xor}
 use Rattle.std.proofs.lemmas.Bool.{and_parts, leb-true, ltb-true}
@@ -54,7 +54,7 @@ use Rattle.world_moves.specs.Bag.{AreShortUnits, HaveBytes}
 use Rattle.world_moves.specs.World.{World, first_world, run}
 use Rattle.logon_steps.proofs.CallingLaws.{are_bytes}
 use Rattle.logon_runs.specs.First.ExampleLogon.{ann_moves, ann_plan}
-use Rattle.logon_runs.specs.First.FirstWorlds.{draw, left_then}
+use Rattle.logon_runs.specs.First.FirstWorlds.{left_then}
 use Rattle.logon_runs.proofs.First.ExampleLogonLaws.{ann_can}
 use Rattle.logon_runs.proofs.First.FirstWorldLaws.{first_shows}
 use Rattle.claim_examples.proofs.Runs.ExampleKeyLaws.{ann_draws, drawn_first}
