@@ -13,7 +13,6 @@ use Rattle.authenticators.proofs.SeedLaws.{add_to-same}
 use Rattle.channel_client.specs.Effects.{channel_of}
 use Rattle.channel_client.specs.Opened.{OpenState}
 use Rattle.channel_client.specs.declared.state.Pending.{Pending}
-use Rattle.channel_client.specs.declared.state.Standing.{Standing}
 use Rattle.channel_client.specs.declared.state.Standing.TheVariants as standing
 use Rattle.domain_controller.specs.Channels.{ChannelState}
 use Rattle.domain_controller.specs.State.{State as ControllerState}
@@ -30,8 +29,8 @@ use Rattle.domain_world.specs.Accepting.Sequences.{AnswersCall, AreSoFar, CallsO
 use Rattle.channel_events.specs.Seeds.{channel_seed}
 use Rattle.domain_world.specs.Claims.SharedSequences.{HasOneTurnOut, IsBeforeTurn, Keeps, SequencesAreOwn, SequencesAreShared, Stands, any_foreign, dials_of, timestamps_on}
 use Rattle.domain_world.specs.Past.{controller_of, sent_at}
-use Rattle.claim_examples.specs.ClaimExamples.{elsewhere, judged_as, on_channel, one_turn, open_channel, open_member, open_running, run_open, seed_after_one, small_channel, small_member, small_name, small_seed, small_turn, turn_out}
-use Rattle.claim_examples.specs.SequenceMisses.{OfCalls, OfOneTurn, OfReplyCalls, OfSequenceMisses, SequencesTellApart, called_once, controller_on, empty_unit, in_unit, judged_outside, kept_whole, member_on, mixed_turns, moved_seed, open_whole, passed_then, replied, replied_for, run_by, run_dials, run_other, run_second, run_small, run_whole, sent_as, whole_name, world_by}
+use Rattle.claim_examples.specs.ClaimExamples.{elsewhere, judged_as, on_channel, one_turn, open_channel, open_member, open_running, seed_after_one, small_channel, small_name, small_seed, small_turn, turn_out}
+use Rattle.claim_examples.specs.SequenceMisses.{OfCalls, OfOneTurn, OfReplyCalls, OfSequenceMisses, SequencesTellApart, called_once, controller_on, empty_unit, in_unit, judged_outside, kept_whole, member_on, mixed_turns, moved_seed, open_whole, passed_then, replied, replied_for, run_by, run_dials, run_small, sent_as, whole_name}
 use Rattle.claim_examples.proofs.SequenceLaws.{no_turn, not_one_byte, one_stamp, same_small, shared_small}
 
 -- ---- one member, whose channel stands

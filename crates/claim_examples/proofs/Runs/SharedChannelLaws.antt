@@ -1,11 +1,10 @@
 -- After the first logon in a world the channel stands at both ends.
 -- It serves `a_run_is_clear`.
-use Rattle.std.proofs.Common.{◌≡◌, ℕ, true, List, [], ◌∷◌, length, Option, Some, None, refl, sym, ap, ap₂, ◌∙◌}
+use Rattle.std.proofs.Common.{◌≡◌, ℕ, true, List, [], ◌∷◌, length, Option, Some, None, refl, sym, ap, ◌∙◌}
 use Rattle.std.specs.Prelude.{◌==◌, slice_get}
 use Rattle.wire_base.specs.Maps.{take_out}
 use Rattle.wire_base.specs.Names.{same_name}
 use Rattle.wire_base.proofs.MapLaws.{lookup-put_same}
-use Rattle.authenticators.specs.Channels.{Channel}
 use Rattle.channel_client.specs.Effects.{channel_of}
 use Rattle.channel_client.specs.Opened.{OpenState, after_call, after_return}
 use Rattle.domain_controller.specs.Channels.{ChannelState}
