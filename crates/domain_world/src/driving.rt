@@ -46,7 +46,7 @@ fn no_memory_for_run(why: WorldRefused) -> NoMemory
 /// Makes the moves in their order, and gives what was counted since the plan.
 ///
 /// `Memory` where a move found no memory, and `Stopped` exactly where the world had stopped before. The world then
-/// reports the moves that were made.
+/// reports the moves that were made, and has the clients' outcomes after them.
 #[tactic(auto, using(crate::proofs::DrivingLaws::cut_short, crate::proofs::DrivingLaws::not_begun))]
 pub fn drive(alloc: Global, world: &mut World, moves: &Moves) -> Result<Report, WorldRefused>
     requires few { world.old.moves + length moves.now ≤ move_limit }
@@ -57,7 +57,7 @@ pub fn drive(alloc: Global, world: &mut World, moves: &Moves) -> Result<Report, 
     ensures stopped { (result ≡ Err WorldRefused.Stopped) ↔ IsTrue world.old.stopped }
     ensures stops { OnErr result (world.new.stopped ≡ true) }
     ensures goes_on { OnOk result (world.new.stopped ≡ false) }
-    // Of moves that are cut short those that were made are counted.
+    // Of moves that are cut short those that were made are counted, and clients have their outcomes of then.
     ensures kept { OnErr result (IsCutShort moves.now world.old world.new) }
     // So from a plan on the world is that of all moves, the earlier ones and these, and what was counted are the
     // actions that its ends gave.

@@ -1,10 +1,10 @@
 -- The step of an end of a world.
 -- It serves `Ends::put_member`, `Ends::renew_controller`, `Ends::step_client` and 3 more.
-use Rattle.std.proofs.Common.{◌≡◌, ℕ, zero, suc, ◌<◌, false, List, [], ◌∷◌, ◌++◌, Err, length, get_or, All, inl, inr, Some, slice_get, slice_set, refl, ap, sym, subst, ◌∙◌, arith}
+use Rattle.std.proofs.Common.{◌≡◌, ℕ, zero, suc, ◌<◌, Bool, false, List, [], ◌∷◌, ◌++◌, Err, length, get_or, All, inl, inr, Some, slice_get, slice_set, refl, ap, sym, subst, ◌∙◌, arith}
 use Rattle.std.specs.List.{insert, remove}
 use Rattle.std.proofs.lemmas.Option.{get_or_from_slice_get, slice_get_cases}
 use Rattle.std.proofs.lemmas.List.{length-set}
-use Rattle.std.proofs.lemmas.List.Elements.{All-set}
+use Rattle.std.proofs.lemmas.List.Elements.{All-nil, All-set}
 use Rattle.outside.specs.Drawing.{Drawing, DrawsAll}
 use Rattle.outside.specs.Machine.{Stepped, StepsBy, Takes}
 use Rattle.outside.specs.declared.action.Action.{Action}
@@ -19,7 +19,7 @@ use Rattle.logon_client.specs.Machine.{step_of as client_step_of}
 use Rattle.member_server.specs.State.{State as MemberState}
 use Rattle.member_server.specs.Machine.{is_stopped as member_is_stopped, step_of as member_step_of}
 use Rattle.world_moves.specs.Ends.{EndStates, client_done, client_step, controller_done, controller_step, drawn_on, member_done, member_step, renew_controller}
-use Rattle.world_moves.specs.Running.{AreRunning}
+use Rattle.world_moves.specs.Running.{CanStep}
 
 same_drawing : (one other : Drawing) → one.seed ≡ other.seed → one.boot ≡ other.boot → one.drawn ≡ other.drawn → one.left ≡ other.left → one ≡ other
 same_drawing one other seed boot drawn left =
@@ -91,19 +91,36 @@ renews_at all rest after at taken new table name lt read left its_table its_name
     is ∙ ap (λ t. first_state t name) its_table ∙ ap (λ n. first_state taken.table n) its_name ∙ ap (λ (s : ControllerState). first_state s.table s.name) same in
     behind ∙ ap (λ (left : List ControllerState). insert left at new) left ∙ put_back all at new lt ∙ ap (λ (s : ControllerState). slice_set all at s) made
 
-pub renewed_run : (controllers after : List ControllerState) (members : List MemberState) (clients : List ClientState) (at : ℕ) → at < length controllers →
-    Renews controllers at after → AreRunning controllers members clients → AreRunning after members clients
-renewed_run controllers after members clients at lt renews are = elim (slice_get_cases controllers at).1 [
+pub renewed_run : (gave_up : Bool) (controllers after : List ControllerState) (members : List MemberState) (clients : List ClientState) (at : ℕ) → at < length controllers →
+    Renews controllers at after → CanStep gave_up controllers members clients → CanStep gave_up after members clients
+renewed_run gave_up controllers after members clients at lt renews can = elim (slice_get_cases controllers at).1 [
   | inl found ↦ (let is : after ≡ slice_set controllers at (first_state found.0.table found.0.name) = renews found.0 found.2 in
+      let size : length after ≡ length controllers = ap length is ∙ length-set controllers at (first_state found.0.table found.0.name) in
       record {
-        each_controller = subst (λ (all : List ControllerState). All (λ (c : ControllerState). controller_is_stopped c ≡ false) all) (sym is)
-            (All-set (λ (c : ControllerState). controller_is_stopped c ≡ false) controllers at (first_state found.0.table found.0.name) refl are.each_controller);
-        each_member = are.each_member;
-        each_client = are.each_client;
-        few = omega (arith, are.few, ap length is, length-set controllers at (first_state found.0.table found.0.name));
+        few = omega (arith, can.few, size);
+        running = λ goes_on. record {
+          each_controller = subst (λ (all : List ControllerState). All (λ (c : ControllerState). controller_is_stopped c ≡ false) all) (sym is)
+              (All-set (λ (c : ControllerState). controller_is_stopped c ≡ false) controllers at (first_state found.0.table found.0.name) refl (can.running goes_on).each_controller);
+          each_member = (can.running goes_on).each_member;
+          each_client = (can.running goes_on).each_client;
+          few = omega (arith, can.few, size);
+        };
       })
   | inr none ↦ absurd (omega arith)
 ]
+
+-- the controllers are let go
+pub none_run : (gave_up : Bool) (controllers none : List ControllerState) (members : List MemberState) (clients : List ClientState) → none ≡ [] →
+    CanStep gave_up controllers members clients → CanStep gave_up none members clients
+none_run gave_up controllers none members clients is can = record {
+  few = omega (arith, can.few, ap length is);
+  running = λ goes_on. record {
+    each_controller = subst (λ (all : List ControllerState). All (λ (c : ControllerState). controller_is_stopped c ≡ false) all) (sym is) (All-nil (λ (c : ControllerState). controller_is_stopped c ≡ false));
+    each_member = (can.running goes_on).each_member;
+    each_client = (can.running goes_on).each_client;
+    few = omega (arith, can.few, ap length is);
+  };
+}
 
 pub renewed_is : (ends : EndStates) (after : List ControllerState) (at : ℕ) → at < length ends.controllers → Renews ends.controllers at after →
     record ends { controllers = after } ≡ renew_controller (slice_get ends.controllers at) at ends
@@ -113,11 +130,14 @@ renewed_is ends after at lt renews = elim (slice_get_cases ends.controllers at).
 ]
 
 -- a member that runs is put in a place
-pub member_put : (controllers : List ControllerState) (members : List MemberState) (clients : List ClientState) (at : ℕ) (member put : MemberState) → put ≡ member →
-    member_is_stopped member ≡ false → AreRunning controllers members clients → AreRunning controllers (slice_set members at put) clients
-member_put controllers members clients at member put is runs are = record {
-  each_controller = are.each_controller;
-  each_member = All-set (λ (m : MemberState). member_is_stopped m ≡ false) members at put (ap (λ (m : MemberState). member_is_stopped m) is ∙ runs) are.each_member;
-  each_client = are.each_client;
-  few = omega (arith, are.few, length-set members at put);
+pub member_put : (gave_up : Bool) (controllers : List ControllerState) (members : List MemberState) (clients : List ClientState) (at : ℕ) (member put : MemberState) → put ≡ member →
+    member_is_stopped member ≡ false → CanStep gave_up controllers members clients → CanStep gave_up controllers (slice_set members at put) clients
+member_put gave_up controllers members clients at member put is runs can = record {
+  few = omega (arith, can.few, length-set members at put);
+  running = λ goes_on. record {
+    each_controller = (can.running goes_on).each_controller;
+    each_member = All-set (λ (m : MemberState). member_is_stopped m ≡ false) members at put (ap (λ (m : MemberState). member_is_stopped m) is ∙ runs) (can.running goes_on).each_member;
+    each_client = (can.running goes_on).each_client;
+    few = omega (arith, can.few, length-set members at put);
+  };
 }

@@ -9,6 +9,7 @@ pub mod LevelLaws
 pub mod LinkFrameLaws
 mod MakingLaws
 mod MuteLaws
+mod OutcomeLaws
 pub mod OpenLaws
 mod PlaceLaws
 pub mod RangeLaws

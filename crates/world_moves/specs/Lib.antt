@@ -10,6 +10,7 @@ pub mod Generator
 pub mod LinkIndexes
 pub mod Links
 pub mod Moving
+pub mod Outcomes
 pub mod Running
 pub mod Telling
 pub mod World

@@ -1,5 +1,5 @@
 -- The ends of a world, none of which has stopped.
-use Rattle.std.specs.Prelude.{◌≡◌, ◌+◌, ◌<◌, ◌^◌, false, List, length, All, IsSome}
+use Rattle.std.specs.Prelude.{◌≡◌, ◌+◌, ◌<◌, ◌^◌, Bool, false, List, length, All, IsSome}
 use Rattle.domain_controller.specs.State.{State as ControllerState}
 use Rattle.domain_controller.specs.Step.{is_stopped as controller_is_stopped}
 use Rattle.logon_client.specs.State.{State as ClientState}
@@ -12,3 +12,8 @@ pub record AreRunning (controllers : List ControllerState) (members : List Membe
   pub each_client : All (λ client. IsSome client.running) clients
   -- they can be numbered
   pub few : length controllers + length members + length clients < 2 ^ 64
+
+-- the ends can be numbered, and none of them has stopped while no step was given up
+pub record CanStep (gave_up : Bool) (controllers : List ControllerState) (members : List MemberState) (clients : List ClientState) : Type 0 where
+  pub few : length controllers + length members + length clients < 2 ^ 64
+  pub running : gave_up ≡ false → AreRunning controllers members clients

@@ -7,9 +7,9 @@ ghost use Rattle.world_moves.specs.Acting.{hear, bag_unit, send_on, perform_quie
 ghost use Rattle.world_moves.specs.Bag.{AreShortPieces, piece_limit};
 ghost use Rattle.world_moves.specs.Bounds.{DrawsWithin, draws_at};
 ghost use Rattle.world_moves.specs.Links.{hearer_of};
+ghost use Rattle.world_moves.specs.Outcomes.{KeepsOutcomes};
 
 use crate::bag::{Bag, BagUnit};
-use crate::ends::Ends;
 use crate::links::{EndId, LinkKind, OpenLink, OpenLinks, forget_end, same_end};
 use crate::state::{State, Waiting};
 use outside::{Action, Actions, Event, StepRefused};
@@ -19,6 +19,7 @@ use wire_base::{Blob, Frames, List, NoMemory, find_number, take_number};
 
 impl State {
     /// The end hears the event: its actions, which aren't done yet.
+    #[tactic(auto, using(crate::proofs::OutcomeLaws::stays_same, crate::proofs::OutcomeLaws::stays_on))]
     pub(crate) fn hear(
         &mut self,
         alloc: Global,
@@ -31,11 +32,13 @@ impl State {
         ensures spent { result ≡ Err StepRefused.Spent → self.new.chances.left ≡ [] }
         ensures few { DrawsWithin (draws_at event.now) self.old self.new }
         ensures runs { result ≢ Err StepRefused.Stopped }
+        ensures outcomes { KeepsOutcomes self.old self.new }
     {
-        let ends = mem::replace(&mut self.ends, Ends::none(alloc));
-        match ends.step(alloc, end, event, self.moment, &mut self.chances) {
-            Ok((ends, actions)) => {
-                self.ends = ends;
+        match self
+            .ends
+            .step(alloc, end, event, self.moment, &mut self.chances)
+        {
+            Ok(actions) => {
                 self.counts = self.counts.add(actions.items());
                 Ok(actions)
             }
@@ -55,6 +58,7 @@ impl State {
         requires { length bytes ≤ send_limit }
         ensures state { OnOk result (self.new ≡ bag_unit kind back link bytes self.old) }
         ensures few { DrawsWithin 0 self.old self.new }
+        ensures ends { self.new.ends ≡ self.old.ends }
     {
         if matches!(kind, LinkKind::Stranger) {
             return Ok(());
@@ -77,6 +81,7 @@ impl State {
         ensures state { OnOk result (self.new
             ≡ send_on (slice_get self.old.links link) end link bytes self.old) }
         ensures few { DrawsWithin 0 self.old self.new }
+        ensures ends { self.new.ends ≡ self.old.ends }
     {
         match self.links.get(link) {
             Some(route) => self.bag_unit(
@@ -95,6 +100,7 @@ impl State {
         requires { IsShortSend action }
         ensures state { OnOk result (self.new ≡ perform_quietly end action self.old) }
         ensures few { DrawsWithin 0 self.old self.new }
+        ensures ends { self.new.ends ≡ self.old.ends }
     {
         match action {
             Action::Send(link, bytes) => self.send_on(alloc, end, link, bytes),
@@ -115,6 +121,7 @@ impl State {
         requires { AreShortSends actions }
         ensures state { OnOk result (self.new ≡ perform_all_quietly end actions self.old) }
         ensures few { DrawsWithin 0 self.old self.new }
+        ensures ends { self.new.ends ≡ self.old.ends }
     {
         for action in actions.into_vec() {
             match self.perform_quietly(alloc, end, action) {
@@ -126,17 +133,20 @@ impl State {
     }
 
     /// The end hears that the link was closed.
+    #[tactic(auto, using(crate::proofs::OutcomeLaws::stays_same, crate::proofs::OutcomeLaws::stays_on))]
     fn hear_closed(&mut self, alloc: Global, link: u32, end: EndId) -> Result<(), StepRefused>
         ensures state { OnOk result (self.new ≡ (hear_closed link end self.old).state) }
         ensures spent { result ≡ Err StepRefused.Spent → self.new.chances.left ≡ [] }
         ensures few { DrawsWithin 3 self.old self.new }
         ensures runs { result ≢ Err StepRefused.Stopped }
+        ensures outcomes { KeepsOutcomes self.old self.new }
     {
         let actions = self.hear(alloc, end, &Event::Closed(link))?;
         Ok(self.perform_all_quietly(alloc, end, actions)?)
     }
 
     /// The end, if there is one, hears that the link was closed.
+    #[tactic(auto, using(crate::proofs::OutcomeLaws::stays_same, crate::proofs::OutcomeLaws::stays_on))]
     pub(crate) fn closed_at(
         &mut self,
         alloc: Global,
@@ -147,6 +157,7 @@ impl State {
         ensures spent { result ≡ Err StepRefused.Spent → self.new.chances.left ≡ [] }
         ensures few { DrawsWithin 3 self.old self.new }
         ensures runs { result ≢ Err StepRefused.Stopped }
+        ensures outcomes { KeepsOutcomes self.old self.new }
     {
         match end {
             Some(end) => self.hear_closed(alloc, link, end),
@@ -167,6 +178,7 @@ impl State {
         ensures fewer { length self.new.open_links ≤ length self.old.open_links }
         ensures one { IsSome (lookup same_number link self.old.open_links) →
             length self.new.open_links + 1 ≤ length self.old.open_links }
+        ensures ends { self.new.ends ≡ self.old.ends }
     {
         let open = mem::replace(&mut self.open_links, OpenLinks::new(alloc));
         let (rest, _closed) = take_number(open, link);
@@ -174,11 +186,13 @@ impl State {
     }
 
     /// An end closes a link: the end at the other side hears of it.
+    #[tactic(auto, using(crate::proofs::OutcomeLaws::stays_same, crate::proofs::OutcomeLaws::stays_on))]
     fn close(&mut self, alloc: Global, end: EndId, link: u32) -> Result<(), StepRefused>
         ensures state { OnOk result (self.new ≡ (close end link self.old).state) }
         ensures spent { result ≡ Err StepRefused.Spent → self.new.chances.left ≡ [] }
         ensures few { DrawsWithin 0 self.old self.new }
         ensures runs { result ≢ Err StepRefused.Stopped }
+        ensures outcomes { KeepsOutcomes self.old self.new }
     {
         match self.open_link(link) {
             Some(there) => {
@@ -190,12 +204,14 @@ impl State {
     }
 
     /// An action is done.
+    #[tactic(auto, using(crate::proofs::OutcomeLaws::stays_same, crate::proofs::OutcomeLaws::stays_on))]
     fn perform(&mut self, alloc: Global, end: EndId, action: Action) -> Result<(), StepRefused>
         requires { IsShortSend action }
         ensures state { OnOk result (self.new ≡ (perform end action self.old).state) }
         ensures spent { result ≡ Err StepRefused.Spent → self.new.chances.left ≡ [] }
         ensures few { DrawsWithin 0 self.old self.new }
         ensures runs { result ≢ Err StepRefused.Stopped }
+        ensures outcomes { KeepsOutcomes self.old self.new }
     {
         match action {
             Action::Close(link, _) => self.close(alloc, end, link),
@@ -204,6 +220,7 @@ impl State {
     }
 
     /// Actions are done in their order.
+    #[tactic(auto, using(crate::proofs::OutcomeLaws::stays_same, crate::proofs::OutcomeLaws::stays_on))]
     pub(crate) fn perform_all(
         &mut self,
         alloc: Global,
@@ -215,6 +232,7 @@ impl State {
         ensures spent { result ≡ Err StepRefused.Spent → self.new.chances.left ≡ [] }
         ensures few { DrawsWithin 0 self.old self.new }
         ensures runs { result ≢ Err StepRefused.Stopped }
+        ensures outcomes { KeepsOutcomes self.old self.new }
     {
         for action in actions.into_vec() {
             match self.perform(alloc, end, action) {
@@ -226,6 +244,7 @@ impl State {
     }
 
     /// The end hears the event, and does what it then does.
+    #[tactic(auto, using(crate::proofs::OutcomeLaws::stays_same, crate::proofs::OutcomeLaws::stays_on))]
     pub(crate) fn hears(
         &mut self,
         alloc: Global,
@@ -236,12 +255,14 @@ impl State {
         ensures spent { result ≡ Err StepRefused.Spent → self.new.chances.left ≡ [] }
         ensures few { DrawsWithin (draws_at event.now) self.old self.new }
         ensures runs { result ≢ Err StepRefused.Stopped }
+        ensures outcomes { KeepsOutcomes self.old self.new }
     {
         let actions = self.hear(alloc, end, event)?;
         self.perform_all(alloc, end, actions)
     }
 
     /// A piece comes on the link: a side that isn't open hears nothing.
+    #[tactic(auto, using(crate::proofs::OutcomeLaws::stays_same, crate::proofs::OutcomeLaws::stays_on))]
     pub(crate) fn piece_comes(
         &mut self,
         alloc: Global,
@@ -254,6 +275,7 @@ impl State {
         ensures spent { result ≡ Err StepRefused.Spent → self.new.chances.left ≡ [] }
         ensures few { DrawsWithin 4463 self.old self.new }
         ensures runs { result ≢ Err StepRefused.Stopped }
+        ensures outcomes { KeepsOutcomes self.old self.new }
     {
         match self.hearer(back, link) {
             Some(end) => self.hears(alloc, end, &Event::Bytes(link, piece)),
@@ -272,6 +294,7 @@ impl State {
     }
 
     /// Pieces come on the link, in their order.
+    #[tactic(auto, using(crate::proofs::OutcomeLaws::stays_same, crate::proofs::OutcomeLaws::stays_on))]
     pub(crate) fn pieces_come(
         &mut self,
         alloc: Global,
@@ -284,6 +307,7 @@ impl State {
         ensures spent { result ≡ Err StepRefused.Spent → self.new.chances.left ≡ [] }
         ensures few { DrawsWithin (4463 * length pieces) self.old self.new }
         ensures runs { result ≢ Err StepRefused.Stopped }
+        ensures outcomes { KeepsOutcomes self.old self.new }
     {
         for piece in pieces.into_vec() {
             match self.piece_comes(alloc, back, link, piece) {
@@ -298,6 +322,7 @@ impl State {
     pub(crate) fn forget(&mut self, alloc: Global, end: EndId) -> Result<(), NoMemory>
         ensures state { OnOk result (self.new ≡ forget end self.old) }
         ensures few { DrawsWithin 0 self.old self.new }
+        ensures ends { self.new.ends ≡ self.old.ends }
     {
         self.open_links = forget_end(alloc, end, &self.open_links)?;
         let dials = mem::replace(&mut self.dials, List::new(alloc));

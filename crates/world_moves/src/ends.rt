@@ -1,24 +1,26 @@
 //! The ends of a world.
 
-ghost use Rattle.std.specs.Prelude.{◌≡◌, ◌≢◌, ◌<◌, ◌≤◌, ◌+◌, [], false, Err, Some, IsSome, length, IfOk, slice_get, slice_set, option_copied};
+ghost use Rattle.std.specs.Prelude.{◌≡◌, ◌≢◌, ◌<◌, ◌≤◌, ◌+◌, [], false, Err, Some, None, IsSome, length, map, IfOk, OnOk, slice_get, slice_set, option_copied};
 ghost use Rattle.domain_controller.specs.State.{State as ControllerState};
 ghost use Rattle.domain_controller.specs.Step.{first_state};
 ghost use Rattle.member_server.specs.Machine.{is_stopped as member_is_stopped};
 ghost use Rattle.end_links.specs.Bounds.{AreShortSends};
 ghost use Rattle.world_moves.specs.Bounds.{draws_at};
 ghost use Rattle.world_moves.specs.Ends.{end_at, acceptors_in, count_of, end_step, controller_step, member_step, client_step, renew_controller, with_member, with_client};
+ghost use Rattle.world_moves.specs.Outcomes.{OutcomesFall, OutcomesStay, has_its_outcome, is_told};
 ghost use Rattle.world_moves.specs.Running.{AreRunning};
 
 use crate::links::EndId;
 use crate::maker::Maker;
 use domain_controller::Controller;
-use logon_client::Client;
+use logon_client::{AuthKind, Client, ClientPlan};
 use member_server::Member;
 use outside::{Actions, Event, StepRefused};
+use rpc_units::CONNECT_LEVEL;
 use std::alloc::Global;
 use std::marker::Model;
 use std::mem;
-use wire_base::NoMemory;
+use wire_base::{Blob, NoMemory, Units};
 
 /// The controllers, members and clients of a world, seen as the lists of their states.
 #[derive(Drop)]
@@ -26,11 +28,13 @@ pub struct Ends {
     controllers: Vec<Controller>,
     members: Vec<Member>,
     clients: Vec<Client>,
+    // whether one of them gave a step up
+    gave_up: bool,
 }
 
 impl Model for Ends {
     ghost use Rattle.world_moves.specs.Ends.{EndStates};
-    ghost use Rattle.world_moves.specs.Running.{AreRunning};
+    ghost use Rattle.world_moves.specs.Running.{CanStep};
 
     ghost Value = { EndStates };
 
@@ -40,7 +44,7 @@ impl Model for Ends {
       clients = e.clients.items;
     } };
 
-    ghost invariant = { λ e. AreRunning e.controllers.items e.members.items e.clients.items };
+    ghost invariant = { λ e. CanStep e.gave_up e.controllers.items e.members.items e.clients.items };
 }
 
 impl Ends {
@@ -61,15 +65,7 @@ impl Ends {
             controllers,
             members,
             clients,
-        }
-    }
-
-    /// No ends.
-    pub(crate) fn none(alloc: Global) -> Ends {
-        Ends {
-            controllers: Vec::new(alloc),
-            members: Vec::new(alloc),
-            clients: Vec::new(alloc),
+            gave_up: false,
         }
     }
 
@@ -118,23 +114,28 @@ impl Ends {
         }
     }
 
-    /// The step of an end for the event at this moment: the ends, and its actions. A step that isn't taken drops all
-    /// ends. None of them has stopped.
+    /// The step of an end for the event at this moment: its actions. An end whose step isn't taken has stopped, and no
+    /// end takes another. A client keeps the outcome that it has.
+    #[tactic(auto, using(crate::proofs::OutcomeLaws::stays_same))]
     pub(crate) fn step(
-        self,
+        &mut self,
         alloc: Global,
         end: EndId,
         event: &Event,
         now: u64,
         chances: &mut Maker,
-    ) -> Result<(Ends, Actions), StepRefused>
-        ensures answer { IfOk result (λ done. end_step end event.now now self chances.old
-            ≡ record { ends = done.0; chances = chances.new; actions = done.1 }) }
+    ) -> Result<Actions, StepRefused>
+        ensures answer { IfOk result (λ actions. end_step end event.now now self.old chances.old
+            ≡ record { ends = self.new; chances = chances.new; actions = actions }) }
         ensures spent { result ≡ Err StepRefused.Spent → chances.new.left ≡ [] }
         ensures few { length chances.old.left ≤ length chances.new.left + draws_at event.now }
-        ensures short { IfOk result (λ done. AreShortSends done.1) }
+        ensures short { IfOk result (λ actions. AreShortSends actions) }
         ensures runs { result ≢ Err StepRefused.Stopped }
+        ensures outcomes { OutcomesStay self.old.clients self.new.clients }
     {
+        if self.gave_up {
+            return Err(StepRefused::Memory);
+        }
         match end {
             EndId::Controller(at) => self.step_controller(alloc, at, event, now, chances),
             EndId::Member(at) => self.step_member(alloc, at, event, now, chances),
@@ -143,160 +144,134 @@ impl Ends {
     }
 
     /// The step of a controller.
-    #[tactic(auto, using(crate::proofs::EndLaws::controller_took, crate::proofs::EndLaws::spent_all))]
+    #[tactic(auto, using(crate::proofs::EndLaws::controller_took, crate::proofs::EndLaws::spent_all, crate::proofs::OutcomeLaws::stays_same))]
     fn step_controller(
-        self,
+        &mut self,
         alloc: Global,
         at: usize,
         event: &Event,
         now: u64,
         chances: &mut Maker,
-    ) -> Result<(Ends, Actions), StepRefused>
-        ensures answer { IfOk result (λ done.
-            controller_step (slice_get self.controllers at) at event.now now self chances.old
-            ≡ record { ends = done.0; chances = chances.new; actions = done.1 }) }
+    ) -> Result<Actions, StepRefused>
+        requires { AreRunning self.old.controllers self.old.members self.old.clients }
+        ensures answer { IfOk result (λ actions.
+            controller_step (slice_get self.old.controllers at) at event.now now self.old
+            chances.old ≡ record { ends = self.new; chances = chances.new; actions = actions }) }
         ensures spent { result ≡ Err StepRefused.Spent → chances.new.left ≡ [] }
         ensures few { length chances.old.left ≤ length chances.new.left + draws_at event.now }
-        ensures short { IfOk result (λ done. AreShortSends done.1) }
+        ensures short { IfOk result (λ actions. AreShortSends actions) }
         ensures runs { result ≢ Err StepRefused.Stopped }
+        ensures outcomes { OutcomesStay self.old.clients self.new.clients }
     {
-        let Ends {
-            mut controllers,
-            members,
-            clients,
-        } = self;
-        if at >= controllers.len() {
-            let ends = Ends {
-                controllers,
-                members,
-                clients,
-            };
-            return Ok((ends, Actions::new(alloc)));
+        if at >= self.controllers.len() {
+            return Ok(Actions::new(alloc));
         }
-        let controller = &mut controllers[at];
-        match controller.step(alloc, event, now, chances) {
-            Ok(actions) => {
-                let ends = Ends {
-                    controllers,
-                    members,
-                    clients,
-                };
-                Ok((ends, actions))
+        match self.controllers[at].step(alloc, event, now, chances) {
+            Ok(actions) => Ok(actions),
+            Err(why) => {
+                self.gave_up = true;
+                Err(why)
             }
-            Err(why) => Err(why),
         }
     }
 
     /// The step of a member.
-    #[tactic(auto, using(crate::proofs::EndLaws::member_took, crate::proofs::EndLaws::spent_all))]
+    #[tactic(auto, using(crate::proofs::EndLaws::member_took, crate::proofs::EndLaws::spent_all, crate::proofs::OutcomeLaws::stays_same))]
     fn step_member(
-        self,
+        &mut self,
         alloc: Global,
         at: usize,
         event: &Event,
         now: u64,
         chances: &mut Maker,
-    ) -> Result<(Ends, Actions), StepRefused>
-        ensures answer { IfOk result (λ done.
-            member_step (slice_get self.members at) at event.now now self chances.old
-            ≡ record { ends = done.0; chances = chances.new; actions = done.1 }) }
+    ) -> Result<Actions, StepRefused>
+        requires { AreRunning self.old.controllers self.old.members self.old.clients }
+        ensures answer { IfOk result (λ actions.
+            member_step (slice_get self.old.members at) at event.now now self.old
+            chances.old ≡ record { ends = self.new; chances = chances.new; actions = actions }) }
         ensures spent { result ≡ Err StepRefused.Spent → chances.new.left ≡ [] }
         ensures few { length chances.old.left ≤ length chances.new.left + draws_at event.now }
-        ensures short { IfOk result (λ done. AreShortSends done.1) }
+        ensures short { IfOk result (λ actions. AreShortSends actions) }
         ensures runs { result ≢ Err StepRefused.Stopped }
+        ensures outcomes { OutcomesStay self.old.clients self.new.clients }
     {
-        let Ends {
-            controllers,
-            mut members,
-            clients,
-        } = self;
-        if at >= members.len() {
-            let ends = Ends {
-                controllers,
-                members,
-                clients,
-            };
-            return Ok((ends, Actions::new(alloc)));
+        if at >= self.members.len() {
+            return Ok(Actions::new(alloc));
         }
-        let member = &mut members[at];
-        match member.step(alloc, event, now, chances) {
-            Ok(actions) => {
-                let ends = Ends {
-                    controllers,
-                    members,
-                    clients,
-                };
-                Ok((ends, actions))
+        match self.members[at].step(alloc, event, now, chances) {
+            Ok(actions) => Ok(actions),
+            Err(why) => {
+                self.gave_up = true;
+                Err(why)
             }
-            Err(why) => Err(why),
         }
     }
 
     /// The step of a client.
-    #[tactic(auto, using(crate::proofs::EndLaws::client_took, crate::proofs::EndLaws::spent_all))]
+    #[tactic(auto, using(crate::proofs::EndLaws::client_took, crate::proofs::EndLaws::spent_all, crate::proofs::OutcomeLaws::stays_set, crate::proofs::OutcomeLaws::stays_same))]
     fn step_client(
-        self,
+        &mut self,
         alloc: Global,
         at: usize,
         event: &Event,
         now: u64,
         chances: &mut Maker,
-    ) -> Result<(Ends, Actions), StepRefused>
-        ensures answer { IfOk result (λ done.
-            client_step (slice_get self.clients at) at event.now now self chances.old
-            ≡ record { ends = done.0; chances = chances.new; actions = done.1 }) }
+    ) -> Result<Actions, StepRefused>
+        requires { AreRunning self.old.controllers self.old.members self.old.clients }
+        ensures answer { IfOk result (λ actions.
+            client_step (slice_get self.old.clients at) at event.now now self.old
+            chances.old ≡ record { ends = self.new; chances = chances.new; actions = actions }) }
         ensures spent { result ≡ Err StepRefused.Spent → chances.new.left ≡ [] }
         ensures few { length chances.old.left ≤ length chances.new.left + draws_at event.now }
-        ensures short { IfOk result (λ done. AreShortSends done.1) }
+        ensures short { IfOk result (λ actions. AreShortSends actions) }
         ensures runs { result ≢ Err StepRefused.Stopped }
+        ensures outcomes { OutcomesStay self.old.clients self.new.clients }
     {
-        let Ends {
-            controllers,
-            members,
-            mut clients,
-        } = self;
-        if at >= clients.len() {
-            let ends = Ends {
-                controllers,
-                members,
-                clients,
-            };
-            return Ok((ends, Actions::new(alloc)));
+        if at >= self.clients.len() {
+            return Ok(Actions::new(alloc));
         }
-        let client = &mut clients[at];
-        match client.step(alloc, event, now, chances) {
-            Ok(actions) => {
-                let ends = Ends {
-                    controllers,
-                    members,
-                    clients,
-                };
-                Ok((ends, actions))
+        match self.clients[at].step(alloc, event, now, chances) {
+            Ok(actions) => Ok(actions),
+            Err(why) => {
+                self.gave_up = true;
+                Err(why)
             }
-            Err(why) => Err(why),
         }
     }
 
-    /// The controller is made anew with its accounts as they stand, and its name. Want of memory drops all ends.
-    #[tactic(auto, using(crate::proofs::EndLaws::renewed_is))]
-    pub(crate) fn renew_controller(self, alloc: Global, at: usize) -> Result<Ends, NoMemory>
-        ensures { IfOk result (λ ends. ends
-            ≡ renew_controller (slice_get self.controllers at) at self) }
+    /// The controller is made anew with its accounts as they stand, and its name. Want of memory drops the controllers.
+    #[tactic(auto, using(crate::proofs::EndLaws::renewed_is, crate::proofs::EndLaws::none_run, crate::proofs::EndLaws::renewed_run))]
+    pub(crate) fn renew_controller(&mut self, alloc: Global, at: usize) -> Result<(), NoMemory>
+        ensures ends { OnOk result (self.new
+            ≡ renew_controller (slice_get self.old.controllers at) at self.old) }
+        ensures clients { self.new.clients ≡ self.old.clients }
     {
         if at >= self.controllers.len() {
-            return Ok(self);
+            return Ok(());
         }
-        let Ends {
-            controllers,
-            members,
-            clients,
-        } = self;
-        let controllers = renew_at(alloc, controllers, at)?;
-        Ok(Ends {
-            controllers,
-            members,
-            clients,
-        })
+        let controllers = mem::replace(&mut self.controllers, Vec::new(alloc));
+        self.controllers = renew_at(alloc, controllers, at)?;
+        Ok(())
+    }
+
+    /// Whether each client has its outcome.
+    pub(crate) fn have_outcomes(&self, alloc: Global) -> Result<Vec<bool>, NoMemory>
+        ensures { IfOk result (λ had. had.items ≡ map has_its_outcome self.now.clients) }
+    {
+        let mut had = Vec::new(alloc);
+        for client in self.clients.iter() {
+            had.push(client.outcome().is_some())?;
+        }
+        Ok(had)
+    }
+
+    /// Clients that had no outcome have none, and no end takes a step any more. It takes no memory.
+    pub(crate) fn give_up(&mut self, alloc: Global, had: &[bool])
+        ensures { OutcomesFall had.now self.old.clients self.new.clients }
+    {
+        let clients = mem::replace(&mut self.clients, Vec::new(alloc));
+        self.gave_up = true;
+        self.clients = without_new(alloc, clients, had);
     }
 
     /// This member is in the place of the one of that number, if there is one.
@@ -337,4 +312,46 @@ fn renew_at(
     let (table, name) = controllers.remove(at).into_parts();
     controllers.insert(at, Controller::new(alloc, table, name)?)?;
     Ok(controllers)
+}
+
+/// The clients, of which those that had no outcome are let go: a client without a name stands in the place of each.
+#[tactic(auto, using(crate::proofs::OutcomeLaws::fall_first, crate::proofs::OutcomeLaws::fall_kept, crate::proofs::OutcomeLaws::fall_let_go, crate::proofs::OutcomeLaws::fall_all))]
+fn without_new(alloc: Global, clients: Vec<Client>, had: &[bool]) -> Vec<Client>
+    ensures outcomes { OutcomesFall had.now clients.items result.items }
+    ensures size { length result.items ≡ length clients.items }
+{
+    let mut clients = clients;
+    for at in 0..clients.len() {
+        if is_set(had, at) {
+            continue;
+        }
+        clients[at] = nobody(alloc);
+    }
+    clients
+}
+
+/// Whether that is told of the place.
+fn is_set(told: &[bool], at: usize) -> bool
+    ensures { result ≡ is_told (slice_get told.now at) }
+{
+    match told.get(at) {
+        Some(set) => *set,
+        None => false,
+    }
+}
+
+/// A client without a name, which hasn't begun. It takes no memory.
+fn nobody(alloc: Global) -> Client
+    ensures { result.outcome ≡ None }
+{
+    Client::new(ClientPlan {
+        server: Blob::from_vec(Vec::new(alloc)),
+        domain: Units::from_vec(Vec::new(alloc)),
+        user: Units::from_vec(Vec::new(alloc)),
+        workstation: Units::from_vec(Vec::new(alloc)),
+        hash: [0; 16],
+        level: CONNECT_LEVEL,
+        auth: AuthKind::V2,
+        echo: 0,
+    })
 }

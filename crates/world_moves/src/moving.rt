@@ -1,13 +1,13 @@
 //! The moves of a world.
 
-ghost use Rattle.std.specs.Prelude.{◌≡◌, ◌≢◌, [], Err, ◌<◌, ◌≤◌, ◌+◌, ◌*◌, ◌^◌, length, OnOk, slice_get};
+ghost use Rattle.std.specs.Prelude.{◌≡◌, ◌≢◌, [], Err, ◌<◌, ◌≤◌, ◌+◌, ◌*◌, ◌^◌, length, OnOk, OnErr, slice_get};
 ghost use Rattle.world_moves.specs.Bounds.{DrawsWithin, draw_limit};
 ghost use Rattle.world_moves.specs.Moving.{act, start, open_link, stranger, end_of_peer, route_to, answered_link, answer, connect_by, without_first, connect, fail_dial, come, onward, lose, deliver, hand, shut, renewed, restart, moment_after, tick};
+ghost use Rattle.world_moves.specs.Outcomes.{KeepsOutcomes};
 ghost use Rattle.world_moves.specs.World.{IsMove};
 
 use crate::bag::pieces;
 use crate::choosing::chosen_place;
-use crate::ends::Ends;
 use crate::links::{EndId, OpenLink, OpenLinks, Route, WorldLinks};
 use crate::moves::Move;
 use crate::state::{State, Waiting};
@@ -22,11 +22,13 @@ const LAST_MOMENT: u64 = 1 << 63;
 
 impl State {
     /// The client is made anew from its plan, and begins.
+    #[tactic(auto, using(crate::proofs::OutcomeLaws::stays_same, crate::proofs::OutcomeLaws::stays_on))]
     fn start(&mut self, alloc: Global, number: u32) -> Result<(), StepRefused>
         ensures state { OnOk result (self.new ≡ (start number self.old).state) }
         ensures spent { result ≡ Err StepRefused.Spent → self.new.chances.left ≡ [] }
         ensures few { DrawsWithin 0 self.old self.new }
         ensures runs { result ≢ Err StepRefused.Stopped }
+        ensures outcomes { OnErr result (KeepsOutcomes self.old self.new) }
     {
         let Some(at) = chosen_place(number, self.ends.client_count()) else {
             return Ok(());
@@ -37,18 +39,21 @@ impl State {
         let mut client = task.client(alloc)?;
         let actions = client.begin(alloc)?;
         self.forget(alloc, EndId::Client(at))?;
-        self.ends.put_client(at, client);
         self.counts = self.counts.add(actions.items());
-        self.perform_all(alloc, EndId::Client(at), actions)
+        self.perform_all(alloc, EndId::Client(at), actions)?;
+        self.ends.put_client(at, client);
+        Ok(())
     }
 
     /// A link opens: the end that accepts it hears of it.
+    #[tactic(auto, using(crate::proofs::OutcomeLaws::stays_same, crate::proofs::OutcomeLaws::stays_on))]
     fn open(&mut self, alloc: Global, route: Route) -> Result<(), StepRefused>
         requires { length self.old.links < 2 ^ 32 }
         ensures state { OnOk result (self.new ≡ (open_link route self.old).state) }
         ensures spent { result ≡ Err StepRefused.Spent → self.new.chances.left ≡ [] }
         ensures few { DrawsWithin 6 self.old self.new }
         ensures runs { result ≢ Err StepRefused.Stopped }
+        ensures outcomes { KeepsOutcomes self.old self.new }
     {
         let number = self.links.len() as u32;
         let links = mem::replace(&mut self.links, WorldLinks::new(alloc));
@@ -63,12 +68,14 @@ impl State {
     }
 
     /// A stranger opens a link.
+    #[tactic(auto, using(crate::proofs::OutcomeLaws::stays_same, crate::proofs::OutcomeLaws::stays_on))]
     fn stranger(&mut self, alloc: Global, number: u32) -> Result<(), StepRefused>
         requires { length self.old.links < 2 ^ 32 }
         ensures state { OnOk result (self.new ≡ (stranger number self.old).state) }
         ensures spent { result ≡ Err StepRefused.Spent → self.new.chances.left ≡ [] }
         ensures few { DrawsWithin 6 self.old self.new }
         ensures runs { result ≢ Err StepRefused.Stopped }
+        ensures outcomes { KeepsOutcomes self.old self.new }
     {
         let Some(number) = chosen_place(number, self.ends.acceptors()) else {
             return Ok(());
@@ -93,6 +100,7 @@ impl State {
     fn put_answered(&mut self, alloc: Global, link: u32, there: OpenLink) -> Result<(), NoMemory>
         ensures state { OnOk result (self.new ≡ answered_link link there self.old) }
         ensures few { DrawsWithin 3 self.old self.new }
+        ensures ends { self.new.ends ≡ self.old.ends }
     {
         let answered = OpenLink {
             route: there.route,
@@ -105,11 +113,13 @@ impl State {
     }
 
     /// The end that dialled the link hears that it is answered.
+    #[tactic(auto, using(crate::proofs::OutcomeLaws::stays_same, crate::proofs::OutcomeLaws::stays_on))]
     fn answer(&mut self, alloc: Global, end: EndId, link: u32) -> Result<(), StepRefused>
         ensures state { OnOk result (self.new ≡ (answer end link self.old).state) }
         ensures spent { result ≡ Err StepRefused.Spent → self.new.chances.left ≡ [] }
         ensures few { DrawsWithin 6 self.old self.new }
         ensures runs { result ≢ Err StepRefused.Stopped }
+        ensures outcomes { KeepsOutcomes self.old self.new }
     {
         match self.open_link(link) {
             Some(there) => {
@@ -124,6 +134,7 @@ impl State {
     }
 
     /// A dial is connected, where it has a route.
+    #[tactic(auto, using(crate::proofs::OutcomeLaws::stays_same, crate::proofs::OutcomeLaws::stays_on))]
     fn connect_by(
         &mut self,
         alloc: Global,
@@ -135,6 +146,7 @@ impl State {
         ensures spent { result ≡ Err StepRefused.Spent → self.new.chances.left ≡ [] }
         ensures few { DrawsWithin 12 self.old self.new }
         ensures runs { result ≢ Err StepRefused.Stopped }
+        ensures outcomes { KeepsOutcomes self.old self.new }
     {
         let Some(route) = route else {
             return self.hears(alloc, end, &Event::DialFailed);
@@ -148,6 +160,7 @@ impl State {
     fn next_dial(&mut self, alloc: Global) -> Option<Waiting>
         ensures first { result ≡ slice_get self.old.dials 0 }
         ensures rest { self.new ≡ without_first self.old }
+        ensures ends { self.new.ends ≡ self.old.ends }
     {
         let mut dials = mem::replace(&mut self.dials, List::new(alloc)).into_vec();
         if dials.is_empty() {
@@ -159,12 +172,14 @@ impl State {
     }
 
     /// The oldest dial that waits is connected, or fails.
+    #[tactic(auto, using(crate::proofs::OutcomeLaws::stays_same, crate::proofs::OutcomeLaws::stays_on))]
     fn connect(&mut self, alloc: Global) -> Result<(), StepRefused>
         requires { length self.old.links < 2 ^ 32 }
         ensures state { OnOk result (self.new ≡ (connect self.old).state) }
         ensures spent { result ≡ Err StepRefused.Spent → self.new.chances.left ≡ [] }
         ensures few { DrawsWithin 12 self.old self.new }
         ensures runs { result ≢ Err StepRefused.Stopped }
+        ensures outcomes { KeepsOutcomes self.old self.new }
     {
         match self.next_dial(alloc) {
             Some(first) => {
@@ -176,11 +191,13 @@ impl State {
     }
 
     /// The oldest dial that waits fails.
+    #[tactic(auto, using(crate::proofs::OutcomeLaws::stays_same, crate::proofs::OutcomeLaws::stays_on))]
     fn fail_dial(&mut self, alloc: Global) -> Result<(), StepRefused>
         ensures state { OnOk result (self.new ≡ (fail_dial self.old).state) }
         ensures spent { result ≡ Err StepRefused.Spent → self.new.chances.left ≡ [] }
         ensures few { DrawsWithin 3 self.old self.new }
         ensures runs { result ≢ Err StepRefused.Stopped }
+        ensures outcomes { KeepsOutcomes self.old self.new }
     {
         match self.next_dial(alloc) {
             Some(first) => self.hears(alloc, first.end, &Event::DialFailed),
@@ -189,11 +206,13 @@ impl State {
     }
 
     /// A unit comes on the link in its direction.
+    #[tactic(auto, using(crate::proofs::OutcomeLaws::stays_same, crate::proofs::OutcomeLaws::stays_on))]
     fn come(&mut self, alloc: Global, number: usize, link: u32) -> Result<(), StepRefused>
         ensures state { OnOk result (self.new ≡ (come number link self.old).state) }
         ensures spent { result ≡ Err StepRefused.Spent → self.new.chances.left ≡ [] }
         ensures few { DrawsWithin 40167 self.old self.new }
         ensures runs { result ≢ Err StepRefused.Stopped }
+        ensures outcomes { KeepsOutcomes self.old self.new }
     {
         let Some(unit) = self.bag.get(number) else {
             return Ok(());
@@ -204,11 +223,13 @@ impl State {
     }
 
     /// The oldest unit that was neither delivered nor lost is delivered on its own link.
+    #[tactic(auto, using(crate::proofs::OutcomeLaws::stays_same, crate::proofs::OutcomeLaws::stays_on))]
     fn onward(&mut self, alloc: Global) -> Result<(), StepRefused>
         ensures state { OnOk result (self.new ≡ (onward self.old).state) }
         ensures spent { result ≡ Err StepRefused.Spent → self.new.chances.left ≡ [] }
         ensures few { DrawsWithin 40167 self.old self.new }
         ensures runs { result ≢ Err StepRefused.Stopped }
+        ensures outcomes { KeepsOutcomes self.old self.new }
     {
         let Some(number) = self.bag.first_waiting() else {
             return Ok(());
@@ -231,11 +252,13 @@ impl State {
     }
 
     /// A unit is delivered on a link of its kind.
+    #[tactic(auto, using(crate::proofs::OutcomeLaws::stays_same, crate::proofs::OutcomeLaws::stays_on))]
     fn deliver(&mut self, alloc: Global, unit: u32, link: u32) -> Result<(), StepRefused>
         ensures state { OnOk result (self.new ≡ (deliver unit link self.old).state) }
         ensures spent { result ≡ Err StepRefused.Spent → self.new.chances.left ≡ [] }
         ensures few { DrawsWithin 40167 self.old self.new }
         ensures runs { result ≢ Err StepRefused.Stopped }
+        ensures outcomes { KeepsOutcomes self.old self.new }
     {
         let Some(number) = chosen_place(unit, self.bag.len()) else {
             return Ok(());
@@ -252,6 +275,7 @@ impl State {
     }
 
     /// Bytes come on a client's or a stranger's link.
+    #[tactic(auto, using(crate::proofs::OutcomeLaws::stays_same, crate::proofs::OutcomeLaws::stays_on))]
     fn hand(
         &mut self,
         alloc: Global,
@@ -264,6 +288,7 @@ impl State {
         ensures spent { result ≡ Err StepRefused.Spent → self.new.chances.left ≡ [] }
         ensures few { DrawsWithin 4463 self.old self.new }
         ensures runs { result ≢ Err StepRefused.Stopped }
+        ensures outcomes { KeepsOutcomes self.old self.new }
     {
         match self.links.chosen_handed(link) {
             Some(link) => {
@@ -275,11 +300,13 @@ impl State {
     }
 
     /// A link is shut: each side that is open hears of it.
+    #[tactic(auto, using(crate::proofs::OutcomeLaws::stays_same, crate::proofs::OutcomeLaws::stays_on))]
     fn shut(&mut self, alloc: Global, number: u32) -> Result<(), StepRefused>
         ensures state { OnOk result (self.new ≡ (shut number self.old).state) }
         ensures spent { result ≡ Err StepRefused.Spent → self.new.chances.left ≡ [] }
         ensures few { DrawsWithin 6 self.old self.new }
         ensures runs { result ≢ Err StepRefused.Stopped }
+        ensures outcomes { KeepsOutcomes self.old self.new }
     {
         let Some(at) = chosen_place(number, self.open_links.len()) else {
             return Ok(());
@@ -294,16 +321,14 @@ impl State {
     }
 
     /// The end is made anew.
+    #[tactic(auto, using(crate::proofs::OutcomeLaws::stays_same, crate::proofs::OutcomeLaws::stays_on))]
     fn renew(&mut self, alloc: Global, end: EndId) -> Result<(), NoMemory>
         ensures state { OnOk result (self.new ≡ renewed end self.old) }
         ensures few { DrawsWithin 0 self.old self.new }
+        ensures outcomes { OnErr result (KeepsOutcomes self.old self.new) }
     {
         match end {
-            EndId::Controller(at) => {
-                let ends = mem::replace(&mut self.ends, Ends::none(alloc));
-                self.ends = ends.renew_controller(alloc, at)?;
-                Ok(())
-            }
+            EndId::Controller(at) => { self.ends.renew_controller(alloc, at) }
             EndId::Member(at) => match self.member_plans.get(at) {
                 Some(plan) => {
                     let member = Member::new(alloc, plan.copy(alloc)?)?;
@@ -324,9 +349,11 @@ impl State {
     }
 
     /// An end is made anew, and forgets its links.
+    #[tactic(auto, using(crate::proofs::OutcomeLaws::stays_same, crate::proofs::OutcomeLaws::stays_on))]
     fn restart(&mut self, alloc: Global, number: u32) -> Result<(), NoMemory>
         ensures state { OnOk result (self.new ≡ restart number self.old) }
         ensures few { DrawsWithin 0 self.old self.new }
+        ensures outcomes { OnErr result (KeepsOutcomes self.old self.new) }
     {
         let Some(number) = chosen_place(number, self.ends.count()) else {
             return Ok(());
@@ -348,6 +375,7 @@ impl State {
     }
 
     /// A move.
+    #[tactic(auto, using(crate::proofs::OutcomeLaws::stays_same, crate::proofs::OutcomeLaws::stays_on))]
     pub(crate) fn act(&mut self, alloc: Global, what: &Move) -> Result<(), StepRefused>
         requires links { length self.old.links < 2 ^ 32 }
         requires given { IsMove what.now }
@@ -355,6 +383,7 @@ impl State {
         ensures spent { result ≡ Err StepRefused.Spent → self.new.chances.left ≡ [] }
         ensures few { DrawsWithin draw_limit self.old self.new }
         ensures runs { result ≢ Err StepRefused.Stopped }
+        ensures outcomes { OnErr result (KeepsOutcomes self.old self.new) }
     {
         match what {
             Move::Start(number) => self.start(alloc, *number),

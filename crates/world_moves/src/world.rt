@@ -6,6 +6,7 @@ ghost use Rattle.world_moves.specs.declared.plan.Plan.{Plan};
 ghost use Rattle.world_moves.specs.Bag.{AreShortUnits, HaveBytes};
 ghost use Rattle.world_moves.specs.Counting.{AreCounted};
 ghost use Rattle.world_moves.specs.Draws.{DrawsAreBlocks, DrawsDiffer};
+ghost use Rattle.world_moves.specs.Outcomes.{HasOutcomesOf};
 ghost use Rattle.world_moves.specs.World.{IsPlan, IsMove, move_limit, actions_of_run, first_world, happens, run, run_of, report_of, report_of_run, outcome_of};
 
 use crate::counting::Report;
@@ -67,8 +68,8 @@ impl World {
 
     /// Makes a move. A world makes at most 100,000.
     ///
-    /// `Memory` where no memory was found: after it the world answers `Stopped` for ever. No move draws more challenges
-    /// than are left.
+    /// `Memory` where no memory was found: after it the world answers `Stopped` for ever, and each client has the
+    /// outcome that it had before the move. No move draws more challenges than are left.
     #[tactic(auto, using(crate::proofs::OpenLaws::never_spent))]
     pub fn step(&mut self, alloc: Global, what: &Move) -> Result<(), WorldRefused>
         requires few { self.old.moves < move_limit }
@@ -80,6 +81,8 @@ impl World {
         ensures goes_on { OnOk result (self.new.stopped ≡ false) }
         // What a move that isn't made gave isn't counted.
         ensures kept { OnErr result (report_of self.new ≡ report_of self.old) }
+        // An outcome that a client got in it is taken back, and each other stays.
+        ensures outcomes { OnErr result (HasOutcomesOf self.old self.new) }
         // So from a plan on the world is that of all moves, the earlier ones and this one.
         ensures from_plan { OnOk result ((plan : Plan) (earlier : List Move) →
             self.old ≡ run earlier (first_world plan) →
@@ -89,6 +92,13 @@ impl World {
             return Err(WorldRefused::Stopped);
         }
         let counts = self.state.counts;
+        let had = match self.state.ends.have_outcomes(alloc) {
+            Ok(had) => had,
+            Err(_) => {
+                self.stopped = true;
+                return Err(WorldRefused::Memory);
+            }
+        };
         self.state.bag.units_are_short();
         match self.state.act(alloc, what) {
             Ok(()) => {
@@ -96,6 +106,7 @@ impl World {
                 Ok(())
             }
             Err(why) => {
+                self.state.ends.give_up(alloc, had.as_slice());
                 self.state.counts = counts;
                 self.stopped = true;
                 Err(refusal(why))
