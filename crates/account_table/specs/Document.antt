@@ -133,16 +133,17 @@ user_of number before entry = do
   extra_sids ← optional [] sids (of_user number ExtraSids) entry
   Ok (user_account name identity restrictions moments workstations extra_sids)
 
--- the account of a machine; what its entry doesn't say is as a user's default
-abbrev pub machine_account : List ℕ → KindOf → List ℕ → Bool → List (List ℕ) → Account
-machine_account name kind hash disabled controllers = record {
+-- an account whose entry says no more than this: it is of the group of all users of the domain, and nothing keeps it
+-- from logging on
+abbrev pub plain_account : KindOf → List ℕ → ℕ → List ℕ → Account
+plain_account kind name rid hash = record {
   name = name;
-  rid = 0;
+  rid = rid;
   hash = hash;
   full_name = [];
   group = domain_users;
   groups = domain_users ∷ [];
-  disabled = disabled;
+  disabled = false;
   locked = false;
   must_change = false;
   expires = 0;
@@ -151,10 +152,15 @@ machine_account name kind hash disabled controllers = record {
   workstations = [];
   extra_sids = [];
   bad_count = 0;
-  controllers = controllers;
+  controllers = [];
   changed = false;
   kind = kind;
 }
+
+-- the account of a machine; what its entry doesn't say is as a user's default
+abbrev pub machine_account : List ℕ → KindOf → List ℕ → Bool → List (List ℕ) → Account
+machine_account name kind hash disabled controllers =
+    record (plain_account kind name 0 hash) { disabled = disabled; controllers = controllers }
 
 -- the controllers of a trust's account; those of another kind have none, and the key is passed over
 abbrev pub controllers_of : KindOf → ℕ → Members → Result (List (List ℕ)) TableRefused

@@ -38,8 +38,8 @@ fn trust_has_form(trust: &Trust)
     are_bytes(trust.address.bytes());
 }
 
-/// Each is a name.
-fn names_have_forms(names: &[Name])
+/// Each is a name, which its type gives. The call does nothing: its caller learns this.
+pub fn names_have_forms(names: &[Name])
     ensures { All IsName names.now }
 {
     for name in names {
@@ -47,14 +47,14 @@ fn names_have_forms(names: &[Name])
     }
 }
 
-/// A hash has 16 bytes.
-fn is_hash(hash: [u8; 16])
+/// A hash has 16 bytes, which its type gives. The call does nothing: its caller learns this.
+pub fn is_hash(hash: [u8; 16])
     ensures { IsBlock 16 hash }
 {
     are_bytes(hash.as_slice());
 }
 
-/// Bytes are bytes.
-fn are_bytes(bytes: &[u8])
+/// Bytes are below 2^8, which their type gives. The call does nothing: its caller learns this.
+pub fn are_bytes(bytes: &[u8])
     ensures { All IsByte bytes.now }
 {}

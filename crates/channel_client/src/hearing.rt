@@ -10,7 +10,10 @@ ghost use Rattle.channel_client.specs.Machine.{CanWriteStep, question_of, opnum_
 use crate::short_frames::ShortFrames;
 use crate::state::{Question, Step};
 use end_links::{call_frames, fragment_limit, request};
-use logon_stubs::{Call, Reply, StubRefused, read_reply, write_call};
+use logon_stubs::{
+    AUTHENTICATE_OPNUM, CHALLENGE_OPNUM, Call, LOGON_OPNUM, Reply, StubRefused, read_reply,
+    write_call,
+};
 use outside::DropCause;
 use rpc_units::{Body, Results};
 use std::alloc::Global;
@@ -101,7 +104,7 @@ fn request_frames(
         (limit_of receive)) }
 {
     let stub = call_stub(alloc, call)?;
-    let unit = request(number, 0, opnum(call), stub);
+    let unit = request(number, 0, call.opnum(), stub);
     Ok(ShortFrames::new(call_frames(alloc, &unit, fragment_limit(receive))?))
 }
 
@@ -136,26 +139,14 @@ fn question_of(call: &Call) -> Question
     }
 }
 
-/// The number of a call.
-fn opnum(call: &Call) -> u16
-    ensures { result ≡ opnum_of_call call.now }
-{
-    match call {
-        Call::Logon(_) => 2,
-        Call::Logoff(_) => 3,
-        Call::Challenge(_) => 4,
-        Call::Authenticate(_) => 15,
-    }
-}
-
 /// The number of the call that asks a question.
 fn opnum_asked(question: Question) -> u16
     ensures { result ≡ opnum_asked question }
 {
     match question {
-        Question::Challenge(_) => 4,
-        Question::Authenticate => 15,
-        Question::Logon => 2,
+        Question::Challenge(_) => CHALLENGE_OPNUM,
+        Question::Authenticate => AUTHENTICATE_OPNUM,
+        Question::Logon => LOGON_OPNUM,
     }
 }
 

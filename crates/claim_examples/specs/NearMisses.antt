@@ -12,7 +12,7 @@ use Rattle.domain_controller.specs.Step.{first_state}
 use Rattle.logon_client.specs.declared.plan.AuthKind.TheVariants as auth
 use Rattle.authenticators.specs.Channels.{Channel}
 use Rattle.end_links.specs.Binding.{binding_of}
-use Rattle.member_server.specs.Binds.{memo_syntax}
+use Rattle.memo_stubs.specs.Interface.{memo_syntax}
 use Rattle.member_server.specs.State.{State as MemberState}
 use Rattle.member_server.specs.declared.state.AtTurn.{AtTurn}
 use Rattle.member_server.specs.declared.state.Bound.{Bound}

@@ -12,7 +12,10 @@ ghost use Rattle.domain_controller.specs.Hearing.{IsLine, CanAnswer, bound_talk,
 use crate::line::Line;
 use crate::state::Talk;
 use end_links::{Binding, bind_ack, bind_nak, fault, short_unit_bytes};
-use logon_stubs::{Call, NETLOGON_UUID, NETLOGON_VERSION, StubRefused, read_call};
+use logon_stubs::{
+    AUTHENTICATE_OPNUM, CHALLENGE_OPNUM, Call, LOGON_OPNUM, NETLOGON_UUID, NETLOGON_VERSION,
+    StubRefused, read_call,
+};
 use outside::CloseCause;
 use rpc_units::{
     BAD_STUB_DATA, Body, BodyView, Contexts, JoinRefused, Joiner, OPERATION_OUT_OF_RANGE,
@@ -257,7 +260,7 @@ fn hear_call(
 fn is_served(opnum: u16) -> bool
     ensures { result ≡ is_served opnum }
 {
-    matches!(opnum, 2 | 4 | 15)
+    matches!(opnum, LOGON_OPNUM | CHALLENGE_OPNUM | AUTHENTICATE_OPNUM)
 }
 
 /// A call that isn't served is answered by a fault.

@@ -5,7 +5,7 @@ ghost use Rattle.rpc_units.specs.Writing.{written, IsShortBody, IsWritable};
 ghost use Rattle.end_links.specs.Agreed.{accepts, has_number};
 ghost use Rattle.end_links.specs.Binding.{same_syntax, offers_ndr, answer_to, accepted_ids, limit_of, binding_of, ack_of, nak_of, bind_of};
 
-use rpc_units::{Body, Contexts, NDR, Results, Syntax, Syntaxes, Unit};
+use rpc_units::{Body, Contexts, NDR, Results, Syntax, Syntaxes, UNIT_LIMIT, Unit};
 use std::alloc::Global;
 use std::marker::Model;
 use wire_base::{List, NoMemory};
@@ -71,7 +71,7 @@ pub fn fragment_limit(receive: u16) -> u16
     ensures least { 1432 ≤ result }
     ensures most { result ≤ 5840 }
 {
-    receive.min(5840).max(1432)
+    receive.min(UNIT_LIMIT).max(1432)
 }
 
 /// The answer to a bind that the interface is served on (C706 12.6.4.4). It can be written, and is never too long.
@@ -107,7 +107,7 @@ fn ack(
         call,
         body: Body::BindAck {
             send: fragment_limit(receive),
-            receive: 5840,
+            receive: UNIT_LIMIT,
             group: 1,
             results,
         },
@@ -158,8 +158,8 @@ fn bind_unit(alloc: Global, interface: &Syntax, call: u32) -> Result<Unit, NoMem
         last: true,
         call,
         body: Body::Bind {
-            send: 5840,
-            receive: 5840,
+            send: UNIT_LIMIT,
+            receive: UNIT_LIMIT,
             group: 0,
             contexts,
         },

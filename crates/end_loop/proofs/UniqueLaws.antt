@@ -1,4 +1,4 @@
--- That a run is determined by what its outside gave.
+-- That a run is determined by what its outside gave: of one step, of the happenings of actions, and of whole runs.
 use Rattle.std.proofs.Common.{◌≡◌, ℕ, Bool, true, false, List, [], ◌∷◌, ◌++◌, Option, Some, None, Ok, refl, sym, ap, subst, ◌∙◌, append-nil, append_assoc}
 use Rattle.std.specs.List.{flat_map}
 use Rattle.outside.specs.declared.event.Event.{Event}
@@ -14,7 +14,7 @@ use Rattle.end_loop.specs.Unique.{Agrees, IsDetermined}
 none_same : {X : Type 0} (n m l k : List X) → n ≡ [] → m ≡ [] → n ++ l ≡ m ++ k → (n ≡ m) × (l ≡ k)
 none_same n m l k a b e = (a ∙ sym b, sym (ap (λ (x : List _). x ++ l) a) ∙ e ∙ ap (λ (x : List _). x ++ k) b)
 
-heads : {X : Type 0} (h i : X) (l k : List X) → h ∷ l ≡ i ∷ k → (h ≡ i) × (l ≡ k)
+pub heads : {X : Type 0} (h i : X) (l k : List X) → h ∷ l ≡ i ∷ k → (h ≡ i) × (l ≡ k)
 heads h i l k e = (cc, cc)
 
 single_same : {X : Type 0} (h i : X) (n m l k : List X) → n ≡ h ∷ [] → m ≡ i ∷ [] → n ++ l ≡ m ++ k → (n ≡ m) × (l ≡ k)
@@ -34,7 +34,7 @@ does_same failed (Close link cause) n m l k a b e = single_same _ _ n m l k a b 
 does_same failed (Told link outcome) n m l k a b e = none_same n m l k a b e
 does_same failed (Judged judged) n m l k a b e = none_same n m l k a b e
 
-performs_same : (failed : List ℕ) (xs : List Action) (hs ks l k : List Happening) → Performs failed xs hs → Performs failed xs ks → hs ++ l ≡ ks ++ k → (hs ≡ ks) × (l ≡ k)
+pub performs_same : (failed : List ℕ) (xs : List Action) (hs ks l k : List Happening) → Performs failed xs hs → Performs failed xs ks → hs ++ l ≡ ks ++ k → (hs ≡ ks) × (l ≡ k)
 performs_same failed [] hs ks l k p q e = none_same hs ks l k p q e
 performs_same failed (x ∷ xs) hs ks l k p q e =
     let joined : p.0 ++ (p.1 ++ l) ≡ q.0 ++ (q.1 ++ k) =
@@ -56,7 +56,7 @@ pub record SameStep {S : Type 0} (step other : Step) (new new2 : Standing S) (l 
   pub later : l ≡ k
 
 -- which event it is
-chosen : {S : Type 0} (machine : Machine S) (state : S) (queue : List Event) (step other : Step) (w v : List Event) (l k : List Happening) → Chooses machine state queue step w → Chooses machine state queue other v →
+pub chosen : {S : Type 0} (machine : Machine S) (state : S) (queue : List Event) (step other : Step) (w v : List Event) (l k : List Happening) → Chooses machine state queue step w → Chooses machine state queue other v →
     step_story step ++ l ≡ step_story other ++ k → (step.event ≡ other.event) × (w ≡ v) × (step.happened ++ l ≡ other.happened ++ k)
 chosen machine state [] step other w v l k a b e =
     let joined : step.asked ++ (step.happened ++ l) ≡ other.asked ++ (other.happened ++ k) = sym (append_assoc step.asked step.happened l) ∙ e ∙ append_assoc other.asked other.happened k in
@@ -68,7 +68,7 @@ chosen machine state (first ∷ later) step other w v l k a b e =
     let both = none_same step.asked other.asked _ _ a.0 b.0 joined in
     (a.1 ∙ sym b.1, a.2 ∙ sym b.2, both.1)
 
-step_same : {S : Type 0} (machine : Machine S) (old new new2 : Standing S) (step other : Step) (l k : List Happening) → IsStep machine old step new → IsStep machine old other new2 → step.moment ≡ other.moment →
+pub step_same : {S : Type 0} (machine : Machine S) (old new new2 : Standing S) (step other : Step) (l k : List Happening) → IsStep machine old step new → IsStep machine old other new2 → step.moment ≡ other.moment →
     step_story step ++ l ≡ step_story other ++ k → SameStep step other new new2 l k
 step_same {S} machine old new new2 step other l k p q moment e =
     let which = chosen machine old.state old.queue step other p.waiting q.waiting l k p.chooses q.chooses e in

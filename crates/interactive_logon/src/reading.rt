@@ -8,14 +8,12 @@ ghost use Rattle.logon_stubs.specs.Layout.{Reads};
 ghost use Rattle.interactive_logon.specs.Calls.{interactive_info, leveled_info, validation_asked, interactive_call, interactive_of, IsInteractive};
 
 use crate::calls::{InteractiveCall, InteractiveInfo};
-use logon_stubs::{StubRefused, read_sixteen, read_unique_authenticator};
+use logon_stubs::{
+    LOGOFF_OPNUM, LOGON_OPNUM, StubRefused, read_sixteen, read_unique_authenticator,
+};
 use ndr_codec::{Reader, read_halves, read_head, read_some_pointer, read_unique_text, read_units};
 use std::alloc::Global;
 
-/// The number of NetrLogonSamLogon (MS-NRPC 3.5.4).
-pub(crate) const LOGON: u16 = 2;
-/// The number of NetrLogonSamLogoff.
-const LOGOFF: u16 = 3;
 /// The level of an interactive logon (NetlogonInteractiveInformation, MS-NRPC 2.2.1.4.16).
 pub(crate) const LEVEL: u16 = 1;
 
@@ -90,11 +88,11 @@ fn read_parameters(
 fn call_in(alloc: Global, opnum: u16, stub: &[u8]) -> Result<InteractiveCall, StubRefused>
     ensures { UpToMemory StubRefused.Memory result (interactive_of opnum stub.now) }
 {
-    if opnum != LOGON && opnum != LOGOFF {
+    if opnum != LOGON_OPNUM && opnum != LOGOFF_OPNUM {
         return Err(StubRefused::NoSuchCall(opnum));
     }
     let mut reader = Reader::new(stub);
-    read_parameters(alloc, &mut reader, opnum == LOGON)
+    read_parameters(alloc, &mut reader, opnum == LOGON_OPNUM)
 }
 
 /// The parameters of an interactive logon, opnum 2, or of its logoff, opnum 3. What follows the last parameter is

@@ -8,8 +8,8 @@ ghost use Rattle.interactive_logon.specs.Writing.{CanWriteInfo, CanWriteInteract
 ghost use Rattle.interactive_logon.specs.Ranges.{InRangeInfo, InRangeInteractive, content_of};
 
 use crate::calls::{InteractiveCall, InteractiveInfo};
-use crate::reading::{LEVEL, LOGON};
-use logon_stubs::{write_sixteen, write_unique_authenticator};
+use crate::reading::LEVEL;
+use logon_stubs::{LOGON_OPNUM, write_sixteen, write_unique_authenticator};
 use ndr_codec::{Writer, write_halves, write_unique_text, write_units, write_units_head};
 use std::alloc::Global;
 use wire_base::{Blob, NoMemory};
@@ -92,7 +92,7 @@ pub fn write_interactive(
     ensures again { IfOk result (λ stub. interactive_of opnum stub ≡ Ok call.now) }
 {
     let mut writer = Writer::new(alloc);
-    write_parameters(&mut writer, call, opnum == LOGON)?;
+    write_parameters(&mut writer, call, opnum == LOGON_OPNUM)?;
     Ok(writer.finish())
 }
 

@@ -9,6 +9,7 @@ use Rattle.rpc_units.specs.declared.unit.Body.TheVariants.{Auth3}
 use Rattle.rpc_units.specs.declared.unit.Trailer.{Trailer}
 use Rattle.rpc_units.specs.declared.unit.Unit.{Unit as RpcUnit}
 use Rattle.rpc_units.specs.Writing.{written, written_start, zeros, IsWritable}
+use Rattle.memo_stubs.specs.Interface.{memo_syntax}
 use Rattle.end_links.specs.Binding.{bind_of}
 use Rattle.logon_client.specs.declared.answering.Keys.{Keys}
 use Rattle.logon_client.specs.declared.answering.Responses.{Responses}
@@ -16,7 +17,7 @@ use Rattle.logon_client.specs.declared.answering.ServerOffer.{ServerOffer}
 use Rattle.logon_client.specs.declared.plan.AuthKind.{AuthKind}
 use Rattle.logon_client.specs.declared.plan.AuthKind.TheVariants.{V1, V1Ess, V2}
 use Rattle.logon_client.specs.declared.plan.ClientPlan.{ClientPlan}
-use Rattle.logon_client.specs.Answering.{memo_syntax, negotiate_for, bind_for, answer_by}
+use Rattle.logon_client.specs.Answering.{negotiate_for, bind_for, answer_by}
 use Rattle.logon_client.specs.Securing.{trailer_of}
 
 -- ---- the bind

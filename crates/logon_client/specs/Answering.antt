@@ -18,11 +18,10 @@ use Rattle.ntlm_responses.specs.Verification.{base_key_of}
 use Rattle.outside.specs.declared.action.StepRefused.{StepRefused}
 use Rattle.outside.specs.declared.action.StepRefused.TheVariants as refused
 use Rattle.outside.specs.Machine.{Part}
-use Rattle.rpc_units.specs.declared.unit.Syntax.{Syntax}
 use Rattle.rpc_units.specs.declared.unit.Unit.{Unit as RpcUnit}
 use Rattle.rpc_units.specs.declared.unit.Body.TheVariants.{Auth3}
 use Rattle.rpc_units.specs.Writing.{written}
-use Rattle.memo_stubs.specs.Interface.{memo_uuid, memo_version}
+use Rattle.memo_stubs.specs.Interface.{memo_syntax}
 use Rattle.end_links.specs.Binding.{bind_of}
 use Rattle.logon_client.specs.declared.plan.AuthKind.{AuthKind}
 use Rattle.logon_client.specs.declared.plan.AuthKind.TheVariants.{V1, V1Ess, V2}
@@ -36,9 +35,6 @@ use Rattle.logon_client.specs.Plans.{offer_of, needs_ess}
 use Rattle.logon_client.specs.Securing.{trailer_of}
 
 -- ---- the bind
-
-abbrev pub memo_syntax : Syntax
-memo_syntax = record { uuid = memo_uuid; version = memo_version }
 
 -- a NEGOTIATE without names
 abbrev pub negotiate_for : AuthKind → Negotiate

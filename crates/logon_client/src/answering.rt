@@ -15,22 +15,16 @@ ghost use Rattle.logon_client.specs.Answering.{negotiate_for, bind_for, drawn_fo
 use crate::plan::{AuthKind, ClientPlan};
 use crate::securing::trailer;
 use end_links::{bind, unit_bytes};
-use memo_stubs::{MEMO_UUID, MEMO_VERSION};
+use memo_stubs::MEMO;
 use ntlm_messages::{Authenticate, Negotiate, WriteRefused, write_authenticate, write_negotiate};
 use ntlm_responses::{
     exchange_key, hashed_challenge, respond_v1, respond_v1_ess, respond_v2, verify,
 };
 use outside::{Chances, StepRefused};
 use rc4_stream::Rc4;
-use rpc_units::{Body, Syntax, Unit, UnitWriteRefused, write_unit};
+use rpc_units::{Body, Unit, UnitWriteRefused, write_unit};
 use std::alloc::Global;
 use wire_base::{Blob, NoMemory};
-
-/// The memo interface.
-const MEMO: Syntax = Syntax {
-    uuid: MEMO_UUID,
-    version: MEMO_VERSION,
-};
 
 /// What a server's CHALLENGE offers: the flags that are agreed, its challenge, its target information, the time of an
 /// NTLMv2 response, and the bytes that the server receives in a unit.

@@ -38,7 +38,7 @@ use ntlm_seal::Session;
 use outside::{Action, CloseCause};
 use rpc_units::{
     Body, BodyView, JoinRefused, Joiner, NO_CONTROLLER, Results, Trailer, TrailerView, Unit,
-    UnitRefused, UnitView, read_unit, view_unit,
+    UnitRefused, UnitView, read_unit, stub_of, view_unit,
 };
 use std::alloc::Global;
 use wire_base::{Blob, NoMemory, Units};
@@ -462,20 +462,6 @@ fn hear_reply(
     match question {
         Question::Who => hear_name(alloc, stub, terms, link, work),
         Question::Echo(name) => hear_echo(alloc, stub, name, terms, link, work),
-    }
-}
-
-/// The stub; empty where the body has none.
-fn stub_of(body: &Body) -> &[u8]
-    ensures { result.now ≡ stub_of body.now }
-{
-    match body {
-        Body::Request { stub, .. } | Body::Response { stub, .. } => stub.bytes(),
-        Body::Bind { .. }
-        | Body::BindAck { .. }
-        | Body::BindNak(_)
-        | Body::Auth3
-        | Body::Fault { .. } => &[],
     }
 }
 

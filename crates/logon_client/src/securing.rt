@@ -8,12 +8,11 @@ ghost use Rattle.ntlm_seal.specs.Sessions.{seal_of, judge_of, open_of, unit_left
 ghost use Rattle.logon_client.specs.Plans.{is_signed, is_sealed};
 ghost use Rattle.logon_client.specs.Securing.{trailer_of, with_room, range_of, signed_part, signature_part, secured_if, secured_with, secure_unit, open_unit, secure_all, session_for, send_call};
 
-use end_links::call_bytes;
+use end_links::{call_bytes, unit_bytes};
 use ntlm_flags::{NTLMSSP_NEGOTIATE_EXTENDED_SESSIONSECURITY, has_flag};
 use ntlm_seal::{Session, Side};
 use rpc_units::{
-    INTEGRITY_LEVEL, NTLM_PROVIDER, PRIVACY_LEVEL, Trailer, Unit, UnitWriteRefused, cut_call,
-    sealed_range, set_value, write_unit,
+    INTEGRITY_LEVEL, NTLM_PROVIDER, PRIVACY_LEVEL, Trailer, Unit, cut_call, sealed_range, set_value,
 };
 use std::alloc::Global;
 use wire_base::{Blob, NoMemory};
@@ -101,11 +100,7 @@ fn room_bytes(alloc: Global, unit: &Unit) -> Result<Vec<u8>, NoMemory>
     requires short { length (written unit.now) ≤ 5840 }
     ensures { IfOk result (λ bytes. bytes.items ≡ written unit.now) }
 {
-    match write_unit(alloc, unit) {
-        Ok(bytes) => Ok(bytes.into_vec()),
-        Err(UnitWriteRefused::Memory) => Err(NoMemory),
-        Err(UnitWriteRefused::TooLong) => unreachable!(),
-    }
+    Ok(unit_bytes(alloc, unit)?.into_vec())
 }
 
 /// The call with room for signatures.

@@ -10,6 +10,7 @@ use Rattle.rpc_units.specs.declared.unit.Unit.{Unit as RpcUnit}
 use Rattle.rpc_units.specs.Numbers.{ndr_syntax}
 use Rattle.rpc_units.specs.Stream.{cut_stream}
 use Rattle.rpc_units.specs.Writing.{written}
+use Rattle.memo_stubs.specs.Interface.{memo_syntax}
 use Rattle.end_links.specs.Serving.{served_cut}
 use Rattle.logon_client.specs.declared.answering.ServerOffer.{ServerOffer}
 use Rattle.logon_client.specs.declared.plan.ClientPlan.{ClientPlan}
@@ -25,7 +26,7 @@ use Rattle.member_server.specs.declared.state.AtLink.{AtLink}
 use Rattle.member_server.specs.declared.state.Bound.{Bound}
 use Rattle.member_server.specs.declared.state.Phase.TheVariants as phase
 use Rattle.member_server.specs.declared.state.Talk.{Talk}
-use Rattle.member_server.specs.Binds.{bound_by, challenge_ack, memo_syntax}
+use Rattle.member_server.specs.Binds.{bound_by, challenge_ack}
 use Rattle.member_server.specs.Units.{link_server}
 use Rattle.member_server.specs.Work.{drawless, send_unit, stay}
 

@@ -15,8 +15,8 @@ mod writing_parts;
 
 pub use answers::answers_are_long;
 pub use calls::{
-    AuthCall, AuthReply, Call, ChallengeCall, ChallengeReply, LogoffCall, LogoffReply, LogonCall,
-    LogonReply, Reply,
+    AUTHENTICATE_OPNUM, AuthCall, AuthReply, CHALLENGE_OPNUM, Call, ChallengeCall, ChallengeReply,
+    LOGOFF_OPNUM, LOGON_OPNUM, LogoffCall, LogoffReply, LogonCall, LogonReply, Reply,
 };
 pub use info::{ExtraSids, NetworkInfo, SamInfo, Verdict};
 pub use reading::{read_call, read_reply};

@@ -12,7 +12,7 @@ use Rattle.ntlm_messages.specs.declared.refused.MessageRefused.{MessageRefused}
 use Rattle.ntlm_messages.specs.Challenge.{written_challenge}
 use Rattle.ntlm_messages.specs.Negotiate.{negotiate_of}
 use Rattle.ntlm_messages.specs.Pairs.{written_pairs}
-use Rattle.memo_stubs.specs.Interface.{memo_uuid, memo_version}
+use Rattle.memo_stubs.specs.Interface.{memo_syntax}
 use Rattle.rpc_units.specs.declared.unit.Body.{Body}
 use Rattle.rpc_units.specs.declared.unit.Body.TheVariants.{Bind}
 use Rattle.rpc_units.specs.declared.unit.Syntax.{Syntax}
@@ -28,10 +28,6 @@ use Rattle.member_server.specs.declared.state.Phase.TheVariants as phase
 use Rattle.member_server.specs.Levels.{is_plain, is_served}
 use Rattle.rpc_units.specs.Numbers.{ntlm_provider}
 use Rattle.member_server.specs.Work.{Served, ServedPart, send_unit, stay, shut, drawless}
-
--- the interface that is served
-abbrev pub memo_syntax : Syntax
-memo_syntax = record { uuid = memo_uuid; version = memo_version }
 
 -- ---- what a bind offers
 

@@ -10,7 +10,7 @@ ghost use Rattle.outside.specs.Machine.{AnswersBy};
 ghost use Rattle.rpc_units.specs.Reading.{unit_of};
 ghost use Rattle.rpc_units.specs.Writing.{written, ContextsFit, IsWritable};
 ghost use Rattle.rpc_units.specs.Numbers.{ntlm_provider};
-ghost use Rattle.member_server.specs.Binds.{is_enough, offer_by, offer_at, offer_in, challenge_message, challenge_trailer, challenge_ack, ack_fits, bound_by, refusal_of_bind, answer_of_bind, answer_bind, bind_by, fresh_unit, memo_syntax, ClosesBy};
+ghost use Rattle.member_server.specs.Binds.{is_enough, offer_by, offer_at, offer_in, challenge_message, challenge_trailer, challenge_ack, ack_fits, bound_by, refusal_of_bind, answer_of_bind, answer_bind, bind_by, fresh_unit, ClosesBy};
 ghost use Rattle.member_server.specs.Levels.{is_plain, is_served};
 ghost use Rattle.member_server.specs.Units.{first_unit};
 ghost use Rattle.member_server.specs.Work.{send_unit, stay};
@@ -23,7 +23,7 @@ use crate::plan::MemberPlan;
 use crate::state::{AtLink, Bound, Phase, Talk};
 use crate::work::{let_go, send, send_unit, shut_call};
 use end_links::{Binding, bind_ack, bind_nak, unit_bytes};
-use memo_stubs::{MEMO_UUID, MEMO_VERSION};
+use memo_stubs::MEMO;
 use ntlm_flags::{
     NTLMSSP_NEGOTIATE_EXTENDED_SESSIONSECURITY, NTLMSSP_NEGOTIATE_NTLM, NTLMSSP_NEGOTIATE_UNICODE,
     challenge_flags, has_flag,
@@ -31,17 +31,11 @@ use ntlm_flags::{
 use ntlm_messages::{Challenge, Pairs, WriteRefused, view_negotiate, write_challenge, write_pairs};
 use outside::{Chances, CloseCause, Spent, StepRefused};
 use rpc_units::{
-    Body, Contexts, Joiner, NTLM_PROVIDER, Syntax, Trailer, Unit, UnitRefused, UnitWriteRefused,
-    read_unit, write_unit,
+    Body, Contexts, Joiner, NTLM_PROVIDER, Trailer, Unit, UnitRefused, UnitWriteRefused, read_unit,
+    write_unit,
 };
 use std::alloc::Global;
 use wire_base::{Blob, Name, NoMemory};
-
-/// The memo interface.
-const MEMO: Syntax = Syntax {
-    uuid: MEMO_UUID,
-    version: MEMO_VERSION,
-};
 
 /// What a bind offers: the level and the security context of its trailer, and the flags of the CHALLENGE that answers
 /// it.

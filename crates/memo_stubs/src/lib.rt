@@ -7,7 +7,7 @@ mod reading;
 mod refused;
 mod writing;
 
-pub use interface::{MEMO_UUID, MEMO_VERSION, what_constants_are};
+pub use interface::{MEMO, what_constants_are};
 pub use reading::{read_echo_reply, read_echo_request, read_who_reply};
 pub use refused::MemoRefused;
 pub use writing::{what_is_written_is_read, write_echo_reply, write_echo_request, write_who_reply};

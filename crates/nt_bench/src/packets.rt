@@ -6,7 +6,7 @@ use crate::operation::Operation;
 use crate::plain::{authenticate_plain, view_plain};
 use anyhow::bail;
 use ntlm_messages::{read_authenticate, view_authenticate};
-use rpc_units::{Body, BodyView, Unit, UnitView, read_unit, view_unit};
+use rpc_units::{BodyView, UnitView, read_unit, stub_of, view_unit};
 use std::alloc::Global;
 
 /// An AUTHENTICATE of Domain\User with that response.
@@ -119,19 +119,11 @@ fn read_requests(alloc: Global, bytes: &[u8], turns: u32) -> anyhow::Result<Outc
     let mut end = Outcome::new();
     for _ in 0..turns {
         match read_unit(alloc, bytes) {
-            Ok(unit) => end = end_of(stub_of(&unit)),
+            Ok(unit) => end = end_of(stub_of(&unit.body)),
             Err(_) => bail!("a request was refused"),
         }
     }
     Ok(end)
-}
-
-/// The stub of a request; empty of another unit.
-fn stub_of(unit: &Unit) -> &[u8] {
-    match &unit.body {
-        Body::Request { stub, .. } => stub.bytes(),
-        _ => &[],
-    }
 }
 
 /// The same, lent.

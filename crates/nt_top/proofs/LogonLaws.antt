@@ -24,6 +24,7 @@ use Rattle.end_loop.specs.declared.halt.Halt.{Halt}
 use Rattle.end_loop.specs.declared.halt.Halt.TheVariants as halts
 use Rattle.end_loop.proofs.AskingLaws.{asks_for}
 use Rattle.end_loop.proofs.RunLaws.{Shows-none, Shows-trans}
+use Rattle.end_loop.proofs.UniqueLaws.{performs_same}
 use Rattle.logon_client.specs.declared.outcome.ClientOutcome.{ClientOutcome}
 use Rattle.logon_client.specs.declared.outcome.ClientOutcome.TheVariants as outcomes
 use Rattle.logon_client.specs.declared.outcome.NoAnswerCause.TheVariants.{DialFailed, LinkClosed, NoController}
@@ -40,7 +41,7 @@ use Rattle.nt_top.specs.Serve.{GivesFewer, halt_exit}
 use Rattle.nt_top.specs.LogonExits.{ComesBy, FailsToDial, IsIn, RanTo, RanUntil, ComesTo, ComesToSpent, IsExcuse, IsOfClients, LogonLaws, LosesLink, Gone, SendFailed, Stopped, TookAll, Puts, TellsRun, end_at, start_of}
 use Rattle.nt_top.proofs.DialLaws.{dial_cause}
 use Rattle.nt_top.proofs.LinkLaws.{later_events, loses_link}
-use Rattle.nt_top.proofs.PairLaws.{both_whole, performs_same, spent_not_whole}
+use Rattle.nt_top.proofs.PairLaws.{both_whole, spent_not_whole}
 
 -- the challenges were started, and nothing else was done
 pub started : (story : Option (List Happening)) (faults : ℕ) (moments : Option (List ℕ)) (old new : Drawing) (taken : Option (List ℕ)) (seed : List ℕ) (boot : ℕ) →

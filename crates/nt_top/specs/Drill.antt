@@ -3,7 +3,7 @@
 use Rattle.std.specs.Prelude.{◌≡◌, ℕ, false, List, [], ◌∷◌, ◌++◌, replicate, codes, Result, Ok}
 use Rattle.std.specs.Fmt.{decimal}
 use Rattle.account_table.specs.AccountTable.{AccountTable}
-use Rattle.account_table.specs.Limits.{domain_users}
+use Rattle.account_table.specs.Document.{plain_account}
 use Rattle.account_table.specs.declared.account.Account.{Account}
 use Rattle.account_table.specs.declared.account.Kind.{Kind}
 use Rattle.account_table.specs.declared.account.Kind.TheVariants.{User, Workstation}
@@ -28,26 +28,7 @@ use Rattle.nt_top.specs.declared.exit.Exit.{Exit}
 -- an account of the group of all users of the domain, which nothing keeps from logging on; each byte of its hash is
 -- that one
 abbrev pub drill_account : Kind → List ℕ → ℕ → ℕ → Account
-drill_account kind name rid byte = record {
-  name = name;
-  rid = rid;
-  hash = replicate 16 byte;
-  full_name = [];
-  group = domain_users;
-  groups = domain_users ∷ [];
-  disabled = false;
-  locked = false;
-  must_change = false;
-  expires = 0;
-  password_set = 0;
-  password_expires = 0;
-  workstations = [];
-  extra_sids = [];
-  bad_count = 0;
-  controllers = [];
-  changed = false;
-  kind = kind;
-}
+drill_account kind name rid byte = plain_account kind name rid (replicate 16 byte)
 
 -- the domain CORP, in which nobody is locked out, each response is taken and no other domain is trusted: users ann, bob
 -- and eve, and the computers FILE1 and FILE2

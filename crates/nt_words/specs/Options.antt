@@ -1,12 +1,13 @@
 -- The options of a command: their names, and of what kind their values are (this project's own choice). Texts are lists
 -- of bytes.
-use Rattle.std.specs.Prelude.{ℕ, ◌^◌, ◌≡◌, ◌&&◌, ◌||◌, ◌+◌, ◌++◌, Bool, true, false, not, List, [], ◌∷◌, Option, Some, None, length, nat_le, nat_lt, codes, if◌then◌else◌}
+use Rattle.std.specs.Prelude.{ℕ, ◌≡◌, ◌&&◌, ◌||◌, ◌+◌, ◌++◌, Bool, true, false, not, List, [], ◌∷◌, Option, Some, None, length, nat_le, codes, if◌then◌else◌}
 use Rattle.std.specs.Char.{is_ascii_digit}
 use Rattle.std.specs.Int.{is_in_range}
 use Rattle.std.specs.List.{list_all}
 use Rattle.std.specs.Str.{bytes_eq}
 use Rattle.std.specs.Str.Parse.{digits_value}
 use Rattle.clap.specs.Words.{Row, Text, first_of}
+use Rattle.wire_base.specs.Decimal.{number_of_bits}
 use Rattle.wire_base.specs.Names.{is_name}
 use Rattle.nt_words.specs.declared.options.Kind.{Kind}
 use Rattle.nt_words.specs.declared.options.Kind.TheVariants.{Address, Name, File, Number, Level, Auth}
@@ -15,13 +16,9 @@ use Rattle.nt_words.specs.declared.options.Kind.TheVariants.{Address, Name, File
 abbrev pub has_digits : Text → Bool
 has_digits text = is_in_range 1 10 (length text) && list_all is_ascii_digit text
 
--- a number that fits 32 bits
-abbrev pub fitting : ℕ → Option ℕ
-fitting n = if nat_lt n (2 ^ 32) then Some n else None
-
 -- the number of 32 bits that 1 to 10 digits write; leading zeros are allowed
 abbrev pub number_by : Bool → Text → Option ℕ
-number_by true text = fitting (digits_value 10 text)
+number_by true text = number_of_bits 32 (digits_value 10 text)
 number_by false text = None
 
 unfoldable pub number_of : Text → Option ℕ

@@ -8,11 +8,12 @@ ghost use Rattle.std.specs.Str.Parse.{digits_value};
 ghost use Rattle.clap.specs.Words.{first_of, found_of, rows_of};
 ghost use Rattle.wire_base.specs.Names.{is_name, is_name_byte};
 ghost use Rattle.nt_words.specs.Jobs.{text_at, number_at};
-ghost use Rattle.nt_words.specs.Options.{choice, fits, is_text, suits, first_misfit, number_of, fitting};
+ghost use Rattle.nt_words.specs.Options.{choice, fits, is_text, suits, first_misfit, number_of};
 
 use clap::ArgMatches;
 use std::alloc::AllocError;
 use std::marker::Model;
+use wire_base::are_digits;
 
 /// Why words weren't read.
 #[derive(Clone, Copy, Debug, PartialEq, Eq)]
@@ -209,19 +210,12 @@ pub(crate) fn number_of(text: &str) -> Option<u32>
     }
 }
 
-/// Whether each byte is a decimal digit.
-fn are_digits(text: &[u8]) -> bool
-    ensures { result ≡ list_all is_ascii_digit text.now }
-{
-    text.iter().all(|byte| byte.is_ascii_digit())
-}
-
 /// The number of 1 to 10 digits.
-#[tactic(auto, using(crate::proofs::Digits::parsing))]
+#[tactic(auto, using(wire_base::proofs::DecimalLaws::parsing))]
 fn digits_as_number(text: &str) -> Option<u32>
     requires some { 0 < length text.now }
     requires digits { IsTrue (list_all is_ascii_digit text.now) }
-    ensures { result ≡ fitting (digits_value 10 text.now) }
+    ensures { result ≡ number_of_bits 32 (digits_value 10 text.now) }
 {
     text.parse::<u32>().ok()
 }

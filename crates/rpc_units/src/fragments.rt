@@ -6,7 +6,7 @@ ghost use Rattle.rpc_units.specs.declared.unit.Unit.{Unit as RpcUnit};
 ghost use Rattle.rpc_units.specs.Joining.{stub_of, with_stub, stub_size, fragment, HasStub, IsWholeCall, IsJoined, cut_of};
 ghost use Rattle.rpc_units.specs.Writing.{value_len, written, HasValue, IsWritable, HasNumbers, HasContextNumber, IsInRange};
 
-use crate::joiner::stub;
+use crate::joiner::stub_of;
 use crate::unit::{Body, Trailer, Unit, UnitList};
 use std::alloc::Global;
 use wire_base::{Blob, NoMemory};
@@ -95,7 +95,7 @@ fn pieces(alloc: Global, unit: &Unit, limit: u16) -> Result<UnitList, NoMemory>
 {
     let size = usize::from((limit - 48) / 8 * 8);
     let mut units = UnitList::new(alloc);
-    let mut rest = stub(&unit.body);
+    let mut rest = stub_of(&unit.body);
     let mut first = true;
     while rest.len() > size {
         let more = with_piece(alloc, units, unit, first, false, &rest[..size])?;

@@ -22,7 +22,7 @@ pub use coming::Came;
 pub use fragments::cut_call;
 pub use incoming::Incoming;
 pub use inflow::Inflow;
-pub use joiner::{CALL_LIMIT, Joiner};
+pub use joiner::{CALL_LIMIT, Joiner, stub_of};
 pub use laws::{streams_have_one_reading, what_is_read_is_written, what_is_sent_is_heard};
 pub use numbers::{
     ACCESS_DENIED, BAD_STUB_DATA, CONNECT_LEVEL, INTEGRITY_LEVEL, NDR, NO_CONTROLLER,

@@ -10,7 +10,7 @@ use Rattle.std.specs.Str.{IsUtf8}
 use Rattle.std.proofs.lemmas.Str.{IsUtf8-from_ascii}
 use Rattle.std.proofs.lemmas.Str.Parse.{IsNumeralModel, numerals_by_value, parse_digits}
 use Rattle.std.proofs.lemmas.Fmt.{IsAscii-from_digits, decimal_digit, digits_decimal, digits_value-decimal, decimal-digits_value, decimal_nonempty, first_decimal}
-use Rattle.wire_base.specs.Decimal.{has_no_leading_zero, has_decimal_form, number_of_64_bits, decimal_of}
+use Rattle.wire_base.specs.Decimal.{has_no_leading_zero, has_decimal_form, number_of_bits, decimal_of}
 
 -- std's laws on numerals hold of these digits and their value
 pub own : IsNumeralModel (λ text. list_all is_ascii_digit text ≡ true) (digits_value 10)
@@ -56,14 +56,14 @@ decimal_of-decimal n fits =
     let value : digits_value 10 (decimal n) ≡ n = digits_value-decimal own n fits in
     rw (has_decimal_form-decimal n fits, value, lt-ltb n (2 ^ 64) fits) refl
 
-number_of_64_bits-Some : (v n : ℕ) → number_of_64_bits v ≡ Some n → (v ≡ n) × (n < 2 ^ 64)
-number_of_64_bits-Some v n here =
+number_of_bits-Some : (v n : ℕ) → number_of_bits 64 v ≡ Some n → (v ≡ n) × (n < 2 ^ 64)
+number_of_bits-Some v n here =
     elim (cases_lt v (2 ^ 64)) [
-      | inl lt ↦ let v-is : v ≡ n = (let e : number_of_64_bits v ≡ Some v = rw (lt-ltb v (2 ^ 64) lt) refl in cc) in (v-is, omega arith)
-      | inr le ↦ absurd (let e : number_of_64_bits v ≡ None = rw (le-ltb v (2 ^ 64) le) refl in cc)
+      | inl lt ↦ let v-is : v ≡ n = (let e : number_of_bits 64 v ≡ Some v = rw (lt-ltb v (2 ^ 64) lt) refl in cc) in (v-is, omega arith)
+      | inr le ↦ absurd (let e : number_of_bits 64 v ≡ None = rw (le-ltb v (2 ^ 64) le) refl in cc)
     ]
 
-decimal_of-form : (text : List ℕ) → has_decimal_form text ≡ true → decimal_of text ≡ number_of_64_bits (digits_value 10 text)
+decimal_of-form : (text : List ℕ) → has_decimal_form text ≡ true → decimal_of text ≡ number_of_bits 64 (digits_value 10 text)
 unfolding decimal_of
 decimal_of-form text form = rw form refl
 
@@ -76,7 +76,7 @@ pub decimal_from-decimal_of : (text : List ℕ) (n : ℕ) → decimal_of text �
 decimal_from-decimal_of text n read =
     elim (cases_Bool (has_decimal_form text)) [
       | inl form ↦
-          let value = number_of_64_bits-Some (digits_value 10 text) n (sym (decimal_of-form text form) ∙ read) in
+          let value = number_of_bits-Some (digits_value 10 text) n (sym (decimal_of-form text form) ∙ read) in
           (sym (decimal-digits text form (omega (arith, value))) ∙ ap decimal value.0, value.1)
       | inr other ↦ absurd (let none = decimal_of-other text other in cc)
     ]
@@ -90,17 +90,17 @@ none_from-decimal_of text n none fits written =
 pub IsUtf8-digits : (text : List ℕ) → list_all is_ascii_digit text ≡ true → IsUtf8 text
 IsUtf8-digits text digits = IsUtf8-from_ascii text (IsAscii-from_digits text (own.to text digits))
 
-number_of_64_bits_from-OkIff : {E P : Type 0} (r : Result ℕ E) (v : ℕ) → P → OkIff r (P × (v < 2 ^ 64)) v → result_ok r ≡ number_of_64_bits v
-number_of_64_bits_from-OkIff (Ok x) v some h = rw (lt-ltb v (2 ^ 64) h.0.1, h.1) refl
-number_of_64_bits_from-OkIff (Err e) v some h =
-    elim (cases_lt v (2 ^ 64)) [
+number_of_bits_from-OkIff : {E P : Type 0} (width : ℕ) (r : Result ℕ E) (v : ℕ) → P → OkIff r (P × (v < 2 ^ width)) v → result_ok r ≡ number_of_bits width v
+number_of_bits_from-OkIff width (Ok x) v some h = rw (lt-ltb v (2 ^ width) h.0.1, h.1) refl
+number_of_bits_from-OkIff width (Err e) v some h =
+    elim (cases_lt v (2 ^ width)) [
       | inl lt ↦ absurd (h (some, lt))
-      | inr le ↦ rw (le-ltb v (2 ^ 64) le) refl
+      | inr le ↦ rw (le-ltb v (2 ^ width) le) refl
     ]
 
--- what `parse` gives at digits
-pub result_ok-parse : {E : Type 0} (text : List ℕ) (r : Result ℕ E) → 0 < length text → list_all is_ascii_digit text ≡ true → ParsesUnsigned 64 10 text r → result_ok r ≡ number_of_64_bits (digits_value 10 text)
-result_ok-parse text r some digits parsed = number_of_64_bits_from-OkIff r (digits_value 10 text) some (parse_digits own 64 text r parsed digits)
+-- what `parse` gives at digits, as a number of so many bits
+pub result_ok-parse : {E : Type 0} (width : ℕ) (text : List ℕ) (r : Result ℕ E) → 0 < length text → list_all is_ascii_digit text ≡ true → ParsesUnsigned width 10 text r → result_ok r ≡ number_of_bits width (digits_value 10 text)
+result_ok-parse width text r some digits parsed = number_of_bits_from-OkIff width r (digits_value 10 text) some (parse_digits own width text r parsed digits)
 
 pub ruleset forms = (length_from_has_no_leading_zero)
 

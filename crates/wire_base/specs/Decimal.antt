@@ -15,10 +15,10 @@ has_no_leading_zero (first ∷ digit ∷ digits) = not (first == 48)
 abbrev pub has_decimal_form : List ℕ → Bool
 has_decimal_form text = has_no_leading_zero text && list_all is_ascii_digit text
 
--- the number where it fits 64 bits
-abbrev pub number_of_64_bits : ℕ → Option ℕ
-number_of_64_bits n = if nat_lt n (2 ^ 64) then Some n else None
+-- the number where it fits that many bits
+abbrev pub number_of_bits : ℕ → ℕ → Option ℕ
+number_of_bits width n = if nat_lt n (2 ^ width) then Some n else None
 
 -- the number of 64 bits that the text writes; None where it writes none
 unfoldable pub decimal_of : List ℕ → Option ℕ
-decimal_of text = if has_decimal_form text then number_of_64_bits (digits_value 10 text) else None
+decimal_of text = if has_decimal_form text then number_of_bits 64 (digits_value 10 text) else None

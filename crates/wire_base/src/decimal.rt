@@ -5,7 +5,7 @@ ghost use Rattle.std.specs.Char.{is_ascii_digit};
 ghost use Rattle.std.specs.Fmt.{decimal};
 ghost use Rattle.std.specs.List.{list_all};
 ghost use Rattle.std.specs.Str.Parse.{digits_value};
-ghost use Rattle.wire_base.specs.Decimal.{has_no_leading_zero, number_of_64_bits, decimal_of};
+ghost use Rattle.wire_base.specs.Decimal.{has_no_leading_zero, number_of_bits, decimal_of};
 
 /// The number that the text writes in decimal digits, without a sign or a leading zero (this project's own choice).
 /// None exactly where the text has another form or the number doesn't fit 64 bits. It takes no memory.
@@ -38,7 +38,7 @@ fn is_led(text: &[u8]) -> bool
 }
 
 /// Whether each byte is a decimal digit.
-fn are_digits(text: &[u8]) -> bool
+pub fn are_digits(text: &[u8]) -> bool
     ensures { result ≡ list_all is_ascii_digit text.now }
 {
     text.iter().all(|byte| byte.is_ascii_digit())
@@ -49,7 +49,7 @@ fn are_digits(text: &[u8]) -> bool
 fn digits_as_number(text: &[u8]) -> Option<u64>
     requires some { 0 < length text.now }
     requires digits { IsTrue (list_all is_ascii_digit text.now) }
-    ensures { result ≡ number_of_64_bits (digits_value 10 text.now) }
+    ensures { result ≡ number_of_bits 64 (digits_value 10 text.now) }
 {
     str::from_utf8(text).ok()?.parse::<u64>().ok()
 }

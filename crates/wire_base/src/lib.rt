@@ -15,6 +15,7 @@ mod units;
 
 pub use authenticator::Authenticator;
 pub use blob::Blob;
+pub use decimal::are_digits;
 pub use list::{Calls, Frames, Groups, List, Names, Numbers};
 pub use maps::{find_number, put_named, put_number, take_named, take_number, what_is_put_is_found};
 pub use memory::NoMemory;

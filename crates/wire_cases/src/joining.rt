@@ -10,8 +10,8 @@ use crate::unit_words::{unit, word_of};
 use crate::units::may_write;
 use case_words::{add_answer, answer_steps, bytes, long_text, number16, refusal_text, truth, word};
 use rpc_units::{
-    Body, BodyView, JoinRefused, Joiner, Unit, UnitList, UnitView, cut_call, read_unit, view_unit,
-    write_unit,
+    Body, BodyView, JoinRefused, Joiner, Unit, UnitList, UnitView, cut_call, read_unit, stub_of,
+    view_unit, write_unit,
 };
 use std::alloc::Global;
 
@@ -32,14 +32,6 @@ fn has_stub(body: &BodyView<'_>) -> bool
     match body {
         BodyView::Request { .. } | BodyView::Response { .. } => true,
         _ => false,
-    }
-}
-
-/// The stub of a request or response.
-fn stub(body: &Body) -> &[u8] {
-    match body {
-        Body::Request { stub, .. } | Body::Response { stub, .. } => stub.bytes(),
-        _ => &[],
     }
 }
 
@@ -138,7 +130,7 @@ fn join_view(alloc: Global, words: &[&str]) -> anyhow::Result<String> {
 fn parts_text(alloc: Global, unit: &Unit, bytes: &[u8]) -> anyhow::Result<String> {
     let text = long_text(alloc, bytes)?;
     let (first, last) = (truth(unit.first), truth(unit.last));
-    let size = stub(&unit.body).len();
+    let size = stub_of(&unit.body).len();
     Ok(format!(in alloc; "{first} {last} {size} {text}")?)
 }
 

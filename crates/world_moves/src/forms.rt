@@ -1,13 +1,11 @@
 //! What the types of a plan's parts give of themselves, which callers learn by calls that do nothing.
 
 ghost use Rattle.std.specs.Prelude.{◌<◌, ◌^◌, All};
-ghost use Rattle.wire_base.specs.Names.{IsName};
-ghost use Rattle.world_moves.specs.Forms.{AreUnits, IsBlock, IsByte, IsClientPlan, IsMemberPlan, IsTable};
+ghost use Rattle.world_moves.specs.Forms.{AreUnits, IsBlock, IsClientPlan, IsMemberPlan, IsTable};
 
-use account_table::Table;
+use account_table::{Table, are_bytes, is_hash};
 use logon_client::ClientPlan;
 use member_server::MemberPlan;
-use wire_base::Name;
 
 /// Each table has the form that its type gives it.
 pub(crate) fn tables_have_forms(tables: &[Table])
@@ -15,15 +13,6 @@ pub(crate) fn tables_have_forms(tables: &[Table])
 {
     for table in tables {
         table.has_form();
-    }
-}
-
-/// Each is a name.
-pub(crate) fn names_have_forms(names: &[Name])
-    ensures { All IsName names.now }
-{
-    for name in names {
-        let _bytes = name.bytes();
     }
 }
 
@@ -66,13 +55,6 @@ fn client_has_form(plan: &ClientPlan)
     is_hash(plan.hash);
 }
 
-/// A hash has 16 bytes.
-fn is_hash(hash: [u8; 16])
-    ensures { IsBlock 16 hash }
-{
-    are_bytes(hash.as_slice());
-}
-
 /// A seed has 32 bytes.
 pub(crate) fn is_seed(seed: [u8; 32])
     ensures { IsBlock 32 seed }
@@ -88,11 +70,6 @@ pub(crate) fn is_long(number: u32)
 /// A number of 64 bits is below 2^64.
 pub(crate) fn is_hyper(number: u64)
     ensures { number < 2 ^ 64 }
-{}
-
-/// Bytes are bytes.
-pub(crate) fn are_bytes(bytes: &[u8])
-    ensures { All IsByte bytes.now }
 {}
 
 /// Units of 16 bits are units.

@@ -4,7 +4,8 @@ ghost use Rattle.std.specs.Prelude.{◌≡◌, ◌^◌, ◌<◌, All, IfOk};
 ghost use Rattle.world_moves.specs.Forms.{HasMoveForm};
 ghost use Rattle.world_moves.specs.Generator.{next_seed, value_of, rare_by, made, moves_of};
 
-use crate::forms::{are_bytes, is_hyper, is_long};
+use crate::forms::{is_hyper, is_long};
+use account_table::are_bytes;
 use std::alloc::Global;
 use wire_base::{Blob, List, NoMemory};
 

@@ -5,10 +5,8 @@ ghost use Rattle.logon_client.specs.Machine.{fresh_client};
 ghost use Rattle.logon_client.specs.Plans.{CanLogOn};
 ghost use Rattle.world_moves.specs.Forms.{HasForms};
 
-use crate::forms::{
-    clients_have_forms, is_hyper, is_seed, members_have_forms, names_have_forms, tables_have_forms,
-};
-use account_table::Table;
+use crate::forms::{clients_have_forms, is_hyper, is_seed, members_have_forms, tables_have_forms};
+use account_table::{Table, names_have_forms};
 use logon_client::{Client, ClientPlan};
 use member_server::MemberPlan;
 use std::alloc::Global;

@@ -1,7 +1,0 @@
--- Those before have their forms.
-use Rattle.std.proofs.Common.{All, take}
-use Rattle.wire_base.specs.Names.{IsName}
-use Rattle.world_moves.proofs.forms.names_have_forms.Given as goal
-
-abbrev pub invariant-loop-name : goal.invariant-loop-name
-invariant-loop-name l = All IsName (take l.name-index l.names)
