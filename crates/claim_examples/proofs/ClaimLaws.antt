@@ -6,6 +6,7 @@ use Rattle.std.proofs.lemmas.List.Elements.{All-nil}
 use Rattle.wire_base.specs.Maps.{lookup}
 use Rattle.wire_base.specs.Numbers.{AreBytes}
 use Rattle.end_links.specs.Bounds.{send_limit}
+use Rattle.end_links.specs.Serving.{ServedUnit}
 use Rattle.wire_base.specs.Names.{same_name}
 use Rattle.wire_base.specs.Names as names
 use Rattle.authenticators.specs.Channels.{Channel}
@@ -22,7 +23,6 @@ use Rattle.step_notes.specs.ControllerNotes.{channel_by, channel_in, channel_wit
 use Rattle.step_notes.specs.Judged.{channel_if}
 use Rattle.step_notes.specs.Marking.{clashes, is_channel}
 use Rattle.step_notes.specs.Records.{Judging, timestamp_in}
-use Rattle.step_notes.specs.Served.{ServedUnit}
 use Rattle.world_moves.specs.declared.links.Route.TheVariants.{ToMember}
 use Rattle.world_moves.specs.declared.moves.Move.{Move}
 use Rattle.world_moves.specs.declared.plan.Plan.{Plan}

@@ -5,6 +5,7 @@ use Rattle.std.specs.Prelude.{◌%◌, ◌^◌}
 use Rattle.std.proofs.lemmas.Bool.{eqb-true}
 use Rattle.wire_base.specs.Maps.{lookup, same_number}
 use Rattle.end_links.specs.Links.{LinkState}
+use Rattle.end_links.specs.Serving.{ServedUnit}
 use Rattle.account_table.specs.AccountTable.{AccountTable}
 use Rattle.account_table.specs.declared.account.Account.{Account}
 use Rattle.channel_client.specs.Machine.{fresh_requester}
@@ -36,7 +37,7 @@ use Rattle.member_server.specs.declared.state.AtTurn.{AtTurn}
 use Rattle.member_server.specs.declared.state.TurnTalk.{TurnTalk}
 use Rattle.step_notes.specs.CallLogons.{IfCalling}
 use Rattle.step_notes.specs.MemberNotes.{turn_note}
-use Rattle.step_notes.specs.Served.{ServedUnit, work_after}
+use Rattle.step_notes.specs.Served.{work_after}
 use Rattle.step_notes.proofs.Members.CallLogonLaws.{calls_carry}
 use Rattle.domain_world.specs.Claims.AskedFor.{AsksForItsMessage, IsForItsMessage, IsOfMessage, MembersAskForKept}
 use Rattle.channel_events.specs.Marks.{OneOf, Calling, Mark, Opened, Opening, Plain, ReplyTo}

@@ -19,6 +19,7 @@ use Rattle.ntlm_responses.specs.Responses.{hashed_challenge_of, response_ess_of,
 use Rattle.account_table.specs.AccountTable.{AccountTable}
 use Rattle.account_table.specs.declared.account.Account.{Account}
 use Rattle.account_table.specs.declared.account.Kind.TheVariants.{User}
+use Rattle.end_links.specs.Serving.{ServedUnit}
 use Rattle.logon_client.specs.declared.plan.AuthKind.TheVariants as auth
 use Rattle.logon_client.specs.declared.plan.ClientPlan.{ClientPlan}
 use Rattle.logon_stubs.specs.declared.calls.LogonCall.{LogonCall}
@@ -48,7 +49,6 @@ use Rattle.step_notes.specs.ControllerNotes.{channel_with, passing}
 use Rattle.step_notes.specs.Marking.{clashes}
 use Rattle.step_notes.specs.MemberNotes.{no_note}
 use Rattle.step_notes.specs.Records.{Book, ChallengeSent, Judging, JudgementTold, LogonTurn, MessageMade, MessageTaken, OutcomeTold, blank}
-use Rattle.step_notes.specs.Served.{ServedUnit}
 use Rattle.world_moves.specs.declared.links.Route.{Route}
 use Rattle.world_moves.specs.declared.links.Route.TheVariants.{ToController, ToMember}
 use Rattle.world_moves.specs.declared.plan.Plan.{Plan}

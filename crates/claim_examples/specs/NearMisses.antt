@@ -13,6 +13,7 @@ use Rattle.logon_client.specs.declared.plan.AuthKind.TheVariants as auth
 use Rattle.authenticators.specs.Channels.{Channel}
 use Rattle.end_links.specs.Binding.{binding_of}
 use Rattle.memo_stubs.specs.Interface.{memo_syntax}
+use Rattle.end_links.specs.Serving.{ServedUnit}
 use Rattle.member_server.specs.State.{State as MemberState}
 use Rattle.member_server.specs.declared.state.AtTurn.{AtTurn}
 use Rattle.member_server.specs.declared.state.Bound.{Bound}
@@ -21,7 +22,6 @@ use Rattle.member_server.specs.declared.state.Phase.TheVariants as phase
 use Rattle.member_server.specs.declared.state.Running.{Running as MemberRunning}
 use Rattle.member_server.specs.declared.state.TurnTalk.{TurnTalk}
 use Rattle.step_notes.specs.MemberNotes.{turn_note, turn_units}
-use Rattle.step_notes.specs.Served.{ServedUnit}
 use Rattle.domain_world.specs.Claims.AskedFor.{MembersAskForKept, MembersAskForMessages}
 use Rattle.channel_events.specs.Marks.{Calling, Mark, Opened, Opening, Plain, ReplyTo}
 use Rattle.step_notes.specs.Records.{Book, ChallengeSent, Judging, MessageMade, MessageTaken, blank}

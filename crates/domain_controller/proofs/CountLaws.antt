@@ -8,7 +8,6 @@ use Rattle.outside.specs.declared.event.Event.{Event}
 use Rattle.outside.specs.declared.event.Event.TheVariants as event
 use Rattle.outside.specs.declared.action.StepRefused.{StepRefused}
 use Rattle.outside.specs.Machine.{step_by, then_part}
-use Rattle.rpc_units.specs.declared.refused.UnitRefused.{UnitRefused}
 use Rattle.rpc_units.specs.Stream.{cut_stream}
 use Rattle.logon_stubs.specs.declared.calls.Call.{Call}
 use Rattle.logon_stubs.specs.declared.calls.Call.TheVariants as call
@@ -20,7 +19,8 @@ use Rattle.account_table.specs.Changes.{DifferInCounts}
 use Rattle.account_table.proofs.ChangeLaws.{differs-none, differs-again}
 use Rattle.sam_logon.proofs.CountLaws.{judgement-differs}
 use Rattle.end_links.specs.Links.{LinkState}
-use Rattle.end_links.specs.Serving.{ServedPart, Service, then_open, then_talk, served_by, served_cut}
+use Rattle.end_links.specs.Serving.{ServedPart, served_cut}
+use Rattle.end_links.proofs.KeepLaws.{StaysServing, served_stays}
 use Rattle.domain_controller.specs.Channels.{ChannelState, key_of_channel, passes_on, return_by, channel_by}
 use Rattle.domain_controller.specs.Hearing.{hear}
 use Rattle.domain_controller.specs.Laws.{IsNext, CountsByVerdict}
@@ -65,9 +65,6 @@ abbrev pub PartCounts : AccountTable → ServedPart Desk Talk → Type 0
 PartCounts table (Err why) = Unit {0}
 PartCounts table (Ok part) = DifferInCounts table part.value.0.table
 
-abbrev pub LaterCounts : Service Desk Talk → Type 0
-LaterCounts later = (d : Desk) (talk : Talk) (left : List (List ℕ)) → PartCounts d.table (later d talk left)
-
 draws : (left : List (List ℕ)) (line : Line) (c : ChallengeCall) (talk : Talk) (d : Desk) → PartCounts d.table (draw_challenge left line c talk d)
 draws [] line c talk d = tt
 draws (server ∷ left) line c talk d = differs-none d.table
@@ -88,22 +85,13 @@ pub part-differs : (one other : AccountTable) (part : ServedPart Desk Talk) → 
 part-differs one other (Err why) differ later = tt
 part-differs one other (Ok part) differ later = differs-again one other part.value.0.table differ later
 
-after_talk : (d : Desk) (talk : Option Talk) (left : List (List ℕ)) (later : Service Desk Talk) → LaterCounts later → PartCounts d.table (then_talk d talk left later)
-after_talk d None left later each = differs-none d.table
-after_talk d (Some talk) left later each = each d talk left
-
-after_unit : (part : ServedPart Desk Talk) (table : AccountTable) (later : Service Desk Talk) → PartCounts table part → LaterCounts later → PartCounts table (then_open part later)
-after_unit (Err why) table later counts each = tt
-after_unit (Ok part) table later counts each =
-    part-differs table part.value.0.table (then_talk part.value.0 part.value.1 part.left later) counts (after_talk part.value.0 part.value.1 part.left later each)
-
-all_units : (frames : List (List ℕ)) (why : Option UnitRefused) (link : ℕ) (name : List ℕ) (now : ℕ) (d : Desk) (talk : Talk) (left : List (List ℕ)) →
-    PartCounts d.table (served_by (controller_server name now link) frames why d talk left)
-all_units [] None link name now d talk left = differs-none d.table
-all_units [] (Some why) link name now d talk left = differs-none d.table
-all_units (bytes ∷ frames) why link name now d talk left =
-    after_unit (by_heard (hear link bytes talk) link name now d left) d.table (λ later said rest. served_by (controller_server name now link) frames why later said rest)
-    (heard-differs (hear link bytes talk) link name now d left) (λ later said rest. all_units frames why link name now later said rest)
+counts_stay : (table : AccountTable) (link : ℕ) (name : List ℕ) (now : ℕ) → StaysServing (controller_server name now link) (PartCounts table)
+counts_stay table link name now = record {
+  spent = λ why. tt;
+  unit = λ bytes d talk left differ.
+      part-differs table d.table (by_heard (hear link bytes talk) link name now d left) differ (heard-differs (hear link bytes talk) link name now d left);
+  refusal = λ why d talk left differ. differ;
+}
 
 -- ---- events
 
@@ -120,7 +108,7 @@ on_link None number piece name now d others left = differs-none d.table
 on_link (Some link) number piece name now d others left =
     let cut = cut_stream (link.rest ++ piece) in
     after_link (served_cut (controller_server name now number) cut d link.talk left) d.table cut.rest number others
-    (all_units cut.units cut.refused number name now d link.talk left)
+    (served_stays (controller_server name now number) (PartCounts d.table) (counts_stay d.table number name now) cut d link.talk left (differs-none d.table))
 
 events : (what : Event) (name : List ℕ) (now : ℕ) (d : Desk) (links : LinkMap) (left : List (List ℕ)) → StepCounts d.table (by_event what name now d links left)
 events (event.Opened link) name now d links left = differs-none d.table

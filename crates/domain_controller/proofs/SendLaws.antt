@@ -43,7 +43,8 @@ use Rattle.account_table.specs.declared.account.Account.{Account}
 use Rattle.end_links.specs.Agreed.{Agreed, accepts}
 use Rattle.end_links.specs.Links.{LinkState}
 use Rattle.end_links.specs.Sending.{fault_of, response_of}
-use Rattle.end_links.specs.Serving.{ServedPart, Service, then_open, then_talk, served_by, served_cut}
+use Rattle.end_links.specs.Serving.{ServedPart, served_cut}
+use Rattle.end_links.proofs.KeepLaws.{StaysAmong, served_among}
 use Rattle.end_loop.specs.Runs.{actions_of}
 use Rattle.domain_controller.specs.Channels.{ChannelState, key_of_channel, passes_on, return_by, channel_by}
 use Rattle.domain_controller.specs.Hearing.{bound_talk, hear_fresh, is_served, hear_stub, hear_opnum, hear_context, hear_whole, hear_joined, hear_bound, hear_on, hear_read, hear}
@@ -297,39 +298,27 @@ read_adds (Ok unit) bytes all link name now d talk left is has =
     heard_adds (IsActionOn link all) (hear_on talk.binding unit link talk.joiner) link unit name now d left (unit_heard talk.binding unit link talk.joiner)
     (λ cause. refl) (λ answer answers. (refl, (has.0, bytes, has.1, has.2, (unit, is, answers)))) (λ how. tt)
 
--- all units of the rest are among all units
-abbrev pub Within : List (List ℕ) → List (List ℕ) → Type 0
-Within units all = (bytes : List ℕ) → Contains units bytes → Contains all bytes
-
-first_of : (bytes : List ℕ) (units : List (List ℕ)) → Contains (bytes ∷ units) bytes
-first_of bytes units = (0, omega arith, refl)
-
-later_of : (bytes : List ℕ) (units : List (List ℕ)) → Within units (bytes ∷ units)
-later_of bytes units other has = (suc has.0, (let less = has.1 in omega arith), has.2)
+-- each unit is among the units
+all_of : (P : List ℕ → Type 0) (units : List (List ℕ)) → ((bytes : List ℕ) → Contains units bytes → P bytes) → AllByRecursion P units
+all_of P [] has = tt
+all_of P (bytes ∷ units) has =
+    (has bytes (0, omega arith, refl), all_of P units (λ other is. has other (suc is.0, (let less = is.1 in omega arith), is.2)))
 
 from_adds : (P : Action → Type 0) (one other : List Action) (part : ServedPart Desk Talk) → Adds P one other → PartAdds P other part → PartAdds P one part
 from_adds P one other (Err why) adds later = tt
 from_adds P one other (Ok part) adds later = adds_both P one other part.value.0.work.actions adds later
 
-said_adds : (P : Action → Type 0) (old : List Action) (d : Desk) (said : Option Talk) (left : List (List ℕ)) (later : Service Desk Talk) → Adds P old d.work.actions →
-    ((d : Desk) (talk : Talk) (left : List (List ℕ)) → PartAdds P d.work.actions (later d talk left)) → PartAdds P old (then_talk d said left later)
-said_adds P old d None left later adds each = adds
-said_adds P old d (Some talk) left later adds each = from_adds P old d.work.actions (later d talk left) adds (each d talk left)
-
-then_adds : (P : Action → Type 0) (part : ServedPart Desk Talk) (old : List Action) (later : Service Desk Talk) → PartAdds P old part →
-    ((d : Desk) (talk : Talk) (left : List (List ℕ)) → PartAdds P d.work.actions (later d talk left)) → PartAdds P old (then_open part later)
-then_adds P (Err why) old later adds each = tt
-then_adds P (Ok part) old later adds each = said_adds P old part.value.0 part.value.1 part.left later adds each
-
-units_add : (units : List (List ℕ)) (why : Option UnitRefused) (all : List (List ℕ)) (link : ℕ) (name : List ℕ) (now : ℕ) (d : Desk) (talk : Talk) (left : List (List ℕ)) → Within units all →
-    PartAdds (IsActionOn link all) d.work.actions (served_by (controller_server name now link) units why d talk left)
-units_add [] None all link name now d talk left within = adds_none (IsActionOn link all) d.work.actions
-units_add [] (Some why) all link name now d talk left within = adds_one (IsActionOn link all) d.work.actions (action.Close link close.BadUnit) refl
-units_add (bytes ∷ units) why all link name now d talk left within =
-    then_adds (IsActionOn link all) (by_heard (hear link bytes talk) link name now d left) d.work.actions
-    (λ later said rest. served_by (controller_server name now link) units why later said rest)
-    (read_adds (unit_of bytes) bytes all link name now d talk left refl (within bytes (first_of bytes units)))
-    (λ later said rest. units_add units why all link name now later said rest (λ other has. within other (later_of bytes units other has)))
+units_add : (all : List (List ℕ)) (link : ℕ) (name : List ℕ) (now : ℕ) →
+    StaysAmong (controller_server name now link) (Contains all) (PartAdds (IsActionOn link all) [])
+units_add all link name now = record {
+  spent = λ why. tt;
+  unit = λ bytes d talk left has adds.
+      from_adds (IsActionOn link all) [] d.work.actions (by_heard (hear link bytes talk) link name now d left) adds
+      (read_adds (unit_of bytes) bytes all link name now d talk left refl has);
+  refusal = λ why d talk left adds.
+      adds_both (IsActionOn link all) [] d.work.actions (d.work.actions ++ action.Close link close.BadUnit ∷ []) adds
+      (adds_one (IsActionOn link all) d.work.actions (action.Close link close.BadUnit) refl);
+}
 
 -- ---- a step
 
@@ -353,7 +342,8 @@ on_link s running number link piece now left found is =
     let cut = cut_stream (link.rest ++ piece) in
     subst (λ (f : Option (LinkState Talk)). StepAdds (IsActionOn number cut.units) (serve_on f number piece s.name now (first_desk s.table running) (take_out same_number number running.links) left)) (sym is)
     (after_link (IsActionOn number cut.units) (served_cut (controller_server s.name now number) cut (first_desk s.table running) link.talk left) cut.rest number (take_out same_number number running.links)
-    (units_add cut.units cut.refused cut.units number s.name now (first_desk s.table running) link.talk left (λ bytes has. has)))
+    (served_among (controller_server s.name now number) (Contains cut.units) (PartAdds (IsActionOn number cut.units) []) (units_add cut.units number s.name now) cut
+    (first_desk s.table running) link.talk left (all_of (Contains cut.units) cut.units (λ bytes has. has)) (adds_none (IsActionOn number cut.units) [])))
 
 bytes_add : (s : State) (running : Running) (number : ℕ) (link : LinkState Talk) (piece : List ℕ) (now : ℕ) (left : List (List ℕ)) → lookup same_number number running.links ≡ Some link →
     AllByRecursion (IsActionOn number (cut_stream (link.rest ++ piece)).units) (actions_of (step_on (Some running) s (event.Bytes number piece) now left))

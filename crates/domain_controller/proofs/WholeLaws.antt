@@ -43,7 +43,8 @@ use Rattle.account_table.specs.declared.account.Account.{Account}
 use Rattle.sam_logon.specs.Verdict.{Judgement}
 use Rattle.end_links.specs.Agreed.{Agreed, accepts}
 use Rattle.end_links.specs.Links.{LinkState}
-use Rattle.end_links.specs.Serving.{ServedPart, Service, then_open, then_talk, served_by, served_cut}
+use Rattle.end_links.specs.Serving.{ServedPart, served_cut}
+use Rattle.end_links.proofs.KeepLaws.{StaysServing, served_stays}
 use Rattle.end_loop.specs.Runs.{actions_of}
 use Rattle.channel_client.specs.Machine.{netlogon_syntax}
 use Rattle.domain_controller.specs.Channels.{ChannelState, key_of_channel, passes_on, return_by, channel_by}
@@ -241,24 +242,12 @@ module _ (name : List ℕ) (now : ℕ) (is_name : IsName name) (moment : now < 2
   heards (heard.Waits talk) link d left is fits eight = (fits, is, eight)
   heards (heard.Asked line c talk) link d left is fits eight = calls c line talk d left is.0 is.1 fits eight
 
-  said_fits : (d : Desk) (said : Option Talk) (left : List (List ℕ)) (later : Service Desk Talk) → InRangeDesk d → IfThere InRangeTalk said → AreChallenges left →
-      ((d : Desk) (talk : Talk) (left : List (List ℕ)) → InRangeDesk d → InRangeTalk talk → AreChallenges left → InRangePart (later d talk left)) → InRangePart (then_talk d said left later)
-  said_fits d None left later fits limit eight each = (fits, tt, eight)
-  said_fits d (Some talk) left later fits limit eight each = each d talk left fits limit eight
-
-  then_fits : (part : ServedPart Desk Talk) (later : Service Desk Talk) → InRangePart part →
-      ((d : Desk) (talk : Talk) (left : List (List ℕ)) → InRangeDesk d → InRangeTalk talk → AreChallenges left → InRangePart (later d talk left)) → InRangePart (then_open part later)
-  then_fits (Err why) later fits each = tt
-  then_fits (Ok part) later fits each = said_fits part.value.0 part.value.1 part.left later fits.0 fits.1 fits.2 each
-
-  units_fit : (units : List (List ℕ)) (why : Option UnitRefused) (link : ℕ) (d : Desk) (talk : Talk) (left : List (List ℕ)) → InRangeDesk d → InRangeTalk talk → AreChallenges left →
-      InRangePart (served_by (controller_server name now link) units why d talk left)
-  units_fit [] None link d talk left fits limit eight = (fits, limit, eight)
-  units_fit [] (Some why) link d talk left fits limit eight = (told d.table d.work _ (record { sends = fits.sends; table = fits.table }) tt, tt, eight)
-  units_fit (bytes ∷ units) why link d talk left fits limit eight =
-      then_fits (by_heard (hear link bytes talk) link name now d left) (λ later said rest. served_by (controller_server name now link) units why later said rest)
-      (heards (hear link bytes talk) link d left (heard_fits link bytes talk limit) fits eight)
-      (λ later said rest. units_fit units why link later said rest)
+  units_stay : (link : ℕ) → StaysServing (controller_server name now link) InRangePart
+  units_stay link = record {
+    spent = λ why. tt;
+    unit = λ bytes d talk left fits. heards (hear link bytes talk) link d left (heard_fits link bytes talk fits.1) fits.0 fits.2;
+    refusal = λ why d talk left fits. (told d.table d.work _ (record { sends = fits.0.sends; table = fits.0.table }) tt, tt, fits.2);
+  }
 
 -- ---- links
 
@@ -312,7 +301,7 @@ module _ (name : List ℕ) (now : ℕ) (is_name : IsName name) (moment : now < 2
   on_link (Some link) number piece d others left is fits range eight =
       let cut = cut_stream (link.rest ++ piece) in
       after_link (served_cut (controller_server name now number) cut d link.talk left) cut.rest number others
-      (units_fit name now is_name moment cut.units cut.refused number d link.talk left fits is eight) range
+      (served_stays (controller_server name now number) InRangePart (units_stay name now is_name moment number) cut d link.talk left (fits, is, eight)) range
 
   events : (what : Event) (d : Desk) (links : LinkMap) (left : List (List ℕ)) → InRangeDesk d → InRangeLinks links → AreChallenges left → StepFits (by_event what name now d links left)
   events (event.Opened number) d links left fits range eight =

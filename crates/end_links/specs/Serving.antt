@@ -49,6 +49,33 @@ served_by server (bytes ∷ units) why work talk left =
 abbrev pub served_cut : {W T : Type 0} → Server W T → Cut → Service W T
 served_cut server cut work talk left = served_by server cut.units cut.refused work talk left
 
+-- ---- the units that are served, each with what stood before it
+
+-- a unit that is served: its bytes; the end at work, what was said on the link and the challenges that were left,
+-- before it; and what it comes to
+pub record ServedUnit (W T : Type 0) : Type 0 where
+  pub bytes : List ℕ
+  pub work : W
+  pub talk : T
+  pub left : List (List ℕ)
+  pub part : ServedPart W T
+
+-- what follows a unit, where the link stays open
+abbrev pub units_on : {W T : Type 0} → W → Option T → List (List ℕ) → (W → T → List (List ℕ) → List (ServedUnit W T)) → List (ServedUnit W T)
+units_on work None left later = []
+units_on work (Some talk) left later = later work talk left
+
+abbrev pub units_then : {W T : Type 0} → ServedPart W T → (W → T → List (List ℕ) → List (ServedUnit W T)) → List (ServedUnit W T)
+units_then (Err why) later = []
+units_then (Ok part) later = units_on part.value.0 part.value.1 part.left later
+
+-- the units in order, up to the one that closes the link
+abbrev pub served_units : {W T : Type 0} → Server W T → List (List ℕ) → W → T → List (List ℕ) → List (ServedUnit W T)
+served_units server [] work talk left = []
+served_units server (bytes ∷ units) work talk left =
+    record { bytes = bytes; work = work; talk = talk; left = left; part = server.unit bytes work talk left }
+    ∷ units_then (server.unit bytes work talk left) (λ later said rest. served_units server units later said rest)
+
 -- ---- how a call that serves a stream answers
 
 abbrev pub talk_in : {T : Type 0} → Option (LinkState T) → Option T

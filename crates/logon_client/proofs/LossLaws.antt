@@ -25,7 +25,8 @@ use Rattle.rpc_units.specs.Stream.{cut_stream}
 use Rattle.memo_stubs.specs.declared.refused.MemoRefused.{MemoRefused}
 use Rattle.memo_stubs.specs.Memo.{who_of, echo_reply_of}
 use Rattle.end_links.specs.Links.{LinkState}
-use Rattle.end_links.specs.Serving.{ServedPart, served_by, served_cut, then_open, then_talk}
+use Rattle.end_links.specs.Serving.{ServedPart, served_cut}
+use Rattle.end_links.proofs.KeepLaws.{StaysServing, served_stays}
 use Rattle.logon_client.specs.declared.answering.Drawn.{Drawn}
 use Rattle.logon_client.specs.declared.answering.ServerOffer.{ServerOffer}
 use Rattle.logon_client.specs.declared.hearing.Heard.{Heard}
@@ -46,7 +47,7 @@ use Rattle.logon_client.specs.declared.state.Talk.{Talk}
 use Rattle.logon_client.specs.declared.state.Terms.{Terms}
 use Rattle.logon_client.specs.declared.state.Work.{Work}
 use Rattle.logon_client.specs.Answering.{is_enough, drawn_for, answer_of as answer_to, auth3_of}
-use Rattle.logon_client.specs.Machine.{told, asks, answers_by, answers, answers_part, hear_flags, hear_pairs, hear_challenge, hear_trailer, hear_result, hear_ack, hear_name_by, hear_name, hear_echo_by, hear_echo, hear_reply, hear_joined, hear_fragment, hear_body_opened, hear_unit_opened, hear_opened, hear_secured, hear_response, hear_body, fault_outcome, hear_call, hear_unit, hear, serve_heard, serve_unit, client_server, by_piece, by_close, after_stream, by_event, fresh_link, link_of, want_by, standing_by, step_of, halted, actions_after, state_after, work_of, step_by_outcome, step_by_running}
+use Rattle.logon_client.specs.Machine.{told, asks, answers_by, answers, answers_part, hear_flags, hear_pairs, hear_challenge, hear_trailer, hear_result, hear_ack, hear_name_by, hear_name, hear_echo_by, hear_echo, hear_reply, hear_joined, hear_fragment, hear_body_opened, hear_unit_opened, hear_opened, hear_secured, hear_response, hear_body, fault_outcome, hear_call, hear_unit, hear, serve_heard, client_server, by_piece, by_close, after_stream, by_event, fresh_link, link_of, want_by, standing_by, step_of, halted, actions_after, state_after, work_of, step_by_outcome, step_by_running}
 use Rattle.logon_client.specs.Losses.{is_dialling, is_waiting, is_dial_failed, is_link_closed, LinkGoes, LossesComeOfEvents}
 use Rattle.logon_client.specs.Plans.{offer_of, is_sealed}
 use Rattle.logon_client.specs.Securing.{Secured, has_level, open_unit}
@@ -210,25 +211,12 @@ heard_fine (heard.Done work talk) left fine = fine
 heard_fine (heard.Challenged work link offer) left fine =
     drawn_fine (drawn_for (has_flag offer.flags negotiate_key_exch) left) offer link work fine
 
-abbrev EachFine : List (List ℕ) → Option UnitRefused → Type 0
-EachFine units why = (work : Work) (talk : Talk) (left : List (List ℕ)) → Fine work → PartFine (served_by client_server units why work talk left)
-
-talk_fine : (units : List (List ℕ)) (why : Option UnitRefused) (work : Work) (talk : Option Talk) (left : List (List ℕ)) → EachFine units why → Fine work →
-    PartFine (then_talk work talk left (λ later said rest. served_by client_server units why later said rest))
-talk_fine units why work None left each fine = fine
-talk_fine units why work (Some talk) left each fine = each work talk left fine
-
-later_fine : (units : List (List ℕ)) (why : Option UnitRefused) (part : ServedPart Work Talk) → EachFine units why → PartFine part →
-    PartFine (then_open part (λ later said rest. served_by client_server units why later said rest))
-later_fine units why (Err refused) each fine = tt
-later_fine units why (Ok part) each fine = talk_fine units why part.value.0 part.value.1 part.left each fine
-
-served_fine : (units : List (List ℕ)) (why : Option UnitRefused) → EachFine units why
-served_fine [] None = λ work talk left fine. fine
-served_fine [] (Some why) = λ work talk left fine. refl
-served_fine (bytes ∷ units) why = λ work talk left fine.
-    later_fine units why (serve_unit bytes work talk left) (served_fine units why)
-    (heard_fine (hear bytes talk work) left (unit_fine (unit_of bytes) bytes talk work fine))
+fine_stays : StaysServing client_server PartFine
+fine_stays = record {
+  spent = λ why. tt;
+  unit = λ bytes work talk left fine. heard_fine (hear bytes talk work) left (unit_fine (unit_of bytes) bytes talk work fine);
+  refusal = λ why work talk left fine. refl;
+}
 
 -- ---- events
 
@@ -285,7 +273,7 @@ piece_brings : (what : Event) (own : Bool) (piece : List ℕ) (state : LinkState
 piece_brings what false piece state work left fine = keeps what (On state) (On state) work.outcome fine (λ still. refl)
 piece_brings what true piece state work left fine =
     stream_brings what (On state) _ (served_cut client_server (cut_stream (state.rest ++ piece)) work state.talk left)
-    (served_fine (cut_stream (state.rest ++ piece)).units (cut_stream (state.rest ++ piece)).refused work state.talk left fine)
+    (served_stays client_server PartFine fine_stays (cut_stream (state.rest ++ piece)) work state.talk left fine)
 
 shut_brings : (what : Event) (own : Bool) (state : LinkState Talk) (work : Work) (left : List (List ℕ)) → (own ≡ true → LinkGoes what (Some state.talk.link)) → Fine work → PartBrings what (On state) (by_close own state work left)
 shut_brings what false state work left goes fine = keeps what (On state) (On state) work.outcome fine (λ still. refl)

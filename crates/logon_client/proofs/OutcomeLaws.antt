@@ -22,14 +22,16 @@ use Rattle.rpc_units.specs.declared.unit.Unit.{Unit as RpcUnit}
 use Rattle.rpc_units.specs.Reading.{unit_of}
 use Rattle.rpc_units.specs.Stream.{cut_stream}
 use Rattle.end_links.specs.Links.{LinkState}
-use Rattle.end_links.specs.Serving.{ServedPart, served_by, served_cut, then_open, then_talk}
+use Rattle.end_links.specs.Serving.{ServedPart, served_cut}
+use Rattle.end_links.proofs.KeepLaws.{StaysServing, served_stays}
 use Rattle.logon_client.specs.declared.answering.Drawn.{Drawn}
 use Rattle.logon_client.specs.declared.answering.ServerOffer.{ServerOffer}
 use Rattle.logon_client.specs.declared.hearing.Heard.{Heard}
 use Rattle.logon_client.specs.declared.hearing.Heard.TheVariants as heard
 use Rattle.logon_client.specs.declared.outcome.ClientOutcome.{ClientOutcome}
-use Rattle.logon_client.specs.declared.outcome.ClientOutcome.TheVariants.{NoAnswer}
+use Rattle.logon_client.specs.declared.outcome.ClientOutcome.TheVariants.{NoAnswer, BadPeer}
 use Rattle.logon_client.specs.declared.outcome.NoAnswerCause.TheVariants.{LinkClosed}
+use Rattle.logon_client.specs.declared.outcome.PeerFault.TheVariants as peer_fault
 use Rattle.logon_client.specs.declared.securing.Sending.{Sending}
 use Rattle.logon_client.specs.declared.state.After.{After}
 use Rattle.logon_client.specs.declared.state.Phase.{Phase}
@@ -45,7 +47,7 @@ use Rattle.logon_client.specs.declared.state.Work.{Work}
 use Rattle.logon_client.specs.Answering.{is_enough, drawn_for, answer_of as answer_to, auth3_of}
 use Rattle.logon_client.specs.Asked.{HoldsOf, response_holds}
 use Rattle.logon_client.specs.Laws.{closes_in, closes_by, close_due, ClosesOnce, OutcomeStays}
-use Rattle.logon_client.specs.Machine.{told, closed_with, asks, answers_by, answers, answers_part, hear_flags, hear_pairs, hear_challenge, hear_trailer, hear_result, hear_ack, hear_body, hear_call, hear_unit, hear, serve_heard, serve_unit, client_server, by_piece, by_close, after_stream, by_event, halted, actions_after, state_after, work_of, step_by_outcome, step_by_running}
+use Rattle.logon_client.specs.Machine.{told, closed_with, asks, answers_by, answers, answers_part, hear_flags, hear_pairs, hear_challenge, hear_trailer, hear_result, hear_ack, hear_body, hear_call, hear_unit, hear, serve_heard, client_server, by_piece, by_close, after_stream, by_event, halted, actions_after, state_after, work_of, step_by_outcome, step_by_running}
 use Rattle.logon_client.specs.Plans.{offer_of}
 use Rattle.logon_client.specs.State.{State}
 
@@ -180,25 +182,13 @@ heard_kept link (heard.Challenged work number offer) left kept =
     subst (λ n. PartKept n (serve_heard (heard.Challenged work number offer) left)) kept.1
     (drawn_kept (drawn_for (has_flag offer.flags negotiate_key_exch) left) offer number work kept.0)
 
-abbrev EachKept : List (List ℕ) → Option UnitRefused → Type 0
-EachKept units why = (work : Work) (talk : Talk) (left : List (List ℕ)) → IsOpen work → PartKept talk.link (served_by client_server units why work talk left)
-
-talk_kept : (units : List (List ℕ)) (why : Option UnitRefused) (link : ℕ) (work : Work) (talk : Option Talk) (left : List (List ℕ)) → EachKept units why → Kept link work talk →
-    PartKept link (then_talk work talk left (λ later said rest. served_by client_server units why later said rest))
-talk_kept units why link work None left each kept = kept
-talk_kept units why link work (Some talk) left each kept = subst (λ n. PartKept n (served_by client_server units why work talk left)) kept.1 (each work talk left kept.0)
-
-later_kept : (units : List (List ℕ)) (why : Option UnitRefused) (link : ℕ) (part : ServedPart Work Talk) → EachKept units why → PartKept link part →
-    PartKept link (then_open part (λ later said rest. served_by client_server units why later said rest))
-later_kept units why link (Err refused) each kept = tt
-later_kept units why link (Ok part) each kept = talk_kept units why link part.value.0 part.value.1 part.left each kept
-
-served_kept : (units : List (List ℕ)) (why : Option UnitRefused) → EachKept units why
-served_kept [] None = λ work talk left open_. (open_, refl)
-served_kept [] (Some why) = λ work talk left open_. shut_kept _ talk.link work open_
-served_kept (bytes ∷ units) why = λ work talk left open_.
-    later_kept units why talk.link (serve_unit bytes work talk left) (served_kept units why)
-    (heard_kept talk.link (hear bytes talk work) left (unit_kept (unit_of bytes) bytes talk work open_))
+kept_stays : (link : ℕ) → StaysServing client_server (PartKept link)
+kept_stays link = record {
+  spent = λ why. tt;
+  unit = λ bytes work talk left kept.
+      heard_kept link (hear bytes talk work) left (subst (λ n. HeardKept n (hear bytes talk work)) kept.1 (unit_kept (unit_of bytes) bytes talk work kept.0));
+  refusal = λ why work talk left kept. subst (λ n. IsShut n (closed_with (BadPeer peer_fault.BadUnit) talk.link work)) kept.1 (shut_kept _ talk.link work kept.0);
+}
 
 -- ---- events
 
@@ -223,7 +213,7 @@ piece_kept false link piece state work left is open_ = due_none (event.Bytes lin
 piece_kept true link piece state work left is open_ =
     subst (λ n. AfterKept (event.Bytes n piece) (by_piece true piece state work left)) (sym (eqb-true link state.talk.link is))
     (stream_kept state.talk.link piece _ (served_cut client_server (cut_stream (state.rest ++ piece)) work state.talk left)
-    (served_kept (cut_stream (state.rest ++ piece)).units (cut_stream (state.rest ++ piece)).refused work state.talk left open_))
+    (served_stays client_server (PartKept state.talk.link) (kept_stays state.talk.link) (cut_stream (state.rest ++ piece)) work state.talk left (open_, refl)))
 
 closed_kept : (own : Bool) (what : Event) (state : LinkState Talk) (work : Work) (left : List (List ℕ)) → ((o : ClientOutcome) → close_due (Some o) what ≡ []) → IsOpen work →
     AfterKept what (by_close own state work left)

@@ -31,7 +31,8 @@ use Rattle.rpc_units.specs.Stream.{cut_stream}
 use Rattle.memo_stubs.specs.declared.refused.MemoRefused.{MemoRefused}
 use Rattle.memo_stubs.specs.Memo.{who_of, echo_reply_of}
 use Rattle.end_links.specs.Links.{LinkState}
-use Rattle.end_links.specs.Serving.{ServedPart, served_by, served_cut, then_open, then_talk}
+use Rattle.end_links.specs.Serving.{ServedPart, served_cut}
+use Rattle.end_links.proofs.KeepLaws.{StaysServing, served_stays}
 use Rattle.logon_client.specs.declared.answering.Drawn.{Drawn}
 use Rattle.logon_client.specs.declared.answering.ServerOffer.{ServerOffer}
 use Rattle.logon_client.specs.declared.hearing.Heard.{Heard}
@@ -51,7 +52,7 @@ use Rattle.logon_client.specs.declared.state.Talk.{Talk}
 use Rattle.logon_client.specs.declared.state.Terms.{Terms}
 use Rattle.logon_client.specs.declared.state.Work.{Work}
 use Rattle.logon_client.specs.Answering.{is_enough, drawn_for, answer_of as answer_to, auth3_of}
-use Rattle.logon_client.specs.Machine.{told, asks, answers_by, answers, answers_part, hear_flags, hear_pairs, hear_challenge, hear_trailer, hear_result, hear_ack, hear_name_by, hear_name, hear_echo_by, hear_echo, hear_reply, hear_joined, hear_fragment, hear_body_opened, hear_unit_opened, hear_opened, hear_secured, hear_response, hear_body, hear_call, hear_unit, hear, serve_heard, serve_unit, client_server, by_piece, by_close, after_stream, by_event, link_of, standing_by, step_of, halted, actions_after, state_after, work_of, step_by_outcome, step_by_running, ends, fails}
+use Rattle.logon_client.specs.Machine.{told, asks, answers_by, answers, answers_part, hear_flags, hear_pairs, hear_challenge, hear_trailer, hear_result, hear_ack, hear_name_by, hear_name, hear_echo_by, hear_echo, hear_reply, hear_joined, hear_fragment, hear_body_opened, hear_unit_opened, hear_opened, hear_secured, hear_response, hear_body, hear_call, hear_unit, hear, serve_heard, client_server, by_piece, by_close, after_stream, by_event, link_of, standing_by, step_of, halted, actions_after, state_after, work_of, step_by_outcome, step_by_running, ends, fails}
 use Rattle.logon_client.specs.Plans.{offer_of, is_sealed}
 use Rattle.logon_client.specs.Securing.{Secured, has_level, open_unit}
 use Rattle.logon_client.specs.Sends.{IsOwnLink, IsSentAt, SendsOnItsLink}
@@ -239,25 +240,12 @@ module _ (Own : ℕ → Type 0) where
   heard_fine (heard.Challenged work link offer) left fine =
       drawn_fine (drawn_for (has_flag offer.flags negotiate_key_exch) left) offer link work fine.1 fine.0
 
-  abbrev EachFine : List (List ℕ) → Option UnitRefused → Type 0
-  EachFine units why = (work : Work) (talk : Talk) (left : List (List ℕ)) → Own talk.link → Fine work → PartFine (served_by client_server units why work talk left)
-
-  talk_fine : (units : List (List ℕ)) (why : Option UnitRefused) (work : Work) (talk : Option Talk) (left : List (List ℕ)) → EachFine units why → Fine work → TalkFine talk →
-      PartFine (then_talk work talk left (λ later said rest. served_by client_server units why later said rest))
-  talk_fine units why work None left each fine own = (fine, tt)
-  talk_fine units why work (Some talk) left each fine own = each work talk left own fine
-
-  later_fine : (units : List (List ℕ)) (why : Option UnitRefused) (part : ServedPart Work Talk) → EachFine units why → PartFine part →
-      PartFine (then_open part (λ later said rest. served_by client_server units why later said rest))
-  later_fine units why (Err refused) each fine = tt
-  later_fine units why (Ok part) each fine = talk_fine units why part.value.0 part.value.1 part.left each fine.0 fine.1
-
-  served_fine : (units : List (List ℕ)) (why : Option UnitRefused) → EachFine units why
-  served_fine [] None = λ work talk left own fine. (fine, own)
-  served_fine [] (Some why) = λ work talk left own fine. (with_one work.actions (action.Close talk.link close_cause.CallDone) fine tt, tt)
-  served_fine (bytes ∷ units) why = λ work talk left own fine.
-      later_fine units why (serve_unit bytes work talk left) (served_fine units why)
-      (heard_fine (hear bytes talk work) left (unit_fine (unit_of bytes) bytes talk work own fine))
+  fine_stays : StaysServing client_server PartFine
+  fine_stays = record {
+    spent = λ why. tt;
+    unit = λ bytes work talk left fine. heard_fine (hear bytes talk work) left (unit_fine (unit_of bytes) bytes talk work fine.1 fine.0);
+    refusal = λ why work talk left fine. (with_one work.actions (action.Close talk.link close_cause.CallDone) fine.0 tt, tt);
+  }
 
   -- ---- events
 
@@ -277,7 +265,7 @@ module _ (Own : ℕ → Type 0) where
   piece_fine false piece state work left own fine = (fine, own)
   piece_fine true piece state work left own fine =
       stream_fine _ (served_cut client_server (cut_stream (state.rest ++ piece)) work state.talk left)
-      (served_fine (cut_stream (state.rest ++ piece)).units (cut_stream (state.rest ++ piece)).refused work state.talk left own fine)
+      (served_stays client_server PartFine fine_stays (cut_stream (state.rest ++ piece)) work state.talk left (fine, own))
 
   shut_fine : (own : Bool) (state : LinkState Talk) (work : Work) (left : List (List ℕ)) → Own state.talk.link → Fine work → AfterFine (by_close own state work left)
   shut_fine false state work left own fine = (fine, own)

@@ -26,7 +26,8 @@ use Rattle.rpc_units.specs.Writing.{written}
 use Rattle.end_links.specs.Binding.{nak_of}
 use Rattle.end_links.specs.Links.{LinkState}
 use Rattle.end_links.specs.Sending.{joined_frames}
-use Rattle.end_links.specs.Serving.{ServedPart, served_by, then_open, then_talk}
+use Rattle.end_links.specs.Serving.{ServedPart, served_by, then_talk}
+use Rattle.end_links.proofs.KeepLaws.{StaysServing, served_stays}
 use Rattle.channel_client.specs.declared.answers.Taken.{Taken}
 use Rattle.channel_client.specs.declared.answers.Taken.TheVariants as taken
 use Rattle.channel_client.specs.Machine.{can_start, lose_of, needs_challenge, start_of, take_of}
@@ -113,10 +114,6 @@ abbrev pub DeskPart : Type 0 → (Bool → Holds) → Result (Part Desk) StepRef
 DeskPart P G (Err why) = Unit {0}
 DeskPart P G (Ok part) = DeskFine P G part.value
 
-abbrev pub LaterUnits : Type 0 → Holds → List (List ℕ) → Option UnitRefused → Type 0
-LaterUnits P K units why =
-    (at : AtLink) (talk : Talk) (left : List (List ℕ)) → K at.logons at.actions → (P → HoldsRequests talk.phase) → LinkPart P K (served_by link_server units why at talk left)
-
 abbrev pub LaterTurn : Type 0 → (List RpcUnit → Holds) → Holds → List (List ℕ) → Option UnitRefused → Type 0
 LaterTurn P T K units why =
     (at : AtTurn) (talk : TurnTalk) (left : List (List ℕ)) → T (whole_units units talk.joiner) at.work.logons at.work.actions → (P → HoldRequests at.work.links) →
@@ -197,22 +194,12 @@ module _ (P : Type 0) (K : Holds) (rules : LinkRules K) where
   unit_part true how bytes joiner at left good holds = first_part (unit_of bytes) joiner at left good
   unit_part false how bytes joiner at left good holds = bound_fine P K rules how bytes joiner at good holds
 
-  unit_said : (units : List (List ℕ)) (why : Option UnitRefused) (at : AtLink) (said : Option Talk) (left : List (List ℕ)) → LaterUnits P K units why →
-      K at.logons at.actions → (P → HoldsAfter said) → LinkPart P K (then_talk at said left (λ later talk rest. served_by link_server units why later talk rest))
-  unit_said units why at None left later good holds = record { good = good; holds = λ p. tt }
-  unit_said units why at (Some talk) left later good holds = later at talk left good holds
-
-  unit_open : (part : ServedPart AtLink Talk) (units : List (List ℕ)) (why : Option UnitRefused) → LaterUnits P K units why → LinkPart P K part →
-      LinkPart P K (then_open part (λ later talk rest. served_by link_server units why later talk rest))
-  unit_open (Err refusal) units why later fine = tt
-  unit_open (Ok part) units why later fine = unit_said units why part.value.0 part.value.1 part.left later fine.good fine.holds
-
-  units_part : (units : List (List ℕ)) (why : Option UnitRefused) → LaterUnits P K units why
-  units_part [] None at talk left good holds = record { good = good; holds = holds }
-  units_part [] (Some why) at talk left good holds = shut_fine P K rules close.BadUnit at good
-  units_part (bytes ∷ units) why at talk left good holds =
-      unit_open (unit_by (is_fresh talk.phase) talk.phase bytes talk.joiner at left) units why (units_part units why)
-      (unit_part (is_fresh talk.phase) talk.phase bytes talk.joiner at left good holds)
+  units_stay : StaysServing link_server (LinkPart P K)
+  units_stay = record {
+    spent = λ why. tt;
+    unit = λ bytes at talk left fine. unit_part (is_fresh talk.phase) talk.phase bytes talk.joiner at left fine.good fine.holds;
+    refusal = λ why at talk left fine. shut_fine P K rules close.BadUnit at fine.good;
+  }
 
 -- ---- the link of the turn
 
@@ -307,7 +294,8 @@ module _ (P : Type 0) (T : List RpcUnit → Holds) (G : Bool → Holds) (rules :
       (P → HoldsRequests talk.phase) → (P → HoldRequests w.links) → DeskPart P G (serve_alone cut number talk how w left)
   alone_fine cut number talk how w left good holds all =
       after_fine (served_by link_server cut.units cut.refused (at_link number w) talk left) cut.rest number how w
-      (units_part P (G (is_dialled how)) (rules.link (is_dialled how)) cut.units cut.refused (at_link number w) talk left good holds) all
+      (served_stays link_server (LinkPart P (G (is_dialled how))) (units_stay P (G (is_dialled how)) (rules.link (is_dialled how))) cut (at_link number w) talk left
+      (record { good = good; holds = holds })) all
 
   on_link_fine : (found : Option (LinkState Talk)) (number : ℕ) (piece : List ℕ) (how : Dialling) (w : Work) (left : List (List ℕ)) → lookup same_number number w.links ≡ found →
       G (is_dialled how) w.logons w.actions → (P → HoldRequests w.links) → DeskPart P G (bytes_on_link found number piece how w left)

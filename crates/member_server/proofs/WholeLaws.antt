@@ -32,7 +32,8 @@ use Rattle.rpc_units.specs.Stream.{Cut, cut_stream}
 use Rattle.logon_stubs.specs.Ranges.{IsBlock}
 use Rattle.end_links.specs.Links.{LinkState}
 use Rattle.end_links.specs.Sending.{joined_frames}
-use Rattle.end_links.specs.Serving.{ServedPart, served_by, then_talk}
+use Rattle.end_links.specs.Serving.{ServedPart, served_by}
+use Rattle.end_links.proofs.KeepLaws.{StaysServing, served_among, served_stays}
 use Rattle.end_links.proofs.WholeLaws.{cut_bytes}
 use Rattle.end_loop.specs.Runs.{actions_of}
 use Rattle.channel_client.specs.declared.answers.Taken.{Taken}
@@ -62,7 +63,7 @@ use Rattle.member_server.specs.Turns.{Desk, break_turn, dial_by, dial_for, do_ta
 use Rattle.member_server.specs.Units.{link_server, serve_held}
 use Rattle.member_server.specs.Whole.{AcceptedUnlessStopped, AreChallenges, InRangeDialling, InRangeEvent, InRangeLink, InRangeLinks, InRangePhase, InRangeRunning, InRangeUnlessStopped, IsAccepted, IsAcceptedAfter, IsSentOn, IsTurnLink, MembersSendWhole, link_of_turn, opened_link}
 use Rattle.member_server.specs.Work.{Served}
-use Rattle.member_server.proofs.WholeUnits.{AtFits, LinkPartFits, SaidFits, held_fits, told_fits, units_fit}
+use Rattle.member_server.proofs.WholeUnits.{AtFits, LinkPartFits, SaidFits, held_fits, told_fits, units_stay}
 
 -- ---- links, each with its number
 
@@ -165,11 +166,7 @@ pub record TurnFits (First Second : ℕ → Type 0) (at : AtTurn) : Type 0 where
 
 abbrev pub TurnPartFits : (ℕ → Type 0) → (ℕ → Type 0) → ServedPart AtTurn TurnTalk → Type 0
 TurnPartFits First Second (Err why) = Unit {0}
-TurnPartFits First Second (Ok part) = WorkFits First Second part.value.0.work × AreChallenges part.left
-
-abbrev pub LaterTurnFits : (ℕ → Type 0) → (ℕ → Type 0) → List (List ℕ) → Option UnitRefused → Type 0
-LaterTurnFits First Second units why =
-    (at : AtTurn) (talk : TurnTalk) (left : List (List ℕ)) → TurnFits First Second at → AreChallenges left → TurnPartFits First Second (served_by turn_server units why at talk left)
+TurnPartFits First Second (Ok part) = TurnFits First Second part.value.0 × AreChallenges part.left
 
 phase_fits : (how : Ending) (logon : Logon) (bound : Bound) → InRangePhase (phase_after how logon bound)
 phase_fits (ending.Granted info) logon bound = tt
@@ -304,17 +301,12 @@ module _ (First Second Third : ℕ → Type 0) (early : (number : ℕ) → First
   turn_fits (Err why) joiner at fits = record { own = fits.own; work = break_fits close.BadUnit at fits.work }
   turn_fits (Ok unit) joiner at fits = join_fits (answer_of joiner unit) (open_after joiner unit) at fits
 
-  turn_said : (units : List (List ℕ)) (why : Option UnitRefused) (at : AtTurn) (said : Option TurnTalk) (left : List (List ℕ)) → LaterTurnFits First Second units why →
-      TurnFits First Second at → AreChallenges left → TurnPartFits First Second (then_talk at said left (λ later talk rest. served_by turn_server units why later talk rest))
-  turn_said units why at None left later fits all = (fits.work, all)
-  turn_said units why at (Some talk) left later fits all = later at talk left fits all
-
-  turn_units : (units : List (List ℕ)) (why : Option UnitRefused) → LaterTurnFits First Second units why
-  turn_units [] None at talk left fits all = (fits.work, all)
-  turn_units [] (Some why) at talk left fits all = (break_fits close.BadUnit at fits.work, all)
-  turn_units (bytes ∷ units) why at talk left fits all =
-      let served : AtTurn × Option TurnTalk = turn_unit (unit_of bytes) talk.joiner at in
-      turn_said units why served.0 served.1 left (turn_units units why) (turn_fits (unit_of bytes) talk.joiner at fits) all
+  turns_stay : StaysServing turn_server (TurnPartFits First Second)
+  turns_stay = record {
+    spent = λ why. tt;
+    unit = λ bytes at talk left fits. (turn_fits (unit_of bytes) talk.joiner at fits.0, fits.1);
+    refusal = λ why at talk left fits. (record { own = fits.0.own; work = break_fits close.BadUnit at fits.0.work }, fits.1);
+  }
 
   turn_kept : (said : Option TurnTalk) (rest : List ℕ) (number : ℕ) → InRangeDialling (keep_turn said rest number)
   turn_kept None rest number = tt
@@ -323,13 +315,13 @@ module _ (First Second Third : ℕ → Type 0) (early : (number : ℕ) → First
   turn_done : (part : ServedPart AtTurn TurnTalk) (rest : List ℕ) (number : ℕ) → TurnPartFits First Second part → DeskPartFits First Second Third (after_turn part rest number)
   turn_done (Err why) rest number fits = tt
   turn_done (Ok part) rest number fits =
-      (desk_of part.value.0.work (keep_turn part.value.1 rest number) fits.0 (turn_kept part.value.1 rest number), fits.1)
+      (desk_of part.value.0.work (keep_turn part.value.1 rest number) fits.0.work (turn_kept part.value.1 rest number), fits.1)
 
   dialled_fits : (cut : Cut) (number : ℕ) (talk : TurnTalk) (w : Work) (left : List (List ℕ)) → Second number → WorkFits First Second w → AreChallenges left →
       DeskPartFits First Second Third (serve_dialled cut number talk w left)
   dialled_fits cut number talk w left own fits all =
       turn_done (served_by turn_server cut.units cut.refused (at_turn number w) talk left) cut.rest number
-      (turn_units cut.units cut.refused (at_turn number w) talk left (record { own = own; work = fits }) all)
+      (served_stays turn_server (TurnPartFits First Second) turns_stay cut (at_turn number w) talk left (record { own = own; work = fits }, all))
 
   -- ---- bytes on an accepted link
 
@@ -346,7 +338,8 @@ module _ (First Second Third : ℕ → Type 0) (early : (number : ℕ) → First
       InRangePhase talk.phase → WorkFits First Second w → InRangeDialling how → AreChallenges left → DeskPartFits First Second Third (serve_alone cut number talk how w left)
   alone_fits cut number talk how w left own bytes phase_range fits range all =
       after_fits (served_by link_server cut.units cut.refused (at_link number w) talk left) cut.rest number how w own bytes.1
-      (units_fit First Second cut.units cut.refused bytes.0 (at_link number w) talk left (record { own = own; channel = fits.channel; sends = fits.sends }) phase_range all)
+      (served_among link_server AreBytes (LinkPartFits First Second) (units_stay First Second) cut (at_link number w) talk left bytes.0
+      (record { at = record { own = own; channel = fits.channel; sends = fits.sends }; said = phase_range }, all))
       fits.links range
 
   on_link_fits : (found : Option (LinkState Talk)) (number : ℕ) (piece : List ℕ) (how : Dialling) (w : Work) (left : List (List ℕ)) → lookup same_number number w.links ≡ found →

@@ -32,7 +32,8 @@ use Rattle.logon_stubs.specs.Ranges.{IsBlock}
 use Rattle.end_links.specs.Agreed.{accepts}
 use Rattle.end_links.specs.Sending.{fault_of, response_of}
 use Rattle.end_links.specs.Binding.{nak_of}
-use Rattle.end_links.specs.Serving.{ServedPart, served_by, then_open, then_talk}
+use Rattle.end_links.specs.Serving.{ServedPart}
+use Rattle.end_links.proofs.KeepLaws.{StaysAmong}
 use Rattle.channel_client.specs.declared.answers.AskRefused.{AskRefused}
 use Rattle.channel_client.specs.declared.answers.AskRefused.TheVariants as ask_refused
 use Rattle.channel_client.specs.Machine.{ask_of}
@@ -83,11 +84,6 @@ LinkPartFits First Second (Ok part) = ServedFits First Second part.value × AreC
 
 abbrev pub LaterFits : (ℕ → Type 0) → (ℕ → Type 0) → List (List ℕ) → Type 0
 LaterFits First Second units = (at : AtLink) (talk : Talk) → AtFits First Second at → InRangePhase talk.phase → ServedFits First Second (serve_held units at talk)
-
-abbrev pub LaterUnitsFit : (ℕ → Type 0) → (ℕ → Type 0) → List (List ℕ) → Option UnitRefused → Type 0
-LaterUnitsFit First Second units why =
-    (at : AtLink) (talk : Talk) (left : List (List ℕ)) → AtFits First Second at → InRangePhase talk.phase → AreChallenges left →
-    LinkPartFits First Second (served_by link_server units why at talk left)
 
 more_bytes : (held : List (List ℕ)) (bytes : List ℕ) → AllByRecursion AreBytes held → AreBytes bytes → AllByRecursion AreBytes (held ++ bytes ∷ [])
 more_bytes [] bytes all are = (are, tt)
@@ -341,20 +337,9 @@ module _ (First Second : ℕ → Type 0) where
   unit_fits true how bytes joiner at left are fits range all = first_fits (unit_of bytes) joiner at left fits all
   unit_fits false how bytes joiner at left are fits range all = (bound_fits how bytes joiner at are fits range, all)
 
-  unit_said : (units : List (List ℕ)) (why : Option UnitRefused) (at : AtLink) (said : Option Talk) (left : List (List ℕ)) → LaterUnitsFit First Second units why →
-      AtFits First Second at → SaidFits said → AreChallenges left →
-      LinkPartFits First Second (then_talk at said left (λ later talk rest. served_by link_server units why later talk rest))
-  unit_said units why at None left later fits range all = (record { at = fits; said = tt }, all)
-  unit_said units why at (Some talk) left later fits range all = later at talk left fits range all
-
-  unit_then : (part : ServedPart AtLink Talk) (units : List (List ℕ)) (why : Option UnitRefused) → LaterUnitsFit First Second units why → LinkPartFits First Second part →
-      LinkPartFits First Second (then_open part (λ later talk rest. served_by link_server units why later talk rest))
-  unit_then (Err refusal) units why later fits = tt
-  unit_then (Ok part) units why later fits = unit_said units why part.value.0 part.value.1 part.left later fits.0.at fits.0.said fits.1
-
-  pub units_fit : (units : List (List ℕ)) (why : Option UnitRefused) → AllByRecursion AreBytes units → LaterUnitsFit First Second units why
-  units_fit [] None bytes at talk left fits range all = (record { at = fits; said = range }, all)
-  units_fit [] (Some why) bytes at talk left fits range all = (shut_fits close.BadUnit at fits, all)
-  units_fit (one ∷ units) why bytes at talk left fits range all =
-      unit_then (unit_by (is_fresh talk.phase) talk.phase one talk.joiner at left) units why (units_fit units why bytes.1)
-      (unit_fits (is_fresh talk.phase) talk.phase one talk.joiner at left bytes.0 fits range all)
+  pub units_stay : StaysAmong link_server AreBytes (LinkPartFits First Second)
+  units_stay = record {
+    spent = λ why. tt;
+    unit = λ bytes at talk left are fits. unit_fits (is_fresh talk.phase) talk.phase bytes talk.joiner at left are fits.0.at fits.0.said fits.1;
+    refusal = λ why at talk left fits. (shut_fits close.BadUnit at fits.0.at, fits.1);
+  }

@@ -34,7 +34,8 @@ use Rattle.rpc_units.specs.Writing.{written}
 use Rattle.end_links.specs.Binding.{limit_of}
 use Rattle.end_links.specs.Links.{LinkState}
 use Rattle.end_links.specs.Sending.{request_of}
-use Rattle.end_links.specs.Serving.{ServedPart, served_by, then_open, then_talk}
+use Rattle.end_links.specs.Serving.{ServedPart, served_by, then_open, then_talk, ServedUnit, served_units, units_then}
+use Rattle.end_links.specs.Serving as served
 use Rattle.logon_client.specs.Answering.{answer_of, auth3_by, auth3_unit, bytes_if, drawn_for, is_enough}
 use Rattle.logon_client.specs.Machine.{actions_after, after_stream, answers_by, answers_part, asks, by_piece, client_server, closed_with, done, echo_bytes, echo_number, echo_opnum, fails, halted, hear, hear_ack, hear_body, hear_body_opened, hear_call, hear_challenge, hear_echo, hear_echo_by, hear_flags, hear_fragment, hear_joined, hear_name, hear_name_by, hear_opened, hear_pairs, hear_reply, hear_response, hear_result, hear_secured, hear_trailer, hear_unit, hear_unit_opened, fault_outcome, outcome_of, asks_echo, serve_heard, standing_by, state_after, step_of, terms_of, told, who_number, who_opnum, work_of}
 use Rattle.logon_client.specs.Plans.{is_sealed, offer_of}
@@ -63,8 +64,7 @@ use Rattle.step_notes.specs.ChannelNames.{ClientsWriteDownWhatTheySend, IsKeptOf
 use Rattle.step_notes.specs.ClientNotes.{ClientAt, made_by, made_heard, made_note, made_of, units_if, units_of_client}
 use Rattle.step_notes.specs.MemberNotes.{message_in}
 use Rattle.step_notes.specs.Records.{MessageMade}
-use Rattle.step_notes.specs.Served.{ServedUnit, served_units, units_if_taken, units_then}
-use Rattle.step_notes.specs.Served as served
+use Rattle.step_notes.specs.Served.{units_if_taken}
 
 -- ---- what is sent
 

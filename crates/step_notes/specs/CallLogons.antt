@@ -15,6 +15,7 @@ use Rattle.logon_stubs.specs.declared.calls.Call.TheVariants as call
 use Rattle.logon_stubs.specs.declared.calls.LogonCall.{LogonCall}
 use Rattle.logon_stubs.specs.declared.info.NetworkInfo.{NetworkInfo}
 use Rattle.end_links.specs.Sending.{joined_frames}
+use Rattle.end_links.specs.Serving.{ServedUnit}
 use Rattle.channel_client.specs.Effects.{IsCoherent, seed_in, step_in}
 use Rattle.channel_client.specs.Machine.{logon_call}
 use Rattle.channel_client.specs.Opened.{OpenState, after_call}
@@ -39,7 +40,7 @@ use Rattle.member_server.specs.declared.state.TurnTalk.{TurnTalk}
 use Rattle.channel_events.specs.Marks.{Calling, Mark}
 use Rattle.step_notes.specs.ChannelNames.{AreFramesOf}
 use Rattle.step_notes.specs.MemberNotes.{TurnNote, turn_note, turn_units}
-use Rattle.step_notes.specs.Served.{ServedUnit, work_after}
+use Rattle.step_notes.specs.Served.{work_after}
 
 -- ---- what a member keeps
 

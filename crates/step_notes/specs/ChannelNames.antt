@@ -25,6 +25,7 @@ use Rattle.account_table.specs.LookUps.{knows_in}
 use Rattle.account_table.specs.declared.account.Account.{Account}
 use Rattle.end_links.specs.Links.{LinkState}
 use Rattle.end_links.specs.Sending.{frames_of, request_of}
+use Rattle.end_links.specs.Serving.{ServedUnit}
 use Rattle.channel_client.specs.Effects.{stands_in, step_in}
 use Rattle.channel_client.specs.Machine.{ask_of, auth_call, can_start, challenge_call, hear as hear_reply, lose_of, start_of, take_of}
 use Rattle.channel_client.specs.State.{Requester}
@@ -68,7 +69,7 @@ use Rattle.step_notes.specs.ControllerNotes.{Where, answer_on, call_answer, chan
 use Rattle.step_notes.specs.Marking.{answered_marks, clashes, sent_channel}
 use Rattle.step_notes.specs.MemberNotes.{TurnNote, half_channel, request_note, taking_note, turn_note}
 use Rattle.step_notes.specs.Records.{Judging, MessageMade, Sent, timestamp_in}
-use Rattle.step_notes.specs.Served.{ServedUnit, talk_after, work_after}
+use Rattle.step_notes.specs.Served.{talk_after, work_after}
 
 -- ---- at a member
 

@@ -10,6 +10,7 @@ use Rattle.outside.specs.declared.event.Event.TheVariants as event
 use Rattle.outside.specs.Machine.{Part}
 use Rattle.rpc_units.specs.Stream.{cut_stream}
 use Rattle.end_links.specs.Links.{LinkState}
+use Rattle.end_links.specs.Serving.{ServedUnit, served_units}
 use Rattle.logon_client.specs.Answering.{drawn_for, answer_of}
 use Rattle.logon_client.specs.Machine.{client_server, hear, step_of, work_of}
 use Rattle.logon_client.specs.State.{State as ClientState}
@@ -27,7 +28,7 @@ use Rattle.logon_client.specs.declared.state.Talk.{Talk}
 use Rattle.logon_client.specs.declared.state.Work.{Work}
 use Rattle.step_notes.specs.MemberNotes.{message_in}
 use Rattle.step_notes.specs.Records.{MessageMade}
-use Rattle.step_notes.specs.Served.{ServedUnit, served_units, units_if_taken}
+use Rattle.step_notes.specs.Served.{units_if_taken}
 
 -- ---- the units
 

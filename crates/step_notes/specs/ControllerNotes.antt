@@ -19,6 +19,7 @@ use Rattle.logon_stubs.specs.declared.calls.LogonCall.{LogonCall}
 use Rattle.account_table.specs.declared.account.Account.{Account}
 use Rattle.rpc_units.specs.Stream.{cut_stream}
 use Rattle.end_links.specs.Links.{LinkState}
+use Rattle.end_links.specs.Serving.{ServedUnit, served_units}
 use Rattle.domain_controller.specs.Channels.{ChannelState, key_of_channel}
 use Rattle.domain_controller.specs.Hearing.{hear}
 use Rattle.domain_controller.specs.Laws.{is_passed}
@@ -34,7 +35,7 @@ use Rattle.domain_controller.specs.declared.state.Running.{Running}
 use Rattle.domain_controller.specs.declared.state.Talk.{Talk}
 use Rattle.channel_events.specs.Marks.{Mark, Plain, Opened, ReplyTo}
 use Rattle.step_notes.specs.Records.{Judging}
-use Rattle.step_notes.specs.Served.{ServedUnit, served_units, units_if_taken, work_after}
+use Rattle.step_notes.specs.Served.{units_if_taken, work_after}
 
 -- ---- the units
 

@@ -15,6 +15,7 @@ use Rattle.outside.specs.declared.event.Event.TheVariants as event
 use Rattle.logon_stubs.specs.declared.calls.Call.TheVariants as call
 use Rattle.wire_base.specs.declared.authenticator.Authenticator.{Authenticator}
 use Rattle.end_links.specs.Links.{LinkState}
+use Rattle.end_links.specs.Serving.{ServedUnit, served_units}
 use Rattle.channel_client.specs.Effects.{channel_of, stands_in, step_in}
 use Rattle.channel_client.specs.Machine.{Taking, offered_flags, place_of, take_of}
 use Rattle.channel_client.specs.State.{Requester}
@@ -45,7 +46,7 @@ use Rattle.member_server.specs.declared.state.Talk.{Talk}
 use Rattle.member_server.specs.declared.state.TurnTalk.{TurnTalk}
 use Rattle.channel_events.specs.Marks.{Mark, Plain, Opening, Calling}
 use Rattle.step_notes.specs.Records.{ChallengeSent, LogonTurn, MessageTaken, timestamp_in}
-use Rattle.step_notes.specs.Served.{ServedUnit, served_units, talk_after, units_if_taken, work_after}
+use Rattle.step_notes.specs.Served.{talk_after, units_if_taken, work_after}
 
 -- ---- the units of the link of the turn
 

@@ -6,6 +6,7 @@ use Rattle.std.specs.List.{AllByRecursion}
 use Rattle.wire_base.specs.Maps.{lookup}
 use Rattle.wire_base.specs.Names.{same_name}
 use Rattle.rc4_stream.specs.Rc4.{applied}
+use Rattle.end_links.specs.Serving.{ServedUnit}
 use Rattle.channel_client.specs.Opened.{OpenState, open_key}
 use Rattle.domain_controller.specs.Channels.{ChannelState, key_of_channel}
 use Rattle.logon_client.specs.State.{State as ClientState}
@@ -16,7 +17,6 @@ use Rattle.step_notes.specs.ControllerNotes.{channel_by, channel_in, has_passed}
 use Rattle.step_notes.specs.Judged.{base_key_asked, channel_if}
 use Rattle.step_notes.specs.MemberNotes.{turn_note, turn_units}
 use Rattle.step_notes.specs.Records.{Book, Judging}
-use Rattle.step_notes.specs.Served.{ServedUnit}
 use Rattle.world_moves.specs.declared.bag.BagUnit.{BagUnit}
 use Rattle.world_moves.specs.declared.links.EndId.{EndId}
 use Rattle.world_moves.specs.declared.links.EndId.TheVariants.{Client, Controller, Member}

@@ -19,6 +19,7 @@ use Rattle.logon_stubs.specs.declared.calls.Call.{Call}
 use Rattle.logon_stubs.specs.declared.calls.Reply.{Reply}
 use Rattle.logon_stubs.specs.declared.info.NetworkInfo.{NetworkInfo}
 use Rattle.end_links.specs.Links.{LinkState}
+use Rattle.end_links.specs.Serving.{ServedUnit, served_units}
 use Rattle.channel_client.specs.Machine.{Taking, question_of, take_of, wait_for}
 use Rattle.channel_client.specs.declared.caller.Caller.{Caller}
 use Rattle.channel_client.specs.declared.state.Question.{Question}
@@ -37,7 +38,7 @@ use Rattle.member_server.specs.declared.state.TurnTalk.{TurnTalk}
 use Rattle.step_notes.specs.Marking.{clashes}
 use Rattle.step_notes.specs.MemberNotes.{TurnNote, asked_note, taking_at, taking_joined, taking_note, taking_read, turn_note, turn_units, turn_units_by}
 use Rattle.step_notes.specs.Records.{Sent}
-use Rattle.step_notes.specs.Served.{ServedUnit, served_units, units_if_taken}
+use Rattle.step_notes.specs.Served.{units_if_taken}
 use Rattle.step_notes.specs.TakenWhole.{TakesWhole}
 use Rattle.step_notes.proofs.Members.TurnHeardLaws.{members_take}
 use Rattle.domain_world.proofs.Frames.MarkPlaceLaws.{all_push}

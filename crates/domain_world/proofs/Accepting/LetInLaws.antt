@@ -12,6 +12,7 @@ use Rattle.outside.specs.declared.action.StepRefused.{StepRefused}
 use Rattle.outside.specs.declared.event.Event.TheVariants as event
 use Rattle.logon_stubs.specs.declared.info.Verdict.TheVariants as verdict
 use Rattle.end_links.specs.Links.{LinkState}
+use Rattle.end_links.specs.Serving.{ServedUnit}
 use Rattle.domain_controller.specs.State.{State as ControllerState}
 use Rattle.logon_client.specs.State.{State as ClientState}
 use Rattle.rpc_units.specs.declared.unit.Unit.{Unit as RpcUnit}
@@ -30,7 +31,7 @@ use Rattle.member_server.specs.declared.state.TurnTalk.{TurnTalk}
 use Rattle.channel_events.specs.Marks.{OneOf}
 use Rattle.step_notes.specs.MemberNotes.{link_units, message_note, taken_link, turn_units, turn_units_by, turn_units_in, turn_units_on}
 use Rattle.step_notes.specs.Records.{Book, MessageTaken, OutcomeTold, blank}
-use Rattle.step_notes.specs.Served.{ServedUnit, units_if_taken}
+use Rattle.step_notes.specs.Served.{units_if_taken}
 use Rattle.world_moves.specs.declared.links.EndId.{EndId}
 use Rattle.world_moves.specs.declared.links.EndId.TheVariants.{Controller, Member, Client}
 use Rattle.world_moves.specs.declared.links.Route.{Route}

@@ -5,6 +5,7 @@ use Rattle.std.specs.Prelude.{AllPairs, flat_map}
 use Rattle.std.specs.List.{AllByRecursion}
 use Rattle.std.proofs.lemmas.List.Elements.{recursion_from_All}
 use Rattle.wire_base.specs.Maps.{lookup, same_number}
+use Rattle.end_links.specs.Serving.{ServedUnit}
 use Rattle.logon_client.specs.State.{State as ClientState}
 use Rattle.domain_controller.specs.State.{State as ControllerState}
 use Rattle.member_server.specs.State.{State as MemberState}
@@ -18,7 +19,7 @@ use Rattle.member_server.specs.declared.state.Talk.{Talk}
 use Rattle.member_server.specs.declared.state.TurnTalk.{TurnTalk}
 use Rattle.step_notes.specs.MemberNotes.{LinkAt, is_challenged, link_if, link_of_place, link_units, message_after, message_at, message_by, message_kept, message_note, taken_after, taken_by, taken_link, turn_units, TurnNote}
 use Rattle.step_notes.specs.Records.{Book, MessageTaken}
-use Rattle.step_notes.specs.Served.{ServedUnit, work_after, talk_after}
+use Rattle.step_notes.specs.Served.{work_after, talk_after}
 use Rattle.world_moves.specs.declared.links.EndId.{EndId}
 use Rattle.world_moves.specs.declared.links.EndId.TheVariants.{Controller, Member, Client}
 use Rattle.world_moves.specs.declared.moves.Move.{Move}

@@ -13,6 +13,7 @@ use Rattle.outside.specs.declared.event.Event.{Event}
 use Rattle.outside.specs.declared.event.Event.TheVariants as event
 use Rattle.outside.specs.Drawing.{Drawing}
 use Rattle.outside.specs.Machine.{Stepped}
+use Rattle.end_links.specs.Serving.{ServedUnit}
 use Rattle.domain_controller.specs.State.{State as ControllerState}
 use Rattle.domain_controller.specs.Step.{step_of as controller_step_of}
 use Rattle.logon_client.specs.State.{State as ClientState}
@@ -28,7 +29,6 @@ use Rattle.member_server.specs.State.{State as MemberState}
 use Rattle.channel_events.specs.Marks.{OneOf}
 use Rattle.step_notes.specs.MemberNotes.{LinkAt, TurnNote, challenge_note, link_of_place, link_units, message_note, taken_link, turn_units}
 use Rattle.step_notes.specs.Records.{Book, ChallengeSent, MessageTaken, blank}
-use Rattle.step_notes.specs.Served.{ServedUnit}
 use Rattle.world_moves.specs.declared.links.EndId.{EndId}
 use Rattle.world_moves.specs.declared.links.EndId.TheVariants.{Controller, Member, Client}
 use Rattle.world_moves.specs.declared.links.Route.{Route}

@@ -28,7 +28,7 @@ use Rattle.rpc_units.specs.declared.unit.Unit.{Unit as RpcUnit}
 use Rattle.rpc_units.specs.Reading.{unit_of}
 use Rattle.rpc_units.specs.Stream.{Cut, cut_stream}
 use Rattle.end_links.specs.Links.{LinkState}
-use Rattle.end_links.specs.Serving.{ServedPart, served_by, then_open, then_talk}
+use Rattle.end_links.specs.Serving.{ServedPart, served_by, then_open, then_talk, ServedUnit, served_units, units_on, units_then}
 use Rattle.end_links.proofs.ServingLaws.{units_served}
 use Rattle.channel_client.specs.declared.answers.AskRefused.{AskRefused}
 use Rattle.channel_client.specs.declared.answers.AskRefused.TheVariants as ask_refused
@@ -58,7 +58,7 @@ use Rattle.member_server.specs.Work.{Served}
 use Rattle.channel_events.specs.Marks.{OneOf}
 use Rattle.step_notes.specs.MemberNotes.{LinkAt, challenge_after, challenge_by, challenge_in, challenge_note, is_challenged, link_if, link_units, link_units_in, link_units_by, link_units_on, is_turn_link, message_after, message_at, message_by, message_kept, message_note, next_draw, taken_after, taken_by, taken_link}
 use Rattle.step_notes.specs.Records.{ChallengeSent, MessageTaken}
-use Rattle.step_notes.specs.Served.{ServedUnit, served_units, talk_after, units_if_taken, units_on, units_then, work_after}
+use Rattle.step_notes.specs.Served.{talk_after, units_if_taken, work_after}
 use Rattle.world_moves.specs.declared.links.EndId.TheVariants.{Member}
 use Rattle.world_moves.specs.declared.links.Route.{Route}
 use Rattle.world_moves.specs.Links.{acceptor_of}

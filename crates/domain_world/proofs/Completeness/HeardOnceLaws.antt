@@ -25,7 +25,7 @@ use Rattle.logon_stubs.proofs.WrittenLaws.{call_of-written_call}
 use Rattle.account_table.specs.AccountTable.{AccountTable}
 use Rattle.end_links.specs.Binding.{bind_of}
 use Rattle.end_links.specs.Links.{LinkState}
-use Rattle.end_links.specs.Serving.{IsFragmentOf, ServedPart, Server}
+use Rattle.end_links.specs.Serving.{IsFragmentOf, ServedPart, Server, ServedUnit, served_units, units_on, units_then}
 use Rattle.channel_client.specs.Machine.{netlogon_syntax}
 use Rattle.channel_events.specs.Marks.{Plain}
 use Rattle.domain_controller.specs.Hearing.{bound_talk, first_talk, hear, hear_joined, hear_opnum, hear_read, hear_stub}
@@ -39,7 +39,7 @@ use Rattle.domain_controller.specs.declared.state.Talk.{Talk}
 use Rattle.step_notes.specs.ControllerNotes.{Answered, Where, answer_on, call_answer, heard_answer, plain, units_at, units_of_controller}
 use Rattle.step_notes.specs.Marking.{answered_marks, clashes}
 use Rattle.step_notes.specs.Records.{Sent}
-use Rattle.step_notes.specs.Served.{ServedUnit, served_units, units_if_taken, units_on, units_then, work_after}
+use Rattle.step_notes.specs.Served.{units_if_taken, work_after}
 use Rattle.domain_world.specs.Past.{any_clash, judged_of}
 use Rattle.logon_steps.specs.ControllerTurns.{controller_at, one_link, turn_link}
 use Rattle.logon_steps.specs.Turning.{IsTurnCall, turn_agreed, turn_request}

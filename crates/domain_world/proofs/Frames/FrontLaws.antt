@@ -27,7 +27,7 @@ use Rattle.logon_stubs.specs.declared.info.NetworkInfo.{NetworkInfo}
 use Rattle.account_table.specs.LookUps.{knows_in}
 use Rattle.account_table.specs.declared.account.Account.{Account}
 use Rattle.end_links.specs.Links.{LinkState}
-use Rattle.end_links.specs.Serving.{ServedPart, Service, served_by, served_cut, then_open, then_talk}
+use Rattle.end_links.specs.Serving.{ServedPart, Service, served_by, served_cut, then_open, then_talk, ServedUnit}
 use Rattle.domain_controller.specs.Channels.{ChannelState, channel_by as moved_by_call, key_of_channel, passes_on, return_by}
 use Rattle.domain_controller.specs.Hearing.{hear}
 use Rattle.domain_controller.specs.Machine.{Desk, account_for, answer_logon, by_call, by_heard, channel_for, controller_server, desk, draw_challenge, judge_account, judge_channel, judge_offer, judge_pair, judge_return, open_channel, put_channel, put_pair_if, take_channel, take_pair}
@@ -44,7 +44,7 @@ use Rattle.channel_events.specs.Marks.{Mark, Plain}
 use Rattle.step_notes.specs.ChannelNames.{links_sent, sends_in, sent_by}
 use Rattle.step_notes.specs.ControllerNotes.{Where, answer_on, units_by, units_of_controller}
 use Rattle.step_notes.specs.Marking.{answered_marks}
-use Rattle.step_notes.specs.Served.{ServedUnit, units_if_taken}
+use Rattle.step_notes.specs.Served.{units_if_taken}
 use Rattle.world_moves.specs.declared.bag.BagUnit.{BagUnit}
 use Rattle.world_moves.specs.declared.links.EndId.{EndId}
 use Rattle.world_moves.specs.declared.links.EndId.TheVariants.{Controller}

@@ -2,11 +2,11 @@
 -- them. They change messages and the clash alone, so each other part of the book stays.
 -- It serves `controllers_pass_the_next`, `members_let_in_who_asked`, `runs_are_heard` and others.
 use Rattle.std.proofs.Common.{◌≡◌, ℕ, List, [], ◌∷◌, Option, refl, ◌∙◌}
+use Rattle.end_links.specs.Serving.{ServedUnit}
 use Rattle.member_server.specs.declared.state.AtTurn.{AtTurn}
 use Rattle.member_server.specs.declared.state.TurnTalk.{TurnTalk}
 use Rattle.step_notes.specs.MemberNotes.{TurnNote, turn_note}
 use Rattle.step_notes.specs.Records.{Book}
-use Rattle.step_notes.specs.Served.{ServedUnit}
 use Rattle.domain_world.specs.Past.{first_of, later_of, note_turn, note_turns}
 
 module _ (Holds : Book → Type 0) (unit : Option ℕ)

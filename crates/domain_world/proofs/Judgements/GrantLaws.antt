@@ -20,7 +20,7 @@ use Rattle.account_table.specs.AccountTable.{AccountTable}
 use Rattle.account_table.specs.Changes.{DifferInCounts}
 use Rattle.account_table.proofs.ChangeLaws.{differs-again, differs-none}
 use Rattle.end_links.specs.Links.{LinkState}
-use Rattle.end_links.specs.Serving.{ServedPart}
+use Rattle.end_links.specs.Serving.{ServedPart, ServedUnit, served_units, units_on, units_then}
 use Rattle.domain_controller.specs.Channels.{ChannelState, key_of_channel, channel_by, passes_on, return_by}
 use Rattle.domain_controller.specs.Hearing.{hear}
 use Rattle.domain_controller.proofs.CountLaws.{PartCounts, counts_by_verdict, heard-differs, part-differs}
@@ -36,7 +36,6 @@ use Rattle.member_server.specs.State.{State as MemberState}
 use Rattle.step_notes.specs.ControllerNotes.{Answered, Where, answer_on, has_passed, judged_in, units_at, units_by, units_of_controller}
 use Rattle.step_notes.specs.Judged.{IsJudgedRight}
 use Rattle.step_notes.specs.Records.{Book, Judging}
-use Rattle.step_notes.specs.Served.{ServedUnit, served_units, units_on, units_then}
 use Rattle.world_moves.specs.declared.links.EndId.{EndId}
 use Rattle.world_moves.specs.declared.links.EndId.TheVariants.{Controller, Member, Client}
 use Rattle.world_moves.specs.declared.links.Route.{Route}

@@ -6,6 +6,7 @@ use Rattle.authenticators.specs.Channels.{Channel}
 use Rattle.outside.specs.declared.action.Action.{Action}
 use Rattle.outside.specs.declared.action.StepRefused.{StepRefused}
 use Rattle.outside.specs.declared.event.Event.TheVariants as event
+use Rattle.end_links.specs.Serving.{ServedUnit}
 use Rattle.channel_client.specs.Effects.{step_in}
 use Rattle.channel_client.specs.Machine.{Taking}
 use Rattle.channel_client.specs.State.{Requester}
@@ -29,7 +30,6 @@ use Rattle.step_notes.specs.Marking.{answered_marks, mark_if, turn_marks}
 use Rattle.step_notes.specs.MemberNotes.{asked_note, taken_note, taking_at, taking_note, turn_note, turn_units}
 use Rattle.step_notes.specs.Records.{Book, Judging}
 use Rattle.step_notes.specs.ReplySends.{AreSentFor, CarriesReply, IsReplyOfCall, IsSentIf}
-use Rattle.step_notes.specs.Served.{ServedUnit}
 use Rattle.world_moves.specs.declared.bag.BagUnit.{BagUnit}
 use Rattle.world_moves.specs.declared.links.EndId.{EndId}
 use Rattle.world_moves.specs.declared.links.EndId.TheVariants.{Controller, Member, Client}

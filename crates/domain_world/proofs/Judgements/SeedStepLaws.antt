@@ -18,7 +18,7 @@ use Rattle.logon_stubs.specs.declared.calls.ChallengeCall.{ChallengeCall}
 use Rattle.account_table.specs.AccountTable.{AccountTable}
 use Rattle.account_table.specs.LookUps.{knows_in}
 use Rattle.end_links.specs.Links.{LinkState}
-use Rattle.end_links.specs.Serving.{ServedPart, Service, served_by, served_cut, then_open, then_talk}
+use Rattle.end_links.specs.Serving.{ServedPart, Service, served_by, served_cut, then_open, then_talk, ServedUnit, served_units, units_on, units_then}
 use Rattle.domain_controller.specs.Hearing.{hear}
 use Rattle.domain_controller.specs.Machine.{Desk, account_for, answer_logon, by_heard, controller_server, draw_challenge}
 use Rattle.domain_controller.specs.State.{State as ControllerState}
@@ -32,7 +32,7 @@ use Rattle.domain_controller.specs.declared.state.Talk.{Talk}
 use Rattle.domain_controller.specs.declared.state.Work.{Work}
 use Rattle.step_notes.specs.ControllerNotes.{Answered, Where, answer_on, channel_in, has_passed, heard_answer, judged_in, judging_by, judging_of, new_actions, opened_by, opening, passing, units_at, units_by}
 use Rattle.step_notes.specs.Records.{Judging}
-use Rattle.step_notes.specs.Served.{ServedUnit, served_units, units_if_taken, units_on, units_then, work_after}
+use Rattle.step_notes.specs.Served.{units_if_taken, work_after}
 use Rattle.world_moves.specs.Ends.{EndStates, controller_step}
 use Rattle.domain_world.specs.Claims.{moved_on}
 use Rattle.domain_world.specs.Past.{first_of, judged_of, later_of, onto, with_reply}

@@ -16,7 +16,7 @@ use Rattle.logon_stubs.specs.declared.calls.LogonCall.{LogonCall}
 use Rattle.authenticators.specs.Channels.{Channel}
 use Rattle.account_table.specs.AccountTable.{AccountTable}
 use Rattle.end_links.specs.Links.{LinkState}
-use Rattle.end_links.specs.Serving.{ServedPart, served_by, then_open, then_talk}
+use Rattle.end_links.specs.Serving.{ServedPart, served_by, then_open, then_talk, ServedUnit, served_units, units_on, units_then}
 use Rattle.domain_controller.specs.Hearing.{hear}
 use Rattle.domain_controller.specs.Machine.{Desk, answer_logon, by_heard, controller_server, draw_challenge}
 use Rattle.domain_controller.specs.State.{State as ControllerState}
@@ -32,7 +32,7 @@ use Rattle.member_server.specs.State.{State as MemberState}
 use Rattle.step_notes.specs.ControllerNotes.{Answered, Where, answer_on, channel_in, has_passed, heard_answer, judging_by, judging_of, logon_answer, opened_by, opening, passing, units_at, units_by}
 use Rattle.step_notes.specs.Judged.{IsJudgedRight}
 use Rattle.step_notes.specs.Records.{Book, Judging}
-use Rattle.step_notes.specs.Served.{ServedUnit, served_units, units_if_taken, units_on, units_then, work_after}
+use Rattle.step_notes.specs.Served.{units_if_taken, work_after}
 use Rattle.world_moves.specs.declared.links.EndId.{EndId}
 use Rattle.world_moves.specs.declared.links.EndId.TheVariants.{Controller, Member, Client}
 use Rattle.world_moves.specs.declared.links.Route.{Route}

@@ -10,6 +10,7 @@ use Rattle.outside.specs.declared.event.Event.TheVariants as event
 use Rattle.rpc_units.specs.Calls.{IsHeard}
 use Rattle.rpc_units.specs.declared.unit.Unit.{Unit as RpcUnit}
 use Rattle.end_links.specs.Links.{LinkState}
+use Rattle.end_links.specs.Serving.{ServedUnit}
 use Rattle.channel_events.specs.Marks.{Calling, Mark, Opened, Opening, Plain, ReplyTo}
 use Rattle.channel_events.specs.Requests.{CallsAreApart, IsNoCall}
 use Rattle.channel_events.proofs.ListLaws.{all_weaker, got_append, one_weaker}
@@ -28,7 +29,7 @@ use Rattle.step_notes.specs.ControllerNotes.{units_of_controller}
 use Rattle.step_notes.specs.Marking.{answered_marks, turn_marks}
 use Rattle.step_notes.specs.MemberNotes.{LinkAt, TurnNote, is_turn_link, link_units, message_note, turn_note, turn_units, turn_units_by, turn_units_in, turn_units_on}
 use Rattle.step_notes.specs.Records.{Book, MessageTaken, Sent}
-use Rattle.step_notes.specs.Served.{ServedUnit, units_if_taken}
+use Rattle.step_notes.specs.Served.{units_if_taken}
 use Rattle.step_notes.specs.TakenWhole.{TakesWhole}
 use Rattle.step_notes.proofs.Members.KeptLogonLaws.{one_before}
 use Rattle.step_notes.proofs.Members.RequestOrderLaws.{requests_first}

@@ -24,6 +24,7 @@ use Rattle.logon_stubs.specs.declared.calls.LogonCall.{LogonCall}
 use Rattle.logon_stubs.proofs.WrittenLaws.{call_of-written_call, written_call-content}
 use Rattle.end_links.specs.Links.{LinkState}
 use Rattle.end_links.specs.Sending.{frames_of, joined_frames, request_of}
+use Rattle.end_links.specs.Serving.{ServedUnit, served_units, units_on}
 use Rattle.end_links.proofs.BoundLaws.{frames_joined}
 use Rattle.channel_client.specs.declared.answers.Taken.{Taken}
 use Rattle.channel_client.specs.declared.answers.Taken.TheVariants as taken
@@ -53,7 +54,7 @@ use Rattle.member_server.specs.State.{State as MemberState}
 use Rattle.member_server.specs.Turns.{TurnServed, do_taken, turn_by_join, turn_server, turn_unit}
 use Rattle.step_notes.specs.CallLogons.{AsksForKept, IsStamped, IsStampedStep, info_at}
 use Rattle.step_notes.specs.MemberNotes.{TurnNote, asked_note, taken_note, taking_joined, taking_note, taking_read, turn_note, turn_units, turn_units_by, turn_units_in, turn_units_on}
-use Rattle.step_notes.specs.Served.{ServedUnit, served_units, units_if_taken, units_on, work_after}
+use Rattle.step_notes.specs.Served.{units_if_taken, work_after}
 use Rattle.step_notes.proofs.Channels.ChannelNameLaws.{bound_at}
 use Rattle.step_notes.proofs.Members.CallKeptLaws.{TurnAsksBy, at_channel, turn_asks}
 use Rattle.step_notes.proofs.Members.TurnRequestLaws.{HasLogon, IsOfTurn, asked_after, first_logon, of_turn}

@@ -18,6 +18,7 @@ use Rattle.logon_stubs.specs.declared.calls.Call.TheVariants as call
 use Rattle.logon_stubs.specs.declared.calls.LogonCall.{LogonCall}
 use Rattle.end_links.specs.Links.{LinkState}
 use Rattle.end_links.specs.Sending.{request_of}
+use Rattle.end_links.specs.Serving.{ServedUnit}
 use Rattle.channel_client.specs.Whole.{InRangeRequester}
 use Rattle.domain_controller.specs.State.{State as ControllerState}
 use Rattle.logon_client.specs.State.{State as ClientState}
@@ -39,7 +40,7 @@ use Rattle.channel_events.specs.Marks.{OneOf}
 use Rattle.step_notes.specs.CallLogons.{AreFirst, AsksForKept, IsFirstBy, info_at}
 use Rattle.step_notes.specs.MemberNotes.{LinkAt, TurnNote, is_challenged, link_of_logon, link_of_place, link_units, message_after, message_at, message_by, message_kept, message_note, turn_note, turn_units, turn_units_by, turn_units_in, turn_units_on}
 use Rattle.step_notes.specs.Records.{Book, MessageTaken}
-use Rattle.step_notes.specs.Served.{ServedUnit, talk_after, units_if_taken, work_after}
+use Rattle.step_notes.specs.Served.{talk_after, units_if_taken, work_after}
 use Rattle.world_moves.specs.declared.bag.BagUnit.{BagUnit}
 use Rattle.world_moves.specs.declared.links.EndId.{EndId}
 use Rattle.world_moves.specs.declared.links.EndId.TheVariants.{Controller, Member, Client}

@@ -5,6 +5,7 @@ use Rattle.std.specs.List.{AllByRecursion}
 use Rattle.authenticators.specs.Channels.{Channel}
 use Rattle.logon_stubs.specs.declared.calls.Call.{Call}
 use Rattle.logon_stubs.specs.declared.calls.Call.TheVariants as call
+use Rattle.end_links.specs.Serving.{ServedUnit}
 use Rattle.channel_client.specs.Effects.{step_in}
 use Rattle.channel_client.specs.Machine.{Taking}
 use Rattle.channel_client.specs.State.{Requester}
@@ -28,7 +29,7 @@ use Rattle.step_notes.specs.ControllerNotes.{Where, answer_on, call_answer, chan
 use Rattle.step_notes.specs.Marking.{answered_marks, mark_if, turn_marks}
 use Rattle.step_notes.specs.MemberNotes.{asked_note, taken_note, taking_at, taking_note, turn_note, turn_units}
 use Rattle.step_notes.specs.Records.{Book, Judging}
-use Rattle.step_notes.specs.Served.{ServedUnit, work_after}
+use Rattle.step_notes.specs.Served.{work_after}
 use Rattle.world_moves.specs.declared.bag.BagUnit.{BagUnit}
 use Rattle.world_moves.specs.declared.moves.Move.{Move}
 use Rattle.world_moves.specs.declared.plan.Plan.{Plan}

@@ -4,6 +4,7 @@ use Rattle.std.proofs.Common.{◌≡◌, ℕ, Bool, true, false, List, [], ◌�
 use Rattle.std.specs.Prelude.{flat_map}
 use Rattle.std.specs.List.{AllByRecursion}
 use Rattle.wire_base.specs.Maps.{lookup, same_number}
+use Rattle.end_links.specs.Serving.{ServedUnit}
 use Rattle.member_server.specs.Laws.{is_past}
 use Rattle.member_server.specs.State.{State as MemberState}
 use Rattle.member_server.specs.declared.state.AtLink.{AtLink}
@@ -13,7 +14,7 @@ use Rattle.member_server.specs.declared.state.Phase.TheVariants as phase
 use Rattle.member_server.specs.declared.state.Talk.{Talk}
 use Rattle.step_notes.specs.MemberNotes.{LinkAt, is_challenged, link_units, message_after, message_at, message_by, message_kept, message_note, link_if, taken_after, taken_by, taken_link}
 use Rattle.step_notes.specs.Records.{MessageTaken}
-use Rattle.step_notes.specs.Served.{ServedUnit, talk_after, work_after}
+use Rattle.step_notes.specs.Served.{talk_after, work_after}
 use Rattle.step_notes.proofs.Members.UnservedLaws.{LinksIn, Took, bytes_took}
 use Rattle.world_moves.specs.declared.links.Route.{Route}
 use Rattle.domain_world.proofs.Accepting.LetInStepLaws.{IsAcceptedBy}

@@ -7,6 +7,7 @@ use Rattle.std.specs.List.{AllByRecursion}
 use Rattle.outside.specs.Drawing.{Drawing}
 use Rattle.outside.specs.declared.event.Event.{Event}
 use Rattle.outside.specs.declared.event.Event.TheVariants as event
+use Rattle.end_links.specs.Serving.{ServedUnit}
 use Rattle.domain_controller.specs.State.{State as ControllerState}
 use Rattle.logon_client.specs.State.{State as ClientState}
 use Rattle.member_server.specs.Machine.{fresh_member, step_of}
@@ -21,7 +22,6 @@ use Rattle.channel_events.specs.Marks.{OneOf}
 use Rattle.step_notes.specs.CallLogons.{AsksUnlessStopped}
 use Rattle.step_notes.specs.MemberNotes.{LinkAt, link_of_place, link_units, message_note, taken_link, turn_units}
 use Rattle.step_notes.specs.Records.{Book, MessageTaken}
-use Rattle.step_notes.specs.Served.{ServedUnit}
 use Rattle.world_moves.specs.declared.links.EndId.{EndId}
 use Rattle.world_moves.specs.declared.links.EndId.TheVariants.{Controller, Member, Client}
 use Rattle.world_moves.specs.declared.links.Route.{Route}

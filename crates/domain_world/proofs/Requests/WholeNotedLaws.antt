@@ -12,6 +12,7 @@ use Rattle.rpc_units.specs.Calls.{IsHeard}
 use Rattle.rpc_units.specs.Stream.{cut_stream}
 use Rattle.rpc_units.specs.declared.unit.Unit.{Unit as RpcUnit}
 use Rattle.end_links.specs.Links.{LinkState}
+use Rattle.end_links.specs.Serving.{ServedUnit, served_units}
 use Rattle.channel_client.specs.Machine.{Taking, take_of}
 use Rattle.channel_events.specs.Marks.{Calling, Mark, Opened, Opening, Plain, ReplyTo}
 use Rattle.channel_events.specs.Requests.{IsNoCall}
@@ -27,7 +28,7 @@ use Rattle.step_notes.specs.CallLogons.{AreFirst, IsFirstBy}
 use Rattle.step_notes.specs.Marking.{mark_if, turn_marks}
 use Rattle.step_notes.specs.MemberNotes.{TurnNote, no_note, taking_at, taking_note, turn_note, turn_units_by, turn_units_in, turn_units_on}
 use Rattle.step_notes.specs.Records.{Book, Sent}
-use Rattle.step_notes.specs.Served.{ServedUnit, served_units, units_if_taken, work_after}
+use Rattle.step_notes.specs.Served.{units_if_taken, work_after}
 use Rattle.step_notes.specs.TakenWhole.{TakesWhole}
 use Rattle.step_notes.proofs.Members.TurnHeardLaws.{members_take}
 use Rattle.world_moves.specs.declared.bag.BagUnit.{BagUnit}

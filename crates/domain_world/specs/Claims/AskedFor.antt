@@ -6,6 +6,7 @@ use Rattle.authenticators.specs.Channels.{Channel}
 use Rattle.outside.specs.declared.action.Action.{Action}
 use Rattle.outside.specs.declared.event.Event.TheVariants as event
 use Rattle.end_links.specs.Sending.{joined_frames}
+use Rattle.end_links.specs.Serving.{ServedUnit}
 use Rattle.member_server.specs.Machine.{step_of}
 use Rattle.member_server.specs.State.{State as MemberState}
 use Rattle.member_server.specs.declared.state.AtTurn.{AtTurn}
@@ -18,7 +19,7 @@ use Rattle.step_notes.specs.ChannelNames.{sends_in}
 use Rattle.step_notes.specs.Marking.{turn_marks}
 use Rattle.step_notes.specs.MemberNotes.{turn_note, turn_units}
 use Rattle.step_notes.specs.Records.{MessageTaken}
-use Rattle.step_notes.specs.Served.{ServedUnit, work_after}
+use Rattle.step_notes.specs.Served.{work_after}
 use Rattle.domain_world.specs.Claims.{info_asked}
 use Rattle.domain_world.specs.Past.{Past}
 

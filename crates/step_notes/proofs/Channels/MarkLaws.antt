@@ -37,7 +37,7 @@ use Rattle.account_table.specs.LookUps.{knows_in}
 use Rattle.account_table.specs.declared.account.Account.{Account}
 use Rattle.end_links.specs.Agreed.{Agreed, accepts}
 use Rattle.end_links.specs.Links.{LinkState}
-use Rattle.end_links.specs.Serving.{ServedPart, Service, served_by, served_cut, then_open, then_talk}
+use Rattle.end_links.specs.Serving.{ServedPart, Service, served_by, served_cut, then_open, then_talk, ServedUnit, served_units, units_on, units_then}
 use Rattle.channel_client.specs.Effects.{step_in}
 use Rattle.channel_client.specs.Machine.{take_of}
 use Rattle.channel_client.specs.State.{Requester}
@@ -69,7 +69,7 @@ use Rattle.step_notes.specs.ControllerNotes.{Answered, Where, answer_on, call_an
 use Rattle.step_notes.specs.Marking.{answered_marks, mark_if}
 use Rattle.step_notes.specs.MemberNotes.{asked_note, taken_note, taking_joined, taking_note, taking_read, turn_note}
 use Rattle.step_notes.specs.Records.{Judging}
-use Rattle.step_notes.specs.Served.{ServedUnit, served_units, talk_after, units_if_taken, units_on, units_then, work_after}
+use Rattle.step_notes.specs.Served.{talk_after, units_if_taken, work_after}
 
 -- ---- sends
 

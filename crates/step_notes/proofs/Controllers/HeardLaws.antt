@@ -16,7 +16,7 @@ use Rattle.rpc_units.specs.declared.unit.Body.TheVariants.{Auth3, Bind, BindAck,
 use Rattle.rpc_units.specs.declared.unit.Trailer.{Trailer}
 use Rattle.rpc_units.specs.declared.unit.Unit.{Unit as RpcUnit}
 use Rattle.end_links.specs.Agreed.{Agreed, accepts}
-use Rattle.end_links.specs.Serving.{Server, ServedPart, served_by, served_cut, then_open, then_talk}
+use Rattle.end_links.specs.Serving.{Server, ServedPart, served_by, served_cut, then_open, then_talk, ServedUnit, served_units, units_on, units_then}
 use Rattle.logon_stubs.specs.Calls.{call_of}
 use Rattle.logon_stubs.specs.declared.calls.Call.{Call}
 use Rattle.logon_stubs.specs.declared.calls.Call.TheVariants as call
@@ -28,7 +28,6 @@ use Rattle.domain_controller.specs.declared.hearing.Heard.TheVariants as heard
 use Rattle.domain_controller.specs.declared.line.Line.{Line}
 use Rattle.domain_controller.specs.declared.state.Talk.{Talk}
 use Rattle.step_notes.specs.HeardWhole.{ControllersHearWhole, IsCallOf, LeavesNothingOpen, NothingOpen, call_carried, call_read}
-use Rattle.step_notes.specs.Served.{ServedUnit, served_units, units_on, units_then}
 
 -- ---- joining
 

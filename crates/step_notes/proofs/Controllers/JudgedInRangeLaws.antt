@@ -17,7 +17,7 @@ use Rattle.logon_stubs.specs.declared.calls.Reply.{Reply}
 use Rattle.logon_stubs.specs.Writing.{written_reply}
 use Rattle.end_links.specs.Links.{LinkState}
 use Rattle.end_links.specs.Sending.{response_of}
-use Rattle.end_links.specs.Serving.{ServedPart}
+use Rattle.end_links.specs.Serving.{ServedPart, ServedUnit, served_units, units_on, units_then}
 use Rattle.domain_controller.specs.Channels.{key_of_channel}
 use Rattle.domain_controller.specs.Hearing.{hear}
 use Rattle.domain_controller.specs.Machine.{Desk, controller_server}
@@ -35,7 +35,7 @@ use Rattle.step_notes.specs.ControllerNotes.{Answered, Where, answer_on, channel
 use Rattle.step_notes.specs.JudgedInRange.{IsJudgedInRange, IsReadAsMade, PassedRepliesAreRead}
 use Rattle.step_notes.specs.Records.{Judging}
 use Rattle.step_notes.specs.ReplySends.{IsItsReply, reply_passed, standing_at}
-use Rattle.step_notes.specs.Served.{ServedUnit, served_units, units_if_taken, units_on, units_then, work_after}
+use Rattle.step_notes.specs.Served.{units_if_taken, work_after}
 
 -- ---- a unit
 

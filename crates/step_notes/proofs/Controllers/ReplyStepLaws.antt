@@ -25,7 +25,7 @@ use Rattle.logon_stubs.specs.declared.calls.LogonCall.{LogonCall}
 use Rattle.account_table.specs.LookUps.{knows_in}
 use Rattle.account_table.specs.declared.account.Account.{Account}
 use Rattle.end_links.specs.Links.{LinkState}
-use Rattle.end_links.specs.Serving.{ServedPart, Service, served_by, served_cut, then_open, then_talk}
+use Rattle.end_links.specs.Serving.{ServedPart, Service, served_by, served_cut, then_open, then_talk, ServedUnit, served_units, units_on, units_then}
 use Rattle.domain_controller.specs.Channels.{ChannelState, key_of_channel}
 use Rattle.domain_controller.specs.Hearing.{hear}
 use Rattle.domain_controller.specs.Machine.{Desk, account_for, answer_challenge, answer_logon, by_heard, channel_for, controller_server, draw_challenge, judge_account, judge_offer, judge_pair, open_channel, put_pair_if, take_pair}
@@ -43,7 +43,7 @@ use Rattle.step_notes.specs.ControllerNotes.{Answered, Where, answer_on, channel
 use Rattle.step_notes.specs.Judged.{channel_if}
 use Rattle.step_notes.specs.Records.{Judging}
 use Rattle.step_notes.specs.ReplySends.{AreSentFor, CarriesReply, IsItsReply, IsOpeningReply, IsSentIf, RepliesAreSentAsJudged, standing_at}
-use Rattle.step_notes.specs.Served.{ServedUnit, served_units, units_if_taken, units_on, units_then, work_after}
+use Rattle.step_notes.specs.Served.{units_if_taken, work_after}
 use Rattle.step_notes.proofs.Controllers.JudgedStepLaws.{Told, by_names}
 use Rattle.step_notes.proofs.Controllers.ReplySendLaws.{IsSentAsPassed, dropped, passed_sends}
 

@@ -29,7 +29,8 @@ use Rattle.rpc_units.specs.Reading.{unit_of}
 use Rattle.rpc_units.specs.Stream.{Cut, cut_stream}
 use Rattle.logon_stubs.specs.declared.info.NetworkInfo.{NetworkInfo}
 use Rattle.end_links.specs.Links.{LinkState}
-use Rattle.end_links.specs.Serving.{ServedPart, served_by, then_open, then_talk}
+use Rattle.end_links.specs.Serving.{ServedPart, served_by}
+use Rattle.end_links.proofs.KeepLaws.{StaysServing, served_stays}
 use Rattle.channel_client.specs.declared.answers.AskRefused.{AskRefused}
 use Rattle.channel_client.specs.declared.answers.AskRefused.TheVariants as ask_refused
 use Rattle.channel_client.specs.declared.caller.Caller.{Caller}
@@ -282,24 +283,12 @@ module _ (dialled : Bool) where
   unit_asks (phase.Out bound status) bytes joiner at left kept =
       same_asks at.logons (bound_unit (phase.Out bound status) bytes joiner at).0.logons (bound_idle (phase.Out bound status) bytes joiner at tt).0 kept
 
-  abbrev pub LaterAsks : List (List ℕ) → Option UnitRefused → Type 0
-  LaterAsks units why = (at : AtLink) (talk : Talk) (left : List (List ℕ)) → AsksForKept dialled at.logons → LinkAsks (served_by link_server units why at talk left)
-
-  said_asks : (units : List (List ℕ)) (why : Option UnitRefused) → LaterAsks units why → (at : AtLink) (said : Option Talk) (left : List (List ℕ)) → AsksForKept dialled at.logons →
-      LinkAsks (then_talk at said left (λ next talk rest. served_by link_server units why next talk rest))
-  said_asks units why later at None left kept = kept
-  said_asks units why later at (Some talk) left kept = later at talk left kept
-
-  then_asks : (units : List (List ℕ)) (why : Option UnitRefused) → LaterAsks units why → (part : ServedPart AtLink Talk) → LinkAsks part →
-      LinkAsks (then_open part (λ next talk rest. served_by link_server units why next talk rest))
-  then_asks units why later (Err refused) kept = tt
-  then_asks units why later (Ok part) kept = said_asks units why later part.value.0 part.value.1 part.left kept
-
-  units_ask : (units : List (List ℕ)) (why : Option UnitRefused) → LaterAsks units why
-  units_ask [] None at talk left kept = kept
-  units_ask [] (Some why) at talk left kept = kept
-  units_ask (bytes ∷ units) why at talk left kept =
-      then_asks units why (units_ask units why) (unit_by (is_fresh talk.phase) talk.phase bytes talk.joiner at left) (unit_asks talk.phase bytes talk.joiner at left kept)
+  units_stay : StaysServing link_server LinkAsks
+  units_stay = record {
+    spent = λ why. tt;
+    unit = λ bytes at talk left kept. unit_asks talk.phase bytes talk.joiner at left kept;
+    refusal = λ why at talk left kept. kept;
+  }
 
 -- ---- an outcome leaves the logons, but for the one that ends
 
@@ -394,20 +383,12 @@ abbrev pub TurnPartAsks : ServedPart AtTurn TurnTalk → Type 0
 TurnPartAsks (Err why) = Unit {0}
 TurnPartAsks (Ok part) = TurnAsks part.value
 
-turn_said : (units : List (List ℕ)) (why : Option UnitRefused) →
-    ((at : AtTurn) (talk : TurnTalk) (left : List (List ℕ)) → AsksForKept true at.work.logons → TurnPartAsks (served_by turn_server units why at talk left)) →
-    (at : AtTurn) (said : Option TurnTalk) (left : List (List ℕ)) → TurnAsksBy said at.work.logons →
-    TurnPartAsks (then_talk at said left (λ next talk rest. served_by turn_server units why next talk rest))
-turn_said units why later at None left kept = kept
-turn_said units why later at (Some talk) left kept = later at talk left kept
-
-turns_ask : (units : List (List ℕ)) (why : Option UnitRefused) (at : AtTurn) (talk : TurnTalk) (left : List (List ℕ)) → AsksForKept true at.work.logons →
-    TurnPartAsks (served_by turn_server units why at talk left)
-turns_ask [] None at talk left kept = kept
-turns_ask [] (Some why) at talk left kept = break_asks close.BadUnit at kept
-turns_ask (bytes ∷ units) why at talk left kept =
-    let served : TurnServed = turn_unit (unit_of bytes) talk.joiner at in
-    turn_said units why (turns_ask units why) served.0 served.1 left (turn_asks (unit_of bytes) talk.joiner at kept)
+turns_stay : StaysServing turn_server TurnPartAsks
+turns_stay = record {
+  spent = λ why. tt;
+  unit = λ bytes at talk left kept. turn_asks (unit_of bytes) talk.joiner at kept;
+  refusal = λ why at talk left kept. break_asks close.BadUnit at kept;
+}
 
 -- ---- an event
 
@@ -437,13 +418,14 @@ on_link None number piece how w left kept = kept
 on_link (Some link) number piece how w left kept =
     let cut : Cut = cut_stream (link.rest ++ piece) in
     link_done (served_by link_server cut.units cut.refused (at_link number (without_link number w)) link.talk left) cut.rest number how (without_link number w)
-    (units_ask (is_dialled how) cut.units cut.refused (at_link number (without_link number w)) link.talk left kept)
+    (served_stays link_server (LinkAsks (is_dialled how)) (units_stay (is_dialled how)) cut (at_link number (without_link number w)) link.talk left kept)
 
 bytes_if : (hit : Bool) (said : LinkState TurnTalk) (other number : ℕ) (piece : List ℕ) (w : Work) (left : List (List ℕ)) → AsksForKept true w.logons →
     PartAsks (bytes_by hit said number piece (dialling.On other said) w left)
 bytes_if true said other number piece w left kept =
     let cut : Cut = cut_stream (said.rest ++ piece) in
-    turn_done (served_by turn_server cut.units cut.refused (at_turn number w) said.talk left) cut.rest number (turns_ask cut.units cut.refused (at_turn number w) said.talk left kept)
+    turn_done (served_by turn_server cut.units cut.refused (at_turn number w) said.talk left) cut.rest number
+    (served_stays turn_server TurnPartAsks turns_stay cut (at_turn number w) said.talk left kept)
 bytes_if false said other number piece w left kept = on_link (lookup same_number number w.links) number piece (dialling.On other said) w left kept
 
 bytes_ask : (how : Dialling) (number : ℕ) (piece : List ℕ) (w : Work) (left : List (List ℕ)) → AsksForKept (is_dialled how) w.logons → PartAsks (bytes_on how number piece w left)

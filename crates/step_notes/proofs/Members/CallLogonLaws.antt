@@ -18,6 +18,7 @@ use Rattle.logon_stubs.specs.declared.calls.Call.TheVariants as call
 use Rattle.logon_stubs.specs.declared.calls.LogonCall.{LogonCall}
 use Rattle.logon_stubs.specs.declared.info.NetworkInfo.{NetworkInfo}
 use Rattle.end_links.specs.Links.{LinkState}
+use Rattle.end_links.specs.Serving.{ServedUnit, served_units, units_on}
 use Rattle.channel_client.specs.declared.answers.Taken.TheVariants as taken
 use Rattle.channel_client.specs.declared.caller.Caller.{Caller}
 use Rattle.channel_client.specs.declared.hearing.Hearing.{Hearing}
@@ -48,7 +49,7 @@ use Rattle.member_server.specs.Turns.{TurnServed, do_taken, turn_by_join, turn_s
 use Rattle.step_notes.specs.CallLogons.{AsksForKept, AsksUnlessStopped, CallsCarryTheirLogon, CarriesItsLogon, CarriesNoted, HasSecret, IsForItsLogon, IsStamped, IsStampedStep, call_for, info_at}
 use Rattle.step_notes.specs.ChannelNames.{AreFramesOf}
 use Rattle.step_notes.specs.MemberNotes.{asked_note, taken_note, taking_joined, taking_note, taking_read, timestamp_bound, turn_units_by, turn_units_in, turn_units_on}
-use Rattle.step_notes.specs.Served.{ServedUnit, served_units, units_if_taken, units_on}
+use Rattle.step_notes.specs.Served.{units_if_taken}
 use Rattle.step_notes.proofs.Channels.ChannelNameLaws.{bound_at}
 use Rattle.step_notes.proofs.Members.TurnRequestLaws.{HasLogon, IsOfTurn, asked_after, first_logon, of_turn}
 use Rattle.step_notes.proofs.Members.CallKeptLaws.{TurnAsksBy, at_channel, fresh_asks, step_asks, turn_asks}

@@ -31,7 +31,8 @@ use Rattle.rpc_units.specs.Joining.{answer_of, open_after}
 use Rattle.rpc_units.specs.Reading.{unit_of}
 use Rattle.rpc_units.specs.Stream.{Cut, cut_stream}
 use Rattle.end_links.specs.Links.{LinkState}
-use Rattle.end_links.specs.Serving.{ServedPart, served_by, then_open, then_talk}
+use Rattle.end_links.specs.Serving.{ServedPart, served_by, then_open, then_talk, ServedUnit, served_units, units_on, units_then}
+use Rattle.end_links.proofs.KeepLaws.{StaysServing, served_stays}
 use Rattle.channel_client.specs.declared.answers.AskRefused.{AskRefused}
 use Rattle.channel_client.specs.declared.answers.AskRefused.TheVariants as ask_refused
 use Rattle.channel_client.specs.declared.answers.Taken.{Taken}
@@ -63,7 +64,7 @@ use Rattle.member_server.specs.Work.{Served}
 use Rattle.channel_events.specs.Marks.{OneOf}
 use Rattle.step_notes.specs.MemberNotes.{LinkAt, is_challenged, is_turn_link, link_units, link_units_by, link_units_in, link_units_on, message_after, message_by, message_kept, message_note}
 use Rattle.step_notes.specs.Records.{MessageTaken}
-use Rattle.step_notes.specs.Served.{ServedUnit, served_units, units_if_taken, units_on, units_then}
+use Rattle.step_notes.specs.Served.{units_if_taken}
 use Rattle.step_notes.proofs.Members.SameLogonLaws.{IsIdle, IsIdlePart, bound_idle, first_idle, held_idle}
 use Rattle.step_notes.proofs.Members.UnservedLaws.{IfUnserved, IfUnservedAfter, IfUnservedPart, LinksIn, Unserved, bound_serves, ended_serves, found_known, none_so, part_known}
 
@@ -220,20 +221,12 @@ module _ (Fits : ℕ → Logon → Type 0) (Own : ℕ → Type 0) where
   turn_keeps (Err why) joiner at all = break_keeps close.BadUnit at all
   turn_keeps (Ok unit) joiner at all = joined_keeps (answer_of joiner unit) (open_after joiner unit) at all
 
-  turn_said : (units : List (List ℕ)) (why : Option UnitRefused) →
-      ((at : AtTurn) (talk : TurnTalk) (left : List (List ℕ)) → OfEach Fits at.work.logons.asked → TurnKeeps Fits (served_by turn_server units why at talk left)) →
-      (at : AtTurn) (said : Option TurnTalk) (left : List (List ℕ)) → OfEach Fits at.work.logons.asked →
-      TurnKeeps Fits (then_talk at said left (λ next talk rest. served_by turn_server units why next talk rest))
-  turn_said units why later at None left all = all
-  turn_said units why later at (Some talk) left all = later at talk left all
-
-  turns_keep : (units : List (List ℕ)) (why : Option UnitRefused) (at : AtTurn) (talk : TurnTalk) (left : List (List ℕ)) → OfEach Fits at.work.logons.asked →
-      TurnKeeps Fits (served_by turn_server units why at talk left)
-  turns_keep [] None at talk left all = all
-  turns_keep [] (Some why) at talk left all = break_keeps close.BadUnit at all
-  turns_keep (bytes ∷ units) why at talk left all =
-      let served : AtTurn × Option TurnTalk = turn_unit (unit_of bytes) talk.joiner at in
-      turn_said units why (turns_keep units why) served.0 served.1 left (turn_keeps (unit_of bytes) talk.joiner at all)
+  turns_stay : StaysServing turn_server (TurnKeeps Fits)
+  turns_stay = record {
+    spent = λ why. tt;
+    unit = λ bytes at talk left all. turn_keeps (unit_of bytes) talk.joiner at all;
+    refusal = λ why at talk left all. break_keeps close.BadUnit at all;
+  }
 
   turn_on : (said : Option TurnTalk) (rest : List ℕ) (number : ℕ) → Own number → IfDialled Own (keep_turn said rest number)
   turn_on None rest number own = tt
@@ -247,7 +240,7 @@ module _ (Fits : ℕ → Logon → Type 0) (Own : ℕ → Type 0) where
       PartKeeps Fits Own (serve_dialled cut number talk w left)
   dialled_keeps cut number talk w left own all =
       turn_done (served_by turn_server cut.units cut.refused (at_turn number w) talk left) cut.rest number own
-      (turns_keep cut.units cut.refused (at_turn number w) talk left all)
+      (served_stays turn_server (TurnKeeps Fits) turns_stay cut (at_turn number w) talk left all)
 
   -- ---- the other events
 

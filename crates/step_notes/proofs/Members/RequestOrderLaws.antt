@@ -21,7 +21,7 @@ use Rattle.rpc_units.specs.Reading.{unit_of}
 use Rattle.rpc_units.specs.Stream.{Cut, cut_stream}
 use Rattle.end_links.specs.Links.{LinkState}
 use Rattle.end_links.specs.Sending.{joined_frames}
-use Rattle.end_links.specs.Serving.{ServedPart, served_by, then_talk}
+use Rattle.end_links.specs.Serving.{ServedPart, served_by, then_talk, ServedUnit, served_units, units_on}
 use Rattle.channel_client.specs.declared.answers.Taken.{Taken}
 use Rattle.channel_client.specs.declared.answers.Taken.TheVariants as taken
 use Rattle.channel_client.specs.Effects.{step_in}
@@ -47,7 +47,7 @@ use Rattle.member_server.specs.Units.{serve_held}
 use Rattle.member_server.specs.Work.{Served}
 use Rattle.step_notes.specs.CallLogons.{AreFirst, IsFirstBy, RequestsComeFirst}
 use Rattle.step_notes.specs.MemberNotes.{taken_note, taking_joined, taking_note, taking_read, turn_units_by, turn_units_in, turn_units_on}
-use Rattle.step_notes.specs.Served.{ServedUnit, served_units, units_if_taken, units_on}
+use Rattle.step_notes.specs.Served.{units_if_taken}
 use Rattle.step_notes.proofs.Channels.MarkLaws.{asked_sends}
 use Rattle.step_notes.proofs.Members.CallKeptLaws.{at_channel}
 use Rattle.step_notes.proofs.Members.SameLogonLaws.{Grows, grows_not, grows_then, held_idle}

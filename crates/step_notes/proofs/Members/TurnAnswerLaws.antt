@@ -10,6 +10,7 @@ use Rattle.rpc_units.specs.Reading.{unit_of}
 use Rattle.rpc_units.specs.Stream.{cut_stream}
 use Rattle.logon_stubs.specs.declared.info.Verdict.{Verdict}
 use Rattle.end_links.specs.Links.{LinkState}
+use Rattle.end_links.specs.Serving.{ServedUnit, served_units, units_on}
 use Rattle.channel_client.specs.Machine.{act, hear, judge, settle, take_of}
 use Rattle.channel_client.specs.State.{Requester}
 use Rattle.channel_client.specs.declared.answers.Taken.{Taken}
@@ -29,7 +30,6 @@ use Rattle.member_server.specs.Machine.{at_turn, work_of}
 use Rattle.member_server.specs.Turns.{do_taken, turn_by_join, turn_server, turn_talk, turn_unit, with_requester, with_work}
 use Rattle.channel_events.specs.Marks.{OneOf}
 use Rattle.step_notes.specs.MemberNotes.{TurnNote, taken_note, taking_joined, taking_note, taking_read, turn_note, turn_units_by, turn_units_on}
-use Rattle.step_notes.specs.Served.{ServedUnit, served_units, units_on}
 
 -- the requester after it took these units
 abbrev pub took : List RpcUnit → Requester → Requester

@@ -28,7 +28,8 @@ use Rattle.rpc_units.specs.Reading.{unit_of}
 use Rattle.rpc_units.specs.Stream.{Cut, cut_stream}
 use Rattle.end_links.specs.Agreed.{accepts}
 use Rattle.end_links.specs.Links.{LinkState}
-use Rattle.end_links.specs.Serving.{ServedPart, served_by, then_open, then_talk}
+use Rattle.end_links.specs.Serving.{ServedPart, served_by, then_open, then_talk, ServedUnit, served_units, units_on, units_then}
+use Rattle.end_links.proofs.KeepLaws.{StaysServing, served_stays}
 use Rattle.channel_client.specs.declared.answers.AskRefused.{AskRefused}
 use Rattle.channel_client.specs.declared.answers.AskRefused.TheVariants as ask_refused
 use Rattle.channel_client.specs.declared.answers.Taken.{Taken}
@@ -66,7 +67,7 @@ use Rattle.member_server.specs.Turns.{Desk, break_turn, dial_for, do_taken, endi
 use Rattle.member_server.specs.Units.{body_challenged, bound_unit, first_unit, is_fresh, link_server, serve_held, then_said, unit_by, unit_challenged}
 use Rattle.member_server.specs.Work.{Served}
 use Rattle.step_notes.specs.MemberNotes.{LinkAt, is_challenged, is_turn_link, link_if, link_units, link_units_by, link_units_in, link_units_on, taken_after, taken_by, taken_link}
-use Rattle.step_notes.specs.Served.{ServedUnit, served_units, talk_after, units_if_taken, units_on, units_then}
+use Rattle.step_notes.specs.Served.{talk_after, units_if_taken}
 
 -- ---- how far a link is
 
@@ -517,20 +518,12 @@ module _ (May : ℕ → Phase → Type 0) where
   turn_known (Err why) joiner at all = break_known close.BadUnit at all
   turn_known (Ok unit) joiner at all = joined_known (answer_of joiner unit) (open_after joiner unit) at all
 
-  turn_said : (units : List (List ℕ)) (why : Option UnitRefused) →
-      ((at : AtTurn) (talk : TurnTalk) (left : List (List ℕ)) → Unserved May at.work.links → TurnLinks May (served_by turn_server units why at talk left)) →
-      (at : AtTurn) (said : Option TurnTalk) (left : List (List ℕ)) → Unserved May at.work.links →
-      TurnLinks May (then_talk at said left (λ next talk rest. served_by turn_server units why next talk rest))
-  turn_said units why later at None left all = all
-  turn_said units why later at (Some talk) left all = later at talk left all
-
-  turns_known : (units : List (List ℕ)) (why : Option UnitRefused) (at : AtTurn) (talk : TurnTalk) (left : List (List ℕ)) → Unserved May at.work.links →
-      TurnLinks May (served_by turn_server units why at talk left)
-  turns_known [] None at talk left all = all
-  turns_known [] (Some why) at talk left all = break_known close.BadUnit at all
-  turns_known (bytes ∷ units) why at talk left all =
-      let served : AtTurn × Option TurnTalk = turn_unit (unit_of bytes) talk.joiner at in
-      turn_said units why (turns_known units why) served.0 served.1 left (turn_known (unit_of bytes) talk.joiner at all)
+  turns_stay : StaysServing turn_server (TurnLinks May)
+  turns_stay = record {
+    spent = λ why. tt;
+    unit = λ bytes at talk left all. turn_known (unit_of bytes) talk.joiner at all;
+    refusal = λ why at talk left all. break_known close.BadUnit at all;
+  }
 
   turn_done : (part : ServedPart AtTurn TurnTalk) (rest : List ℕ) (number : ℕ) → TurnLinks May part → DeskLinks May (after_turn part rest number)
   turn_done (Err why) rest number all = tt
@@ -539,7 +532,7 @@ module _ (May : ℕ → Phase → Type 0) where
   pub dialled_known : (cut : Cut) (number : ℕ) (talk : TurnTalk) (w : Work) (left : List (List ℕ)) → Unserved May w.links → DeskLinks May (serve_dialled cut number talk w left)
   dialled_known cut number talk w left all =
       turn_done (served_by turn_server cut.units cut.refused (at_turn number w) talk left) cut.rest number
-      (turns_known cut.units cut.refused (at_turn number w) talk left all)
+      (served_stays turn_server (TurnLinks May) turns_stay cut (at_turn number w) talk left all)
 
   -- ---- the other events
 

@@ -6,6 +6,7 @@ use Rattle.std.specs.List.{AllByRecursion}
 use Rattle.wire_base.specs.Numbers.{AreBytes}
 use Rattle.outside.specs.declared.event.Event.TheVariants as event
 use Rattle.logon_stubs.specs.Parts.{IfThere}
+use Rattle.end_links.specs.Serving.{ServedUnit}
 use Rattle.domain_controller.specs.Machine.{Desk}
 use Rattle.domain_controller.specs.State.{State as ControllerState}
 use Rattle.domain_controller.specs.Step.{step_of}
@@ -13,7 +14,7 @@ use Rattle.domain_controller.specs.declared.state.Talk.{Talk}
 use Rattle.step_notes.specs.ControllerNotes.{Answered, Where, answer_on, units_by, units_of_controller}
 use Rattle.step_notes.specs.JudgedInRange.{IsJudgedInRange}
 use Rattle.step_notes.specs.Records.{Book, Judging}
-use Rattle.step_notes.specs.Served.{ServedUnit, work_after}
+use Rattle.step_notes.specs.Served.{work_after}
 use Rattle.step_notes.proofs.Controllers.JudgedInRangeLaws.{replies_are_read}
 use Rattle.domain_controller.specs.Hearing.{hear as hear_unit}
 use Rattle.world_moves.specs.declared.bag.BagUnit.{BagUnit}

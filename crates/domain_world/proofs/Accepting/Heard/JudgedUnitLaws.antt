@@ -19,6 +19,7 @@ use Rattle.logon_stubs.specs.declared.calls.LogonCall.{LogonCall}
 use Rattle.logon_stubs.specs.declared.refused.StubRefused.{StubRefused}
 use Rattle.end_links.specs.Links.{LinkState}
 use Rattle.end_links.specs.Whole.{IsWholeSend}
+use Rattle.end_links.specs.Serving.{ServedUnit, served_units}
 use Rattle.domain_controller.specs.Hearing.{hear as hear_unit}
 use Rattle.domain_controller.specs.Machine.{Desk, controller_server}
 use Rattle.domain_controller.specs.State.{State as ControllerState}
@@ -32,7 +33,6 @@ use Rattle.step_notes.specs.ControllerNotes.{Where, has_passed, heard_answer, ju
 use Rattle.step_notes.specs.HeardWhole.{IsCallOf, call_carried as carried_there, call_read as read_there}
 use Rattle.step_notes.specs.JudgedInRange.{IsJudgedInRange}
 use Rattle.step_notes.specs.Records.{Judging}
-use Rattle.step_notes.specs.Served.{ServedUnit, served_units}
 use Rattle.step_notes.proofs.Controllers.HeardLaws.{controllers_hear}
 use Rattle.world_moves.specs.declared.bag.BagUnit.{BagUnit}
 use Rattle.world_moves.specs.declared.links.EndId.{EndId}

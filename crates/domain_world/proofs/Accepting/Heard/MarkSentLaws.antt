@@ -18,6 +18,7 @@ use Rattle.logon_stubs.specs.declared.calls.Call.{Call}
 use Rattle.logon_stubs.specs.declared.calls.Call.TheVariants as call
 use Rattle.end_links.specs.Links.{LinkState}
 use Rattle.end_links.specs.Sending.{frames_of, joined_frames, request_of}
+use Rattle.end_links.specs.Serving.{ServedUnit, served_units}
 use Rattle.channel_client.specs.Machine.{Taking, act, hear, judge, question_of, settle, take_of}
 use Rattle.channel_client.specs.Effects.{step_in}
 use Rattle.channel_client.specs.State.{Requester}
@@ -52,7 +53,7 @@ use Rattle.step_notes.specs.Marking.{answered_marks, mark_if, turn_marks}
 use Rattle.step_notes.specs.MemberNotes.{TurnNote, asked_note, no_note, taking_at, taking_note, timestamp_bound, turn_note, turn_units, turn_units_by, turn_units_in, turn_units_on}
 use Rattle.step_notes.specs.Records.{timestamp_in}
 use Rattle.step_notes.specs.ReplySends.{AreSentFor, CarriesReply, IsOpeningReply, IsSentIf}
-use Rattle.step_notes.specs.Served.{ServedUnit, served_units, units_if_taken, work_after}
+use Rattle.step_notes.specs.Served.{units_if_taken, work_after}
 use Rattle.step_notes.specs.TakenWhole.{TakesWhole}
 use Rattle.step_notes.proofs.Channels.ChannelNameLaws.{bound_at}
 use Rattle.step_notes.proofs.Controllers.ReplyStepLaws.{replies_sent}

@@ -13,7 +13,7 @@ use Rattle.rpc_units.specs.Stream.{Cut, cut_stream}
 use Rattle.rpc_units.specs.declared.refused.UnitRefused.{UnitRefused}
 use Rattle.rpc_units.specs.declared.unit.Unit.{Unit as RpcUnit}
 use Rattle.end_links.specs.Links.{LinkState}
-use Rattle.end_links.specs.Serving.{ServedPart, served_by, then_open, then_talk}
+use Rattle.end_links.specs.Serving.{ServedPart, served_by, then_open, then_talk, ServedUnit, served_units, units_on, units_then}
 use Rattle.member_server.specs.Binds.{challenge_message}
 use Rattle.member_server.specs.Machine.{actions_in, after_units, bytes_on, bytes_on_link, event_part, halted_state, state_in, step_of, step_on, work_of}
 use Rattle.member_server.specs.Outcomes.{at_link, without_link}
@@ -31,7 +31,7 @@ use Rattle.member_server.specs.declared.state.Talk.{Talk}
 use Rattle.member_server.specs.declared.state.Work.{Work}
 use Rattle.step_notes.specs.MemberNotes.{LinkAt, challenge_after, challenge_in, challenge_note, is_turn_link, link_units, link_units_by, link_units_in, link_units_on, message_after, message_note, next_draw}
 use Rattle.step_notes.specs.Records.{ChallengeSent, MessageTaken}
-use Rattle.step_notes.specs.Served.{ServedUnit, served_units, talk_after, units_if_taken, units_on, units_then}
+use Rattle.step_notes.specs.Served.{talk_after, units_if_taken}
 use Rattle.step_notes.proofs.Members.UnservedLaws.{DeskLinks, IfUnserved, IfUnservedAfter, IfUnservedPart, LinksIn, Unserved, after_known, bound_serves, bytes_hold, dialled_known, found_known, links_so, next_known, none_so, phase_so}
 use Rattle.domain_world.proofs.Accepting.Messages.ChallengeReadLaws.{AreTakenWith, CanBeReadAfter, CanBeReadAt, CanBeReadPart, IsReadAs, IsTakenWith, challenged_with, first_reads, read_again}
 use Rattle.domain_world.proofs.Challenges.OwnLinkLaws.{unit_at}

@@ -11,7 +11,7 @@ use Rattle.ntlm_flags.specs.Flags.{has_flag, negotiate_key_exch}
 use Rattle.rpc_units.specs.declared.refused.UnitRefused.{UnitRefused}
 use Rattle.rpc_units.specs.Stream.{Cut, cut_stream}
 use Rattle.end_links.specs.Links.{LinkState}
-use Rattle.end_links.specs.Serving.{ServedPart, served_by, then_open, then_talk}
+use Rattle.end_links.specs.Serving.{ServedPart, served_by, then_open, then_talk, ServedUnit, served_units, units_on, units_then}
 use Rattle.logon_client.specs.Answering.{answer_of, auth3_of, drawn_for}
 use Rattle.logon_client.specs.Leaving.{client_leaves}
 use Rattle.logon_client.specs.Machine.{actions_after, after_stream, answers, answers_by, answers_part, by_close, by_event, by_piece, client_server, halted, hear, serve_heard, state_after, step_by_outcome, step_by_running, step_of, terms_of, work_of}
@@ -33,7 +33,7 @@ use Rattle.logon_client.specs.declared.state.Work.{Work}
 use Rattle.step_notes.specs.ClientNotes.{ClientAt, made_note, units_by, units_if, units_of_client, units_on as units_standing}
 use Rattle.step_notes.specs.MemberNotes.{message_in}
 use Rattle.step_notes.specs.Records.{MessageMade}
-use Rattle.step_notes.specs.Served.{ServedUnit, served_units, units_if_taken, units_on, units_then}
+use Rattle.step_notes.specs.Served.{units_if_taken}
 use Rattle.domain_world.specs.Accepting.KeysMade.{IsMadeFrom}
 use Rattle.domain_world.proofs.Accepting.Messages.ClientOfferLaws.{AreMadeFrom, HasNames, HeardOf, asks_of, heard_of, made_from}
 use Rattle.domain_world.proofs.Frames.LeftLaws.{AreEights, eights_rest}

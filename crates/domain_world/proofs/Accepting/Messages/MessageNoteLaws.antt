@@ -3,6 +3,7 @@
 -- `sends_ask_for_messages`.
 use Rattle.std.proofs.Common.{◌≡◌, ℕ, ◌==◌, Bool, true, false, List, [], ◌∷◌, map, inl, inr, Option, Some, None, refl, sym, ap, subst, ◌∙◌}
 use Rattle.std.proofs.lemmas.Bool.{eq-eqb}
+use Rattle.end_links.specs.Serving.{ServedUnit}
 use Rattle.member_server.specs.declared.state.AtTurn.{AtTurn}
 use Rattle.member_server.specs.declared.state.Logon.{Logon}
 use Rattle.member_server.specs.declared.state.Logons.{Logons}
@@ -10,7 +11,6 @@ use Rattle.member_server.specs.declared.state.TurnTalk.{TurnTalk}
 use Rattle.channel_events.specs.Marks.{OneOf}
 use Rattle.step_notes.specs.MemberNotes.{TurnNote, link_of_logon, link_of_place, turn_note}
 use Rattle.step_notes.specs.Records.{Book, MessageTaken, OutcomeTold}
-use Rattle.step_notes.specs.Served.{ServedUnit}
 use Rattle.domain_world.specs.Claims.LetIn.{IsLetInBy}
 use Rattle.domain_world.specs.Past.{change_if, change_message, first_of, later_of, note_turn, note_turns, with_answer, with_call}
 use Rattle.step_notes.proofs.Members.KeptLogonLaws.{HasFor, IsFor}

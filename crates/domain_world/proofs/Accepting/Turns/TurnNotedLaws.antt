@@ -10,6 +10,7 @@ use Rattle.authenticators.specs.Channels.{Channel, SameChannel}
 use Rattle.authenticators.proofs.ChannelLaws.{same_channel-Decides}
 use Rattle.outside.specs.declared.event.Event.TheVariants as event
 use Rattle.rpc_units.specs.declared.unit.Unit.{Unit as RpcUnit}
+use Rattle.end_links.specs.Serving.{ServedUnit}
 use Rattle.channel_client.specs.Machine.{take_of}
 use Rattle.channel_client.specs.State.{Requester}
 use Rattle.channel_client.specs.declared.answers.Taken.{Taken}
@@ -35,7 +36,7 @@ use Rattle.step_notes.specs.ChannelNames.{place_answered}
 use Rattle.step_notes.specs.Marking.{clashes, is_channel, sent_channel}
 use Rattle.step_notes.specs.MemberNotes.{LinkAt, TurnNote, asked_note, is_challenged, link_units, message_after, message_at, message_by, message_kept, message_note, taken_note, taking_note, turn_note, turn_units_in}
 use Rattle.step_notes.specs.Records.{Book, MessageTaken, Sent}
-use Rattle.step_notes.specs.Served.{ServedUnit, talk_after, work_after}
+use Rattle.step_notes.specs.Served.{talk_after, work_after}
 use Rattle.step_notes.specs.TakenWhole.{TakesWhole}
 use Rattle.step_notes.proofs.Members.KeptLogonLaws.{HasFor, IsFor, KeptIn, bytes_keep, kept_so}
 use Rattle.step_notes.proofs.Members.UnservedLaws.{LinksIn}

@@ -12,6 +12,7 @@ use Rattle.outside.specs.declared.event.Event.{Event}
 use Rattle.outside.specs.declared.event.Event.TheVariants as event
 use Rattle.rpc_units.specs.Calls.{IsHeard}
 use Rattle.end_links.specs.Links.{LinkState}
+use Rattle.end_links.specs.Serving.{ServedUnit}
 use Rattle.channel_client.specs.Machine.{take_of}
 use Rattle.member_server.specs.Laws.{IsTold, LetsInTheGranted, heard_if, heard_in}
 use Rattle.member_server.specs.Machine.{actions_in, event_part, halted_state, state_in, step_of}
@@ -32,7 +33,7 @@ use Rattle.step_notes.specs.ChannelNames.{standing_channel}
 use Rattle.step_notes.specs.Marking.{clashes}
 use Rattle.step_notes.specs.MemberNotes.{is_turn_link, link_units, message_note, taking_note, turn_units, turn_units_by, turn_units_in, turn_units_on}
 use Rattle.step_notes.specs.Records.{Book, MessageTaken, OutcomeTold, Sent}
-use Rattle.step_notes.specs.Served.{ServedUnit, units_if_taken}
+use Rattle.step_notes.specs.Served.{units_if_taken}
 use Rattle.step_notes.proofs.Members.KeptLogonLaws.{IfDialled, KeptIn, each_so, kept_so, one_before}
 use Rattle.step_notes.proofs.Members.UnservedLaws.{LinksIn, in_so}
 use Rattle.world_moves.specs.declared.links.EndId.{EndId}

@@ -3,6 +3,7 @@
 use Rattle.std.proofs.Common.{◌≡◌, ℕ, ◌+◌, false, List, [], ◌++◌, drop, length, map, Option, Some, None, slice_get, refl, sym, ap, subst, ◌∙◌}
 use Rattle.outside.specs.declared.event.Event.{Event}
 use Rattle.outside.specs.declared.event.Event.TheVariants as event
+use Rattle.end_links.specs.Serving.{ServedUnit}
 use Rattle.channel_events.specs.Marks.{Mark, Calling}
 use Rattle.channel_events.proofs.ListLaws.{got_append}
 use Rattle.member_server.specs.ChannelSteps.{ChannelStepsKnown}
@@ -15,7 +16,7 @@ use Rattle.member_server.specs.declared.state.TurnTalk.{TurnTalk}
 use Rattle.step_notes.specs.Marking.{turn_marks}
 use Rattle.step_notes.specs.MemberNotes.{link_units, message_note, turn_note, turn_units}
 use Rattle.step_notes.specs.Records.{Book, MessageTaken}
-use Rattle.step_notes.specs.Served.{ServedUnit, units_if_taken}
+use Rattle.step_notes.specs.Served.{units_if_taken}
 use Rattle.std.specs.Prelude.{flat_map}
 use Rattle.world_moves.specs.declared.links.EndId.TheVariants.{Member}
 use Rattle.world_moves.specs.declared.plan.Plan.{Plan}
