@@ -1,3 +1,4 @@
+pub mod BlockLaws
 pub mod ChannelLaws
 pub mod ReplayLaws
 pub mod SeedLaws

@@ -1,13 +1,13 @@
 -- Laws of the seed: how additions add up, and what is known of two seeds that are alike.
-use Rattle.std.proofs.Common.{◌≡◌, ℕ, ◌+◌, ◌-◌, ◌%◌, ◌^◌, ◌<◌, List, [], ◌∷◌, ◌++◌, length, get_or, take, drop, All, inl, inr, ap, sym, ◌∙◌, arith}
-use Rattle.std.proofs.lemmas.List.{length-append, length-drop, length-take-le, take-append-drop, get_or_past}
-use Rattle.std.proofs.lemmas.List.Elements.{All-append, All-take, All-drop, All-get_or, All-from_recursion}
+use Rattle.std.proofs.Common.{◌≡◌, ℕ, ◌+◌, ◌-◌, ◌%◌, ◌^◌, ◌<◌, List, [], ◌∷◌, ◌++◌, length, get_or, take, drop, ap, sym, ◌∙◌, arith}
+use Rattle.std.proofs.lemmas.List.{length-append, length-drop, length-take-le, take-append-drop}
+use Rattle.std.proofs.lemmas.List.Elements.{All-append, All-take, All-drop, All-from_recursion}
 use Rattle.std.proofs.lemmas.List.Sums.{sum_by-cons}
-use Rattle.std.proofs.lemmas.Bool.{cases_lt}
 use Rattle.std.proofs.lemmas.Nat.{le_bytes_4, from_le_bytes-to_le_bytes_4}
 use Rattle.std.specs.Int.{w32, to_le_bytes, from_le_bytes}
 use Rattle.channel_keys.specs.Des.{IsBlock}
 use Rattle.authenticators.specs.Sequences.{add_to, seed_after, moved_by}
+use Rattle.authenticators.proofs.BlockLaws.{bytes_from_all}
 
 pub IsBlock-add_to : (seed : List ℕ) (n : ℕ) → IsBlock seed → IsBlock (add_to seed n)
 unfolding add_to
@@ -27,20 +27,12 @@ add_to-add_to seed a b =
     let sum : (low + b) % 2 ^ 32 ≡ (from_le_bytes w32 (take 4 seed) + (a + b)) % 2 ^ 32 = omega arith in
     ap (λ n. to_le_bytes w32 ((n + b) % 2 ^ 32) ++ drop 4 seed) read ∙ ap (λ n. to_le_bytes w32 n ++ drop 4 seed) sum
 
--- what stands at each place of bytes is below 256, past their end too
-at_each_place : (bytes : List ℕ) → All (λ b. b < 256) bytes → (i : ℕ) → get_or bytes i 0 < 256
-at_each_place bytes all i =
-    elim (cases_lt i (length bytes)) [
-      | inl within ↦ All-get_or (λ b. b < 256) bytes i 0 within all
-      | inr past ↦ rw (get_or_past bytes i 0 past) (omega arith)
-    ]
-
 -- adding none
 pub add_to-zero : (seed : List ℕ) → IsBlock seed → add_to seed 0 ≡ seed
 unfolding add_to
 add_to-zero seed h =
     let low : List ℕ = take 4 seed in
-    let byte : (i : ℕ) → get_or low i 0 < 256 = at_each_place low (All-take (λ b. b < 256) 4 seed h.bytes) in
+    let byte : (i : ℕ) → get_or low i 0 < 256 = bytes_from_all low (All-take (λ b. b < 256) 4 seed h.bytes) in
     let below : from_le_bytes w32 low < 2 ^ 32 = omega (arith, byte 0, byte 1, byte 2, byte 3) in
     let kept : (from_le_bytes w32 low + 0) % 2 ^ 32 ≡ from_le_bytes w32 low = omega arith in
     let long : length low ≡ 4 = length-take-le 4 seed (omega (arith, h.eight)) in

@@ -1,4 +1,6 @@
--- When two secure channels are one: a session key and a sequence belong to a channel, and say nothing of another.
+-- When two secure channels are one: a session key and a sequence belong to a channel, and say nothing of another. This
+-- is the channel between two ends, told by both; what each end keeps of it, with the seed that moves, is in
+-- `SecureChannels`, and `channel_of` there names the channel that it is of.
 use Rattle.std.specs.Prelude.{◌≡◌, ℕ, ◌==◌, ◌&&◌, Bool, List, bytes_eq}
 use Rattle.wire_base.specs.Names.{SameName, same_name}
 use Rattle.channel_keys.specs.SessionKeys.{key_of}

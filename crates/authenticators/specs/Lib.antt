@@ -1,4 +1,5 @@
 pub mod Channels
+pub mod SecureChannels
 pub mod Sequences
 pub mod Timestamps
 pub use Rattle.channel_keys.specs.Credentials

@@ -3,6 +3,7 @@ use Rattle.std.proofs.Common.{◌≡◌, ◌==◌, ◌&&◌, ℕ, Bool, true, fa
 use Rattle.ntlm_flags.specs.Flags.{has_flag}
 use Rattle.channel_keys.specs.Flags.{rc4_flag}
 use Rattle.wire_base.specs.declared.authenticator.Authenticator.{Authenticator}
+use Rattle.authenticators.specs.SecureChannels.{SecureChannelState, is_awaited, after_return}
 use Rattle.outside.specs.declared.action.DropCause.{DropCause}
 use Rattle.outside.specs.declared.action.DropCause.TheVariants as drop_cause
 use Rattle.rpc_units.specs.declared.unit.Unit.{Unit as RpcUnit}
@@ -15,7 +16,6 @@ use Rattle.logon_stubs.specs.declared.refused.StubRefused.{StubRefused}
 use Rattle.logon_stubs.specs.declared.info.SamInfo.{SamInfo}
 use Rattle.logon_stubs.specs.declared.calls.Reply.{Reply}
 use Rattle.logon_stubs.specs.declared.calls.Reply.TheVariants as reply
-use Rattle.channel_client.specs.Opened.{OpenState, is_awaited, after_return}
 use Rattle.channel_client.specs.State.{Requester}
 use Rattle.channel_client.specs.Machine.{is_accepting, level_asked, offered_flags, opnum_asked, server_credential, hear_ack, hear_reply, hear_body, hear_by, hear, judge_challenge, judge_flags, judge_credential, judge_auth, judge_level, judge_status, judge_awaited, judge_return, judge_logon, judge, settle, act, take_of}
 use Rattle.channel_client.specs.Causes.{reply_if_read, reply_in, is_due, denies, is_of_server, is_return, is_next, is_lacking, cause_if, cause_of, cause_in, is_numbered, CausesInOrder}
@@ -67,22 +67,22 @@ auth_cause true (standing.Half client server) secret credential flags =
     credential_cause (bytes_eq credential (server_credential secret client server)) secret client server flags
 auth_cause true (standing.Open o) secret credential flags = refl
 
-level_cause : (asked : Bool) (info : Option SamInfo) (o : OpenState) → cause_judged (judge_level asked info o) ≡ last_causes false true (not (asked && is_some info))
+level_cause : (asked : Bool) (info : Option SamInfo) (o : SecureChannelState) → cause_judged (judge_level asked info o) ≡ last_causes false true (not (asked && is_some info))
 level_cause false info o = refl
 level_cause true None o = refl
 level_cause true (Some info) o = refl
 
-status_cause : (granted : Bool) (status level : ℕ) (info : Option SamInfo) (o : OpenState) →
+status_cause : (granted : Bool) (status level : ℕ) (info : Option SamInfo) (o : SecureChannelState) →
     cause_judged (judge_status granted status level info o) ≡ last_causes false true (granted && not ((level == level_asked) && is_some info))
 status_cause false status level info o = refl
 status_cause true status level info o = level_cause (level == level_asked) info o
 
-awaited_cause : (right : Bool) (status level : ℕ) (info : Option SamInfo) (o : OpenState) →
+awaited_cause : (right : Bool) (status level : ℕ) (info : Option SamInfo) (o : SecureChannelState) →
     cause_judged (judge_awaited right status level info o) ≡ last_causes false right ((status == 0) && not ((level == level_asked) && is_some info))
 awaited_cause false status level info o = refl
 awaited_cause true status level info o = status_cause (status == 0) status level info (after_return true o)
 
-return_cause : (returned : Option Authenticator) (status level : ℕ) (info : Option SamInfo) (o : OpenState) →
+return_cause : (returned : Option Authenticator) (status level : ℕ) (info : Option SamInfo) (o : SecureChannelState) →
     cause_judged (judge_return returned status level info o)
     ≡ last_causes false (is_return (standing.Open o) returned) ((status == 0) && not ((level == level_asked) && is_some info))
 return_cause None status level info o = refl

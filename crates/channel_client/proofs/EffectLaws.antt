@@ -5,6 +5,7 @@ use Rattle.std.specs.List.{AllByRecursion}
 use Rattle.ntlm_flags.specs.Flags.{has_flag}
 use Rattle.channel_keys.specs.Flags.{rc4_flag}
 use Rattle.wire_base.specs.declared.authenticator.Authenticator.{Authenticator}
+use Rattle.authenticators.specs.SecureChannels.{SecureChannelState, fresh_channel, is_awaited, after_return, channel_of}
 use Rattle.rpc_units.specs.declared.unit.Unit.{Unit as RpcUnit}
 use Rattle.rpc_units.specs.declared.unit.Body.{Body}
 use Rattle.rpc_units.specs.declared.unit.Body.TheVariants.{Bind, BindAck, BindNak, Auth3, Request, Response, Fault}
@@ -17,10 +18,9 @@ use Rattle.logon_stubs.specs.declared.calls.Call.{Call}
 use Rattle.logon_stubs.specs.declared.calls.Call.TheVariants as call
 use Rattle.logon_stubs.specs.declared.calls.Reply.{Reply}
 use Rattle.logon_stubs.specs.declared.calls.Reply.TheVariants as reply
-use Rattle.channel_client.specs.Opened.{OpenState, first_state, is_awaited, after_return}
 use Rattle.channel_client.specs.State.{Requester}
 use Rattle.channel_client.specs.Machine.{after, waiting_limit, level_asked, offered_flags, server_credential, question_of, opnum_asked, is_accepting, ask_by, start_by, hear_ack, hear_reply, hear_stub, hear_body, hear_by, hear, judge_challenge, judge_flags, judge_credential, judge_auth, judge_level, judge_status, judge_awaited, judge_return, judge_logon, judge, wait_for, later_logons, place_of, settle, act}
-use Rattle.channel_client.specs.Effects.{channel_of, View, view_at, view_of, step_in, number_in, MatchesCall, MatchesQuestion, MatchesStep, IsForFirst, first_place, AreInOrder, ArePlacesApart, IsCoherent, Changes, effect_start, effect_judged, effect_next, effect_heard, HasEffect, Stays, StepsHaveEffects}
+use Rattle.channel_client.specs.Effects.{View, view_at, view_of, step_in, number_in, MatchesCall, MatchesQuestion, MatchesStep, IsForFirst, first_place, AreInOrder, ArePlacesApart, IsCoherent, Changes, effect_start, effect_judged, effect_next, effect_heard, HasEffect, Stays, StepsHaveEffects}
 use Rattle.channel_client.specs.declared.state.Standing.{Standing}
 use Rattle.channel_client.specs.declared.state.Standing.TheVariants as standing
 use Rattle.channel_client.specs.declared.state.Question.{Question}
@@ -126,8 +126,8 @@ starting controller s None (logon ∷ logons) (standing.Open o) timestamp challe
 
 abbrev pub Fits : Judgement → Standing → Question → Type 0
 Fits (judgement.Half client server) how q = (how ≡ standing.Nothing) × (q ≡ question.Challenge client)
-Fits (judgement.Opened o) how q = (how ≡ standing.Half o.client o.server) × (o ≡ first_state o.secret o.client o.server o.flags)
-Fits (judgement.Answer o v) how q = (p : OpenState) × (how ≡ standing.Open p) × (o ≡ after_return true p)
+Fits (judgement.Opened o) how q = (how ≡ standing.Half o.client o.server) × (o ≡ fresh_channel o.secret o.client o.server o.flags)
+Fits (judgement.Answer o v) how q = (p : SecureChannelState) × (how ≡ standing.Open p) × (o ≡ after_return true p)
 Fits (judgement.Drop cause) how q = Unit {0}
 
 fits_challenge : (granted : Bool) (client server : List ℕ) → Fits (judge_challenge granted client server) standing.Nothing (question.Challenge client)
@@ -148,24 +148,24 @@ fits_auth false secret client server credential flags = tt
 fits_auth true secret client server credential flags =
     fits_credential (bytes_eq credential (server_credential secret client server)) secret client server flags
 
-fits_level : (asked : Bool) (info : Option SamInfo) (p : OpenState) → Fits (judge_level asked info (after_return true p)) (standing.Open p) question.Logon
+fits_level : (asked : Bool) (info : Option SamInfo) (p : SecureChannelState) → Fits (judge_level asked info (after_return true p)) (standing.Open p) question.Logon
 fits_level false info p = tt
 fits_level true None p = tt
 fits_level true (Some info) p = (p, refl, refl)
 
-fits_status : (granted : Bool) (status level : ℕ) (info : Option SamInfo) (p : OpenState) → Fits (judge_status granted status level info (after_return true p)) (standing.Open p) question.Logon
+fits_status : (granted : Bool) (status level : ℕ) (info : Option SamInfo) (p : SecureChannelState) → Fits (judge_status granted status level info (after_return true p)) (standing.Open p) question.Logon
 fits_status false status level info p = (p, refl, refl)
 fits_status true status level info p = fits_level (level == level_asked) info p
 
-fits_awaited : (right : Bool) (status level : ℕ) (info : Option SamInfo) (p : OpenState) → Fits (judge_awaited right status level info p) (standing.Open p) question.Logon
+fits_awaited : (right : Bool) (status level : ℕ) (info : Option SamInfo) (p : SecureChannelState) → Fits (judge_awaited right status level info p) (standing.Open p) question.Logon
 fits_awaited false status level info p = tt
 fits_awaited true status level info p = fits_status (status == 0) status level info p
 
-fits_return : (returned : Option Authenticator) (status level : ℕ) (info : Option SamInfo) (p : OpenState) → Fits (judge_return returned status level info p) (standing.Open p) question.Logon
+fits_return : (returned : Option Authenticator) (status level : ℕ) (info : Option SamInfo) (p : SecureChannelState) → Fits (judge_return returned status level info p) (standing.Open p) question.Logon
 fits_return None status level info p = tt
 fits_return (Some returned) status level info p = fits_awaited (is_awaited p.awaited returned.credential) status level info p
 
-fits_logon : (denied : Bool) (returned : Option Authenticator) (status level : ℕ) (info : Option SamInfo) (p : OpenState) →
+fits_logon : (denied : Bool) (returned : Option Authenticator) (status level : ℕ) (info : Option SamInfo) (p : SecureChannelState) →
     Fits (judge_logon denied (standing.Open p) returned status level info) (standing.Open p) question.Logon
 fits_logon true returned status level info p = tt
 fits_logon false returned status level info p = fits_return returned status level info p
@@ -206,7 +206,7 @@ settling controller (judgement.Half client server) s how number q h =
     ∙ ap (λ x. view_at controller s.caller.computer standing.Nothing (Some (step.Reply x)) number s.next_call) h.1)
 settling controller (judgement.Opened o) s how number q h = (
   ap (λ x. (view_at controller s.caller.computer x (Some (step.Reply q)) number s.next_call).opening) h.0,
-  ap (λ (x : OpenState). view_at controller s.caller.computer (standing.Open (record o { seed = x.seed })) None 0 s.next_call) h.1,
+  ap (λ (x : SecureChannelState). view_at controller s.caller.computer (standing.Open (record o { seed = x.seed })) None 0 s.next_call) h.1,
 )
 settling controller (judgement.Answer o v) s how number q h = (
   ap (λ x. (view_at controller s.caller.computer x (Some (step.Reply q)) number s.next_call).stands) h.1 ∙ ap (λ x. Some (channel_of controller s.caller.computer x)) (sym h.2),

@@ -9,6 +9,7 @@ use Rattle.std.proofs.lemmas.List.Elements.{All-from_recursion, All-get_or}
 use Rattle.wire_base.specs.Numbers.{AreBytes}
 use Rattle.channel_keys.specs.Credentials.{cred_of}
 use Rattle.channel_keys.proofs.CredLaws.{IsBlock-cred_of}
+use Rattle.authenticators.specs.SecureChannels.{SecureChannelState}
 use Rattle.rpc_units.specs.declared.unit.Unit.{Unit as RpcUnit}
 use Rattle.rpc_units.specs.declared.unit.Body.{Body}
 use Rattle.rpc_units.specs.declared.unit.Body.TheVariants.{Bind, BindAck, BindNak, Auth3, Request, Response, Fault}
@@ -26,8 +27,8 @@ use Rattle.end_links.specs.Binding.{bind_of, limit_of}
 use Rattle.end_links.specs.Sending.{joined_frames}
 use Rattle.end_links.specs.Whole.{IsWholeSend}
 use Rattle.end_links.proofs.WholeLaws.{bind_whole, limit_bounds, request_whole}
-use Rattle.channel_client.specs.Machine.{Beginning, act, after, ask_by, auth_call, begin_with, challenge_call, hear, hear_ack, hear_body, hear_by, hear_reply, hear_stub, is_accepting, judge, later_logons, logon_call, netlogon_syntax, opnum_asked, remove_first, settle, start_by, waiting_limit, with_turn}
-use Rattle.channel_client.specs.Opened.{OpenState}
+use Rattle.logon_stubs.specs.Interface.{netlogon_syntax}
+use Rattle.channel_client.specs.Machine.{Beginning, act, after, ask_by, auth_call, begin_with, challenge_call, hear, hear_ack, hear_body, hear_by, hear_reply, hear_stub, is_accepting, judge, later_logons, logon_call, opnum_asked, remove_first, settle, start_by, waiting_limit, with_turn}
 use Rattle.channel_client.specs.State.{Requester}
 use Rattle.channel_client.specs.Whole.{HasRoom, InRangeCaller, InRangeLogon, InRangeRequester, InRangeTurn, InRangeWaiting, IsWholeNext, IsWholeStart, RequestersSendWhole}
 use Rattle.channel_client.specs.declared.caller.Caller.{Caller}
@@ -113,7 +114,7 @@ asked false s info range is = record {
 
 -- ---- the calls
 
-logon_room : (caller : Caller) (o : OpenState) (timestamp : ℕ) (info : NetworkInfo) → InRangeCaller caller → timestamp < 2 ^ 32 → InRangeLogon info →
+logon_room : (caller : Caller) (o : SecureChannelState) (timestamp : ℕ) (info : NetworkInfo) → InRangeCaller caller → timestamp < 2 ^ 32 → InRangeLogon info →
     HasRoom (logon_call caller o timestamp info)
 logon_room caller o timestamp info has below is = record {
   writes = record { server = tt; computer = omega (arith, has.computer); info = is.writes };

@@ -5,11 +5,11 @@ use Rattle.std.specs.List.{AllByRecursion}
 use Rattle.channel_keys.specs.Credentials.{cred_of}
 use Rattle.authenticators.specs.Channels.{Channel, channel_key}
 use Rattle.authenticators.specs.Sequences.{next_seed}
+use Rattle.authenticators.specs.SecureChannels.{channel_of}
 use Rattle.rpc_units.specs.declared.unit.Unit.{Unit as RpcUnit}
 use Rattle.logon_stubs.specs.declared.info.NetworkInfo.{NetworkInfo}
 use Rattle.logon_stubs.specs.declared.calls.Call.{Call}
 use Rattle.logon_stubs.specs.declared.calls.Call.TheVariants as call
-use Rattle.channel_client.specs.Opened.{OpenState}
 use Rattle.channel_client.specs.State.{Requester}
 use Rattle.channel_client.specs.Machine.{after, waiting_limit, fresh_requester, ask_of, start_of, hear, judge, take_of, lose_of}
 use Rattle.channel_client.specs.declared.caller.Caller.{Caller}
@@ -27,17 +27,6 @@ use Rattle.channel_client.specs.declared.judging.Judgement.{Judgement}
 use Rattle.channel_client.specs.declared.judging.Judgement.TheVariants as judgement
 
 -- ---- what is seen
-
--- the channel with that controller
-abbrev pub channel_of : ℕ → List ℕ → OpenState → Channel
-channel_of controller computer o = record {
-  controller = controller;
-  computer = computer;
-  secret = o.secret;
-  client = o.client;
-  server = o.server;
-  flags = o.flags;
-}
 
 pub record View : Type 0 where
   -- the channel that stands, and its seed

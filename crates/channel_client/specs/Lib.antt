@@ -1,12 +1,11 @@
 pub mod Causes
 pub mod Effects
-pub mod Hidden
 pub mod Machine
-pub mod Opened
 pub mod State
 pub mod Turns
 pub mod Whole
 pub use Rattle.authenticators.specs.Channels
+pub use Rattle.authenticators.specs.SecureChannels
 pub use Rattle.authenticators.specs.Sequences
 pub use Rattle.channel_keys.specs.Credentials
 pub use Rattle.channel_keys.specs.SessionKeys

@@ -16,7 +16,7 @@ use Rattle.rpc_units.specs.declared.unit.Body.{Body}
 use Rattle.rpc_units.specs.declared.unit.Body.TheVariants.{Bind, BindAck, BindNak, Auth3, Request, Response, Fault}
 use Rattle.rpc_units.specs.Writing.{written}
 use Rattle.logon_stubs.specs.Calls.{reply_of, opnum_of_call}
-use Rattle.logon_stubs.specs.Status.{access_denied, netlogon_uuid, netlogon_version}
+use Rattle.logon_stubs.specs.Status.{access_denied}
 use Rattle.logon_stubs.specs.Writing.{CanWriteCall, CanWriteNetworkInfo, written_call}
 use Rattle.logon_stubs.specs.declared.refused.StubRefused.{StubRefused}
 use Rattle.logon_stubs.specs.declared.info.NetworkInfo.{NetworkInfo}
@@ -28,8 +28,9 @@ use Rattle.logon_stubs.specs.declared.calls.Reply.{Reply}
 use Rattle.logon_stubs.specs.declared.calls.Reply.TheVariants as reply
 use Rattle.end_links.specs.Binding.{bind_of, limit_of}
 use Rattle.end_links.specs.Sending.{frames_of, request_of}
-use Rattle.channel_client.specs.Hidden.{crypt_key}
-use Rattle.channel_client.specs.Opened.{OpenState, open_key, first_state, after_call, is_awaited, after_return}
+use Rattle.channel_keys.specs.Hidden.{crypt_key}
+use Rattle.authenticators.specs.SecureChannels.{SecureChannelState, key_of_channel, fresh_channel, after_call, is_awaited, after_return}
+use Rattle.logon_stubs.specs.Interface.{netlogon_syntax}
 use Rattle.channel_client.specs.State.{Requester}
 use Rattle.channel_client.specs.declared.caller.Caller.{Caller}
 use Rattle.channel_client.specs.declared.state.Standing.{Standing}
@@ -65,10 +66,6 @@ offered_flags = supported_flags
 
 abbrev pub level_asked : ℕ
 level_asked = 3
-
--- the interface that is bound
-abbrev pub netlogon_syntax : Syntax
-netlogon_syntax = record { uuid = netlogon_uuid; version = netlogon_version }
 
 -- ---- at first
 
@@ -139,11 +136,11 @@ auth_call caller client server = call.Authenticate (record {
 })
 
 -- NetrLogonSamLogon with the next authenticator, and a returned one of zeros (MS-NRPC 3.5.4.5.3)
-abbrev pub logon_call : Caller → OpenState → ℕ → NetworkInfo → Call
+abbrev pub logon_call : Caller → SecureChannelState → ℕ → NetworkInfo → Call
 logon_call caller o timestamp info = call.Logon (record {
   server = None;
   computer = Some caller.computer;
-  authenticator = Some (authenticator_of (open_key o) o.seed timestamp);
+  authenticator = Some (authenticator_of (key_of_channel o) o.seed timestamp);
   returned = Some (record { credential = replicate 8 0; timestamp = 0 });
   info = info;
   validation = level_asked;
@@ -255,7 +252,7 @@ judge_challenge true client server = judgement.Half client server
 -- the argument: whether all flags granted were offered, and RC4 is among them
 abbrev pub judge_flags : Bool → List ℕ → List ℕ → List ℕ → Judgement
 judge_flags false secret client server = judgement.Drop drop_cause.BadReply
-judge_flags true secret client server = judgement.Opened (first_state secret client server offered_flags)
+judge_flags true secret client server = judgement.Opened (fresh_channel secret client server offered_flags)
 
 -- the argument: whether the credential is the server's
 abbrev pub judge_credential : Bool → List ℕ → List ℕ → List ℕ → ℕ → Judgement
@@ -276,23 +273,23 @@ judge_auth true (standing.Half client server) secret credential flags =
 judge_auth true (standing.Open o) secret credential flags = judgement.Drop drop_cause.NotNext
 
 -- the argument: whether the level is the one asked. The verdict has the plain key
-abbrev pub judge_level : Bool → Option SamInfo → OpenState → Judgement
+abbrev pub judge_level : Bool → Option SamInfo → SecureChannelState → Judgement
 judge_level false info o = judgement.Drop drop_cause.BadReply
 judge_level true None o = judgement.Drop drop_cause.BadReply
 judge_level true (Some info) o =
-    judgement.Answer o (verdict.Granted (record info { key = crypt_key (open_key o) info.key }))
+    judgement.Answer o (verdict.Granted (record info { key = crypt_key (key_of_channel o) info.key }))
 
 -- the argument: whether the status is 0. With another status the validation is passed over
-abbrev pub judge_status : Bool → ℕ → ℕ → Option SamInfo → OpenState → Judgement
+abbrev pub judge_status : Bool → ℕ → ℕ → Option SamInfo → SecureChannelState → Judgement
 judge_status false status level info o = judgement.Answer o (verdict.Status status)
 judge_status true status level info o = judge_level (level == level_asked) info o
 
 -- the argument: whether the return credential is the one that is awaited
-abbrev pub judge_awaited : Bool → ℕ → ℕ → Option SamInfo → OpenState → Judgement
+abbrev pub judge_awaited : Bool → ℕ → ℕ → Option SamInfo → SecureChannelState → Judgement
 judge_awaited false status level info o = judgement.Drop drop_cause.NotNext
 judge_awaited true status level info o = judge_status (status == 0) status level info (after_return true o)
 
-abbrev pub judge_return : Option Authenticator → ℕ → ℕ → Option SamInfo → OpenState → Judgement
+abbrev pub judge_return : Option Authenticator → ℕ → ℕ → Option SamInfo → SecureChannelState → Judgement
 judge_return None status level info o = judgement.Drop drop_cause.NotNext
 judge_return (Some returned) status level info o =
     judge_awaited (is_awaited o.awaited returned.credential) status level info o

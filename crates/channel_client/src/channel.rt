@@ -156,12 +156,15 @@ impl Channel {
             return Ok(None);
         };
         let place = first.place;
-        let info = first.info.copy(alloc)?;
-        let caller = self.caller.copy(alloc)?;
         let frames = bind_frames(alloc, self.next_call)?;
-        let standing = mem::replace(&mut self.standing, Standing::Nothing);
-        let (standing, call) = begin_with(standing, caller, info, timestamp, challenge);
-        self.standing = standing;
+        let call = begin_with(
+            alloc,
+            &mut self.standing,
+            &self.caller,
+            &first.info,
+            timestamp,
+            challenge,
+        )?;
         self.wait_for(place, Step::Bind(call));
         Ok(Some((Turn::new(), frames)))
     }

@@ -4,10 +4,9 @@ ghost use Rattle.std.specs.Prelude.{◌≡◌, ◌==◌};
 ghost use Rattle.logon_stubs.specs.Status.{access_denied};
 ghost use Rattle.channel_client.specs.Machine.{judge_challenge, judge_credential, judge_auth, judge_status, judge_return, judge_logon, judge};
 
-use crate::hidden::crypt_key;
-use crate::opened::Opened;
 use crate::state::{Question, Standing};
-use channel_keys::{RC4, SUPPORTED_FLAGS, cred, session_key};
+use authenticators::SecureChannel;
+use channel_keys::{RC4, SUPPORTED_FLAGS, cred, crypt_key, session_key};
 use logon_stubs::{
     AuthReply, ChallengeReply, LogonReply, Reply, STATUS_ACCESS_DENIED, SamInfo, Verdict,
 };
@@ -21,9 +20,9 @@ pub enum Judgement {
     /// Both challenges are known: the client's and the server's.
     Half([u8; 8], [u8; 8]),
     /// The channel opens.
-    Opened(Opened),
+    Opened(SecureChannel),
     /// The channel stays open, and the logon has its verdict.
-    Answer(Opened, Verdict),
+    Answer(SecureChannel, Verdict),
     /// The turn ends without an answer.
     Drop(DropCause),
 }
@@ -86,7 +85,7 @@ fn judge_credential(
         return Judgement::Drop(DropCause::NotNext);
     }
     if has_flag(SUPPORTED_FLAGS, flags) && has_flag(flags, RC4) {
-        return Judgement::Opened(Opened::new(secret, client, server, SUPPORTED_FLAGS));
+        return Judgement::Opened(SecureChannel::new(secret, client, server, SUPPORTED_FLAGS));
     }
     Judgement::Drop(DropCause::BadReply)
 }
@@ -117,7 +116,7 @@ fn judge_return(
     status: u32,
     level: u16,
     info: Option<SamInfo>,
-    opened: Opened,
+    opened: SecureChannel,
 ) -> Judgement
     ensures { result ≡ judge_return returned status level info opened }
 {
@@ -132,7 +131,7 @@ fn judge_return(
 }
 
 /// What it comes to once the return credential was compared.
-fn judge_status(status: u32, level: u16, info: Option<SamInfo>, opened: Opened) -> Judgement
+fn judge_status(status: u32, level: u16, info: Option<SamInfo>, opened: SecureChannel) -> Judgement
     ensures { result ≡ judge_status (status == 0) status level info opened }
 {
     if status != 0 {

@@ -6,10 +6,8 @@ mod answers;
 mod caller;
 mod channel;
 mod hearing;
-mod hidden;
 mod judging;
 pub mod laws;
-mod opened;
 mod short_frames;
 mod starting;
 mod state;
@@ -17,6 +15,5 @@ mod turn;
 
 pub use answers::{AskRefused, TakeRefused, Taken};
 pub use channel::{Channel, WAITING_LIMIT};
-pub use hidden::crypt_key;
 pub use short_frames::ShortFrames;
 pub use turn::Turn;

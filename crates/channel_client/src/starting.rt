@@ -1,31 +1,23 @@
 //! The start of a turn: its bind, and the call that waits behind it.
 
-ghost use Rattle.std.specs.Prelude.{◌≡◌, ◌∷◌, [], IfOk};
+ghost use Rattle.std.specs.Prelude.{◌≡◌, ◌∷◌, [], IfOk, OnOk, OnErr};
+ghost use Rattle.authenticators.specs.SecureChannels.{after_call};
 ghost use Rattle.rpc_units.specs.Writing.{written};
 ghost use Rattle.logon_stubs.specs.Writing.{CanWriteNetworkInfo, CanWriteCall};
 ghost use Rattle.logon_stubs.specs.Parts.{FitsText};
 ghost use Rattle.end_links.specs.Binding.{bind_of};
-ghost use Rattle.channel_client.specs.Machine.{netlogon_syntax, challenge_call, auth_call, logon_call, begin_with};
-ghost use Rattle.channel_client.specs.Opened.{after_call};
+ghost use Rattle.logon_stubs.specs.Interface.{netlogon_syntax};
+ghost use Rattle.channel_client.specs.Machine.{challenge_call, auth_call, logon_call, begin_with};
 
 use crate::caller::Caller;
-use crate::opened::Opened;
 use crate::short_frames::ShortFrames;
 use crate::state::Standing;
+use authenticators::SecureChannel;
 use channel_keys::{SUPPORTED_FLAGS, cred, session_key};
 use end_links::{bind, unit_bytes};
-use logon_stubs::{
-    AuthCall, Call, ChallengeCall, LogonCall, NETLOGON_UUID, NETLOGON_VERSION, NetworkInfo,
-};
-use rpc_units::Syntax;
+use logon_stubs::{AuthCall, Call, ChallengeCall, LogonCall, NETLOGON, NetworkInfo};
 use std::alloc::Global;
 use wire_base::{Authenticator, Frames, NoMemory};
-
-/// The interface of the calls (MS-NRPC 2.1).
-const NETLOGON: Syntax = Syntax {
-    uuid: NETLOGON_UUID,
-    version: NETLOGON_VERSION,
-};
 
 /// The frames of the bind of that number.
 pub(crate) fn bind_frames(alloc: Global, number: u32) -> Result<ShortFrames, NoMemory>
@@ -37,85 +29,96 @@ pub(crate) fn bind_frames(alloc: Global, number: u32) -> Result<ShortFrames, NoM
     Ok(ShortFrames::new(frames))
 }
 
-/// The call of a turn, by how far the channel is, and how far it is then. It takes no memory.
+/// The call of a turn, by how far the channel is, and how far it is then. Of the caller and the logon it copies what
+/// the call carries. Without memory nothing changes.
 pub(crate) fn begin_with(
-    standing: Standing,
-    caller: Caller,
-    info: NetworkInfo,
+    alloc: Global,
+    standing: &mut Standing,
+    caller: &Caller,
+    info: &NetworkInfo,
     timestamp: u32,
     challenge: [u8; 8],
-) -> (Standing, Call)
-    requires computer { FitsText caller.computer }
-    requires account { FitsText caller.account }
-    requires info { CanWriteNetworkInfo info }
-    ensures standing { result.0 ≡ (begin_with standing caller info timestamp challenge).standing }
-    ensures call { result.1 ≡ (begin_with standing caller info timestamp challenge).call }
-    ensures writable { CanWriteCall result.1 }
+) -> Result<Call, NoMemory>
+    requires computer { FitsText caller.now.computer }
+    requires account { FitsText caller.now.account }
+    requires info { CanWriteNetworkInfo info.now }
+    ensures call { IfOk result (λ call. call
+        ≡ (begin_with standing.old caller.now info.now timestamp challenge).call) }
+    ensures standing { OnOk result (standing.new
+        ≡ (begin_with standing.old caller.now info.now timestamp challenge).standing) }
+    ensures unchanged { OnErr result (standing.new ≡ standing.old) }
+    ensures writable { IfOk result (λ call. CanWriteCall call) }
 {
     match standing {
-        Standing::Nothing => (Standing::Nothing, challenge_call(caller, challenge)),
-        Standing::Half { client, server } => {
-            let call = auth_call(caller, client, server);
-            (Standing::Half { client, server }, call)
-        }
-        Standing::Open(opened) => {
-            let (opened, call) = logon_call(caller, opened, timestamp, info);
-            (Standing::Open(opened), call)
-        }
+        Standing::Nothing => challenge_call(alloc, caller, challenge),
+        Standing::Half { client, server } => auth_call(alloc, caller, *client, *server),
+        Standing::Open(channel) => logon_call(alloc, caller, channel, timestamp, info),
     }
 }
 
 /// NetrServerReqChallenge.
-fn challenge_call(caller: Caller, challenge: [u8; 8]) -> Call
-    requires { FitsText caller.computer }
-    ensures value { result ≡ challenge_call caller challenge }
-    ensures writable { CanWriteCall result }
+fn challenge_call(alloc: Global, caller: &Caller, challenge: [u8; 8]) -> Result<Call, NoMemory>
+    requires { FitsText caller.now.computer }
+    ensures value { IfOk result (λ call. call ≡ challenge_call caller.now challenge) }
+    ensures writable { IfOk result (λ call. CanWriteCall call) }
 {
-    Call::Challenge(ChallengeCall {
+    Ok(Call::Challenge(ChallengeCall {
         primary: None,
-        computer: caller.computer,
+        computer: caller.computer.duplicate(alloc)?,
         challenge,
-    })
+    }))
 }
 
 /// NetrServerAuthenticate2.
-fn auth_call(caller: Caller, client: [u8; 8], server: [u8; 8]) -> Call
-    requires computer { FitsText caller.computer }
-    requires account { FitsText caller.account }
-    ensures value { result ≡ auth_call caller client server }
-    ensures writable { CanWriteCall result }
+fn auth_call(
+    alloc: Global,
+    caller: &Caller,
+    client: [u8; 8],
+    server: [u8; 8],
+) -> Result<Call, NoMemory>
+    requires computer { FitsText caller.now.computer }
+    requires account { FitsText caller.now.account }
+    ensures value { IfOk result (λ call. call ≡ auth_call caller.now client server) }
+    ensures writable { IfOk result (λ call. CanWriteCall call) }
 {
     let key = session_key(caller.secret, client, server, SUPPORTED_FLAGS);
-    Call::Authenticate(AuthCall {
+    Ok(Call::Authenticate(AuthCall {
         primary: None,
-        account: caller.account,
+        account: caller.account.duplicate(alloc)?,
         channel: caller.kind,
-        computer: caller.computer,
+        computer: caller.computer.duplicate(alloc)?,
         credential: cred(key, client),
         flags: SUPPORTED_FLAGS,
-    })
+    }))
 }
 
-/// NetrLogonSamLogon, and the channel whose sequence has moved.
-fn logon_call(caller: Caller, opened: Opened, timestamp: u32, info: NetworkInfo) -> (Opened, Call)
-    requires computer { FitsText caller.computer }
-    requires info { CanWriteNetworkInfo info }
-    ensures opened { result.0 ≡ after_call opened timestamp }
-    ensures call { result.1 ≡ logon_call caller opened timestamp info }
-    ensures writable { CanWriteCall result.1 }
+/// NetrLogonSamLogon, with the channel's next authenticator. Without memory the channel is as it was.
+fn logon_call(
+    alloc: Global,
+    caller: &Caller,
+    channel: &mut SecureChannel,
+    timestamp: u32,
+    info: &NetworkInfo,
+) -> Result<Call, NoMemory>
+    requires computer { FitsText caller.now.computer }
+    requires info { CanWriteNetworkInfo info.now }
+    ensures call { IfOk result (λ call. call
+        ≡ logon_call caller.now channel.old timestamp info.now) }
+    ensures channel { OnOk result (channel.new ≡ after_call channel.old timestamp) }
+    ensures unchanged { OnErr result (channel.new ≡ channel.old) }
+    ensures writable { IfOk result (λ call. CanWriteCall call) }
 {
-    let mut opened = opened;
-    let authenticator = opened.make(timestamp);
-    let call = Call::Logon(LogonCall {
+    let computer = caller.computer.duplicate(alloc)?;
+    let info = info.copy(alloc)?;
+    Ok(Call::Logon(LogonCall {
         server: None,
-        computer: Some(caller.computer),
-        authenticator: Some(authenticator),
+        computer: Some(computer),
+        authenticator: Some(channel.make(timestamp)),
         returned: Some(Authenticator {
             credential: [0; 8],
             timestamp: 0,
         }),
         info,
         validation: 3,
-    });
-    (opened, call)
+    }))
 }

@@ -1,6 +1,6 @@
 //! What a channel keeps.
 
-use crate::opened::Opened;
+use authenticators::SecureChannel;
 use logon_stubs::{Call, NetworkInfo};
 
 /// How far the channel is (MS-NRPC 3.1.4.1).
@@ -11,7 +11,7 @@ pub enum Standing {
     /// Both challenges are known, and no credential was compared yet.
     Half { client: [u8; 8], server: [u8; 8] },
     /// It is open.
-    Open(Opened),
+    Open(SecureChannel),
 }
 
 /// A request that waits for its reply, by what the reply is judged by.

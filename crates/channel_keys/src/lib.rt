@@ -7,6 +7,7 @@
 mod channel_types;
 mod credentials;
 mod flags;
+mod hidden;
 pub mod laws;
 mod parts;
 mod session_keys;
@@ -14,4 +15,5 @@ mod session_keys;
 pub use channel_types::{BACKUP_CONTROLLER_CHANNEL, TRUSTED_DOMAIN_CHANNEL, WORKSTATION_CHANNEL};
 pub use credentials::{CredKey, cred, cred_back};
 pub use flags::{AES, RC4, SECURE_RPC, STRONG_KEY, SUPPORTED_FLAGS, granted_flags};
+pub use hidden::crypt_key;
 pub use session_keys::{des_key, session_key, strong_key};

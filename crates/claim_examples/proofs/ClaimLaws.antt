@@ -11,15 +11,15 @@ use Rattle.wire_base.specs.Names.{same_name}
 use Rattle.wire_base.specs.Names as names
 use Rattle.authenticators.specs.Channels.{Channel}
 use Rattle.authenticators.specs.Sequences.{authenticator_of}
+use Rattle.authenticators.specs.SecureChannels.{SecureChannelState, key_of_channel, channel_of}
 use Rattle.authenticators.proofs.ChannelLaws.{same_channel-Decides}
 use Rattle.outside.specs.declared.action.Judged.TheVariants as judged
 use Rattle.member_server.specs.declared.state.AtTurn.{AtTurn}
 use Rattle.member_server.specs.declared.state.TurnTalk.{TurnTalk}
-use Rattle.domain_controller.specs.Channels.{ChannelState, key_of_channel}
 use Rattle.domain_controller.specs.Laws.{IsNext}
 use Rattle.domain_controller.specs.declared.state.Computers.{Computers}
 use Rattle.channel_events.specs.Marks.{Calling, ReplyTo}
-use Rattle.step_notes.specs.ControllerNotes.{channel_by, channel_in, channel_with, has_passed}
+use Rattle.step_notes.specs.ControllerNotes.{channel_by, channel_in, has_passed}
 use Rattle.step_notes.specs.Judged.{channel_if}
 use Rattle.step_notes.specs.Marking.{clashes, is_channel}
 use Rattle.step_notes.specs.Records.{Judging, timestamp_in}
@@ -137,9 +137,9 @@ wraps_not wraps =
     not_round wraps.channel wraps.between wraps.first parts.1 parts.2 wraps.first_passed wraps.around
 
 -- a call that passed on a channel passed at its controller
-of_state : (controller : ℕ) (computer : List ℕ) (found : Option ChannelState) (channel : Channel) → is_channel (channel_by controller computer found) channel ≡ true → controller ≡ channel.controller
+of_state : (controller : ℕ) (computer : List ℕ) (found : Option SecureChannelState) (channel : Channel) → is_channel (channel_by controller computer found) channel ≡ true → controller ≡ channel.controller
 of_state controller computer None channel is = absurd cc
-of_state controller computer (Some c) channel is = ((same_channel-Decides (channel_with controller computer c) channel).0 is).controller
+of_state controller computer (Some c) channel is = ((same_channel-Decides (channel_of controller computer c) channel).0 is).controller
 
 of_computer : (controller : ℕ) (computer : Option (List ℕ)) (computers : Computers) (channel : Channel) → is_channel (channel_in controller computer computers) channel ≡ true → controller ≡ channel.controller
 of_computer controller None computers channel is = absurd cc
@@ -251,7 +251,7 @@ of_replays = record {
 
 -- ---- credentials
 
-pub no_channel : (computer : List ℕ) (channel : ChannelState) → lookup same_name computer no_computers.channels ≡ Some channel → ⊥
+pub no_channel : (computer : List ℕ) (channel : SecureChannelState) → lookup same_name computer no_computers.channels ≡ Some channel → ⊥
 no_channel computer channel is = absurd cc
 
 pub next_at : (seed : List ℕ) → IsNext (small_computers seed) (call_with (authenticator_of (key_of_channel (small_channel seed)) seed 0))

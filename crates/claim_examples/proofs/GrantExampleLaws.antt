@@ -29,9 +29,9 @@ use Rattle.ntlm_responses.specs.Verification.{verifies}
 use Rattle.sam_logon.specs.Granted.{at_level as carried_at, sam_info_of}
 use Rattle.sam_logon.specs.Verdict.{judgement_of, table_after}
 use Rattle.account_table.specs.declared.account.Account.{Account}
-use Rattle.domain_controller.specs.Channels.{ChannelState, key_of_channel}
 use Rattle.wire_base.specs.Names as names
 use Rattle.wire_base.specs.Units.{units_of}
+use Rattle.authenticators.specs.SecureChannels.{SecureChannelState, key_of_channel}
 use Rattle.outside.specs.declared.action.Judged.{Judged}
 use Rattle.outside.specs.declared.action.Judged.TheVariants as judged
 use Rattle.logon_stubs.specs.Status.{account_disabled, wrong_password}
@@ -277,7 +277,7 @@ right_sent new sent =
     let account : small_account ≡ sent.account = same_item _ _ (sym account_small ∙ sent.stored) in
     sent.actions
     ∙ ap (λ (a : Account). actions_granting small_line (reply_granted next_call a sent.next.channel sent.next.given)) (sym account)
-    ∙ ap (λ (c : ChannelState). actions_granting small_line (reply_granted next_call small_account c sent.next.given)) (sym channel)
+    ∙ ap (λ (c : SecureChannelState). actions_granting small_line (reply_granted next_call small_account c sent.next.given)) (sym channel)
     ∙ ap (λ (g : Authenticator). actions_granting small_line (reply_granted next_call small_account (small_channel []) g)) (sym given)
 
 same_bytes : (link : ℕ) (one other : List ℕ) →

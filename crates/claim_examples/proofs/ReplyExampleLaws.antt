@@ -11,11 +11,11 @@ use Rattle.rpc_units.specs.Calls.{bytes_of_call}
 use Rattle.rpc_units.specs.Joining.{cut_of, fragment, fragments_of, stub_of, stub_size}
 use Rattle.rpc_units.specs.Writing.{written, written_start}
 use Rattle.authenticators.specs.Sequences.{authenticator_of}
-use Rattle.domain_controller.specs.Channels.{key_of_channel}
+use Rattle.authenticators.specs.SecureChannels.{key_of_channel, channel_of}
 use Rattle.domain_controller.specs.Laws.{IsNext}
 use Rattle.domain_controller.specs.Machine.{status_of}
 use Rattle.channel_events.specs.Marks.{Mark, Plain, ReplyTo}
-use Rattle.step_notes.specs.ControllerNotes.{channel_by, channel_with}
+use Rattle.step_notes.specs.ControllerNotes.{channel_by}
 use Rattle.step_notes.specs.Records.{Judging, Sent}
 use Rattle.step_notes.specs.ReplySends.{IsReplyOfCall, verdict_passed}
 use Rattle.world_moves.specs.declared.bag.BagUnit.{BagUnit}
@@ -107,7 +107,7 @@ of_replies = record {
   fails_number = λ claim. let never : 3 ≡ 4 = (the_reply small_reply small_name 4 7 replied_call claim).1.call in absurd cc;
   fails_unit = λ claim. let never : Some 7 ≡ Some 6 = (the_reply small_reply small_name 3 6 replied_call claim).1.came in absurd cc;
   fails_channel = λ claim.
-      let other : Channel = channel_with 1 (codes "FILE1") (small_channel []) in
+      let other : Channel = channel_of 1 (codes "FILE1") (small_channel []) in
       other_controller small_name other refl refl
       (some_is small_name other (sym passed_small ∙ (the_reply small_reply other 3 7 replied_call claim).1.passed));
   fails_reply = λ claim. let never : Some 8 ≡ Some 0 = (the_reply small_reply small_name 3 7 next_call claim).0 in absurd cc;

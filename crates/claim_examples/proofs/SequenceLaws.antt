@@ -9,14 +9,13 @@ use Rattle.authenticators.specs.Channels.{Channel, SameChannel}
 use Rattle.authenticators.specs.Sequences.{moved_by}
 use Rattle.authenticators.proofs.SeedLaws.{IsBlock-add_to, add_to-same}
 use Rattle.channel_keys.proofs.CredLaws.{IsBlock-cred_of}
-use Rattle.channel_client.specs.Effects.{View, channel_of}
-use Rattle.channel_client.specs.Opened.{OpenState}
+use Rattle.authenticators.specs.SecureChannels.{channel_of, SecureChannelState}
+use Rattle.channel_client.specs.Effects.{View}
 use Rattle.channel_client.specs.declared.state.Standing.{Standing}
 use Rattle.channel_client.specs.declared.state.Standing.TheVariants as standing
 use Rattle.channel_client.specs.declared.state.Pending.{Pending}
 use Rattle.member_server.specs.State.{State as MemberState}
 use Rattle.member_server.specs.declared.state.Running.{Running as MemberRunning}
-use Rattle.domain_controller.specs.Channels.{ChannelState}
 use Rattle.domain_controller.specs.State.{State as ControllerState}
 use Rattle.domain_controller.specs.declared.state.Running.{Running as ControllerRunning}
 use Rattle.channel_events.specs.Marks.{Calling, Mark, Opened, Opening, ReplyTo}
@@ -26,7 +25,7 @@ use Rattle.channel_events.specs.Sound.{Accepted, Sound, passed_units}
 use Rattle.step_notes.specs.Records.{Book, blank}
 use Rattle.domain_world.specs.Claims.SharedSequences.{IsBeforeTurn, Keeps, SequencesAreShared, Stands, any_foreign, timestamps_on}
 use Rattle.domain_world.specs.Past.{controller_of}
-use Rattle.claim_examples.specs.ClaimExamples.{OfInStep, OfSequences, OfSoundness, keeping_controller, keeping_running, one_call, one_turn, open_channel, open_member, open_running, passed_from, run_open, seed_after_one, seed_after_two, small_channel, small_computers, small_name, small_seed, small_turn, small_view, small_views, turn_out, two_turns, whole_history, whole_view, world_open}
+use Rattle.claim_examples.specs.ClaimExamples.{OfInStep, OfSequences, OfSoundness, keeping_controller, keeping_running, one_call, one_turn, small_channel, open_member, open_running, passed_from, run_open, seed_after_one, seed_after_two, small_computers, small_name, small_seed, small_turn, small_view, small_views, turn_out, two_turns, whole_history, whole_view, world_open}
 use Rattle.channel_events.proofs.ListLaws.{got_nothing, moved_none}
 use Rattle.channel_events.proofs.SameLaws.{same_self}
 
@@ -48,24 +47,24 @@ one_member turn seed other zero state at = (refl, cc)
 one_member turn seed other (suc member) state at = absurd cc
 
 -- the channel that stands at the member is this one
-the_channel : (turn : Option Pending) (seed other : List ℕ) (member : ℕ) (channel : Channel) (o : OpenState) → (stands : Stands (world_open turn seed other).state member channel o) →
+the_channel : (turn : Option Pending) (seed other : List ℕ) (member : ℕ) (channel : Channel) (o : SecureChannelState) → (stands : Stands (world_open turn seed other).state member channel o) →
     (member ≡ 0) × (channel ≡ small_name) × (o.seed ≡ seed) × (stands.turn ≡ turn)
 the_channel turn seed other member channel o stands =
     let one = one_member turn seed other member stands.state stands.at in
     let runs : Some (open_running turn seed) ≡ Some stands.running = ap MemberState.running one.1 ∙ stands.runs in
     let running : open_running turn seed ≡ stands.running = cc in
-    let open_so : standing.Open (open_channel seed) ≡ standing.Open o = ap (λ (r : MemberRunning). r.logons.channel.standing) running ∙ stands.open_so in
-    let state : open_channel seed ≡ o = cc in (
+    let open_so : standing.Open (small_channel seed) ≡ standing.Open o = ap (λ (r : MemberRunning). r.logons.channel.standing) running ∙ stands.open_so in
+    let state : small_channel seed ≡ o = cc in (
       one.0,
       stands.is
           ∙ ap (λ (r : MemberRunning). channel_of (controller_of member (world_open turn seed other).state) r.logons.channel.caller.computer o) (sym running)
           ∙ ap (λ (m : ℕ). channel_of (controller_of m (world_open turn seed other).state) (codes "FILE1") o) one.0
-          ∙ ap (λ (s : OpenState). channel_of (controller_of 0 (world_open turn seed other).state) (codes "FILE1") s) (sym state),
-      ap OpenState.seed (sym state),
+          ∙ ap (λ (s : SecureChannelState). channel_of (controller_of 0 (world_open turn seed other).state) (codes "FILE1") s) (sym state),
+      ap SecureChannelState.seed (sym state),
       sym (ap (λ (r : MemberRunning). r.logons.channel.turn) running ∙ stands.is_turn),
     )
 
-the_kept : (turn : Option Pending) (seed other : List ℕ) (channel : Channel) (c : ChannelState) → channel ≡ small_name → Keeps (world_open turn seed other).state channel.controller channel.computer c → c.seed ≡ other
+the_kept : (turn : Option Pending) (seed other : List ℕ) (channel : Channel) (c : SecureChannelState) → channel ≡ small_name → Keeps (world_open turn seed other).state channel.controller channel.computer c → c.seed ≡ other
 the_kept turn seed other channel c is keeps =
     let kept : Keeps (world_open turn seed other).state 0 (codes "FILE1") c =
     subst (λ (one : Channel). Keeps (world_open turn seed other).state one.controller one.computer c) is keeps in
@@ -76,9 +75,9 @@ the_kept turn seed other channel c is keeps =
     let found : Some (small_channel other) ≡ Some c =
     sym (kept_small other) ∙ ap (λ (r : ControllerRunning). lookup same_name (codes "FILE1") r.computers.channels) running ∙ kept.kept in
     let one : small_channel other ≡ c = cc in
-    ap ChannelState.seed (sym one)
+    ap SecureChannelState.seed (sym one)
 
-abbrev pub stands_small : (turn : Option Pending) (seed other : List ℕ) → Stands (world_open turn seed other).state 0 small_name (open_channel seed)
+abbrev pub stands_small : (turn : Option Pending) (seed other : List ℕ) → Stands (world_open turn seed other).state 0 small_name (small_channel seed)
 stands_small turn seed other =
     record { state = open_member turn seed; running = open_running turn seed; at = refl; runs = refl; open_so = refl; is = refl; turn = turn; is_turn = refl }
 
@@ -118,7 +117,7 @@ shares_by book turn seed other timestamps are own each member = record {
 -- what is said of it then
 pub shared_small : (book : Book) (turn : Option Pending) (seed other : List ℕ) → SequencesAreShared (run_open book turn seed other) → any_foreign small_name book.judged ≡ false →
     (other ≡ seed) ⊎ IsBeforeTurn turn other small_name (timestamps_on 0 small_name book.turns)
-shared_small book turn seed other claim none = (claim 0).other small_name (open_channel seed) (small_channel other) (stands_small turn seed other) (keeps_small turn seed other) same_small none
+shared_small book turn seed other claim none = (claim 0).other small_name (small_channel seed) (small_channel other) (stands_small turn seed other) (keeps_small turn seed other) same_small none
 
 -- a seed has 8 bytes
 pub not_one_byte : 1 ∷ [] ≡ small_seed → ⊥
@@ -172,7 +171,7 @@ foreign_small = refl
 pub of_sequences : OfSequences
 of_sequences = record {
   meets = shares_by blank None small_seed small_seed [] refl refl (λ none. inl refl);
-  fails = λ claim. not_one_byte ((claim 0).own small_name (open_channel (1 ∷ [])) (stands_small None (1 ∷ []) small_seed));
+  fails = λ claim. not_one_byte ((claim 0).own small_name (small_channel (1 ∷ [])) (stands_small None (1 ∷ []) small_seed));
   fails_other = λ claim. elim (shared_small blank None small_seed (1 ∷ []) claim refl) [ inl is ↦ not_one_byte is | inr before ↦ no_turn _ _ before ];
   turn_passed = shares_by one_turn (Some turn_out) seed_after_one seed_after_one (0 ∷ []) one_stamp refl (λ none. inl refl);
   turn_behind = shares_by one_turn (Some turn_out) seed_after_one small_seed (0 ∷ []) one_stamp refl

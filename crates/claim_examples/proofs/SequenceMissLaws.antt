@@ -9,19 +9,17 @@ use Rattle.wire_base.specs.Names as names
 use Rattle.outside.specs.declared.action.Judged.TheVariants as judged
 use Rattle.authenticators.specs.Channels.{Channel, SameChannel}
 use Rattle.authenticators.specs.Sequences.{moved_by}
+use Rattle.authenticators.specs.SecureChannels.{channel_of, SecureChannelState}
 use Rattle.authenticators.proofs.SeedLaws.{add_to-same}
-use Rattle.channel_client.specs.Effects.{channel_of}
-use Rattle.channel_client.specs.Opened.{OpenState}
 use Rattle.channel_client.specs.declared.state.Pending.{Pending}
 use Rattle.channel_client.specs.declared.state.Standing.TheVariants as standing
-use Rattle.domain_controller.specs.Channels.{ChannelState}
 use Rattle.domain_controller.specs.State.{State as ControllerState}
 use Rattle.domain_controller.specs.declared.state.Running.{Running as ControllerRunning}
 use Rattle.member_server.specs.State.{State as MemberState}
 use Rattle.member_server.specs.declared.state.Running.{Running as MemberRunning}
 use Rattle.channel_events.specs.Marks.{Calling, OneOf, Plain, ReplyTo}
 use Rattle.channel_events.proofs.ListLaws.{got_nothing, one_weaker, some_is}
-use Rattle.step_notes.specs.ControllerNotes.{channel_with, has_passed}
+use Rattle.step_notes.specs.ControllerNotes.{has_passed}
 use Rattle.step_notes.specs.Records.{Book, Judging, LogonTurn, Sent, blank}
 use Rattle.world_moves.specs.declared.links.EndId.TheVariants.{Member, Client}
 use Rattle.world_moves.specs.declared.state.State.{State}
@@ -29,27 +27,27 @@ use Rattle.domain_world.specs.Accepting.Sequences.{AnswersCall, AreSoFar, CallsO
 use Rattle.channel_events.specs.Seeds.{channel_seed}
 use Rattle.domain_world.specs.Claims.SharedSequences.{HasOneTurnOut, IsBeforeTurn, Keeps, SequencesAreOwn, SequencesAreShared, Stands, any_foreign, dials_of, timestamps_on}
 use Rattle.domain_world.specs.Past.{controller_of, sent_at}
-use Rattle.claim_examples.specs.ClaimExamples.{elsewhere, judged_as, on_channel, one_turn, open_channel, open_member, open_running, seed_after_one, small_channel, small_name, small_seed, small_turn, turn_out}
-use Rattle.claim_examples.specs.SequenceMisses.{OfCalls, OfOneTurn, OfReplyCalls, OfSequenceMisses, SequencesTellApart, called_once, controller_on, empty_unit, in_unit, judged_outside, kept_whole, member_on, mixed_turns, moved_seed, open_whole, passed_then, replied, replied_for, run_by, run_dials, run_small, sent_as, whole_name}
+use Rattle.claim_examples.specs.ClaimExamples.{elsewhere, judged_as, on_channel, one_turn, small_channel, open_member, open_running, seed_after_one, small_name, small_seed, small_turn, turn_out}
+use Rattle.claim_examples.specs.SequenceMisses.{OfCalls, OfOneTurn, OfReplyCalls, OfSequenceMisses, SequencesTellApart, called_once, controller_on, empty_unit, in_unit, judged_outside, kept_whole, member_on, mixed_turns, moved_seed, passed_then, replied, replied_for, run_by, run_dials, run_small, sent_as, whole_name}
 use Rattle.claim_examples.proofs.SequenceLaws.{no_turn, not_one_byte, one_stamp, same_small, shared_small}
 
 -- ---- one member, whose channel stands
 
-abbrev running_on : Option Pending → OpenState → MemberRunning
+abbrev running_on : Option Pending → SecureChannelState → MemberRunning
 running_on turn o =
     let running : MemberRunning = open_running turn [] in
     record running { logons = record running.logons { channel = record running.logons.channel { standing = standing.Open o } } }
 
-one_member : (turn : Option Pending) (o : OpenState) (member : ℕ) (state : MemberState) → slice_get (member_on turn o ∷ []) member ≡ Some state → (member ≡ 0) × (member_on turn o ≡ state)
+one_member : (turn : Option Pending) (o : SecureChannelState) (member : ℕ) (state : MemberState) → slice_get (member_on turn o ∷ []) member ≡ Some state → (member ≡ 0) × (member_on turn o ≡ state)
 one_member turn o zero state at = (refl, cc)
 one_member turn o (suc member) state at = absurd cc
 
-module _ (book : Book) (turn : Option Pending) (o : OpenState) (name : List ℕ) (c : ChannelState) where
+module _ (book : Book) (turn : Option Pending) (o : SecureChannelState) (name : List ℕ) (c : SecureChannelState) where
   -- the channel that stands at the member is this one
   abbrev its_name : Channel
   its_name = channel_of 0 (codes "FILE1") o
 
-  the_channel : (member : ℕ) (channel : Channel) (p : OpenState) → (stands : Stands (run_by book turn o name c).world.state member channel p) →
+  the_channel : (member : ℕ) (channel : Channel) (p : SecureChannelState) → (stands : Stands (run_by book turn o name c).world.state member channel p) →
       (member ≡ 0) × (channel ≡ its_name) × (o ≡ p) × (stands.turn ≡ turn)
   the_channel member channel p stands =
       let one = one_member turn o member stands.state stands.at in
@@ -61,7 +59,7 @@ module _ (book : Book) (turn : Option Pending) (o : OpenState) (name : List ℕ)
         stands.is
             ∙ ap (λ (r : MemberRunning). channel_of (controller_of member (run_by book turn o name c).world.state) r.logons.channel.caller.computer p) (sym running)
             ∙ ap (λ (m : ℕ). channel_of (controller_of m (run_by book turn o name c).world.state) (codes "FILE1") p) one.0
-            ∙ ap (λ (s : OpenState). channel_of (controller_of 0 (run_by book turn o name c).world.state) (codes "FILE1") s) (sym state),
+            ∙ ap (λ (s : SecureChannelState). channel_of (controller_of 0 (run_by book turn o name c).world.state) (codes "FILE1") s) (sym state),
         state,
         sym (ap (λ (r : MemberRunning). r.logons.channel.turn) running ∙ stands.is_turn),
       )
@@ -72,13 +70,13 @@ module _ (book : Book) (turn : Option Pending) (o : OpenState) (name : List ℕ)
   own_by : o.seed ≡ channel_seed its_name (timestamps_on 0 its_name book.turns) → SequencesAreOwn (run_by book turn o name c)
   own_by own member channel p stands =
       let it = the_channel member channel p stands in
-      ap OpenState.seed (sym it.2)
+      ap SecureChannelState.seed (sym it.2)
       ∙ own
       ∙ ap (λ (one : Channel). channel_seed one (timestamps_on 0 one book.turns)) (sym it.1)
       ∙ ap (λ (m : ℕ). channel_seed channel (timestamps_on m channel book.turns)) (sym it.0)
 
   -- what is kept of it at the controller
-  the_kept : (channel : Channel) (d : ChannelState) → channel ≡ its_name → Keeps (run_by book turn o name c).world.state channel.controller channel.computer d →
+  the_kept : (channel : Channel) (d : SecureChannelState) → channel ≡ its_name → Keeps (run_by book turn o name c).world.state channel.controller channel.computer d →
       lookup same_name (codes "FILE1") ((name, c) ∷ []) ≡ Some d
   the_kept channel d is keeps =
       let kept : Keeps (run_by book turn o name c).world.state 0 (codes "FILE1") d =
@@ -91,15 +89,15 @@ module _ (book : Book) (turn : Option Pending) (o : OpenState) (name : List ℕ)
 
   -- the run shares its sequence where its one channel does
   shares_by : (timestamps : List ℕ) → timestamps_on 0 its_name book.turns ≡ timestamps → o.seed ≡ channel_seed its_name timestamps →
-      ((d : ChannelState) → lookup same_name (codes "FILE1") ((name, c) ∷ []) ≡ Some d → SameChannel (channel_with 0 (codes "FILE1") d) its_name →
+      ((d : SecureChannelState) → lookup same_name (codes "FILE1") ((name, c) ∷ []) ≡ Some d → SameChannel (channel_of 0 (codes "FILE1") d) its_name →
       any_foreign its_name book.judged ≡ false → (d.seed ≡ o.seed) ⊎ IsBeforeTurn turn d.seed its_name timestamps) → SequencesAreShared (run_by book turn o name c)
   shares_by timestamps are own each member = record {
     own = λ channel p stands. own_by (own ∙ ap (λ (all : List ℕ). channel_seed its_name all) (sym are)) member channel p stands;
     other = λ channel p d stands keeps same none.
         let it = the_channel member channel p stands in
-        let same_its : SameChannel (channel_with 0 (codes "FILE1") d) its_name = subst (λ (one : Channel). SameChannel (channel_with one.controller one.computer d) one) it.1 same in
+        let same_its : SameChannel (channel_of 0 (codes "FILE1") d) its_name = subst (λ (one : Channel). SameChannel (channel_of one.controller one.computer d) one) it.1 same in
         elim (each d (the_kept channel d it.1 keeps) same_its (ap (λ (one : Channel). any_foreign one book.judged) (sym it.1) ∙ none)) [
-          | inl is ↦ inl (is ∙ ap OpenState.seed it.2)
+          | inl is ↦ inl (is ∙ ap SecureChannelState.seed it.2)
           | inr before ↦ inr (record {
             pending = before.pending;
             is_out = it.3 ∙ before.is_out;
@@ -112,7 +110,7 @@ module _ (book : Book) (turn : Option Pending) (o : OpenState) (name : List ℕ)
   }
 
   -- what is said of it then
-  shared : SequencesAreShared (run_by book turn o name c) → lookup same_name (codes "FILE1") ((name, c) ∷ []) ≡ Some c → SameChannel (channel_with 0 (codes "FILE1") c) its_name →
+  shared : SequencesAreShared (run_by book turn o name c) → lookup same_name (codes "FILE1") ((name, c) ∷ []) ≡ Some c → SameChannel (channel_of 0 (codes "FILE1") c) its_name →
       any_foreign its_name book.judged ≡ false → (c.seed ≡ o.seed) ⊎ IsBeforeTurn turn c.seed its_name (timestamps_on 0 its_name book.turns)
   shared claim kept same none =
       (claim 0).other its_name o c
@@ -145,11 +143,11 @@ whole_kept : (seed : List ℕ) → lookup same_name (codes "FILE1") ((codes "FIL
 unfolding same_name names.upper_of
 whole_kept seed = refl
 
-kept_as : (seed : List ℕ) (d : ChannelState) → lookup same_name (codes "FILE1") ((codes "FILE1", kept_whole seed) ∷ []) ≡ Some d → d.seed ≡ seed
+kept_as : (seed : List ℕ) (d : SecureChannelState) → lookup same_name (codes "FILE1") ((codes "FILE1", kept_whole seed) ∷ []) ≡ Some d → d.seed ≡ seed
 kept_as seed d found =
     let one : Some (kept_whole seed) ≡ Some d = sym (whole_kept seed) ∙ found in
     let is : kept_whole seed ≡ d = cc in
-    ap ChannelState.seed (sym is)
+    ap SecureChannelState.seed (sym is)
 
 same_whole : SameChannel whole_name whole_name
 same_whole = record { controller = refl; computer = refl; secret = refl; client = refl; server = refl; flags = refl }
@@ -175,12 +173,12 @@ not_before before =
 
 -- ---- a channel that isn't the member's
 
-no_server : (c : ChannelState) → lookup same_name (codes "FILE1") ((codes "FILE1", record (kept_whole []) { server = [] }) ∷ []) ≡ Some c → c.server ≡ []
+no_server : (c : SecureChannelState) → lookup same_name (codes "FILE1") ((codes "FILE1", record (kept_whole []) { server = [] }) ∷ []) ≡ Some c → c.server ≡ []
 unfolding same_name names.upper_of
 no_server c found =
     let one : Some (record (kept_whole []) { server = [] }) ≡ Some c = found in
     let is : record (kept_whole []) { server = [] } ≡ c = cc in
-    ap ChannelState.server (sym is)
+    ap SecureChannelState.server (sym is)
 
 -- ---- a channel without challenges
 
@@ -205,32 +203,32 @@ second_name = record small_name { controller = 1 }
 
 of_sequence_misses : OfSequenceMisses
 of_sequence_misses = record {
-  alike = shares_by mixed_turns None (open_whole (moved_seed 14)) (codes "FILE1") (kept_whole (moved_seed 14)) (5 ∷ 7 ∷ []) whole_stamps whole_seed
+  alike = shares_by mixed_turns None (kept_whole (moved_seed 14)) (codes "FILE1") (kept_whole (moved_seed 14)) (5 ∷ 7 ∷ []) whole_stamps whole_seed
       (λ d found same none. inl (kept_as (moved_seed 14) d found));
-  behind = shares_by mixed_turns (Some turn_out) (open_whole (moved_seed 14)) (codes "FILE1") (kept_whole (moved_seed 6)) (5 ∷ 7 ∷ []) whole_stamps whole_seed
+  behind = shares_by mixed_turns (Some turn_out) (kept_whole (moved_seed 14)) (codes "FILE1") (kept_whole (moved_seed 6)) (5 ∷ 7 ∷ []) whole_stamps whole_seed
       (λ d found same none. inr (record { pending = turn_out; is_out = refl; earlier = 5 ∷ []; last = 7; all = refl; seed_before = kept_as (moved_seed 6) d found ∙ before_seed }));
-  fails_first = λ claim. elim (shared mixed_turns (Some turn_out) (open_whole (moved_seed 14)) (codes "FILE1") (kept_whole (moved_seed 8)) claim (whole_kept (moved_seed 8)) same_whole refl) [
+  fails_first = λ claim. elim (shared mixed_turns (Some turn_out) (kept_whole (moved_seed 14)) (codes "FILE1") (kept_whole (moved_seed 8)) claim (whole_kept (moved_seed 8)) same_whole refl) [
     | inl is ↦ absurd (omega (arith, seeds_apart 8 14 is))
     | inr before ↦ not_before before
   ];
   fails_out = λ claim.
-      let is : moved_seed 12 ≡ moved_seed 14 = its_own mixed_turns (Some turn_out) (open_whole (moved_seed 12)) (codes "FILE1") (kept_whole (moved_seed 12)) (λ member channel o stands. (claim member).own channel o stands)
+      let is : moved_seed 12 ≡ moved_seed 14 = its_own mixed_turns (Some turn_out) (kept_whole (moved_seed 12)) (codes "FILE1") (kept_whole (moved_seed 12)) (λ member channel o stands. (claim member).own channel o stands)
       ∙ ap (λ (all : List ℕ). channel_seed whole_name all) whole_stamps ∙ sym whole_seed in
       absurd (omega (arith, seeds_apart 12 14 is));
-  other_channel = shares_by mixed_turns None (open_whole (moved_seed 14)) (codes "FILE1") (record (kept_whole []) { server = [] }) (5 ∷ 7 ∷ []) whole_stamps whole_seed
+  other_channel = shares_by mixed_turns None (kept_whole (moved_seed 14)) (codes "FILE1") (record (kept_whole []) { server = [] }) (5 ∷ 7 ∷ []) whole_stamps whole_seed
       (λ d found same none. absurd (let never : [] ≡ whole_name.server = sym (no_server d found) ∙ same.server in cc));
   fails_second = λ claim.
-      not_one_byte ((claim 1).own small_name (open_channel (1 ∷ []))
+      not_one_byte ((claim 1).own small_name (small_channel (1 ∷ []))
       (record { state = open_member None (1 ∷ []); running = open_running None (1 ∷ []); at = refl; runs = refl; open_so = refl; is = refl; turn = None; is_turn = refl }));
   fails_controller = λ claim. elim
-      ((claim 0).other second_name (open_channel small_seed) (small_channel (1 ∷ []))
+      ((claim 0).other second_name (small_channel small_seed) (small_channel (1 ∷ []))
       (record { state = open_member None small_seed; running = open_running None small_seed; at = refl; runs = refl; open_so = refl; is = refl; turn = None; is_turn = refl })
       (record { state = controller_on (codes "FILE1") (small_channel (1 ∷ [])); running = record { computers = record { pending = []; channels = (codes "FILE1", small_channel (1 ∷ [])) ∷ [] }; links = [] }; at = refl; runs = refl; kept = kept_small (1 ∷ []) })
       (record { controller = refl; computer = refl; secret = refl; client = refl; server = refl; flags = refl }) refl) [
         | inl is ↦ not_one_byte is
         | inr before ↦ absurd (let none : None ≡ Some before.pending = before.is_out in cc)
       ];
-  fails_name = λ claim. elim (shared blank None (open_channel small_seed) (codes "file1") (small_channel (1 ∷ [])) claim (named_small (1 ∷ [])) same_small refl) [
+  fails_name = λ claim. elim (shared blank None (small_channel small_seed) (codes "file1") (small_channel (1 ∷ [])) claim (named_small (1 ∷ [])) same_small refl) [
     | inl is ↦ not_one_byte is
     | inr before ↦ no_turn _ _ before
   ];
@@ -242,16 +240,16 @@ of_sequence_misses = record {
     | inl is ↦ not_one_byte is
     | inr before ↦ no_turn _ _ before
   ];
-  own = own_by mixed_turns None (open_whole (moved_seed 14)) (codes "FILE1") (kept_whole []) (whole_seed ∙ ap (λ (all : List ℕ). channel_seed whole_name all) (sym whole_stamps));
+  own = own_by mixed_turns None (kept_whole (moved_seed 14)) (codes "FILE1") (kept_whole []) (whole_seed ∙ ap (λ (all : List ℕ). channel_seed whole_name all) (sym whole_stamps));
   fails_own = λ claim.
-      let is : moved_seed 12 ≡ moved_seed 14 = its_own mixed_turns None (open_whole (moved_seed 12)) (codes "FILE1") (kept_whole []) claim
+      let is : moved_seed 12 ≡ moved_seed 14 = its_own mixed_turns None (kept_whole (moved_seed 12)) (codes "FILE1") (kept_whole []) claim
       ∙ ap (λ (all : List ℕ). channel_seed whole_name all) whole_stamps ∙ sym whole_seed in
       absurd (omega (arith, seeds_apart 12 14 is));
 }
 
 -- ---- one turn at a time
 
-the_running : (turn : Option Pending) (o : OpenState) (member : ℕ) (m : MemberState) (running : MemberRunning) → slice_get (member_on turn o ∷ []) member ≡ Some m → m.running ≡ Some running →
+the_running : (turn : Option Pending) (o : SecureChannelState) (member : ℕ) (m : MemberState) (running : MemberRunning) → slice_get (member_on turn o ∷ []) member ≡ Some m → m.running ≡ Some running →
     (member ≡ 0) × (running_on turn o ≡ running)
 the_running turn o member m running there runs =
     let one = one_member turn o member m there in
@@ -259,30 +257,30 @@ the_running turn o member m running there runs =
     (one.0, cc)
 
 abbrev idle : MemberRunning
-idle = running_on None (open_channel small_seed)
+idle = running_on None (small_channel small_seed)
 
 of_one_turn : OfOneTurn
 of_one_turn = record {
   meets = λ member m running there runs.
-      let it = the_running None (open_channel small_seed) member m running there runs in
+      let it = the_running None (small_channel small_seed) member m running there runs in
       let s : State = (run_dials (Member 1 ∷ Client 0 ∷ [])).world.state in
       let none : length (dials_of 0 s.dials) ≡ 0 = refl in
       subst (λ (r : MemberRunning). HasOneTurnOut s member r) it.1
       (subst (λ (k : ℕ). HasOneTurnOut s k idle) (sym it.0) (record { out = refl; few = omega (arith, none); waits = λ some. absurd (omega (arith, none, some)) }));
   fails_two = λ claim.
       let two : length (dials_of 0 (run_dials (Member 0 ∷ Client 0 ∷ Member 0 ∷ [])).world.state.dials) ≡ 2 = refl in
-      absurd (omega (arith, two, (claim 0 (member_on None (open_channel small_seed)) idle refl refl).few));
+      absurd (omega (arith, two, (claim 0 (member_on None (small_channel small_seed)) idle refl refl).few));
   fails_idle = λ claim.
       let one : length (dials_of 0 (run_dials (Member 0 ∷ [])).world.state.dials) ≡ 1 = refl in
-      (claim 0 (member_on None (open_channel small_seed)) idle refl refl).waits (omega (arith, one));
+      (claim 0 (member_on None (small_channel small_seed)) idle refl refl).waits (omega (arith, one));
   fails_undialled = λ claim.
-      absurd (let never : true ≡ false = (claim 0 (member_on (Some turn_out) (open_channel small_seed)) (running_on (Some turn_out) (open_channel small_seed)) refl refl).out in cc);
+      absurd (let never : true ≡ false = (claim 0 (member_on (Some turn_out) (small_channel small_seed)) (running_on (Some turn_out) (small_channel small_seed)) refl refl).out in cc);
 }
 
 -- ---- the calls of turns
 
-abbrev o_small : OpenState
-o_small = open_channel seed_after_one
+abbrev o_small : SecureChannelState
+o_small = small_channel seed_after_one
 
 abbrev stands_small : (book : Book) (turn : Option Pending) → Stands (run_small book turn).world.state 0 small_name o_small
 stands_small book turn = record { state = member_on turn o_small; running = running_on turn o_small; at = refl; runs = refl; open_so = refl; is = refl; turn = turn; is_turn = refl }

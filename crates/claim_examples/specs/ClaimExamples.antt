@@ -11,6 +11,7 @@ use Rattle.wire_base.specs.declared.authenticator.Authenticator.{Authenticator}
 use Rattle.ntlm_flags.specs.Flags.{negotiate_extended_sessionsecurity, negotiate_unicode}
 use Rattle.authenticators.specs.Channels.{Channel}
 use Rattle.authenticators.specs.Sequences.{authenticator_of}
+use Rattle.authenticators.specs.SecureChannels.{SecureChannelState, key_of_channel, channel_of}
 use Rattle.outside.specs.declared.action.Judged.{Judged}
 use Rattle.outside.specs.declared.action.Judged.TheVariants as judged
 use Rattle.outside.specs.declared.action.Outcome.TheVariants as outcome
@@ -25,12 +26,10 @@ use Rattle.logon_client.specs.declared.plan.ClientPlan.{ClientPlan}
 use Rattle.logon_stubs.specs.declared.calls.LogonCall.{LogonCall}
 use Rattle.channel_client.specs.Effects.{View}
 use Rattle.channel_client.specs.Machine.{fresh_requester}
-use Rattle.channel_client.specs.Opened.{OpenState}
 use Rattle.channel_client.specs.declared.state.Pending.{Pending}
 use Rattle.channel_client.specs.declared.state.Question.TheVariants as question
 use Rattle.channel_client.specs.declared.state.Standing.TheVariants as standing
 use Rattle.channel_client.specs.declared.state.Step.TheVariants as step
-use Rattle.domain_controller.specs.Channels.{ChannelState, key_of_channel}
 use Rattle.domain_controller.specs.State.{State as ControllerState}
 use Rattle.domain_controller.specs.declared.state.Computers.{Computers}
 use Rattle.domain_controller.specs.declared.state.Running.{Running as ControllerRunning}
@@ -45,7 +44,7 @@ use Rattle.member_server.specs.declared.state.TurnTalk.{TurnTalk}
 use Rattle.channel_events.specs.Marks.{Calling, Mark, Opened, Opening, Plain, ReplyTo}
 use Rattle.channel_events.specs.Seeds.{channel_seed}
 use Rattle.channel_events.specs.Sound.{AreInStep, History, Sound}
-use Rattle.step_notes.specs.ControllerNotes.{channel_with, passing}
+use Rattle.step_notes.specs.ControllerNotes.{passing}
 use Rattle.step_notes.specs.Marking.{clashes}
 use Rattle.step_notes.specs.MemberNotes.{no_note}
 use Rattle.step_notes.specs.Records.{Book, ChallengeSent, Judging, JudgementTold, LogonTurn, MessageMade, MessageTaken, OutcomeTold, blank}
@@ -226,12 +225,12 @@ made_keeping key = record { at = 5; client = 0; link = 3; plan = client_plan; ch
 
 -- ---- a channel of FILE1
 
-abbrev pub small_channel : List ℕ → ChannelState
-small_channel seed = record { secret = []; client = []; server = []; flags = 0; seed = seed }
+abbrev pub small_channel : List ℕ → SecureChannelState
+small_channel seed = record { secret = []; client = []; server = []; flags = 0; seed = seed; awaited = None }
 
 -- which channel it is
 abbrev pub small_name : Channel
-small_name = channel_with 0 (codes "FILE1") (small_channel [])
+small_name = channel_of 0 (codes "FILE1") (small_channel [])
 
 abbrev pub small_computers : List ℕ → Computers
 small_computers seed = record { pending = []; channels = (codes "FILE1", small_channel seed) ∷ [] }
@@ -379,16 +378,12 @@ pub record OfShortResponses : Type 0 where
   pub extended : hashed_challenge_of small_challenge (replicate 8 1) ≢ small_challenge →
       ShortResponsesServeOnce (small_run (two_as extended_message extended_flags))
 
--- the member's channel is open, with that seed
-abbrev pub open_channel : List ℕ → OpenState
-open_channel seed = record { secret = []; client = []; server = []; flags = 0; seed = seed; awaited = None }
-
--- and this turn is out
+-- the member's channel is open, with that seed, and this turn is out
 abbrev pub open_running : Option Pending → List ℕ → MemberRunning
 open_running turn seed = record {
   logons = record {
     plan = small_member;
-    channel = record (fresh_requester (caller_of small_member)) { standing = standing.Open (open_channel seed); turn = turn };
+    channel = record (fresh_requester (caller_of small_member)) { standing = standing.Open (small_channel seed); turn = turn };
     asked = [];
   };
   links = [];

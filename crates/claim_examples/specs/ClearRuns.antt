@@ -3,10 +3,8 @@
 use Rattle.std.specs.Prelude.{ℕ, ◌≡◌, ◌≢◌, ◌==◌, true, length, Some, AllPairs}
 use Rattle.std.specs.List.{AllByRecursion}
 use Rattle.authenticators.specs.Channels.{Channel, SameChannel}
-use Rattle.channel_client.specs.Opened.{OpenState}
-use Rattle.domain_controller.specs.Channels.{ChannelState}
+use Rattle.authenticators.specs.SecureChannels.{SecureChannelState, channel_of}
 use Rattle.channel_events.specs.Marks.{OneOf}
-use Rattle.step_notes.specs.ControllerNotes.{channel_with}
 use Rattle.step_notes.specs.Records.{OutcomeTold}
 use Rattle.world_moves.specs.declared.plan.Plan.{Plan}
 use Rattle.world_moves.specs.Choosing.{chosen_place}
@@ -41,11 +39,11 @@ pub record LetsInClearly (run : Past) : Type 0 where
 pub record HasSharedChannel (run : Past) : Type 0 where
   pub member : ℕ
   pub channel : Channel
-  pub o : OpenState
-  pub c : ChannelState
+  pub o : SecureChannelState
+  pub c : SecureChannelState
   pub stands : Stands run.world.state member channel o
   pub keeps : Keeps run.world.state channel.controller channel.computer c
-  pub same : SameChannel (channel_with channel.controller channel.computer c) channel
+  pub same : SameChannel (channel_of channel.controller channel.computer c) channel
   pub seed : c.seed ≡ o.seed
 
 -- what is claimed of schedules that are clear, or have no clash

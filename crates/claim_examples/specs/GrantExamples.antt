@@ -6,13 +6,13 @@ use Rattle.outside.specs.declared.action.Action.TheVariants as action
 use Rattle.outside.specs.declared.action.Judged.TheVariants as judged
 use Rattle.ntlm_responses.specs.Responses.{response_v1_of}
 use Rattle.authenticators.specs.Sequences.{return_of}
+use Rattle.authenticators.specs.SecureChannels.{key_of_channel}
 use Rattle.logon_stubs.specs.declared.calls.LogonCall.{LogonCall}
 use Rattle.logon_stubs.specs.declared.calls.Reply.{Reply}
 use Rattle.logon_stubs.specs.Ranges.{InRangeReply}
 use Rattle.logon_stubs.specs.Status.{account_disabled, wrong_password}
 use Rattle.account_table.specs.AccountTable.{AccountTable}
 use Rattle.sam_logon.specs.Granted.{granting_reply}
-use Rattle.domain_controller.specs.Channels.{key_of_channel}
 use Rattle.domain_controller.specs.Machine.{Desk, answer_logon}
 use Rattle.domain_controller.specs.declared.line.Line.{Line}
 use Rattle.step_notes.specs.ControllerNotes.{Where, judging_of, new_actions}

@@ -4,12 +4,11 @@
 use Rattle.std.specs.Prelude.{ℕ, true, false, codes, List, [], ◌∷◌, Some}
 use Rattle.outside.specs.declared.action.Judged.TheVariants as judged
 use Rattle.authenticators.specs.Sequences.{authenticator_of}
+use Rattle.authenticators.specs.SecureChannels.{key_of_channel, channel_of}
 use Rattle.rpc_units.specs.Calls.{bytes_of_call}
 use Rattle.logon_stubs.specs.Writing.{written_reply}
 use Rattle.end_links.specs.Sending.{response_of}
-use Rattle.domain_controller.specs.Channels.{key_of_channel}
 use Rattle.channel_events.specs.Marks.{Mark, Plain, ReplyTo}
-use Rattle.step_notes.specs.ControllerNotes.{channel_with}
 use Rattle.step_notes.specs.Records.{Judging, blank}
 use Rattle.step_notes.specs.ReplySends.{reply_passed}
 use Rattle.world_moves.specs.declared.links.LinkKind.TheVariants as kind
@@ -54,5 +53,5 @@ pub record OfReplies : Type 0 where
   pub fails_number : RepliesCarryTheirJudgement (replied small_reply (ReplyTo small_name 4 7) replied_call) → ⊥
   pub fails_unit : RepliesCarryTheirJudgement (replied small_reply (ReplyTo small_name 3 6) replied_call) → ⊥
   pub fails_channel :
-      RepliesCarryTheirJudgement (replied small_reply (ReplyTo (channel_with 1 (codes "FILE1") (small_channel [])) 3 7) replied_call) → ⊥
+      RepliesCarryTheirJudgement (replied small_reply (ReplyTo (channel_of 1 (codes "FILE1") (small_channel [])) 3 7) replied_call) → ⊥
   pub fails_reply : RepliesCarryTheirJudgement (replied small_reply reply_mark next_call) → ⊥

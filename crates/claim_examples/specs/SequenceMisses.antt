@@ -7,16 +7,14 @@ use Rattle.channel_keys.specs.Credentials.{cred_of}
 use Rattle.channel_keys.specs.SessionKeys.{key_of}
 use Rattle.authenticators.specs.Channels.{Channel}
 use Rattle.authenticators.specs.Sequences.{add_to}
-use Rattle.channel_client.specs.Opened.{OpenState}
+use Rattle.authenticators.specs.SecureChannels.{SecureChannelState, channel_of}
 use Rattle.channel_client.specs.declared.state.Pending.{Pending}
 use Rattle.channel_client.specs.declared.state.Standing.TheVariants as standing
-use Rattle.domain_controller.specs.Channels.{ChannelState}
 use Rattle.domain_controller.specs.State.{State as ControllerState}
 use Rattle.member_server.specs.State.{State as MemberState}
 use Rattle.member_server.specs.declared.plan.MemberPlan.{MemberPlan}
 use Rattle.member_server.specs.declared.state.Running.{Running as MemberRunning}
 use Rattle.channel_events.specs.Marks.{Calling, Mark, Plain, ReplyTo}
-use Rattle.step_notes.specs.ControllerNotes.{channel_with}
 use Rattle.step_notes.specs.Records.{Book, Judging, LogonTurn, blank}
 use Rattle.world_moves.specs.declared.bag.BagUnit.{BagUnit}
 use Rattle.world_moves.specs.declared.links.EndId.{EndId}
@@ -26,7 +24,7 @@ use Rattle.world_moves.specs.World.{World}
 use Rattle.domain_world.specs.Accepting.Sequences.{RepliesAnswerCalls, TurnsAreCalled}
 use Rattle.domain_world.specs.Claims.SharedSequences.{OneTurnIsOut, SequencesAreOwn, SequencesAreShared}
 use Rattle.domain_world.specs.Past.{Past, sent_at}
-use Rattle.claim_examples.specs.ClaimExamples.{elsewhere, judged_as, on_channel, one_turn, open_channel, open_member, open_running, run_in, run_open, small_challenge, small_channel, small_member, small_name, small_run, small_seed, small_table, small_world, seed_after_one, turn_out}
+use Rattle.claim_examples.specs.ClaimExamples.{elsewhere, judged_as, on_channel, one_turn, small_channel, open_member, open_running, run_in, run_open, small_challenge, small_member, small_name, small_run, small_seed, small_table, small_world, seed_after_one, turn_out}
 
 -- ---- a channel with challenges of 8 bytes
 
@@ -36,15 +34,12 @@ server_challenge = replicate 8 8
 abbrev pub channel_secret : List ℕ
 channel_secret = replicate 16 5
 
-abbrev pub open_whole : List ℕ → OpenState
-open_whole seed =
+abbrev pub kept_whole : List ℕ → SecureChannelState
+kept_whole seed =
     record { secret = channel_secret; client = small_challenge; server = server_challenge; flags = 3; seed = seed; awaited = None }
 
-abbrev pub kept_whole : List ℕ → ChannelState
-kept_whole seed = record { secret = channel_secret; client = small_challenge; server = server_challenge; flags = 3; seed = seed }
-
 abbrev pub whole_name : Channel
-whole_name = channel_with 0 (codes "FILE1") (kept_whole [])
+whole_name = channel_of 0 (codes "FILE1") (kept_whole [])
 
 -- the client's credential, moved so far
 abbrev pub moved_seed : ℕ → List ℕ
@@ -64,7 +59,7 @@ world_by plans members controllers =
     }
 
 -- the member's channel is this one, and this turn is out
-abbrev pub member_on : Option Pending → OpenState → MemberState
+abbrev pub member_on : Option Pending → SecureChannelState → MemberState
 member_on turn o =
     let running : MemberRunning = open_running turn [] in
     record {
@@ -74,7 +69,7 @@ member_on turn o =
     }
 
 -- the controller keeps that channel, under that name
-abbrev pub controller_on : List ℕ → ChannelState → ControllerState
+abbrev pub controller_on : List ℕ → SecureChannelState → ControllerState
 controller_on name c = record {
   table = small_table;
   name = codes "PDC";
@@ -82,13 +77,13 @@ controller_on name c = record {
 }
 
 -- one member and one controller
-abbrev pub run_by : Book → Option Pending → OpenState → List ℕ → ChannelState → Past
+abbrev pub run_by : Book → Option Pending → SecureChannelState → List ℕ → SecureChannelState → Past
 run_by book turn o name c =
     run_in (world_by (small_member ∷ []) (member_on turn o ∷ []) (controller_on name c ∷ [])) book
 
 -- both ends of the channel with these seeds
 abbrev pub run_whole : Book → Option Pending → List ℕ → List ℕ → Past
-run_whole book turn seed other = run_by book turn (open_whole seed) (codes "FILE1") (kept_whole other)
+run_whole book turn seed other = run_by book turn (kept_whole seed) (codes "FILE1") (kept_whole other)
 
 abbrev pub turn_at : ℕ → Channel → ℕ → LogonTurn
 turn_at member channel timestamp = record { member = member; channel = channel; timestamp = timestamp }
@@ -132,10 +127,10 @@ pub record OfSequenceMisses : Type 0 where
   pub behind : SequencesAreShared (run_whole mixed_turns (Some turn_out) (moved_seed 14) (moved_seed 6))
   pub fails_first : SequencesAreShared (run_whole mixed_turns (Some turn_out) (moved_seed 14) (moved_seed 8)) → ⊥
   pub fails_out : SequencesAreShared (run_whole mixed_turns (Some turn_out) (moved_seed 12) (moved_seed 12)) → ⊥
-  pub other_channel : SequencesAreShared (run_by mixed_turns None (open_whole (moved_seed 14)) (codes "FILE1") (record (kept_whole []) { server = [] }))
+  pub other_channel : SequencesAreShared (run_by mixed_turns None (kept_whole (moved_seed 14)) (codes "FILE1") (record (kept_whole []) { server = [] }))
   pub fails_second : SequencesAreShared (run_second (1 ∷ [])) → ⊥
   pub fails_controller : SequencesAreShared (run_other (1 ∷ [])) → ⊥
-  pub fails_name : SequencesAreShared (run_by blank None (open_channel small_seed) (codes "file1") (small_channel (1 ∷ []))) → ⊥
+  pub fails_name : SequencesAreShared (run_by blank None (small_channel small_seed) (codes "file1") (small_channel (1 ∷ []))) → ⊥
   pub fails_barred : SequencesAreShared (run_open (judged_outside (judged_as judged.Barred (on_channel 0))) None small_seed (1 ∷ [])) → ⊥
   pub fails_elsewhere : SequencesAreShared (run_open (judged_outside (elsewhere (on_channel 0))) None small_seed (1 ∷ [])) → ⊥
   -- of the member alone: whatever the controller has
@@ -147,7 +142,7 @@ pub record OfSequenceMisses : Type 0 where
 -- these dials wait
 abbrev pub run_dials : List EndId → Past
 run_dials ends =
-    let run : Past = run_by blank None (open_channel small_seed) (codes "FILE1") (small_channel small_seed) in
+    let run : Past = run_by blank None (small_channel small_seed) (codes "FILE1") (small_channel small_seed) in
     record run {
       world = record run.world {
         state = record run.world.state { dials = map (λ (end : EndId). record { end = end; peer = [] }) ends };
@@ -160,7 +155,7 @@ pub record OfOneTurn : Type 0 where
   pub meets : OneTurnIsOut (run_dials (Member 1 ∷ Client 0 ∷ []))
   pub fails_two : OneTurnIsOut (run_dials (Member 0 ∷ Client 0 ∷ Member 0 ∷ [])) → ⊥
   pub fails_idle : OneTurnIsOut (run_dials (Member 0 ∷ [])) → ⊥
-  pub fails_undialled : OneTurnIsOut (run_by blank (Some turn_out) (open_channel small_seed) (codes "FILE1") (small_channel small_seed)) → ⊥
+  pub fails_undialled : OneTurnIsOut (run_by blank (Some turn_out) (small_channel small_seed) (codes "FILE1") (small_channel small_seed)) → ⊥
 
 -- ---- the calls of turns
 
@@ -169,7 +164,7 @@ abbrev pub called_once : List Judging → Book
 called_once judged = record one_turn { sent = sent_at 0 (Calling small_name 3 0) ∷ []; judged = judged }
 
 abbrev pub run_small : Book → Option Pending → Past
-run_small book turn = run_by book turn (open_channel seed_after_one) (codes "FILE1") (small_channel seed_after_one)
+run_small book turn = run_by book turn (small_channel seed_after_one) (codes "FILE1") (small_channel seed_after_one)
 
 -- the call in unit 0 passed
 abbrev pub in_unit : Judging

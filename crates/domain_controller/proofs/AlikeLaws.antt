@@ -16,18 +16,18 @@ use Rattle.account_table.specs.declared.changes.TableChange.{TableChange}
 use Rattle.account_table.proofs.ChangeLaws.{accounts-stay, known-stay, machines-stay, with_changes-differs}
 use Rattle.domain_controller.specs.Machine.{send_reply, put_pair_if, take_pair, judge_offer, judge_account, account_for, answer_challenge, answer_authenticate}
 use Rattle.domain_controller.specs.declared.line.Line.{Line}
-use Rattle.domain_controller.specs.declared.state.Pending.{Pending}
+use Rattle.domain_controller.specs.declared.state.ChallengePair.{ChallengePair}
 use Rattle.domain_controller.specs.declared.state.Work.{Work}
 
 -- ---- of an account the hash alone counts
 
-offer_uncounted : (offered : Bool) (pair : Option Pending) (account : Account) (line : Line) (c : AuthCall) (work : Work) →
+offer_uncounted : (offered : Bool) (pair : Option ChallengePair) (account : Account) (line : Line) (c : AuthCall) (work : Work) →
     judge_offer offered pair (with_count 0 account) line c work ≡ judge_offer offered pair account line c work
 offer_uncounted false pair account line c work = refl
 offer_uncounted true None account line c work = refl
 offer_uncounted true (Some pair) account line c work = refl
 
-account_uncounted : (account : Option Account) (pair : Option Pending) (line : Line) (c : AuthCall) (work : Work) →
+account_uncounted : (account : Option Account) (pair : Option ChallengePair) (line : Line) (c : AuthCall) (work : Work) →
     judge_account (option_map (with_count 0) account) pair line c work ≡ judge_account account pair line c work
 account_uncounted None pair line c work = refl
 account_uncounted (Some account) pair line c work = offer_uncounted (has_flag c.flags rc4_flag) pair account line c work

@@ -4,6 +4,7 @@ use Rattle.std.proofs.lemmas.Slice.Eq.{bytes_eq-Decides}
 use Rattle.wire_base.specs.Maps.{lookup, take_out, same_number}
 use Rattle.wire_base.specs.Names.{same_name}
 use Rattle.wire_base.specs.declared.authenticator.Authenticator.{Authenticator}
+use Rattle.authenticators.specs.SecureChannels.{SecureChannelState, key_of_channel, passes_on, return_by, channel_by}
 use Rattle.outside.specs.declared.event.Event.{Event}
 use Rattle.outside.specs.declared.event.Event.TheVariants as event
 use Rattle.outside.specs.declared.action.StepRefused.{StepRefused}
@@ -21,7 +22,6 @@ use Rattle.sam_logon.proofs.CountLaws.{judgement-differs}
 use Rattle.end_links.specs.Links.{LinkState}
 use Rattle.end_links.specs.Serving.{ServedPart, served_cut}
 use Rattle.end_links.proofs.KeepLaws.{StaysServing, served_stays}
-use Rattle.domain_controller.specs.Channels.{ChannelState, key_of_channel, passes_on, return_by, channel_by}
 use Rattle.domain_controller.specs.Hearing.{hear}
 use Rattle.domain_controller.specs.Laws.{IsNext, CountsByVerdict}
 use Rattle.domain_controller.specs.Machine.{Desk, desk, put_channel, take_channel, serves_level, judge_level, judge_info, judge_return, judge_channel, answer_logon, draw_challenge, by_call, by_heard, controller_server}
@@ -44,7 +44,7 @@ returns : (credential : Option (List ℕ)) (key name : List ℕ) (now : ℕ) (li
 returns None key name now line info validation d = differs-none d.table
 returns (Some credential) key name now line info validation d = levels (serves_level validation) d.table name info now
 
-channels : (found : Option ChannelState) (computer : List ℕ) (given : Authenticator) (name : List ℕ) (now : ℕ) (line : Line) (info : NetworkInfo) (validation : ℕ) (d : Desk) →
+channels : (found : Option SecureChannelState) (computer : List ℕ) (given : Authenticator) (name : List ℕ) (now : ℕ) (line : Line) (info : NetworkInfo) (validation : ℕ) (d : Desk) →
     DifferInCounts d.table (judge_channel found computer given name now line info validation d).table
 channels None computer given name now line info validation d = differs-none d.table
 channels (Some channel) computer given name now line info validation d =
@@ -147,12 +147,12 @@ given_up (Some running) s what now left why is =
 -- ---- the verdict's table
 
 -- the table after a logon on that channel: what the verdict leaves, where the authenticator passes
-table_by : (passes : Bool) (channel : ChannelState) (given : Authenticator) (name : List ℕ) (now : ℕ) (line : Line) (info : NetworkInfo) (validation : ℕ) (d : Desk) → passes ≡ true →
+table_by : (passes : Bool) (channel : SecureChannelState) (given : Authenticator) (name : List ℕ) (now : ℕ) (line : Line) (info : NetworkInfo) (validation : ℕ) (d : Desk) → passes ≡ true →
     (judge_return (return_by passes channel given) (key_of_channel channel) name now line info validation d).table ≡ (judge_info d.table name now info validation).table
 table_by true channel given name now line info validation d is = refl
 table_by false channel given name now line info validation d is = absurd cc
 
-table_kept : (passes : Bool) (channel : ChannelState) (given : Authenticator) (name : List ℕ) (now : ℕ) (line : Line) (info : NetworkInfo) (validation : ℕ) (d : Desk) → (passes ≡ true → ⊥) →
+table_kept : (passes : Bool) (channel : SecureChannelState) (given : Authenticator) (name : List ℕ) (now : ℕ) (line : Line) (info : NetworkInfo) (validation : ℕ) (d : Desk) → (passes ≡ true → ⊥) →
     (judge_return (return_by passes channel given) (key_of_channel channel) name now line info validation d).table ≡ d.table
 table_kept true channel given name now line info validation d not = absurd (not refl)
 table_kept false channel given name now line info validation d not = refl
@@ -165,7 +165,7 @@ next_on c name now line d next =
     (desk d.table (put_channel next.computer (channel_by (passes_on next.channel next.given) next.channel next.given) (take_channel next.computer d.work)))
     ((bytes_eq-Decides _ _).1 next.passes))
 
-other_channel : (found : Option ChannelState) (c : LogonCall) (computer : List ℕ) (given : Authenticator) (name : List ℕ) (now : ℕ) (line : Line) (d : Desk) →
+other_channel : (found : Option SecureChannelState) (c : LogonCall) (computer : List ℕ) (given : Authenticator) (name : List ℕ) (now : ℕ) (line : Line) (d : Desk) →
     c.computer ≡ Some computer → c.authenticator ≡ Some given → lookup same_name computer d.work.computers.channels ≡ found → (IsNext d.work.computers c → ⊥) →
     (judge_channel found computer given name now line c.info c.validation (desk d.table (take_channel computer d.work))).table ≡ d.table
 other_channel None c computer given name now line d named there stands not = refl

@@ -9,6 +9,7 @@ use Rattle.wire_base.proofs.NameLaws.{IsSameness-same_name}
 use Rattle.ntlm_flags.specs.Flags.{has_flag}
 use Rattle.channel_keys.specs.Credentials.{cred_of}
 use Rattle.channel_keys.specs.Flags.{rc4_flag}
+use Rattle.authenticators.specs.SecureChannels.{SecureChannelState, key_of_channel, passes_on, return_by, channel_by}
 use Rattle.outside.specs.declared.event.Event.{Event}
 use Rattle.outside.specs.declared.event.Event.TheVariants as event
 use Rattle.outside.specs.Machine.{step_by, then_part}
@@ -24,7 +25,6 @@ use Rattle.account_table.specs.LookUps.{knows_in}
 use Rattle.account_table.specs.declared.account.Account.{Account}
 use Rattle.end_links.specs.Links.{LinkState}
 use Rattle.end_links.specs.Serving.{ServedPart, Service, then_open, served_by, served_cut}
-use Rattle.domain_controller.specs.Channels.{ChannelState, key_of_channel, passes_on, return_by, channel_by}
 use Rattle.domain_controller.specs.Hearing.{hear}
 use Rattle.domain_controller.specs.Laws.{call_in, talk_after, calls_then, calls_heard, calls_on, calls_of, names_by, names, KeepsComputer, KeepsUnlessStopped, KeepsOthers}
 use Rattle.domain_controller.specs.Machine.{Desk, desk, put_pair, put_pair_if, take_pair, put_channel, take_channel, channel_for, open_channel, judge_pair, judge_offer, judge_account, account_for, judge_return, judge_channel, answer_logon, draw_challenge, by_call, by_heard, controller_server}
@@ -32,7 +32,7 @@ use Rattle.domain_controller.specs.State.{State}
 use Rattle.domain_controller.specs.Step.{LinkMap, StepPart, open_by, with_open, after_units, serve_on, by_event, start_turn, halted, state_after, first_desk, step_on}
 use Rattle.domain_controller.specs.declared.line.Line.{Line}
 use Rattle.domain_controller.specs.declared.state.Computers.{Computers}
-use Rattle.domain_controller.specs.declared.state.Pending.{Pending}
+use Rattle.domain_controller.specs.declared.state.ChallengePair.{ChallengePair}
 use Rattle.domain_controller.specs.declared.state.Running.{Running}
 use Rattle.domain_controller.specs.declared.state.Talk.{Talk}
 use Rattle.domain_controller.specs.declared.state.Work.{Work}
@@ -47,7 +47,7 @@ same n c = record { pair = refl; channel = refl }
 both : (n : List ℕ) (one other third : Computers) → KeepsComputer n one other → KeepsComputer n other third → KeepsComputer n one third
 both n one other third first second = record { pair = second.pair ∙ first.pair; channel = second.channel ∙ first.channel }
 
-pair_put : (n computer : List ℕ) (pair : Pending) (work : Work) → same_name computer n ≡ false → KeepsComputer n work.computers (put_pair computer pair work).computers
+pair_put : (n computer : List ℕ) (pair : ChallengePair) (work : Work) → same_name computer n ≡ false → KeepsComputer n work.computers (put_pair computer pair work).computers
 pair_put n computer pair work other =
     record { pair = put_others same_name computer n pair work.computers.pending IsSameness-same_name other; channel = refl }
 
@@ -55,7 +55,7 @@ pair_taken : (n computer : List ℕ) (work : Work) → same_name computer n ≡ 
 pair_taken n computer work other =
     record { pair = taken_others same_name computer n work.computers.pending IsSameness-same_name other; channel = refl }
 
-channel_put : (n computer : List ℕ) (channel : ChannelState) (work : Work) → same_name computer n ≡ false → KeepsComputer n work.computers (put_channel computer channel work).computers
+channel_put : (n computer : List ℕ) (channel : SecureChannelState) (work : Work) → same_name computer n ≡ false → KeepsComputer n work.computers (put_channel computer channel work).computers
 channel_put n computer channel work other =
     record { pair = refl; channel = put_others same_name computer n channel work.computers.channels IsSameness-same_name other }
 
@@ -65,25 +65,25 @@ channel_taken n computer work other =
 
 -- ---- a call
 
-pair_put_if : (knows : Bool) (n computer : List ℕ) (pair : Pending) (work : Work) → same_name computer n ≡ false → KeepsComputer n work.computers (put_pair_if knows computer pair work).computers
+pair_put_if : (knows : Bool) (n computer : List ℕ) (pair : ChallengePair) (work : Work) → same_name computer n ≡ false → KeepsComputer n work.computers (put_pair_if knows computer pair work).computers
 pair_put_if false n computer pair work other = same n work.computers
 pair_put_if true n computer pair work other = pair_put n computer pair work other
 
-opens : (right : Bool) (channel : ChannelState) (n : List ℕ) (line : Line) (c : AuthCall) (work : Work) → same_name c.computer n ≡ false → KeepsComputer n work.computers (open_channel right channel line c work).computers
+opens : (right : Bool) (channel : SecureChannelState) (n : List ℕ) (line : Line) (c : AuthCall) (work : Work) → same_name c.computer n ≡ false → KeepsComputer n work.computers (open_channel right channel line c work).computers
 opens false channel n line c work other = same n work.computers
 opens true channel n line c work other = channel_put n c.computer channel work other
 
-pairs : (pair : Option Pending) (account : Account) (n : List ℕ) (line : Line) (c : AuthCall) (work : Work) → same_name c.computer n ≡ false → KeepsComputer n work.computers (judge_pair pair account line c work).computers
+pairs : (pair : Option ChallengePair) (account : Account) (n : List ℕ) (line : Line) (c : AuthCall) (work : Work) → same_name c.computer n ≡ false → KeepsComputer n work.computers (judge_pair pair account line c work).computers
 pairs None account n line c work other = same n work.computers
 pairs (Some pair) account n line c work other =
     let channel = channel_for account pair c in
     opens (bytes_eq c.credential (cred_of (key_of_channel channel) channel.client)) channel n line c work other
 
-offers : (offered : Bool) (pair : Option Pending) (account : Account) (n : List ℕ) (line : Line) (c : AuthCall) (work : Work) → same_name c.computer n ≡ false → KeepsComputer n work.computers (judge_offer offered pair account line c work).computers
+offers : (offered : Bool) (pair : Option ChallengePair) (account : Account) (n : List ℕ) (line : Line) (c : AuthCall) (work : Work) → same_name c.computer n ≡ false → KeepsComputer n work.computers (judge_offer offered pair account line c work).computers
 offers false pair account n line c work other = same n work.computers
 offers true pair account n line c work other = pairs pair account n line c work other
 
-accounts : (account : Option Account) (pair : Option Pending) (n : List ℕ) (line : Line) (c : AuthCall) (work : Work) → same_name c.computer n ≡ false → KeepsComputer n work.computers (judge_account account pair line c work).computers
+accounts : (account : Option Account) (pair : Option ChallengePair) (n : List ℕ) (line : Line) (c : AuthCall) (work : Work) → same_name c.computer n ≡ false → KeepsComputer n work.computers (judge_account account pair line c work).computers
 accounts None pair n line c work other = same n work.computers
 accounts (Some account) pair n line c work other = offers (has_flag c.flags rc4_flag) pair account n line c work other
 
@@ -92,7 +92,7 @@ returns : (credential : Option (List ℕ)) (n key name : List ℕ) (now : ℕ) (
 returns None n key name now line info validation d = same n d.work.computers
 returns (Some credential) n key name now line info validation d = same n d.work.computers
 
-channels : (found : Option ChannelState) (n computer : List ℕ) (given : Authenticator) (name : List ℕ) (now : ℕ) (line : Line) (info : NetworkInfo) (validation : ℕ) (d : Desk) →
+channels : (found : Option SecureChannelState) (n computer : List ℕ) (given : Authenticator) (name : List ℕ) (now : ℕ) (line : Line) (info : NetworkInfo) (validation : ℕ) (d : Desk) →
     same_name computer n ≡ false → KeepsComputer n d.work.computers (judge_channel found computer given name now line info validation d).work.computers
 channels None n computer given name now line info validation d other = same n d.work.computers
 channels (Some channel) n computer given name now line info validation d other =

@@ -4,12 +4,12 @@ use Rattle.std.proofs.lemmas.Slice.Eq.{bytes_eq-Decides}
 use Rattle.wire_base.specs.Maps.{lookup}
 use Rattle.wire_base.specs.Names.{same_name}
 use Rattle.wire_base.specs.declared.authenticator.Authenticator.{Authenticator}
+use Rattle.authenticators.specs.SecureChannels.{SecureChannelState, key_of_channel, passes_on, return_by, channel_by}
 use Rattle.outside.specs.declared.action.Action.{Action}
 use Rattle.outside.specs.declared.action.Action.TheVariants as action
 use Rattle.outside.specs.declared.action.Judged.{Judged}
 use Rattle.outside.specs.declared.action.Judged.TheVariants as judged
 use Rattle.logon_stubs.specs.declared.calls.LogonCall.{LogonCall}
-use Rattle.domain_controller.specs.Channels.{ChannelState, key_of_channel, passes_on, return_by, channel_by}
 use Rattle.domain_controller.specs.Laws.{IsNext, is_passed, PassesTheNext}
 use Rattle.domain_controller.specs.Machine.{Desk, desk, put_channel, take_channel, judge_return, judge_channel, answer_logon}
 use Rattle.domain_controller.specs.declared.line.Line.{Line}
@@ -30,17 +30,17 @@ never how Next not none = (λ is. absurd cc, λ next. absurd (none next))
 one_given : (given other : Authenticator) → Some given ≡ Some other → given ≡ other
 one_given given other is = cc
 
-one_channel : (computer other : List ℕ) (channel another : ChannelState) (computers : Computers) → Some computer ≡ Some other → lookup same_name computer computers.channels ≡ Some channel →
+one_channel : (computer other : List ℕ) (channel another : SecureChannelState) (computers : Computers) → Some computer ≡ Some other → lookup same_name computer computers.channels ≡ Some channel →
     lookup same_name other computers.channels ≡ Some another → channel ≡ another
 one_channel computer other channel another computers is stands also =
     let same : computer ≡ other = cc in
     let both : Some channel ≡ Some another = sym stands ∙ ap (λ (n : List ℕ). lookup same_name n computers.channels) same ∙ also in
     cc
 
-not_both : (channel other : ChannelState) (given more : Authenticator) → channel ≡ other → given ≡ more → passes_on channel given ≡ false → passes_on other more ≡ true → ⊥
+not_both : (channel other : SecureChannelState) (given more : Authenticator) → channel ≡ other → given ≡ more → passes_on channel given ≡ false → passes_on other more ≡ true → ⊥
 not_both channel other given more same alike fails passes = absurd cc
 
-by_pass : (passes : Bool) (c : LogonCall) (computer : List ℕ) (given : Authenticator) (channel : ChannelState) (computers : Computers) (name : List ℕ) (now : ℕ) (line : Line) (d : Desk) →
+by_pass : (passes : Bool) (c : LogonCall) (computer : List ℕ) (given : Authenticator) (channel : SecureChannelState) (computers : Computers) (name : List ℕ) (now : ℕ) (line : Line) (d : Desk) →
     c.computer ≡ Some computer → c.authenticator ≡ Some given → lookup same_name computer computers.channels ≡ Some channel → passes_on channel given ≡ passes →
     JudgedOnce line d.work.actions (judge_return (return_by passes channel given) (key_of_channel channel) name now line c.info c.validation d) (IsNext computers c)
 by_pass true c computer given channel computers name now line d named there stands passes = (
@@ -56,7 +56,7 @@ by_pass false c computer given channel computers name now line d named there sta
   never judged.Barred _ refl (λ next. not_both channel next.channel given next.given (one_channel computer next.computer channel next.channel computers (sym named ∙ next.named) stands next.stands) (one_given given next.given (sym there ∙ next.there)) passes ((bytes_eq-Decides _ _).1 next.passes)),
 )
 
-by_channel : (found : Option ChannelState) (c : LogonCall) (computer : List ℕ) (given : Authenticator) (computers : Computers) (name : List ℕ) (now : ℕ) (line : Line) (d : Desk) →
+by_channel : (found : Option SecureChannelState) (c : LogonCall) (computer : List ℕ) (given : Authenticator) (computers : Computers) (name : List ℕ) (now : ℕ) (line : Line) (d : Desk) →
     c.computer ≡ Some computer → c.authenticator ≡ Some given → lookup same_name computer computers.channels ≡ found →
     JudgedOnce line d.work.actions (judge_channel found computer given name now line c.info c.validation d) (IsNext computers c)
 by_channel None c computer given computers name now line d named there stands = (

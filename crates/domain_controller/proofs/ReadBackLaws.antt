@@ -5,7 +5,9 @@ use Rattle.std.proofs.lemmas.Nat.{and_le_r}
 use Rattle.wire_base.specs.declared.authenticator.Authenticator.{Authenticator}
 use Rattle.channel_keys.specs.Credentials.{cred_of}
 use Rattle.channel_keys.specs.Flags.{supported_flags}
+use Rattle.channel_keys.specs.Hidden.{crypt_key, is_zero}
 use Rattle.authenticators.specs.Sequences.{next_seed, return_of}
+use Rattle.authenticators.proofs.BlockLaws.{cred_block}
 use Rattle.rpc_units.specs.declared.unit.Unit.{Unit as RpcUnit}
 use Rattle.rpc_units.specs.Calls.{IsHeard, bytes_of_call}
 use Rattle.rpc_units.specs.Joining.{stub_of}
@@ -28,11 +30,9 @@ use Rattle.sam_logon.specs.Rules.{Rule, Shown, first_refusal, refusal_by, rules_
 use Rattle.sam_logon.specs.Verdict.{IfGranted, judgement_of, verdict_by, verdict_of, verdict_routed, verdict_shown}
 use Rattle.sam_logon.proofs.GrantedLaws.{granting-CanWrite, granting-InRange}
 use Rattle.end_links.specs.Sending.{response_of}
-use Rattle.channel_client.specs.Hidden.{crypt_key, is_zero}
 use Rattle.domain_controller.specs.Machine.{IsServedLevel, judge_info, judge_level, serves_level, status_of}
 use Rattle.domain_controller.specs.ReadBack.{IsReadBack, RepliesAreReadBack, opened_reply, passed_reply}
 use Rattle.domain_controller.proofs.AloneLaws.{number_fits, reply_alone}
-use Rattle.channel_client.proofs.WholeLaws.{cred_block}
 use Rattle.domain_controller.proofs.WholeParts.{Fits, crypt_block, judged_fits, judged_served, opened_few, passed_few, reply_can, reply_heard}
 
 -- ---- each status has 32 bits

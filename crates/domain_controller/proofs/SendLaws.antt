@@ -9,6 +9,7 @@ use Rattle.wire_base.specs.declared.authenticator.Authenticator.{Authenticator}
 use Rattle.ntlm_flags.specs.Flags.{has_flag}
 use Rattle.channel_keys.specs.Credentials.{cred_of}
 use Rattle.channel_keys.specs.Flags.{rc4_flag}
+use Rattle.authenticators.specs.SecureChannels.{SecureChannelState, key_of_channel, passes_on, return_by, channel_by}
 use Rattle.outside.specs.declared.action.Action.{Action}
 use Rattle.outside.specs.declared.action.Action.TheVariants as action
 use Rattle.outside.specs.declared.action.CloseCause.{CloseCause}
@@ -46,14 +47,13 @@ use Rattle.end_links.specs.Sending.{fault_of, response_of}
 use Rattle.end_links.specs.Serving.{ServedPart, served_cut}
 use Rattle.end_links.proofs.KeepLaws.{StaysAmong, served_among}
 use Rattle.end_loop.specs.Runs.{actions_of}
-use Rattle.domain_controller.specs.Channels.{ChannelState, key_of_channel, passes_on, return_by, channel_by}
 use Rattle.domain_controller.specs.Hearing.{bound_talk, hear_fresh, is_served, hear_stub, hear_opnum, hear_context, hear_whole, hear_joined, hear_bound, hear_on, hear_read, hear}
 use Rattle.domain_controller.specs.Laws.{done_by_open, IsAnswerTo, IsActionOn, AnswersUnits}
 use Rattle.domain_controller.specs.Machine.{Desk, desk, put_pair_if, take_pair, put_channel, take_channel, channel_for, open_channel, judge_pair, judge_offer, judge_account, account_for, judge_return, judge_channel, answer_logon, draw_challenge, by_call, by_heard, controller_server}
 use Rattle.domain_controller.specs.State.{State}
 use Rattle.domain_controller.specs.Step.{open_by, with_open, LinkMap, StepPart, after_units, serve_on, by_event, start_turn, halted, state_after, first_desk, step_on}
 use Rattle.domain_controller.specs.declared.line.Line.{Line}
-use Rattle.domain_controller.specs.declared.state.Pending.{Pending}
+use Rattle.domain_controller.specs.declared.state.ChallengePair.{ChallengePair}
 use Rattle.domain_controller.specs.declared.state.Running.{Running}
 use Rattle.domain_controller.specs.declared.state.Talk.{Talk}
 use Rattle.domain_controller.specs.declared.state.Work.{Work}
@@ -215,25 +215,25 @@ judges : (P : Action → Type 0) (line : Line) (old : List Action) (how : Judged
 judges P line old how answer can =
     adds_both P old (old ++ action.Judged how ∷ []) _ (adds_one P old (action.Judged how) (can.judged how)) (replies P line (old ++ action.Judged how ∷ []) answer can)
 
-pair_put_if : (P : Action → Type 0) (knows : Bool) (computer : List ℕ) (pair : Pending) (work : Work) → Adds P work.actions (put_pair_if knows computer pair work).actions
+pair_put_if : (P : Action → Type 0) (knows : Bool) (computer : List ℕ) (pair : ChallengePair) (work : Work) → Adds P work.actions (put_pair_if knows computer pair work).actions
 pair_put_if P false computer pair work = adds_none P work.actions
 pair_put_if P true computer pair work = adds_none P work.actions
 
-opens : (P : Action → Type 0) (right : Bool) (channel : ChannelState) (line : Line) (c : AuthCall) (work : Work) → Answering P line → Adds P work.actions (open_channel right channel line c work).actions
+opens : (P : Action → Type 0) (right : Bool) (channel : SecureChannelState) (line : Line) (c : AuthCall) (work : Work) → Answering P line → Adds P work.actions (open_channel right channel line c work).actions
 opens P false channel line c work can = replies P line work.actions _ can
 opens P true channel line c work can = replies P line work.actions _ can
 
-pairs : (P : Action → Type 0) (pair : Option Pending) (account : Account) (line : Line) (c : AuthCall) (work : Work) → Answering P line → Adds P work.actions (judge_pair pair account line c work).actions
+pairs : (P : Action → Type 0) (pair : Option ChallengePair) (account : Account) (line : Line) (c : AuthCall) (work : Work) → Answering P line → Adds P work.actions (judge_pair pair account line c work).actions
 pairs P None account line c work can = replies P line work.actions _ can
 pairs P (Some pair) account line c work can =
     let channel = channel_for account pair c in
     opens P (bytes_eq c.credential (cred_of (key_of_channel channel) channel.client)) channel line c work can
 
-offers : (P : Action → Type 0) (offered : Bool) (pair : Option Pending) (account : Account) (line : Line) (c : AuthCall) (work : Work) → Answering P line → Adds P work.actions (judge_offer offered pair account line c work).actions
+offers : (P : Action → Type 0) (offered : Bool) (pair : Option ChallengePair) (account : Account) (line : Line) (c : AuthCall) (work : Work) → Answering P line → Adds P work.actions (judge_offer offered pair account line c work).actions
 offers P false pair account line c work can = replies P line work.actions _ can
 offers P true pair account line c work can = pairs P pair account line c work can
 
-accounts : (P : Action → Type 0) (account : Option Account) (pair : Option Pending) (line : Line) (c : AuthCall) (work : Work) → Answering P line → Adds P work.actions (judge_account account pair line c work).actions
+accounts : (P : Action → Type 0) (account : Option Account) (pair : Option ChallengePair) (line : Line) (c : AuthCall) (work : Work) → Answering P line → Adds P work.actions (judge_account account pair line c work).actions
 accounts P None pair line c work can = replies P line work.actions _ can
 accounts P (Some account) pair line c work can = offers P (has_flag c.flags rc4_flag) pair account line c work can
 
@@ -242,7 +242,7 @@ returns : (P : Action → Type 0) (credential : Option (List ℕ)) (key name : L
 returns P None key name now line info validation d can = judges P line d.work.actions _ _ can
 returns P (Some credential) key name now line info validation d can = judges P line d.work.actions _ _ can
 
-channels : (P : Action → Type 0) (found : Option ChannelState) (computer : List ℕ) (given : Authenticator) (name : List ℕ) (now : ℕ) (line : Line) (info : NetworkInfo) (validation : ℕ) (d : Desk) → Answering P line →
+channels : (P : Action → Type 0) (found : Option SecureChannelState) (computer : List ℕ) (given : Authenticator) (name : List ℕ) (now : ℕ) (line : Line) (info : NetworkInfo) (validation : ℕ) (d : Desk) → Answering P line →
     Adds P d.work.actions (judge_channel found computer given name now line info validation d).work.actions
 channels P None computer given name now line info validation d can = judges P line d.work.actions _ _ can
 channels P (Some channel) computer given name now line info validation d can =
@@ -259,7 +259,7 @@ logons P (Some computer) (Some given) name now line info validation d can =
 draws : (P : Action → Type 0) (left : List (List ℕ)) (line : Line) (c : ChallengeCall) (talk : Talk) (d : Desk) → Answering P line → PartAdds P d.work.actions (draw_challenge left line c talk d)
 draws P [] line c talk d can = tt
 draws P (server ∷ left) line c talk d can =
-    let pair : Pending = record { client = c.challenge; server = server } in
+    let pair : ChallengePair = record { client = c.challenge; server = server } in
     let work = put_pair_if (knows_in d.table.accounts c.computer) c.computer pair d.work in
     adds_both P d.work.actions work.actions _ (pair_put_if P (knows_in d.table.accounts c.computer) c.computer pair d.work) (replies P line work.actions _ can)
 

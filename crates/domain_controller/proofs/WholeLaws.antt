@@ -8,6 +8,8 @@ use Rattle.ntlm_flags.specs.Flags.{has_flag}
 use Rattle.channel_keys.specs.Credentials.{cred_of}
 use Rattle.channel_keys.specs.Flags.{rc4_flag}
 use Rattle.authenticators.specs.Sequences.{next_seed}
+use Rattle.authenticators.specs.SecureChannels.{SecureChannelState, key_of_channel, passes_on, return_by, channel_by}
+use Rattle.authenticators.proofs.BlockLaws.{cred_block}
 use Rattle.outside.specs.declared.action.Action.{Action}
 use Rattle.outside.specs.declared.action.Action.TheVariants as action
 use Rattle.outside.specs.declared.action.Judged.{Judged}
@@ -46,14 +48,12 @@ use Rattle.end_links.specs.Links.{LinkState}
 use Rattle.end_links.specs.Serving.{ServedPart, served_cut}
 use Rattle.end_links.proofs.KeepLaws.{StaysServing, served_stays}
 use Rattle.end_loop.specs.Runs.{actions_of}
-use Rattle.channel_client.specs.Machine.{netlogon_syntax}
-use Rattle.domain_controller.specs.Channels.{ChannelState, key_of_channel, passes_on, return_by, channel_by}
 use Rattle.domain_controller.specs.Hearing.{IsLine, bound_talk, hear_fresh, is_served, hear_stub, hear_opnum, hear_context, hear_whole, hear_joined, hear_bound, hear_on, hear_read, hear}
 use Rattle.domain_controller.specs.Machine.{Desk, desk, tell, send_reply, put_pair_if, take_pair, put_channel, take_channel, channel_for, open_channel, judge_pair, judge_offer, judge_account, account_for, judge_info, judge_return, judge_channel, answer_logon, refuse_logon, draw_challenge, by_call, by_heard, controller_server}
 use Rattle.domain_controller.specs.State.{State}
 use Rattle.domain_controller.specs.Step.{open_by, with_open, LinkMap, StepPart, keep_link, after_units, serve_on, by_event, start_turn, halted, state_after, first_desk, step_on}
 use Rattle.domain_controller.specs.declared.line.Line.{Line}
-use Rattle.domain_controller.specs.declared.state.Pending.{Pending}
+use Rattle.domain_controller.specs.declared.state.ChallengePair.{ChallengePair}
 use Rattle.domain_controller.specs.declared.state.Running.{Running}
 use Rattle.domain_controller.specs.declared.state.Talk.{Talk}
 use Rattle.domain_controller.specs.declared.state.Work.{Work}
@@ -61,8 +61,8 @@ use Rattle.domain_controller.specs.declared.hearing.Heard.{Heard}
 use Rattle.domain_controller.specs.declared.hearing.Heard.TheVariants as heard
 use Rattle.end_links.specs.Whole.{IsWholeIfSent, IsWholeSend}
 use Rattle.domain_controller.specs.Whole.{AreChallenges, HasLimit, InRangeDesk, InRangeLinks, InRangePart, InRangeRunning, InRangeState, InRangeTable, InRangeTalk, SendsAreWhole}
-use Rattle.channel_client.proofs.WholeLaws.{cred_block}
 use Rattle.end_links.proofs.WholeLaws.{limit_bounds}
+use Rattle.logon_stubs.specs.Interface.{netlogon_syntax}
 use Rattle.domain_controller.proofs.WholeParts.{ack_whole, bare_few, challenge_few, fault_whole, judged_fits, judged_served, judged_table, nak_whole, opened_few, passed_few, reply_whole}
 
 -- ---- what is heard of a unit
@@ -156,27 +156,27 @@ refused table how line validation work range fits =
 
 -- ---- NetrServerReqChallenge and NetrServerAuthenticate2
 
-pair_put : (knows : Bool) (computer : List ℕ) (pair : Pending) (table : AccountTable) (work : Work) → InRangeDesk (desk table work) → InRangeDesk (desk table (put_pair_if knows computer pair work))
+pair_put : (knows : Bool) (computer : List ℕ) (pair : ChallengePair) (table : AccountTable) (work : Work) → InRangeDesk (desk table work) → InRangeDesk (desk table (put_pair_if knows computer pair work))
 pair_put false computer pair table work fits = fits
 pair_put true computer pair table work fits = record { sends = fits.sends; table = fits.table }
 
-opens : (right : Bool) (channel : ChannelState) (line : Line) (c : AuthCall) (table : AccountTable) (work : Work) → IsLine line → InRangeDesk (desk table work) → InRangeDesk (desk table (open_channel right channel line c work))
+opens : (right : Bool) (channel : SecureChannelState) (line : Line) (c : AuthCall) (table : AccountTable) (work : Work) → IsLine line → InRangeDesk (desk table work) → InRangeDesk (desk table (open_channel right channel line c work))
 opens false channel line c table work range fits = replied table work line _ range fits (opened_few _ refl)
 opens true channel line c table work range fits =
     replied table (put_channel c.computer channel work) line _ range (record { sends = fits.sends; table = fits.table }) (opened_few _ (cred_block (key_of_channel channel) channel.server).0)
 
-pairs : (pair : Option Pending) (account : Account) (line : Line) (c : AuthCall) (table : AccountTable) (work : Work) → IsLine line → InRangeDesk (desk table work) → InRangeDesk (desk table (judge_pair pair account line c work))
+pairs : (pair : Option ChallengePair) (account : Account) (line : Line) (c : AuthCall) (table : AccountTable) (work : Work) → IsLine line → InRangeDesk (desk table work) → InRangeDesk (desk table (judge_pair pair account line c work))
 pairs None account line c table work range fits = replied table work line _ range fits (opened_few _ refl)
 pairs (Some pair) account line c table work range fits =
     let channel = channel_for account pair c in
     opens (bytes_eq c.credential (cred_of (key_of_channel channel) channel.client)) channel line c table work range fits
 
-offers : (offered : Bool) (pair : Option Pending) (account : Account) (line : Line) (c : AuthCall) (table : AccountTable) (work : Work) → IsLine line → InRangeDesk (desk table work) →
+offers : (offered : Bool) (pair : Option ChallengePair) (account : Account) (line : Line) (c : AuthCall) (table : AccountTable) (work : Work) → IsLine line → InRangeDesk (desk table work) →
     InRangeDesk (desk table (judge_offer offered pair account line c work))
 offers false pair account line c table work range fits = replied table work line _ range fits (opened_few _ refl)
 offers true pair account line c table work range fits = pairs pair account line c table work range fits
 
-accounts : (account : Option Account) (pair : Option Pending) (line : Line) (c : AuthCall) (table : AccountTable) (work : Work) → IsLine line → InRangeDesk (desk table work) →
+accounts : (account : Option Account) (pair : Option ChallengePair) (line : Line) (c : AuthCall) (table : AccountTable) (work : Work) → IsLine line → InRangeDesk (desk table work) →
     InRangeDesk (desk table (judge_account account pair line c work))
 accounts None pair line c table work range fits = replied table work line _ range fits (opened_few _ refl)
 accounts (Some account) pair line c table work range fits = offers (has_flag c.flags rc4_flag) pair account line c table work range fits
@@ -193,11 +193,11 @@ module _ (name : List ℕ) (now : ℕ) (is_name : IsName name) (moment : now < 2
       replied judged.table (tell d.work _) line _ range (told judged.table d.work _ (record { sends = fits.sends; table = table }) tt)
       (passed_few judged.verdict validation key credential block (judged_fits d.table name now fits.table is_name moment info validation) (judged_served d.table name now info validation))
 
-  returned_block : (passes : Bool) (channel : ChannelState) (given : Authenticator) → IfThere (IsBlock 8) (return_by passes channel given)
+  returned_block : (passes : Bool) (channel : SecureChannelState) (given : Authenticator) → IfThere (IsBlock 8) (return_by passes channel given)
   returned_block false channel given = tt
   returned_block true channel given = cred_block (key_of_channel channel) (next_seed channel.seed given.timestamp)
 
-  channels : (found : Option ChannelState) (computer : List ℕ) (given : Authenticator) (line : Line) (info : NetworkInfo) (validation : ℕ) (d : Desk) → IsLine line → InRangeDesk d →
+  channels : (found : Option SecureChannelState) (computer : List ℕ) (given : Authenticator) (line : Line) (info : NetworkInfo) (validation : ℕ) (d : Desk) → IsLine line → InRangeDesk d →
       InRangeDesk (judge_channel found computer given name now line info validation d)
   channels None computer given line info validation d range fits = refused d.table _ line validation d.work range (record { sends = fits.sends; table = fits.table })
   channels (Some channel) computer given line info validation d range fits =
@@ -218,7 +218,7 @@ module _ (name : List ℕ) (now : ℕ) (is_name : IsName name) (moment : now < 2
   draws : (left : List (List ℕ)) (line : Line) (c : ChallengeCall) (talk : Talk) (d : Desk) → IsLine line → InRangeTalk talk → InRangeDesk d → AreChallenges left → InRangePart (draw_challenge left line c talk d)
   draws [] line c talk d range limit fits eight = tt
   draws (server ∷ left) line c talk d range limit fits eight =
-      let pair : Pending = record { client = c.challenge; server = server } in
+      let pair : ChallengePair = record { client = c.challenge; server = server } in
       let knows : Bool = knows_in d.table.accounts c.computer in (
         replied d.table (put_pair_if knows c.computer pair d.work) line _ range (pair_put knows c.computer pair d.table d.work (record { sends = fits.sends; table = fits.table })) (challenge_few server 0 eight.0),
         limit,

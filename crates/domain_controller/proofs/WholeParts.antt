@@ -12,6 +12,8 @@ use Rattle.wire_base.specs.Names.{IsName}
 use Rattle.wire_base.specs.declared.authenticator.Authenticator.{Authenticator}
 use Rattle.wire_base.proofs.NumberLaws.{length-to_le_bytes}
 use Rattle.rc4_stream.proofs.Rc4Laws.{All-applied, length-applied}
+use Rattle.channel_keys.specs.Hidden.{crypt_by, crypt_key, is_zero}
+use Rattle.authenticators.proofs.BlockLaws.{bytes_from_all}
 use Rattle.ntlm_responses.specs.Verification.{base_key_of}
 use Rattle.ntlm_responses.proofs.ResponseLaws.{All-base_key_of, length-base_key_of}
 use Rattle.rpc_units.specs.declared.unit.Syntax.{Syntax}
@@ -46,10 +48,8 @@ use Rattle.sam_logon.specs.Verdict.{IfGranted, judged_account, judgement_of, tab
 use Rattle.sam_logon.proofs.GrantedLaws.{granting-CanWrite, granting-InRange, in_range-counted, sam_info-CanWrite, sam_info-InRange, sam_info-IsShort}
 use Rattle.end_links.specs.Whole.{IsWholeSend}
 use Rattle.end_links.proofs.WholeLaws as whole
-use Rattle.channel_client.proofs.WholeLaws.{bytes_from_all}
 use Rattle.end_links.specs.Binding.{ack_of, nak_of}
 use Rattle.end_links.specs.Sending.{fault_of, response_of}
-use Rattle.channel_client.specs.Hidden.{crypt_by, crypt_key, is_zero}
 use Rattle.domain_controller.specs.Machine.{IsServedLevel, judge_info, judge_level, serves_level}
 use Rattle.domain_controller.proofs.LevelLaws.{short_at}
 use Rattle.domain_controller.proofs.NumberedLaws.{ack_alike, fault_alike, nak_alike, reply_alike}

@@ -23,7 +23,7 @@ use Rattle.logon_stubs.specs.Calls.{call_of}
 use Rattle.end_links.specs.Agreed.{Agreed, accepts}
 use Rattle.end_links.specs.Binding.{ack_of, nak_of, binding_of}
 use Rattle.end_links.specs.Sending.{fault_of}
-use Rattle.channel_client.specs.Machine.{netlogon_syntax}
+use Rattle.logon_stubs.specs.Interface.{netlogon_syntax}
 use Rattle.domain_controller.specs.declared.line.Line.{Line}
 use Rattle.domain_controller.specs.declared.state.Talk.{Talk}
 use Rattle.domain_controller.specs.declared.hearing.Heard.{Heard}

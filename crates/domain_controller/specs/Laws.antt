@@ -6,6 +6,7 @@ use Rattle.wire_base.specs.Maps.{lookup, take_out, same_number}
 use Rattle.wire_base.specs.Names.{same_name}
 use Rattle.wire_base.specs.declared.authenticator.Authenticator.{Authenticator}
 use Rattle.authenticators.specs.Sequences.{Passes}
+use Rattle.authenticators.specs.SecureChannels.{SecureChannelState, key_of_channel}
 use Rattle.outside.specs.declared.action.Action.{Action}
 use Rattle.outside.specs.declared.action.Action.TheVariants as action
 use Rattle.outside.specs.declared.action.CloseCause.TheVariants as close
@@ -30,10 +31,9 @@ use Rattle.account_table.specs.Changes.{DifferInCounts}
 use Rattle.end_links.specs.Binding.{ack_of, nak_of}
 use Rattle.end_links.specs.Links.{LinkState}
 use Rattle.end_links.specs.Sending.{fault_of, response_of}
+use Rattle.logon_stubs.specs.Interface.{netlogon_syntax}
 use Rattle.end_loop.specs.Acts.{is_made}
 use Rattle.end_loop.specs.Runs.{actions_of}
-use Rattle.channel_client.specs.Machine.{netlogon_syntax}
-use Rattle.domain_controller.specs.Channels.{ChannelState, key_of_channel}
 use Rattle.domain_controller.specs.Hearing.{hear}
 use Rattle.domain_controller.specs.Machine.{Desk, answer_logon, judge_info}
 use Rattle.domain_controller.specs.State.{State}
@@ -178,7 +178,7 @@ pub record KeepsOthers : Type 0 where
 pub record IsNext (computers : Computers) (c : LogonCall) : Type 0 where
   pub computer : List ℕ
   pub given : Authenticator
-  pub channel : ChannelState
+  pub channel : SecureChannelState
   pub named : c.computer ≡ Some computer
   pub there : c.authenticator ≡ Some given
   pub stands : lookup same_name computer computers.channels ≡ Some channel

@@ -1,4 +1,3 @@
-pub mod Channels
 pub mod Hearing
 pub mod Laws
 pub mod Lines

@@ -38,11 +38,11 @@ use Rattle.sam_logon.specs.Granted.{at_level}
 use Rattle.sam_logon.specs.Verdict.{Judgement, judgement_of}
 use Rattle.end_links.specs.Sending.{fault_of, response_of}
 use Rattle.end_links.specs.Serving.{Server, ServedPart}
-use Rattle.channel_client.specs.Hidden.{crypt_key}
-use Rattle.domain_controller.specs.Channels.{ChannelState, key_of_channel, passes_on, return_by, channel_by}
+use Rattle.channel_keys.specs.Hidden.{crypt_key}
+use Rattle.authenticators.specs.SecureChannels.{SecureChannelState, fresh_channel, key_of_channel, passes_on, return_by, channel_by}
 use Rattle.domain_controller.specs.Hearing.{hear}
 use Rattle.domain_controller.specs.declared.line.Line.{Line}
-use Rattle.domain_controller.specs.declared.state.Pending.{Pending}
+use Rattle.domain_controller.specs.declared.state.ChallengePair.{ChallengePair}
 use Rattle.domain_controller.specs.declared.state.Talk.{Talk}
 use Rattle.domain_controller.specs.declared.state.Work.{Work}
 use Rattle.domain_controller.specs.declared.hearing.Heard.{Heard}
@@ -71,7 +71,7 @@ send_reply work line answer =
 
 -- ---- what is kept of computers
 
-abbrev pub put_pair : List ℕ → Pending → Work → Work
+abbrev pub put_pair : List ℕ → ChallengePair → Work → Work
 put_pair computer pair work =
     record work { computers = record work.computers { pending = put same_name computer pair work.computers.pending } }
 
@@ -79,7 +79,7 @@ abbrev pub take_pair : List ℕ → Work → Work
 take_pair computer work =
     record work { computers = record work.computers { pending = take_out same_name computer work.computers.pending } }
 
-abbrev pub put_channel : List ℕ → ChannelState → Work → Work
+abbrev pub put_channel : List ℕ → SecureChannelState → Work → Work
 put_channel computer channel work =
     record work { computers = record work.computers { channels = put same_name computer channel work.computers.channels } }
 
@@ -90,7 +90,7 @@ take_channel computer work =
 -- ---- NetrServerReqChallenge
 
 -- both challenges wait, in place of older ones; the argument: whether the table knows the computer
-abbrev pub put_pair_if : Bool → List ℕ → Pending → Work → Work
+abbrev pub put_pair_if : Bool → List ℕ → ChallengePair → Work → Work
 put_pair_if false computer pair work = work
 put_pair_if true computer pair work = put_pair computer pair work
 
@@ -111,18 +111,12 @@ deny_channel work line offered status =
     send_reply work line
     (reply.Authenticate (record { credential = replicate 8 0; flags = grant_flags offered; status = status }))
 
--- the channel that an accepted call opens: its seed is the client's credential
-abbrev pub channel_for : Account → Pending → AuthCall → ChannelState
-channel_for account pair c = record {
-  secret = account.hash;
-  client = pair.client;
-  server = pair.server;
-  flags = grant_flags c.flags;
-  seed = c.credential;
-}
+-- the channel that an accepted call opens
+abbrev pub channel_for : Account → ChallengePair → AuthCall → SecureChannelState
+channel_for account pair c = fresh_channel account.hash pair.client pair.server (grant_flags c.flags)
 
 -- the argument: whether the client's credential is that of its challenge (MS-NRPC 3.1.4.4.2)
-abbrev pub open_channel : Bool → ChannelState → Line → AuthCall → Work → Work
+abbrev pub open_channel : Bool → SecureChannelState → Line → AuthCall → Work → Work
 open_channel false channel line c work = deny_channel work line c.flags access_denied
 open_channel true channel line c work =
     send_reply (put_channel c.computer channel work) line (reply.Authenticate (record {
@@ -131,20 +125,20 @@ open_channel true channel line c work =
       status = 0;
     }))
 
-abbrev pub judge_client : ChannelState → Line → AuthCall → Work → Work
+abbrev pub judge_client : SecureChannelState → Line → AuthCall → Work → Work
 judge_client channel line c work =
     open_channel (bytes_eq c.credential (cred_of (key_of_channel channel) channel.client)) channel line c work
 
-abbrev pub judge_pair : Option Pending → Account → Line → AuthCall → Work → Work
+abbrev pub judge_pair : Option ChallengePair → Account → Line → AuthCall → Work → Work
 judge_pair None account line c work = deny_channel work line c.flags access_denied
 judge_pair (Some pair) account line c work = judge_client (channel_for account pair c) line c work
 
 -- the argument: whether RC4 is offered
-abbrev pub judge_offer : Bool → Option Pending → Account → Line → AuthCall → Work → Work
+abbrev pub judge_offer : Bool → Option ChallengePair → Account → Line → AuthCall → Work → Work
 judge_offer false pair account line c work = deny_channel work line c.flags downgrade_detected
 judge_offer true pair account line c work = judge_pair pair account line c work
 
-abbrev pub judge_account : Option Account → Option Pending → Line → AuthCall → Work → Work
+abbrev pub judge_account : Option Account → Option ChallengePair → Line → AuthCall → Work → Work
 judge_account None pair line c work = deny_channel work line c.flags no_trust_sam_account
 judge_account (Some account) pair line c work = judge_offer (has_flag c.flags rc4_flag) pair account line c work
 
@@ -220,7 +214,7 @@ judge_return (Some credential) key name now line info validation d =
     with_judgement (judge_info d.table name now info validation) line validation key credential d.work
 
 -- on the computer's channel, whose seed moves on exactly where the authenticator passes
-abbrev pub judge_channel : Option ChannelState → List ℕ → Authenticator → List ℕ → ℕ → Line → NetworkInfo → ℕ → Desk → Desk
+abbrev pub judge_channel : Option SecureChannelState → List ℕ → Authenticator → List ℕ → ℕ → Line → NetworkInfo → ℕ → Desk → Desk
 judge_channel None computer given name now line info validation d =
     desk d.table (refuse_logon judged.NoChannel line validation d.work)
 judge_channel (Some channel) computer given name now line info validation d =

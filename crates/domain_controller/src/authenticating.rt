@@ -6,12 +6,12 @@ ghost use Rattle.channel_keys.specs.Flags.{rc4_flag};
 ghost use Rattle.domain_controller.specs.Hearing.{IsLine};
 ghost use Rattle.domain_controller.specs.Machine.{deny_channel, judge_pair, judge_offer, account_for, answer_authenticate};
 
-use crate::channel::Channel;
 use crate::computers::{put_channel, take_pair};
 use crate::line::Line;
 use crate::replying::send_reply;
-use crate::state::{Pending, Work};
+use crate::state::{ChallengePair, Work};
 use account_table::{Account, Table};
+use authenticators::SecureChannel;
 use channel_keys::{RC4, SUPPORTED_FLAGS, cred, granted_flags};
 use logon_stubs::{
     AuthCall, AuthReply, Reply, STATUS_ACCESS_DENIED, STATUS_DOWNGRADE_DETECTED,
@@ -69,7 +69,7 @@ fn deny_channel(
 fn judge_offer(
     alloc: Global,
     account: &Account,
-    pair: Option<Pending>,
+    pair: Option<ChallengePair>,
     line: Line,
     call: AuthCall,
     work: Work,
@@ -91,7 +91,7 @@ fn judge_offer(
 fn judge_pair(
     alloc: Global,
     account: &Account,
-    pair: Pending,
+    pair: ChallengePair,
     line: Line,
     call: AuthCall,
     work: Work,
@@ -100,13 +100,7 @@ fn judge_pair(
     ensures { IfOk result (λ w. w ≡ judge_pair (Some pair) account.now line call work) }
 {
     let flags = granted_flags(SUPPORTED_FLAGS, call.flags);
-    let channel = Channel::new(
-        account.hash,
-        pair.client,
-        pair.server,
-        flags,
-        call.credential,
-    );
+    let channel = SecureChannel::new(account.hash, pair.client, pair.server, flags);
     let key = channel.key();
     if call.credential != cred(key, pair.client) {
         return deny_channel(alloc, work, line, call.flags, STATUS_ACCESS_DENIED);

@@ -7,7 +7,7 @@ ghost use Rattle.domain_controller.specs.Machine.{answer_challenge};
 use crate::computers::put_pair_if;
 use crate::line::Line;
 use crate::replying::send_reply;
-use crate::state::{Pending, Work};
+use crate::state::{ChallengePair, Work};
 use account_table::Table;
 use logon_stubs::{ChallengeCall, ChallengeReply, Reply};
 use std::alloc::Global;
@@ -31,7 +31,7 @@ pub(crate) fn answer_challenge(
         ..
     } = call;
     let knows = table.knows(computer.units());
-    let pair = Pending {
+    let pair = ChallengePair {
         client: challenge,
         server,
     };

@@ -5,15 +5,15 @@ ghost use Rattle.wire_base.specs.Maps.{lookup};
 ghost use Rattle.wire_base.specs.Names.{same_name};
 ghost use Rattle.domain_controller.specs.Machine.{put_pair_if, take_pair, put_channel, take_channel};
 
-use crate::channel::Channel;
-use crate::state::{Computers, Pending, Work};
+use crate::state::{ChallengePair, Computers, Work};
+use authenticators::SecureChannel;
 use wire_base::{NoMemory, Units, put_named, take_named};
 
 /// The challenges wait for the computer, in place of older ones, where it is known.
 pub(crate) fn put_pair_if(
     knows: bool,
     computer: Units,
-    pair: Pending,
+    pair: ChallengePair,
     work: Work,
 ) -> Result<Work, NoMemory>
     ensures { IfOk result (λ w. w ≡ put_pair_if knows computer pair work) }
@@ -31,7 +31,7 @@ pub(crate) fn put_pair_if(
 }
 
 /// The computer's challenges are taken out. It takes no memory.
-pub(crate) fn take_pair(computer: &[u16], work: Work) -> (Work, Option<Pending>)
+pub(crate) fn take_pair(computer: &[u16], work: Work) -> (Work, Option<ChallengePair>)
     ensures work { result.0 ≡ take_pair computer.now work }
     ensures pair { result.1 ≡ lookup same_name computer.now work.computers.pending }
 {
@@ -46,7 +46,11 @@ pub(crate) fn take_pair(computer: &[u16], work: Work) -> (Work, Option<Pending>)
 }
 
 /// The channel is the computer's, in place of an older one.
-pub(crate) fn put_channel(computer: Units, channel: Channel, work: Work) -> Result<Work, NoMemory>
+pub(crate) fn put_channel(
+    computer: Units,
+    channel: SecureChannel,
+    work: Work,
+) -> Result<Work, NoMemory>
     ensures { IfOk result (λ w. w ≡ put_channel computer channel work) }
 {
     let Work { computers, actions } = work;
@@ -59,7 +63,7 @@ pub(crate) fn put_channel(computer: Units, channel: Channel, work: Work) -> Resu
 }
 
 /// The computer's channel is taken out. It takes no memory.
-pub(crate) fn take_channel(computer: &[u16], work: Work) -> (Work, Option<Channel>)
+pub(crate) fn take_channel(computer: &[u16], work: Work) -> (Work, Option<SecureChannel>)
     ensures work { result.0 ≡ take_channel computer.now work }
     ensures channel { result.1 ≡ lookup same_name computer.now work.computers.channels }
 {

@@ -6,29 +6,22 @@ ghost use Rattle.rpc_units.specs.Reading.{unit_of};
 ghost use Rattle.rpc_units.specs.Views.{body_shown, trailer_shown, unit_shown};
 ghost use Rattle.rpc_units.specs.Writing.{ContextsFit, written};
 ghost use Rattle.end_links.specs.Sending.{fault_of};
-ghost use Rattle.channel_client.specs.Machine.{netlogon_syntax};
+ghost use Rattle.logon_stubs.specs.Interface.{netlogon_syntax};
 ghost use Rattle.domain_controller.specs.Hearing.{IsLine, CanAnswer, bound_talk, hear, hear_bind, hear_sealed_bind, hear_unbound, hear_fresh, is_served, hear_fault, hear_opnum, hear_context, hear_whole, hear_joined, hear_bound};
 
 use crate::line::Line;
 use crate::state::Talk;
 use end_links::{Binding, bind_ack, bind_nak, fault, short_unit_bytes};
 use logon_stubs::{
-    AUTHENTICATE_OPNUM, CHALLENGE_OPNUM, Call, LOGON_OPNUM, NETLOGON_UUID, NETLOGON_VERSION,
-    StubRefused, read_call,
+    AUTHENTICATE_OPNUM, CHALLENGE_OPNUM, Call, LOGON_OPNUM, NETLOGON, StubRefused, read_call,
 };
 use outside::CloseCause;
 use rpc_units::{
     BAD_STUB_DATA, Body, BodyView, Contexts, JoinRefused, Joiner, OPERATION_OUT_OF_RANGE,
-    PROTOCOL_ERROR, Syntax, Unit, UnitRefused, UnitView, read_unit, view_unit,
+    PROTOCOL_ERROR, Unit, UnitRefused, UnitView, read_unit, view_unit,
 };
 use std::alloc::Global;
 use wire_base::{Blob, NoMemory};
-
-/// The interface that is served (MS-NRPC 2.1).
-const NETLOGON: Syntax = Syntax {
-    uuid: NETLOGON_UUID,
-    version: NETLOGON_VERSION,
-};
 
 /// What a unit on a link comes to.
 #[derive(Drop)]

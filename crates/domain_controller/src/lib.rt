@@ -5,7 +5,6 @@
 mod answering;
 mod authenticating;
 mod challenging;
-mod channel;
 mod computers;
 mod controller;
 mod hearing;

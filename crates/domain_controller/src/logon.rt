@@ -16,7 +16,7 @@ use crate::line::Line;
 use crate::replying::{send_reply, tell};
 use crate::state::Work;
 use account_table::{Table, TableChange, TableChanges};
-use channel_client::crypt_key;
+use channel_keys::crypt_key;
 use logon_stubs::{
     LogonCall, LogonReply, NetworkInfo, Reply, STATUS_ACCESS_DENIED, STATUS_INVALID_INFO_CLASS,
     SamInfo, Verdict,

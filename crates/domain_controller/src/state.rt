@@ -1,6 +1,6 @@
 //! What a controller keeps.
 
-use crate::channel::Channel;
+use authenticators::SecureChannel;
 use end_links::{Binding, Links, SaysHeld, ShortActions};
 use rpc_units::Joiner;
 use wire_base::{List, Units};
@@ -8,7 +8,7 @@ use wire_base::{List, Units};
 /// The challenges of a NetrServerReqChallenge, which wait for a NetrServerAuthenticate2: the client's and the server's
 /// (MS-NRPC 3.1.4.1).
 #[derive(Clone, Copy, Debug, PartialEq, Eq)]
-pub struct Pending {
+pub struct ChallengePair {
     pub client: [u8; 8],
     pub server: [u8; 8],
 }
@@ -16,8 +16,8 @@ pub struct Pending {
 /// What is kept of computers, by their names without case: the challenges that wait, and the channels that are open.
 #[derive(Drop)]
 pub struct Computers {
-    pub pending: List<(Units, Pending)>,
-    pub channels: List<(Units, Channel)>,
+    pub pending: List<(Units, ChallengePair)>,
+    pub channels: List<(Units, SecureChannel)>,
 }
 
 /// What is said on a link: the open fragments of a call, and what a bind agreed on, where one was taken.

@@ -5,8 +5,10 @@
 use Rattle.std.specs.Prelude.{ℕ, ◌==◌, ◌&&◌, ◌++◌, Bool, true, false, not, List, [], ◌∷◌, replicate, Option, Some, None, Result, Ok, Err, is_some}
 use Rattle.wire_base.specs.declared.authenticator.Authenticator.{Authenticator}
 use Rattle.rc4_stream.specs.Rc4.{applied}
+use Rattle.channel_keys.specs.Hidden.{crypt_key}
 use Rattle.authenticators.specs.Sequences.{authenticator_of}
 use Rattle.authenticators.specs.Timestamps.{timestamp_of}
+use Rattle.authenticators.specs.SecureChannels.{SecureChannelState, after_call, after_return, is_awaited, key_of_channel}
 use Rattle.outside.specs.declared.action.Action.{Action}
 use Rattle.outside.specs.declared.action.Action.TheVariants as action
 use Rattle.outside.specs.declared.action.CloseCause.{CloseCause}
@@ -41,14 +43,13 @@ use Rattle.end_links.specs.Binding.{bind_of, limit_of}
 use Rattle.end_links.specs.Links.{LinkState}
 use Rattle.end_links.specs.Sending.{frames_of, joined_frames, request_of}
 use Rattle.end_links.specs.Serving.{Server, Service, ServedPart, served_cut}
+use Rattle.logon_stubs.specs.Interface.{netlogon_syntax}
 use Rattle.channel_client.specs.declared.caller.Caller.{Caller}
 use Rattle.channel_client.specs.declared.judging.Judgement.{Judgement}
 use Rattle.channel_client.specs.declared.judging.Judgement.TheVariants as judgement
 use Rattle.channel_client.specs.declared.state.Standing.{Standing}
 use Rattle.channel_client.specs.declared.state.Standing.TheVariants as standing
-use Rattle.channel_client.specs.Hidden.{crypt_key}
-use Rattle.channel_client.specs.Machine.{after, auth_call, challenge_call, is_accepting, judge, netlogon_syntax, question_of}
-use Rattle.channel_client.specs.Opened.{OpenState, after_call, after_return, is_awaited, open_key}
+use Rattle.channel_client.specs.Machine.{after, auth_call, challenge_call, is_accepting, judge, question_of}
 use Rattle.interactive_logon.specs.declared.calls.InteractiveCall.{InteractiveCall}
 use Rattle.interactive_station.specs.declared.station.NoStation.TheVariants as no_station
 use Rattle.interactive_station.specs.declared.station.StationOutcome.{StationOutcome}
@@ -70,11 +71,11 @@ validation_level = 3
 
 -- An interactive logon with the next authenticator of the channel, a returned one of zeros and the logon id 0. There is
 -- no LM hash, which is zeros; the NT hash goes under RC4 with the session key (MS-NRPC 2.2.1.1.4).
-abbrev pub interactive_call_of : StationPlan → OpenState → ℕ → ℕ → InteractiveCall
+abbrev pub interactive_call_of : StationPlan → SecureChannelState → ℕ → ℕ → InteractiveCall
 interactive_call_of plan o timestamp validation = record {
   server = None;
   computer = Some plan.computer;
-  authenticator = Some (authenticator_of (open_key o) o.seed timestamp);
+  authenticator = Some (authenticator_of (key_of_channel o) o.seed timestamp);
   returned = Some (record { credential = replicate 8 0; timestamp = 0 });
   info = record {
     domain = plan.domain;
@@ -83,7 +84,7 @@ interactive_call_of plan o timestamp validation = record {
     user = plan.user;
     workstation = plan.computer;
     lm = replicate 16 0;
-    nt = applied (open_key o) 0 plan.hash;
+    nt = applied (key_of_channel o) 0 plan.hash;
   };
   validation = validation;
 }
@@ -105,7 +106,7 @@ pub record NextCall : Type 0 where
   pub call : Option StationCall
   pub standing : Standing
 
-abbrev pub next_on : OpenState → Option (List ℕ × List ℕ) → StationPlan → ℕ → NextCall
+abbrev pub next_on : SecureChannelState → Option (List ℕ × List ℕ) → StationPlan → ℕ → NextCall
 next_on o None plan timestamp = record {
   call = Some (Logon (interactive_call_of plan o timestamp validation_level));
   standing = standing.Open (after_call o timestamp);
@@ -169,16 +170,16 @@ settle_opening (judgement.Answer o verdict) now link work = ends (BadPeer drop_c
 settle_opening (judgement.Drop cause) now link work = ends (BadPeer cause) link work
 
 -- the user is logged on: that is told, with the names and the plain key of the verdict, and the logoff is dialled for
-abbrev pub granted : SamInfo → OpenState → ℕ → ℕ → StationWork → StationWork
+abbrev pub granted : SamInfo → SecureChannelState → ℕ → ℕ → StationWork → StationWork
 granted info o now link work =
     dials now (tell
     (stand (standing.Open o) (record (tell work (action.Close link close.CallDone)) {
       running = record work.running { names = Some (info.domain, info.effective_name) };
     }))
-    (action.Told link (told.In info.domain info.effective_name (crypt_key (open_key o) info.key))))
+    (action.Told link (told.In info.domain info.effective_name (crypt_key (key_of_channel o) info.key))))
 
 -- the argument: whether a status of 0 comes with validation of the level asked
-abbrev pub logged_on : Bool → Option SamInfo → OpenState → ℕ → ℕ → StationWork → StationWork × Option StationTalk
+abbrev pub logged_on : Bool → Option SamInfo → SecureChannelState → ℕ → ℕ → StationWork → StationWork × Option StationTalk
 logged_on false info o now link work = ends (BadPeer drop_cause.BadReply) link work
 logged_on true None o now link work = ends (BadPeer drop_cause.BadReply) link work
 logged_on true (Some info) o now link work = (granted info o now link work, None)
@@ -189,7 +190,7 @@ logged_off None link work = ends (BadPeer drop_cause.BadReply) link work
 logged_off (Some names) link work = ends (Off names.0 names.1) link work
 
 -- the reply to a call on the channel; the argument: whether its status is 0
-abbrev pub settle_reply : Bool → Reply → OpenState → ℕ → ℕ → StationWork → StationWork × Option StationTalk
+abbrev pub settle_reply : Bool → Reply → SecureChannelState → ℕ → ℕ → StationWork → StationWork × Option StationTalk
 settle_reply false (reply.Logon r) o now link work = ends (Refused r.status) link work
 settle_reply true (reply.Logon r) o now link work = logged_on (r.level == validation_level) r.info o now link work
 settle_reply false (reply.Logoff r) o now link work = ends (Refused r.status) link work
@@ -208,11 +209,11 @@ returned_in (reply.Logoff r) = r.returned
 returned_in _ = None
 
 -- the argument: whether the credential that is returned is the one awaited
-abbrev pub settle_return : Bool → Reply → OpenState → ℕ → ℕ → StationWork → StationWork × Option StationTalk
+abbrev pub settle_return : Bool → Reply → SecureChannelState → ℕ → ℕ → StationWork → StationWork × Option StationTalk
 settle_return false r o now link work = ends (BadPeer drop_cause.NotNext) link work
 settle_return true r o now link work = settle_reply (status_in r == 0) r (after_return true o) now link work
 
-abbrev pub is_returned : OpenState → Option Authenticator → Bool
+abbrev pub is_returned : SecureChannelState → Option Authenticator → Bool
 is_returned o None = false
 is_returned o (Some returned) = is_awaited o.awaited returned.credential
 

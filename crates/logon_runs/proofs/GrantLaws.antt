@@ -3,7 +3,6 @@
 use Rattle.std.proofs.Common.{◌≡◌, ℕ, ◌≤◌, Bool, true, false, refl, List, ◌∷◌, ◌++◌, length, sym, subst, arith, length-append, inl, inr}
 use Rattle.account_table.specs.AccountTable.{AccountTable}
 use Rattle.account_table.specs.declared.account.Account.{Account}
-use Rattle.channel_client.specs.Opened.{OpenState}
 use Rattle.logon_runs.specs.Seen.LinkScenes.{Meeting}
 use Rattle.logon_runs.specs.Runs.{Asked, sam_for, message_for, hidden}
 use Rattle.std.proofs.Common.{ap, ◌∙◌}
@@ -24,12 +23,12 @@ use Rattle.std.proofs.lemmas.List.{get_or_past}
 use Rattle.std.proofs.lemmas.List.Elements.{All-append, All-cons, All-get_or}
 use Rattle.wire_base.specs.Names.{IsName, IsNameByte}
 use Rattle.wire_base.specs.Units.{AreUnits}
+use Rattle.channel_keys.specs.Hidden.{crypt_key}
+use Rattle.authenticators.specs.SecureChannels.{SecureChannelState, key_of_channel}
 use Rattle.ntlm_messages.specs.declared.messages.Authenticate.{Authenticate}
 use Rattle.ntlm_responses.proofs.ResponseLaws.{All-base_key_of, length-base_key_of}
 use Rattle.logon_stubs.specs.Ranges.{IsBlock}
 use Rattle.logon_stubs.specs.declared.info.SamInfo.{SamInfo}
-use Rattle.channel_client.specs.Hidden.{crypt_key}
-use Rattle.channel_client.specs.Opened.{open_key}
 use Rattle.channel_client.specs.declared.state.Question.TheVariants as question
 use Rattle.logon_client.specs.declared.plan.ClientPlan.{ClientPlan}
 use Rattle.member_server.specs.Outcomes.{name_in}
@@ -63,13 +62,13 @@ name_short domain account is_domain is_account = omega (arith, length-append dom
 
 -- ---- the member's key and session
 
-key_so : (g : Meeting) (a : Asked) (o : OpenState) (table : AccountTable) (name : List ℕ) (account : Account) (moment : ℕ) → AreDraws a.one a.two a.three →
-    (TravelsAsZeros (open_key o) (base_key g.task (message_for g a)) → ⊥) →
+key_so : (g : Meeting) (a : Asked) (o : SecureChannelState) (table : AccountTable) (name : List ℕ) (account : Account) (moment : ℕ) → AreDraws a.one a.two a.three →
+    (TravelsAsZeros (key_of_channel o) (base_key g.task (message_for g a)) → ⊥) →
     (on_for g a o (sam_for g a table name account moment)).key ≡ (answer_for g.plan g.task a.challenge a.then_now (drawn_of a.one a.two a.three)).key
 key_so g a o table name account moment draws arrives =
     logons_are_granted.key g.plan g.task a.challenge a.one a.two a.three a.then_now g.link (sam_shown o (hidden o (sam_for g a table name account moment))) draws
-    (ap (λ (k : List ℕ). crypt_key (open_key o) (crypt_key (open_key o) k)) (logons_are_granted.has_key table name account (base_key g.task (message_for g a)) moment)
-    ∙ calls_can_go.shown (open_key o) (base_key g.task (message_for g a)) arrives)
+    (ap (λ (k : List ℕ). crypt_key (key_of_channel o) (crypt_key (key_of_channel o) k)) (logons_are_granted.has_key table name account (base_key g.task (message_for g a)) moment)
+    ∙ calls_can_go.shown (key_of_channel o) (base_key g.task (message_for g a)) arrives)
 
 -- the argument: whether units are signed
 sessions_so : (signed : Bool) (level : ℕ) (key found : List ℕ) (flags agreed : ℕ) → is_signed level ≡ signed → (signed ≡ true → found ≡ key) →
@@ -86,9 +85,9 @@ grants_are_told = record {
       let sam : SamInfo = sam_for g a table name account moment in
       let key : List ℕ = base_key g.task (message_for g a) in
       let found : name_in (sam_shown o (hidden o sam)) ≡ table.domain ++ 0x5C ∷ account.name =
-      logons_are_granted.name table name account key (crypt_key (open_key o) (crypt_key (open_key o) sam.key)) moment in
+      logons_are_granted.name table name account key (crypt_key (key_of_channel o) (crypt_key (key_of_channel o) sam.key)) moment in
       record {
-        reply = subst (λ (k : List ℕ). IsTurnReply question.Logon (granting o (timestamp_of moment) 0 1 (record sam { key = crypt_key (open_key o) k })))
+        reply = subst (λ (k : List ℕ). IsTurnReply question.Logon (granting o (timestamp_of moment) 0 1 (record sam { key = crypt_key (key_of_channel o) k })))
             (sym (logons_are_granted.has_key table name account key moment))
             (calls_can_go.granted o (timestamp_of moment) table name account key moment is_domain is_sid is_name is_account (base_block g.task (message_for g a)) below);
         found = found;

@@ -1,17 +1,16 @@
 -- What a member tells where a logon is granted.
 -- Of `grants_tell`.
 use Rattle.std.proofs.Common.{ap, ap₂, ◌≡◌, ℕ, refl, sym, subst, ◌∙◌, List, [], ◌∷◌, length, arith}
+use Rattle.authenticators.specs.SecureChannels.{SecureChannelState, after_call, key_of_channel}
 use Rattle.logon_stubs.specs.declared.info.SamInfo.{SamInfo}
 use Rattle.memo_stubs.specs.Memo.{written_who_reply}
 use Rattle.memo_stubs.proofs.MemoLaws.{who_stub}
 use Rattle.account_table.specs.AccountTable.{AccountTable}
-use Rattle.channel_client.specs.Opened.{OpenState, after_call, open_key}
 use Rattle.channel_client.specs.declared.state.Question.TheVariants as question
 use Rattle.channel_client.specs.declared.state.Standing.{Standing}
 use Rattle.channel_client.specs.declared.state.Standing.TheVariants as standing
 use Rattle.channel_client.specs.declared.state.Step.TheVariants as step
 use Rattle.channel_client.specs.Machine.{after}
-use Rattle.domain_controller.specs.Channels.{ChannelState}
 use Rattle.logon_client.specs.declared.securing.Sending.{Sending}
 use Rattle.member_server.specs.declared.state.LoggedOn.{LoggedOn}
 use Rattle.member_server.specs.Outcomes.{name_in}
@@ -104,8 +103,8 @@ member_gives s v unit later after_state left actions shows first stepped =
           ∙ ap (λ (l : List (List ℕ)). whole_step l left actions after_state) (sym shows.left)));
     }
 
-tells_so : (p : Coming) (s : State) (a : Asked) (who : WhoAsked p a) (v : TurnAt) (o : OpenState) (c : ChannelState) (timestamp judged_at : ℕ) (accounts : AccountTable) (left : List (List ℕ))
-    (moment : ℕ) → IsKnown p → Fits p (Granted a who v o c timestamp judged_at accounts) → (TravelsAsZeros (open_key o) (base_key p.meeting.task (message_for (own p) a)) → ⊥) →
+tells_so : (p : Coming) (s : State) (a : Asked) (who : WhoAsked p a) (v : TurnAt) (o c : SecureChannelState) (timestamp judged_at : ℕ) (accounts : AccountTable) (left : List (List ℕ))
+    (moment : ℕ) → IsKnown p → Fits p (Granted a who v o c timestamp judged_at accounts) → (TravelsAsZeros (key_of_channel o) (base_key p.meeting.task (message_for (own p) a)) → ⊥) →
     Shows s (scene_of p (Granted a who v o c timestamp judged_at accounts) left moment) → TellsIn p s a v
 tells_so p s a who v o c timestamp judged_at accounts left moment known fits arrives shows =
     let sam : SamInfo = sam_for (own p) a p.table p.name p.account judged_at in

@@ -1,14 +1,13 @@
 -- A whole logon by a channel that stands.
 -- Of `logons_run`.
 use Rattle.std.proofs.Common.{ℕ, ◌≤◌, List, [], ◌∷◌, length, Option, None, refl, arith}
+use Rattle.authenticators.specs.SecureChannels.{SecureChannelState}
 use Rattle.ntlm_seal.specs.Sessions.{SessionState}
 use Rattle.logon_stubs.specs.declared.info.SamInfo.{SamInfo}
 use Rattle.memo_stubs.specs.Memo.{written_echo_reply, written_echo_request, written_who_reply}
 use Rattle.memo_stubs.proofs.MemoLaws.{reply_stub, request_stub, who_stub}
 use Rattle.account_table.specs.AccountTable.{AccountTable}
 use Rattle.account_table.specs.declared.account.Account.{Account}
-use Rattle.channel_client.specs.Opened.{OpenState}
-use Rattle.domain_controller.specs.Channels.{ChannelState}
 use Rattle.domain_controller.specs.declared.state.Computers.{Computers}
 use Rattle.logon_client.specs.State.{State as ClientState}
 use Rattle.logon_client.specs.declared.state.Phase.TheVariants as client_phase
@@ -48,7 +47,7 @@ meets_same number s =
     let s2 : State = connects s1 in
     both_same s s2 (meets number s) (both_same s s1 s2 (starts_same number s) (connects_same s1)) (twice_same s2)
 
-record IsAnswered (s : State) (g : Meeting) (number : ℕ) (links : List Route) (a : Asked) (o : OpenState) (c : ChannelState) (table : AccountTable) (name : List ℕ) (account : Account)
+record IsAnswered (s : State) (g : Meeting) (number : ℕ) (links : List Route) (a : Asked) (o c : SecureChannelState) (table : AccountTable) (name : List ℕ) (account : Account)
     (computers : Computers) (left : List (List ℕ)) (moment : ℕ) : Type 0 where
   one : Option SessionState
   other : Option SessionState
@@ -58,7 +57,7 @@ record IsAnswered (s : State) (g : Meeting) (number : ℕ) (links : List Route) 
       (client_phase.Asked (with_session (terms_for g.plan g.task a.challenge a.then_now (drawn_of a.one a.two a.three)) one) client_question.Who)
       (talk_in None (logged_on (on_for (joined g links) a o (sam_for (joined g links) a table name account moment)) back.later)) (unit_down (joined g links) back.sent ∷ []) left moment)
 
-answered_so : (s : State) (g : Meeting) (number : ℕ) (before : ClientState) (links : List Route) (challenge one two three : List ℕ) (o : OpenState) (c : ChannelState)
+answered_so : (s : State) (g : Meeting) (number : ℕ) (before : ClientState) (links : List Route) (challenge one two three : List ℕ) (o c : SecureChannelState)
     (table : AccountTable) (name : List ℕ) (account : Account) (computers : Computers) (left : List (List ℕ)) (moment : ℕ) →
     ComesIn s g number links (asked_at challenge one two three moment) o c table name account computers moment →
     Shows s (rest_scene (with_controller g table name computers) before links (challenge ∷ one ∷ two ∷ three ∷ left) moment []) →
@@ -90,7 +89,7 @@ answered_so s g number before links challenge one two three o c table name accou
           (starts_are_seen.starts s (with_controller g table name computers) number before links (challenge ∷ one ∷ two ∷ three ∷ left) moment is.chosen is.planned shows))));
     }
 
-joined_still : (g : Meeting) (links : List Route) (o : OpenState) (c : ChannelState) (table : AccountTable) (name : List ℕ) (computers : Computers) (moment : ℕ) →
+joined_still : (g : Meeting) (links : List Route) (o c : SecureChannelState) (table : AccountTable) (name : List ℕ) (computers : Computers) (moment : ℕ) →
     IsJoined (joined g links) → IsJoined (after_logon g links o c table name computers moment)
 joined_still g links o c table name computers moment is = got_first (joined g links).links (ToController g.at_member g.at_controller ∷ []) (length links) _ is
 

@@ -3,6 +3,7 @@
 use Rattle.std.proofs.Common.{◌≡◌, ℕ, refl, sym, ap, subst, ◌∙◌, List, [], length, Some, arith, inl, inr, slice_get}
 use Rattle.std.specs.Prelude.{◌⊎◌}
 use Rattle.std.proofs.lemmas.Option.{slice_get_within}
+use Rattle.authenticators.specs.SecureChannels.{SecureChannelState}
 use Rattle.account_table.specs.Changes.{with_count}
 use Rattle.account_table.specs.LookUps.{place_in}
 use Rattle.account_table.specs.Ranges.{InRangeAccount}
@@ -10,7 +11,6 @@ use Rattle.account_table.specs.declared.account.Account.{Account}
 use Rattle.account_table.proofs.ChangeLaws.{differs-none}
 use Rattle.channel_client.specs.declared.state.Standing.{Standing}
 use Rattle.channel_client.specs.declared.state.Standing.TheVariants as standing
-use Rattle.channel_client.specs.Opened.{OpenState}
 use Rattle.logon_steps.specs.Answering.{IsInStep}
 use Rattle.logon_client.specs.Machine.{fresh_client}
 use Rattle.logon_client.specs.declared.plan.ClientPlan.{ClientPlan}
@@ -37,16 +37,16 @@ use Rattle.logon_runs.proofs.Any.RestAgainLaws.{HasItem, item_at, rests_again}
 
 -- ---- how a channel stands
 
-open_same : (one other : OpenState) → standing.Open one ≡ standing.Open other → one ≡ other
+open_same : (one other : SecureChannelState) → standing.Open one ≡ standing.Open other → one ≡ other
 open_same one other is = cc
 
-open_not : (o : OpenState) → standing.Open o ≡ standing.Nothing → ⊥
+open_not : (o : SecureChannelState) → standing.Open o ≡ standing.Nothing → ⊥
 open_not o is = absurd cc
 
 half_not : (one other : List ℕ) → standing.Half one other ≡ standing.Nothing → ⊥
 half_not one other is = absurd cc
 
-half_not_open : (one other : List ℕ) (o : OpenState) → standing.Half one other ≡ standing.Open o → ⊥
+half_not_open : (one other : List ℕ) (o : SecureChannelState) → standing.Half one other ≡ standing.Open o → ⊥
 half_not_open one other o is = absurd cc
 
 -- ---- the first world
@@ -160,7 +160,7 @@ may_stand plan p e (standing.Open o) is (inr step_so) = λ is_own.
     record {
       channel = step_so.controller;
       keeps = step_so.channel;
-      in_step = subst (λ (state : OpenState). IsInStep state step_so.controller) (open_same step_so.member o (sym step_so.stands ∙ is)) step_so.in_step;
+      in_step = subst (λ (state : SecureChannelState). IsInStep state step_so.controller) (open_same step_so.member o (sym step_so.stands ∙ is)) step_so.in_step;
     }
 
 ends_so : (plan : Plan) (s : State) (rest : AtRest plan s) (client member controller : ℕ) (can : CanCome plan client member controller) (account machine : Account) (after : State) →

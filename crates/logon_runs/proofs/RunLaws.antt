@@ -6,6 +6,7 @@ use Rattle.wire_base.specs.Names.{same_name}
 use Rattle.wire_base.proofs.MapLaws.{lookup-put_same}
 use Rattle.wire_base.proofs.NameLaws.{same_name-Decides}
 use Rattle.authenticators.specs.Sequences.{return_of}
+use Rattle.authenticators.specs.SecureChannels.{SecureChannelState, after_call, after_return, key_of_channel}
 use Rattle.outside.specs.declared.event.Event.TheVariants as event
 use Rattle.outside.specs.declared.action.Action.TheVariants as action
 use Rattle.outside.specs.declared.action.Judged.TheVariants as judged
@@ -19,13 +20,11 @@ use Rattle.account_table.specs.AccountTable.{AccountTable}
 use Rattle.account_table.specs.LookUps.{account_in}
 use Rattle.account_table.specs.declared.account.Account.{Account}
 use Rattle.sam_logon.specs.MayLogOn.{MayLogOn}
-use Rattle.channel_client.specs.Opened.{OpenState, after_call, after_return, open_key}
 use Rattle.channel_client.specs.declared.state.Question.TheVariants as question
 use Rattle.channel_client.specs.declared.state.Standing.{Standing}
 use Rattle.channel_client.specs.declared.state.Standing.TheVariants as standing
 use Rattle.channel_client.specs.declared.state.Step.TheVariants as step
 use Rattle.channel_client.specs.Machine.{after, logon_call}
-use Rattle.domain_controller.specs.Channels.{ChannelState}
 use Rattle.domain_controller.specs.Step.{step_of as controller_step_of}
 use Rattle.domain_controller.specs.declared.state.Computers.{Computers}
 use Rattle.domain_controller.specs.Machine.{status_of}
@@ -66,7 +65,7 @@ timestamp_below now = omega arith
 
 -- what the controller makes of the call: the logon passes and is granted, and the account's count of bad passwords is 0
 -- afterwards
-pub grants_so : (g : Meeting) (a : Asked) (o : OpenState) (c : ChannelState) (table : AccountTable) (name : List ℕ) (account : Account) (computers : Computers)
+pub grants_so : (g : Meeting) (a : Asked) (o c : SecureChannelState) (table : AccountTable) (name : List ℕ) (account : Account) (computers : Computers)
     (link number moment : ℕ) (left : List (List ℕ)) → number < 2 ^ 32 → HasShortCaller g.caller → HasShortInfo (info_asked g a) →
     lookup same_name g.caller.computer computers.channels ≡ Some c → IsInStep o c → CanLogOn g.task → HasUnits g.task → AreDraws a.one a.two a.three →
     account_in table.accounts g.task.user ≡ Some account → account.hash ≡ g.task.hash → MayLogOn table (info_told g.task) moment →
@@ -83,7 +82,7 @@ grants_so g a o c table name account computers link number moment left below cal
     controllers_step.judged table name computers link moment number stamp g.caller o c (info_asked g a) left below
     (calls_can_go.logon g.caller o stamp (info_asked g a) caller (timestamp_below moment) info) channel in_step
     ∙ ap₂ (λ (v : Verdict) (accounts : AccountTable). whole_step left left
-    (action.Judged (judged.Passed (status_of v)) ∷ action.Send link (reply_bytes number (passed_reply (open_key o) (return_of (open_key o) o.seed stamp) v)) ∷ [])
+    (action.Judged (judged.Passed (status_of v)) ∷ action.Send link (reply_bytes number (passed_reply (key_of_channel o) (return_of (key_of_channel o) o.seed stamp) v)) ∷ [])
     (controller_at accounts name later (turn_link link)))
     (logons_are_granted.verdict g.plan g.task a.challenge a.one a.two a.three a.then_now g.place moment table name account can units draws found hash may)
     (logons_are_granted.table g.plan g.task a.challenge a.one a.two a.three a.then_now g.place moment table account can units draws found hash may)

@@ -3,11 +3,10 @@
 -- stays and WhoAmI comes before the member's dial is answered.
 use Rattle.std.specs.Prelude.{ℕ, ◌≡◌, ◌≤◌, ◌==◌, true, false, List, [], ◌∷◌, length, Some, slice_get}
 use Rattle.wire_base.specs.Units.{AreUnits}
+use Rattle.authenticators.specs.SecureChannels.{SecureChannelState}
 use Rattle.logon_stubs.specs.declared.info.SamInfo.{SamInfo}
 use Rattle.account_table.specs.AccountTable.{AccountTable}
 use Rattle.account_table.specs.declared.account.Account.{Account}
-use Rattle.channel_client.specs.Opened.{OpenState}
-use Rattle.domain_controller.specs.Channels.{ChannelState}
 use Rattle.domain_controller.specs.declared.state.Computers.{Computers}
 use Rattle.logon_client.specs.State.{State as ClientState}
 use Rattle.logon_client.specs.declared.outcome.ClientOutcome.TheVariants.{In}
@@ -45,7 +44,7 @@ abbrev pub asked_at : List ℕ → List ℕ → List ℕ → List ℕ → ℕ �
 asked_at challenge one two three now = record { challenge = challenge; one = one; two = two; three = three; then_now = now }
 
 -- which client starts, whom it reaches, and that its logon is granted on the next link
-pub record ComesIn (s : State) (g : Meeting) (number : ℕ) (links : List Route) (a : Asked) (o : OpenState) (c : ChannelState) (table : AccountTable) (name : List ℕ) (account : Account)
+pub record ComesIn (s : State) (g : Meeting) (number : ℕ) (links : List Route) (a : Asked) (o c : SecureChannelState) (table : AccountTable) (name : List ℕ) (account : Account)
     (computers : Computers) (moment : ℕ) : Type 0 where
   pub chosen : chosen_place number (length s.ends.clients) ≡ Some g.at_client
   pub planned : slice_get s.client_plans g.at_client ≡ Some g.task
@@ -58,13 +57,13 @@ pub record ComesIn (s : State) (g : Meeting) (number : ℕ) (links : List Route)
   pub units : AreUnits (name_in (sam_shown o (hidden o (sam_for (joined g links) a table name account moment))))
 
 -- the member's channel, and the controller's, once it is granted
-abbrev pub after_logon : Meeting → List Route → OpenState → ChannelState → AccountTable → List ℕ → Computers → ℕ → Meeting
+abbrev pub after_logon : Meeting → List Route → SecureChannelState → SecureChannelState → AccountTable → List ℕ → Computers → ℕ → Meeting
 after_logon g links o c table name computers moment =
     with_controller (rested (joined g links) o (timestamp_of moment)) (cleared table g.task.user) name (with_moved (joined g links) c (timestamp_of moment) computers)
 
 pub record LogonsRun : Type 0 where
   -- the client is in, with its own key, the name that the member found, and what it echoed
-  pub named : (s : State) (g : Meeting) (number : ℕ) (before : ClientState) (links : List Route) (challenge one two three : List ℕ) (o : OpenState) (c : ChannelState)
+  pub named : (s : State) (g : Meeting) (number : ℕ) (before : ClientState) (links : List Route) (challenge one two three : List ℕ) (o c : SecureChannelState)
       (table : AccountTable) (name : List ℕ) (account : Account) (computers : Computers) (left : List (List ℕ)) (moment : ℕ) →
       let a : Asked = asked_at challenge one two three moment in
       let sam : SamInfo = sam_for (joined g links) a table name account moment in
@@ -73,7 +72,7 @@ pub record LogonsRun : Type 0 where
       Shows s (rest_scene (with_controller g table name computers) before links (challenge ∷ one ∷ two ∷ three ∷ left) moment []) →
       Shows (goes (turns number s))
       (rest_scene end (client_ended g.task (In (name_in (sam_shown o (hidden o sam))) (answer_for g.plan g.task challenge moment (drawn_of one two three)).key 0)) end.links left moment [])
-  pub echoed : (s : State) (g : Meeting) (number : ℕ) (before : ClientState) (links : List Route) (challenge one two three : List ℕ) (o : OpenState) (c : ChannelState)
+  pub echoed : (s : State) (g : Meeting) (number : ℕ) (before : ClientState) (links : List Route) (challenge one two three : List ℕ) (o c : SecureChannelState)
       (table : AccountTable) (name : List ℕ) (account : Account) (computers : Computers) (left : List (List ℕ)) (moment : ℕ) →
       let a : Asked = asked_at challenge one two three moment in
       let sam : SamInfo = sam_for (joined g links) a table name account moment in

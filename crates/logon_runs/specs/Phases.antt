@@ -3,6 +3,7 @@
 use Rattle.std.specs.Prelude.{ℕ, ◌≡◌, ◌≤◌, ◌<◌, ◌^◌, ◌⊎◌, ◌++◌, true, false, IsSomeAnd, List, [], ◌∷◌, length, Option, Some, None, slice_get}
 use Rattle.wire_base.specs.Maps.{lookup}
 use Rattle.wire_base.specs.Names.{IsName, same_name}
+use Rattle.authenticators.specs.SecureChannels.{SecureChannelState, after_call, fresh_channel}
 use Rattle.ntlm_seal.specs.Sessions.{SessionState}
 use Rattle.rpc_units.specs.Calls.{bytes_of_call}
 use Rattle.rpc_units.specs.Writing.{written}
@@ -10,6 +11,7 @@ use Rattle.end_links.specs.Binding.{bind_of}
 use Rattle.logon_stubs.specs.Ranges.{IsBlock}
 use Rattle.logon_stubs.specs.declared.calls.Call.{Call}
 use Rattle.logon_stubs.specs.declared.calls.Reply.TheVariants as reply
+use Rattle.logon_stubs.specs.Interface.{netlogon_syntax}
 use Rattle.memo_stubs.specs.Memo.{written_echo_reply, written_echo_request, written_who_reply}
 use Rattle.account_table.specs.AccountTable.{AccountTable}
 use Rattle.account_table.specs.Changes.{DifferInCounts}
@@ -21,9 +23,7 @@ use Rattle.channel_client.specs.declared.state.Question.TheVariants as question
 use Rattle.channel_client.specs.declared.state.Standing.{Standing}
 use Rattle.channel_client.specs.declared.state.Standing.TheVariants as standing
 use Rattle.channel_client.specs.declared.state.Step.TheVariants as step
-use Rattle.channel_client.specs.Machine.{after, auth_call, challenge_call, logon_call, netlogon_syntax, offered_flags, question_of, server_credential}
-use Rattle.channel_client.specs.Opened.{OpenState, after_call, first_state}
-use Rattle.domain_controller.specs.Channels.{ChannelState}
+use Rattle.channel_client.specs.Machine.{after, auth_call, challenge_call, logon_call, offered_flags, question_of, server_credential}
 use Rattle.domain_controller.specs.Hearing.{first_talk}
 use Rattle.domain_controller.specs.Machine.{account_for}
 use Rattle.domain_controller.specs.State.{State as ControllerState}
@@ -123,7 +123,7 @@ pub record TurnAt : Type 0 where
 pub data Aim : Type 0 where
   First : (client : List ℕ) → Aim
   Second : (client server : List ℕ) → Aim
-  Third : (o : OpenState) (c : ChannelState) (timestamp : ℕ) → Aim
+  Third : (o c : SecureChannelState) (timestamp : ℕ) → Aim
 
 abbrev pub standing_for : Aim → Standing
 standing_for (First client) = standing.Nothing
@@ -149,7 +149,7 @@ turn_on p a later held v aim = next_turn (turn_before p a later held v) (its_lin
 
 -- the channel's state at the member, the next number, all links, and what the controller keeps
 pub record Ending : Type 0 where
-  pub member : OpenState
+  pub member : SecureChannelState
   pub number : ℕ
   pub links : List Route
   pub table : AccountTable
@@ -182,7 +182,7 @@ pub data LogonPhase (p : Coming) : Type 0 where
   -- the reply waits, to each of the three calls: the last was judged at that moment, and left these accounts
   Halved : (a : Asked) (who : WhoAsked p a) (v : TurnAt) (client server : List ℕ) → LogonPhase p
   Proved : (a : Asked) (who : WhoAsked p a) (v : TurnAt) (client server : List ℕ) → LogonPhase p
-  Granted : (a : Asked) (who : WhoAsked p a) (v : TurnAt) (o : OpenState) (c : ChannelState) (timestamp judged_at : ℕ) (accounts : AccountTable) → LogonPhase p
+  Granted : (a : Asked) (who : WhoAsked p a) (v : TurnAt) (o c : SecureChannelState) (timestamp judged_at : ℕ) (accounts : AccountTable) → LogonPhase p
   -- the answer of WhoAmI waits, Echo, and its answer
   Named : (a : Asked) (e : Ending) (on : LoggedOn) (one other : Option SessionState)
       (back : ReplyGoes 2 p.meeting.task.level 2 (written_who_reply (told_of p)) other one) → LogonPhase p
@@ -299,8 +299,8 @@ Fits p (Halved a who v client server) =
     IsTurning p a v × IsBlock 8 server × (lookup same_name p.meeting.caller.computer v.computers.pending ≡ Some (pair_of client server))
 Fits p (Proved a who v client server) =
     IsTurning p a v
-    × ((c : ChannelState) × (lookup same_name p.meeting.caller.computer v.computers.channels ≡ Some c)
-    × IsInStep (first_state p.meeting.caller.secret client server offered_flags) c)
+    × ((c : SecureChannelState) × (lookup same_name p.meeting.caller.computer v.computers.channels ≡ Some c)
+    × IsInStep (fresh_channel p.meeting.caller.secret client server offered_flags) c)
 Fits p (Granted a who v o c timestamp judged_at accounts) =
     IsTurning p a v × (judged_at < 2 ^ 64) × DifferInCounts p.table accounts × KeyArrives (own p) a o
     × (lookup same_name p.meeting.caller.computer v.computers.channels ≡ Some (moved c timestamp)) × IsInStep o c × InRangeTable accounts
@@ -393,7 +393,7 @@ ComesTo p s = IsUnderWay p s ⊎ IsOver p s
 -- member
 pub data Progress : Type 0 where
   NotYet : Progress
-  WasJudged : (a : Asked) (o : OpenState) → Progress
+  WasJudged : (a : Asked) (o : SecureChannelState) → Progress
   WasTold : (a : Asked) → Progress
 
 abbrev pub progress_of : {p : Coming} → LogonPhase p → Progress

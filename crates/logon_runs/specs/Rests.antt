@@ -4,6 +4,7 @@ use Rattle.std.specs.List.{AllByRecursion}
 use Rattle.std.specs.Prelude.{ℕ, ◌≡◌, ◌≢◌, ◌<◌, ◌^◌, ◌⊎◌, ◌++◌, false, List, [], ◌∷◌, length, Some, slice_get}
 use Rattle.wire_base.specs.Maps.{lookup}
 use Rattle.wire_base.specs.Names.{same_name}
+use Rattle.authenticators.specs.SecureChannels.{SecureChannelState}
 use Rattle.account_table.specs.AccountTable.{AccountTable}
 use Rattle.account_table.specs.Changes.{DifferInCounts}
 use Rattle.account_table.specs.LookUps.{account_in, machine_name}
@@ -12,8 +13,6 @@ use Rattle.account_table.specs.declared.account.Account.{Account}
 use Rattle.account_table.specs.declared.account.Kind.TheVariants.{Workstation}
 use Rattle.channel_client.specs.declared.state.Standing.{Standing}
 use Rattle.channel_client.specs.declared.state.Standing.TheVariants as standing
-use Rattle.channel_client.specs.Opened.{OpenState}
-use Rattle.domain_controller.specs.Channels.{ChannelState}
 use Rattle.domain_controller.specs.Whole.{InRangeTable}
 use Rattle.domain_controller.specs.declared.state.Computers.{Computers}
 use Rattle.logon_client.specs.State.{State as ClientState}
@@ -73,11 +72,11 @@ pub record ControllerRests (plan : Plan) (s : State) (at : ℕ) (planned : Accou
 
 -- a channel that a member with its own computer keeps is the one that the controller keeps, step by step; no channel is
 -- half open
-pub record IsInStepAt (s : State) (controller : ℕ) (member : MemberPlan) (o : OpenState) : Type 0 where
+pub record IsInStepAt (s : State) (controller : ℕ) (member : MemberPlan) (o : SecureChannelState) : Type 0 where
   pub table : AccountTable
   pub name : List ℕ
   pub computers : Computers
-  pub channel : ChannelState
+  pub channel : SecureChannelState
   pub rests : slice_get s.ends.controllers controller ≡ Some (controller_at table name computers [])
   pub keeps : lookup same_name member.computer computers.channels ≡ Some channel
   pub in_step : IsInStep o channel

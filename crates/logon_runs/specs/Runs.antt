@@ -3,6 +3,8 @@
 use Rattle.std.specs.Prelude.{ℕ, ◌≡◌, true, ◌≤◌, ◌<◌, ◌^◌, List, [], ◌∷◌, ◌++◌, length, Some, None}
 use Rattle.wire_base.specs.Maps.{lookup, put, take_out}
 use Rattle.wire_base.specs.Names.{same_name}
+use Rattle.channel_keys.specs.Hidden.{crypt_key}
+use Rattle.authenticators.specs.SecureChannels.{SecureChannelState, after_call, after_return, key_of_channel}
 use Rattle.ntlm_messages.specs.declared.messages.Authenticate.{Authenticate}
 use Rattle.rpc_units.specs.Writing.{written}
 use Rattle.logon_stubs.specs.declared.info.NetworkInfo.{NetworkInfo}
@@ -15,10 +17,7 @@ use Rattle.sam_logon.specs.Granted.{sam_info_of}
 use Rattle.sam_logon.specs.MayLogOn.{MayLogOn}
 use Rattle.channel_client.specs.declared.state.Question.TheVariants as question
 use Rattle.channel_client.specs.declared.state.Standing.TheVariants as standing
-use Rattle.channel_client.specs.Hidden.{crypt_key}
 use Rattle.channel_client.specs.Machine.{after}
-use Rattle.channel_client.specs.Opened.{OpenState, after_call, after_return, open_key}
-use Rattle.domain_controller.specs.Channels.{ChannelState}
 use Rattle.domain_controller.specs.declared.state.Computers.{Computers}
 use Rattle.logon_client.specs.Plans.{CanLogOn}
 use Rattle.logon_client.specs.declared.state.Phase.{Phase as ClientPhase}
@@ -65,15 +64,15 @@ abbrev pub sam_for : Meeting → Asked → AccountTable → List ℕ → Account
 sam_for g a table name account now = sam_info_of table name account (base_key g.task (message_for g a)) now
 
 -- the key is hidden under the channel's
-abbrev pub hidden : OpenState → SamInfo → SamInfo
-hidden o sam = record sam { key = crypt_key (open_key o) sam.key }
+abbrev pub hidden : SecureChannelState → SamInfo → SamInfo
+hidden o sam = record sam { key = crypt_key (key_of_channel o) sam.key }
 
 -- who is in then, at the member
-abbrev pub on_for : Meeting → Asked → OpenState → SamInfo → LoggedOn
+abbrev pub on_for : Meeting → Asked → SecureChannelState → SamInfo → LoggedOn
 on_for g a o sam = let_in g.task (sam_shown o (hidden o sam)) (logon_for g.link g.task a.challenge (message_for g a))
 
 -- the member's channel stands and is in step, and the controller grants the logon
-pub record IsToBeGranted (g : Meeting) (a : Asked) (o : OpenState) (c : ChannelState) (table : AccountTable) (name : List ℕ) (account : Account) (computers : Computers) (moment : ℕ) : Type 0 where
+pub record IsToBeGranted (g : Meeting) (a : Asked) (o c : SecureChannelState) (table : AccountTable) (name : List ℕ) (account : Account) (computers : Computers) (moment : ℕ) : Type 0 where
   pub joined : IsJoined g
   pub can : CanLogOn g.task
   pub units : HasUnits g.task
@@ -101,13 +100,13 @@ abbrev pub connects : State → State
 connects s = (connect s).state
 
 -- the controller's channel has moved
-abbrev pub with_moved : Meeting → ChannelState → ℕ → Computers → Computers
+abbrev pub with_moved : Meeting → SecureChannelState → ℕ → Computers → Computers
 with_moved g c timestamp computers = record computers {
   channels = put same_name g.caller.computer (moved c timestamp) (take_out same_name g.caller.computer computers.channels);
 }
 
 -- the member's channel rests again
-abbrev pub rested : Meeting → OpenState → ℕ → Meeting
+abbrev pub rested : Meeting → SecureChannelState → ℕ → Meeting
 rested g o timestamp = record g {
   how = standing.Open (after_return true (after_call o timestamp));
   place = after g.place;
@@ -117,14 +116,14 @@ rested g o timestamp = record g {
 
 -- the member's channel stands, and the controller keeps it in step
 pub record StandsInStep (g : Meeting) (computers : Computers) : Type 0 where
-  pub member : OpenState
+  pub member : SecureChannelState
   pub stands : g.how ≡ standing.Open member
-  pub controller : ChannelState
+  pub controller : SecureChannelState
   pub channel : lookup same_name g.caller.computer computers.channels ≡ Some controller
   pub in_step : IsInStep member controller
 
 pub record TurnsRun : Type 0 where
-  pub granted : (s : State) (g : Meeting) (a : Asked) (o : OpenState) (c : ChannelState) (table : AccountTable) (name : List ℕ) (account : Account) (computers : Computers)
+  pub granted : (s : State) (g : Meeting) (a : Asked) (o c : SecureChannelState) (table : AccountTable) (name : List ℕ) (account : Account) (computers : Computers)
       (waits : ClientPhase) (left : List (List ℕ)) (moment : ℕ) → IsToBeGranted g a o c table name account computers moment →
       end_of_peer g.plan.controller s.ends ≡ Some (Controller g.at_controller) →
       let sam : SamInfo = sam_for g a table name account moment in
@@ -137,5 +136,5 @@ pub record TurnsRun : Type 0 where
       (meeting_scene (with_controller (rested g o (timestamp_of moment)) (cleared table g.task.user) name (with_moved g c (timestamp_of moment) computers)) waits
       (talk_in None (logged_on on back.later)) (unit_down g back.sent ∷ []) left moment)
   -- the channel is ready for the next logon
-  pub stays : (g : Meeting) (o : OpenState) (c : ChannelState) (computers : Computers) (timestamp : ℕ) → IsInStep o c →
+  pub stays : (g : Meeting) (o c : SecureChannelState) (computers : Computers) (timestamp : ℕ) → IsInStep o c →
       StandsInStep (rested g o timestamp) (with_moved g c timestamp computers)

@@ -4,13 +4,13 @@ use Rattle.std.proofs.Common.{◌≡◌, ℕ, Bool, true, List, Option, Some, re
 use Rattle.std.specs.Prelude.{bytes_eq}
 use Rattle.std.proofs.lemmas.Slice.Eq.{bytes_eq-Decides}
 use Rattle.authenticators.specs.Sequences.{return_of}
-use Rattle.channel_client.specs.Opened.{after_call, after_return, open_key}
 use Rattle.channel_client.specs.Machine.{judge_awaited, judge_credential, judge_flags, judge_logon, judge_status, level_asked, server_credential, settle}
 use Rattle.channel_client.specs.declared.state.Standing.TheVariants as standing
 use Rattle.channel_client.specs.declared.state.Step.TheVariants as step
 use Rattle.channel_client.specs.declared.state.Question.TheVariants as question
 use Rattle.channel_client.specs.State.{Requester}
 use Rattle.wire_base.specs.declared.authenticator.Authenticator.{Authenticator}
+use Rattle.authenticators.specs.SecureChannels.{after_call, after_return, key_of_channel}
 use Rattle.logon_steps.specs.Asking.{LogonsAreAsked, asking}
 
 pub same_bytes : (bytes : List ℕ) → bytes_eq bytes bytes ≡ true
@@ -29,11 +29,11 @@ logons_are_asked = record {
       ∙ ap (λ (fit : Bool). settle (judge_flags fit caller.secret client server) s) fits;
   granted = λ caller o info sam place number other timestamp moment authoritative.
       let s : Requester = asking caller (standing.Open (after_call o timestamp)) info place number (Some (record { number = other; place = place; step = step.Reply question.Logon })) in
-      ap (λ (same : Bool). settle (judge_awaited same 0 level_asked (Some sam) (after_call o timestamp)) s) (same_bytes (return_of (open_key o) o.seed timestamp));
+      ap (λ (same : Bool). settle (judge_awaited same 0 level_asked (Some sam) (after_call o timestamp)) s) (same_bytes (return_of (key_of_channel o) o.seed timestamp));
   refused = λ caller o info sam place number other timestamp moment level authoritative status denied zero.
       let s : Requester = asking caller (standing.Open (after_call o timestamp)) info place number (Some (record { number = other; place = place; step = step.Reply question.Logon })) in
-      let returned : Option Authenticator = Some (record { credential = return_of (open_key o) o.seed timestamp; timestamp = moment }) in
+      let returned : Option Authenticator = Some (record { credential = return_of (key_of_channel o) o.seed timestamp; timestamp = moment }) in
       ap (λ (d : Bool). settle (judge_logon d (standing.Open (after_call o timestamp)) returned status level sam) s) denied
-      ∙ ap (λ (same : Bool). settle (judge_awaited same status level sam (after_call o timestamp)) s) (same_bytes (return_of (open_key o) o.seed timestamp))
+      ∙ ap (λ (same : Bool). settle (judge_awaited same status level sam (after_call o timestamp)) s) (same_bytes (return_of (key_of_channel o) o.seed timestamp))
       ∙ ap (λ (z : Bool). settle (judge_status z status level sam (after_return true (after_call o timestamp))) s) zero;
 }

@@ -13,7 +13,9 @@ use Rattle.wire_base.specs.Names.{IsNameByte}
 use Rattle.wire_base.specs.Numbers.{AreBytes}
 use Rattle.wire_base.specs.Units.{AreUnits}
 use Rattle.channel_keys.specs.Credentials.{cred_of}
+use Rattle.channel_keys.specs.Hidden.{crypt_by, crypt_key, is_zero}
 use Rattle.channel_keys.proofs.CredLaws.{IsBlock-cred_of}
+use Rattle.authenticators.specs.SecureChannels.{SecureChannelState, key_of_channel}
 use Rattle.account_table.specs.AccountTable.{AccountTable}
 use Rattle.account_table.specs.declared.account.Account.{Account}
 use Rattle.sam_logon.specs.Granted.{sam_info_of}
@@ -24,9 +26,7 @@ use Rattle.logon_stubs.specs.declared.info.SamInfo.{SamInfo}
 use Rattle.logon_stubs.specs.Ranges.{HasShortTexts, InRangeReply, InRangeSamInfo, IsBlock}
 use Rattle.logon_stubs.specs.Writing.{CanWriteReply, CanWriteSamInfo}
 use Rattle.logon_stubs.proofs.WrittenLaws.{written_reply-few}
-use Rattle.channel_client.specs.Hidden.{crypt_by, crypt_key, is_zero}
 use Rattle.channel_client.specs.Machine.{offered_flags, server_credential}
-use Rattle.channel_client.specs.Opened.{OpenState, open_key}
 use Rattle.channel_client.specs.declared.state.Question.TheVariants as question
 use Rattle.logon_steps.specs.Calling.{CallsCanGo}
 use Rattle.logon_steps.specs.MemberAnswers.{granting}
@@ -75,7 +75,7 @@ hidden_so : (table : AccountTable) (name : List ℕ) (account : Account) (key hi
 unfolding sam_info_of
 hidden_so table name account key hidden now = refl
 
-granting_goes : (o : OpenState) (timestamp : ℕ) (info : SamInfo) → CanWriteSamInfo info → HasShortTexts info → InRangeSamInfo info → IsTurnReply question.Logon (granting o timestamp 0 1 info)
+granting_goes : (o : SecureChannelState) (timestamp : ℕ) (info : SamInfo) → CanWriteSamInfo info → HasShortTexts info → InRangeSamInfo info → IsTurnReply question.Logon (granting o timestamp 0 1 info)
 granting_goes o timestamp info can few is =
     let writes : CanWriteReply (granting o timestamp 0 1 info) = (inr refl, can) in
     let range : InRangeReply (granting o timestamp 0 1 info) = record {
@@ -155,8 +155,8 @@ calls_can_go = record {
       let range : InRangeReply r = record { credential = cred_block _ _; flags = omega arith; status = omega arith } in
       record { opnum = refl; writes = tt; range = range; short = omega (arith, written_reply-few r tt range tt) };
   granted = λ o timestamp table name account key now domain sid server of sixteen below.
-      let hidden : List ℕ = crypt_key (open_key o) key in
-      let block : IsBlock 16 hidden = hidden_block (is_zero key) (open_key o) key sixteen in
+      let hidden : List ℕ = crypt_key (key_of_channel o) key in
+      let block : IsBlock 16 hidden = hidden_block (is_zero key) (key_of_channel o) key sixteen in
       subst (λ (info : SamInfo). IsTurnReply question.Logon (granting o timestamp 0 1 info)) (hidden_so table name account key hidden now)
       (granting_goes o timestamp (sam_info_of table name account hidden now)
       (sam_info-CanWrite table name account hidden now domain server of)

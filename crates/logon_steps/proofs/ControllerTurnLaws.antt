@@ -2,6 +2,7 @@
 -- Of `controllers_step`.
 use Rattle.std.proofs.Common.{◌≡◌, ℕ, ◌<◌, ◌^◌, Bool, List, [], ◌∷◌, Some, None, Ok, refl, ap, ap₂, ◌∙◌, if◌then◌else◌}
 use Rattle.authenticators.specs.Sequences.{return_of}
+use Rattle.authenticators.specs.SecureChannels.{key_of_channel}
 use Rattle.outside.specs.declared.event.Event.TheVariants as event
 use Rattle.outside.specs.Machine.{Stepped, step_by, then_part, whole_step}
 use Rattle.rpc_units.specs.Calls.{bytes_of_call}
@@ -15,8 +16,8 @@ use Rattle.sam_logon.specs.Verdict.{Judgement, judgement_of, table_after, verdic
 use Rattle.end_links.specs.Binding.{bind_of}
 use Rattle.end_links.specs.Links.{LinkState}
 use Rattle.end_links.specs.Serving.{ServedPart, served_cut}
-use Rattle.channel_client.specs.Machine.{auth_call, challenge_call, level_asked, logon_call, netlogon_syntax}
-use Rattle.channel_client.specs.Opened.{open_key}
+use Rattle.logon_stubs.specs.Interface.{netlogon_syntax}
+use Rattle.channel_client.specs.Machine.{auth_call, challenge_call, level_asked, logon_call}
 use Rattle.domain_controller.specs.Hearing.{bound_talk, first_talk}
 use Rattle.domain_controller.specs.Machine.{Desk, by_call, controller_server, judge_info, put_channel, take_channel, with_judgement}
 use Rattle.domain_controller.specs.State.{State}
@@ -97,6 +98,6 @@ controllers_step = record {
       ∙ ap (λ (part : ServedPart Desk Talk). stepped table name computers (turn_link link) left (after_units part [] link []))
       (calls_are_answered.judges caller o c info timestamp line (bound_talk None turn_agreed) name now d left found step)
       ∙ ap (λ (j : Judgement). stepped table name computers (turn_link link) left
-      (after_units (Ok (record { value = (with_judgement j line level_asked (open_key o) (return_of (open_key o) o.seed timestamp) work, Some (bound_talk None turn_agreed)); left = left })) [] link []))
+      (after_units (Ok (record { value = (with_judgement j line level_asked (key_of_channel o) (return_of (key_of_channel o) o.seed timestamp) work, Some (bound_talk None turn_agreed)); left = left })) [] link []))
       (judged_so table name info now);
 }

@@ -5,6 +5,7 @@ use Rattle.std.specs.Prelude.{◌&&◌, ◌||◌, ◌⊎◌, ◌↔◌, IsSomeAn
 use Rattle.std.specs.Option.{option_and_then}
 use Rattle.std.proofs.lemmas.Bool.Decides.{nat_tests}
 use Rattle.ntlm_flags.specs.Flags.{agreed_flags, challenge_flags, has_flag, negotiate_extended_sessionsecurity}
+use Rattle.channel_keys.specs.Hidden.{crypt_key}
 use Rattle.ntlm_messages.specs.declared.messages.Authenticate.{Authenticate}
 use Rattle.ntlm_responses.specs.Keys.{exchange_key_of, exported_key_of}
 use Rattle.ntlm_responses.specs.Verification.{Verifies, base_key_of}
@@ -29,9 +30,8 @@ use Rattle.sam_logon.specs.Rules.{count_after, first_refusal, rules_of, shown_by
 use Rattle.sam_logon.specs.Verdict.{Judgement, is_granted, judged_account, judgement_of, table_after, table_at, table_on, verdict_at, verdict_by, verdict_of, verdict_on}
 use Rattle.sam_logon.proofs.VerdictLaws.{verdict_of-Decides}
 use Rattle.authenticators.specs.Sequences.{return_of}
-use Rattle.channel_client.specs.Hidden.{crypt_key}
+use Rattle.authenticators.specs.SecureChannels.{SecureChannelState, key_of_channel}
 use Rattle.channel_client.specs.Machine.{level_asked}
-use Rattle.channel_client.specs.Opened.{OpenState, open_key}
 use Rattle.logon_client.specs.declared.answering.Answer.{Answer}
 use Rattle.logon_client.specs.declared.answering.ServerOffer.{ServerOffer}
 use Rattle.logon_client.specs.declared.plan.AuthKind.{AuthKind}
@@ -186,9 +186,9 @@ carried_all : (info : SamInfo) → at_level level_asked info ≡ info
 unfolding at_level
 carried_all info = refl
 
-reply_so : (o : OpenState) (timestamp : ℕ) (info : SamInfo) →
-    passed_reply (open_key o) (return_of (open_key o) o.seed timestamp) (Granted info)
-    ≡ granting o timestamp 0 1 (record info { key = crypt_key (open_key o) info.key })
+reply_so : (o : SecureChannelState) (timestamp : ℕ) (info : SamInfo) →
+    passed_reply (key_of_channel o) (return_of (key_of_channel o) o.seed timestamp) (Granted info)
+    ≡ granting o timestamp 0 1 (record info { key = crypt_key (key_of_channel o) info.key })
 unfolding at_level
 reply_so o timestamp info = refl
 

@@ -3,6 +3,7 @@
 use Rattle.std.proofs.Common.{◌≡◌, ℕ, ◌≤◌, ◌+◌, Bool, true, List, [], ◌∷◌, length, Option, Some, None, Result, Ok, refl, ap, ◌∙◌, if◌then◌else◌}
 use Rattle.std.proofs.lemmas.Bool.{le-leb}
 use Rattle.wire_base.specs.Numbers.{AreBytes}
+use Rattle.authenticators.specs.SecureChannels.{after_call, after_return}
 use Rattle.memo_stubs.specs.declared.refused.MemoRefused.{MemoRefused}
 use Rattle.memo_stubs.specs.Memo.{echo_request, echo_request_of, written_echo_reply, written_echo_request, written_who_reply}
 use Rattle.memo_stubs.proofs.MemoLaws.{request_stub, stub_again}
@@ -19,7 +20,6 @@ use Rattle.channel_client.specs.declared.state.Question.TheVariants as question
 use Rattle.channel_client.specs.declared.state.Standing.TheVariants as standing
 use Rattle.channel_client.specs.declared.state.Step.TheVariants as step
 use Rattle.channel_client.specs.Machine.{Taking, after}
-use Rattle.channel_client.specs.Opened.{after_call, after_return}
 use Rattle.channel_client.specs.State.{Requester}
 use Rattle.logon_client.specs.declared.plan.ClientPlan.{ClientPlan}
 use Rattle.member_server.specs.declared.plan.MemberPlan.{MemberPlan}

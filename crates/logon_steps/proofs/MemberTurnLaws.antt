@@ -15,13 +15,14 @@ use Rattle.logon_stubs.specs.declared.info.NetworkInfo.{NetworkInfo}
 use Rattle.end_links.specs.Binding.{bind_of}
 use Rattle.end_links.specs.Links.{LinkState}
 use Rattle.end_links.specs.Serving.{ServedPart, served_cut}
+use Rattle.logon_stubs.specs.Interface.{netlogon_syntax}
 use Rattle.channel_client.specs.declared.caller.Caller.{Caller}
 use Rattle.channel_client.specs.declared.state.Question.{Question}
 use Rattle.channel_client.specs.declared.state.Question.TheVariants as question
 use Rattle.channel_client.specs.declared.state.Standing.{Standing}
 use Rattle.channel_client.specs.declared.state.Standing.TheVariants as standing
 use Rattle.channel_client.specs.declared.state.Step.TheVariants as step
-use Rattle.channel_client.specs.Machine.{Taking, after, judge, netlogon_syntax, question_of, server_credential, settle, take_of}
+use Rattle.channel_client.specs.Machine.{Taking, after, judge, question_of, server_credential, settle, take_of}
 use Rattle.member_server.specs.declared.plan.MemberPlan.{MemberPlan}
 use Rattle.member_server.specs.declared.state.AtTurn.{AtTurn}
 use Rattle.member_server.specs.declared.state.Logon.{Logon}

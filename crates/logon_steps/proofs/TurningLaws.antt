@@ -29,10 +29,11 @@ use Rattle.end_links.specs.Sending.{frames_of, joined_frames, request_of}
 use Rattle.end_links.specs.Serving.{JoinsCall, IsFragmentOf, ServedPart, served_cut}
 use Rattle.end_links.proofs.BindingLaws.{bind_short, bind_writable}
 use Rattle.end_links.proofs.ServingLaws.{units_served}
+use Rattle.logon_stubs.specs.Interface.{netlogon_syntax}
 use Rattle.channel_client.specs.declared.state.Question.{Question}
 use Rattle.channel_client.specs.declared.state.Step.TheVariants as step
 use Rattle.channel_client.specs.declared.answers.Taken.TheVariants as taken
-use Rattle.channel_client.specs.Machine.{act, judge, hear_by, hear_reply, netlogon_syntax, question_of, settle, take_of, wait_for}
+use Rattle.channel_client.specs.Machine.{act, judge, hear_by, hear_reply, question_of, settle, take_of, wait_for}
 use Rattle.channel_client.specs.State.{Requester}
 use Rattle.domain_controller.specs.declared.state.Talk.{Talk}
 use Rattle.domain_controller.specs.declared.hearing.Heard.{Heard}

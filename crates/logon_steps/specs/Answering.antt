@@ -4,6 +4,7 @@ use Rattle.std.specs.Prelude.{ℕ, ◌≡◌, true, List, ◌∷◌, Some, None}
 use Rattle.wire_base.specs.Maps.{lookup}
 use Rattle.wire_base.specs.Names.{same_name}
 use Rattle.authenticators.specs.Sequences.{next_seed, return_of}
+use Rattle.authenticators.specs.SecureChannels.{SecureChannelState, after_call, after_return, fresh_channel, key_of_channel}
 use Rattle.logon_stubs.specs.declared.calls.AuthCall.{AuthCall}
 use Rattle.logon_stubs.specs.declared.calls.Reply.TheVariants as reply
 use Rattle.logon_stubs.specs.declared.info.NetworkInfo.{NetworkInfo}
@@ -11,21 +12,19 @@ use Rattle.account_table.specs.LookUps.{knows_in}
 use Rattle.account_table.specs.declared.account.Account.{Account}
 use Rattle.channel_client.specs.declared.caller.Caller.{Caller}
 use Rattle.channel_client.specs.Machine.{auth_call, challenge_call, level_asked, logon_call, offered_flags, server_credential}
-use Rattle.channel_client.specs.Opened.{OpenState, after_call, after_return, first_state, open_key}
-use Rattle.domain_controller.specs.Channels.{ChannelState, key_of_channel}
 use Rattle.domain_controller.specs.Machine.{Desk, account_for, by_call, channel_for, desk, goes_on, judge_info, put_channel, put_pair, send_reply, take_channel, take_pair, with_judgement}
 use Rattle.domain_controller.specs.declared.line.Line.{Line}
-use Rattle.domain_controller.specs.declared.state.Pending.{Pending}
+use Rattle.domain_controller.specs.declared.state.ChallengePair.{ChallengePair}
 use Rattle.domain_controller.specs.declared.state.Talk.{Talk}
 
 -- ---- both ends of a channel
 
 -- the controller keeps the channel that the computer keeps: the challenges, the key and the seed are one
-pub record IsInStep (o : OpenState) (c : ChannelState) : Type 0 where
-  pub key : key_of_channel c ≡ open_key o
+pub record IsInStep (o c : SecureChannelState) : Type 0 where
+  pub key : key_of_channel c ≡ key_of_channel o
   pub seed : c.seed ≡ o.seed
 
-abbrev pub moved : ChannelState → ℕ → ChannelState
+abbrev pub moved : SecureChannelState → ℕ → SecureChannelState
 moved c timestamp = record c { seed = next_seed c.seed timestamp }
 
 -- the call that opens the channel, in the controller's hands
@@ -35,11 +34,11 @@ auth_value caller client server = record {
   account = caller.account;
   channel = caller.kind;
   computer = caller.computer;
-  credential = (first_state caller.secret client server offered_flags).seed;
+  credential = (fresh_channel caller.secret client server offered_flags).seed;
   flags = offered_flags;
 }
 
-abbrev pub pair_of : List ℕ → List ℕ → Pending
+abbrev pub pair_of : List ℕ → List ℕ → ChallengePair
 pair_of client server = record { client = client; server = server }
 
 -- ---- laws
@@ -60,11 +59,11 @@ pub record CallsAreAnswered : Type 0 where
       (send_reply (put_channel caller.computer (channel_for account (pair_of client server) (auth_value caller client server)) (take_pair caller.computer d.work)) line
       (reply.Authenticate (record { credential = server_credential caller.secret client server; flags = offered_flags; status = 0 })))) talk left
   pub in_step : (caller : Caller) (client server : List ℕ) (account : Account) → account.hash ≡ caller.secret →
-      IsInStep (first_state caller.secret client server offered_flags) (channel_for account (pair_of client server) (auth_value caller client server))
+      IsInStep (fresh_channel caller.secret client server offered_flags) (channel_for account (pair_of client server) (auth_value caller client server))
   -- the authenticator passes where both are in step, and they are so again; the logon is judged
-  pub judges : (caller : Caller) (o : OpenState) (c : ChannelState) (info : NetworkInfo) (timestamp : ℕ) (line : Line) (talk : Talk) (name : List ℕ) (now : ℕ) (d : Desk)
+  pub judges : (caller : Caller) (o c : SecureChannelState) (info : NetworkInfo) (timestamp : ℕ) (line : Line) (talk : Talk) (name : List ℕ) (now : ℕ) (d : Desk)
       (left : List (List ℕ)) → lookup same_name caller.computer d.work.computers.channels ≡ Some c → IsInStep o c →
       by_call (logon_call caller o timestamp info) line talk name now d left
-      ≡ goes_on (with_judgement (judge_info d.table name now info level_asked) line level_asked (open_key o) (return_of (open_key o) o.seed timestamp)
+      ≡ goes_on (with_judgement (judge_info d.table name now info level_asked) line level_asked (key_of_channel o) (return_of (key_of_channel o) o.seed timestamp)
       (put_channel caller.computer (moved c timestamp) (take_channel caller.computer d.work))) talk left
-  pub stays : (o : OpenState) (c : ChannelState) (timestamp : ℕ) → IsInStep o c → IsInStep (after_return true (after_call o timestamp)) (moved c timestamp)
+  pub stays : (o c : SecureChannelState) (timestamp : ℕ) → IsInStep o c → IsInStep (after_return true (after_call o timestamp)) (moved c timestamp)

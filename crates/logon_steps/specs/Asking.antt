@@ -11,10 +11,11 @@ use Rattle.logon_stubs.specs.declared.info.SamInfo.{SamInfo}
 use Rattle.logon_stubs.specs.declared.info.Verdict.TheVariants as verdict
 use Rattle.logon_stubs.specs.declared.calls.Reply.TheVariants as reply
 use Rattle.end_links.specs.Binding.{bind_of}
-use Rattle.channel_client.specs.Hidden.{crypt_key}
-use Rattle.channel_client.specs.Opened.{OpenState, after_call, after_return, first_state, open_key}
+use Rattle.channel_keys.specs.Hidden.{crypt_key}
+use Rattle.authenticators.specs.SecureChannels.{SecureChannelState, after_call, after_return, fresh_channel, key_of_channel}
+use Rattle.logon_stubs.specs.Interface.{netlogon_syntax}
 use Rattle.channel_client.specs.State.{Requester}
-use Rattle.channel_client.specs.Machine.{after, ask_of, auth_call, challenge_call, judge, level_asked, logon_call, netlogon_syntax, offered_flags, server_credential, settle, start_of}
+use Rattle.channel_client.specs.Machine.{after, ask_of, auth_call, challenge_call, judge, level_asked, logon_call, offered_flags, server_credential, settle, start_of}
 use Rattle.channel_client.specs.declared.answers.Taken.TheVariants as taken
 use Rattle.channel_client.specs.declared.caller.Caller.{Caller}
 use Rattle.channel_client.specs.declared.state.Pending.{Pending}
@@ -63,7 +64,7 @@ pub record LogonsAreAsked : Type 0 where
         state = asking caller (standing.Half client server) info place (after number)
             (Some (record { number = number; place = place; step = step.Bind (auth_call caller client server) }));
       }
-  pub asks : (caller : Caller) (o : OpenState) (info : NetworkInfo) (place number timestamp : ℕ) (challenge : List ℕ) →
+  pub asks : (caller : Caller) (o : SecureChannelState) (info : NetworkInfo) (place number timestamp : ℕ) (challenge : List ℕ) →
       start_of (asking caller (standing.Open o) info place number None) timestamp challenge ≡ record {
         answer = Some (tt, written (bind_of netlogon_syntax number) ∷ []);
         state = asking caller (standing.Open (after_call o timestamp)) info place (after number)
@@ -83,11 +84,11 @@ pub record LogonsAreAsked : Type 0 where
         status = 0;
       })) (standing.Half client server) caller.secret)
       (asking caller (standing.Half client server) info place number (Some (record { number = other; place = place; step = step.Reply question.Authenticate })))
-      ≡ record { taken = taken.Opened; state = asking caller (standing.Open (first_state caller.secret client server offered_flags)) info place number None }
+      ≡ record { taken = taken.Opened; state = asking caller (standing.Open (fresh_channel caller.secret client server offered_flags)) info place number None }
   -- the logon is granted, or refused with another status than ACCESS_DENIED
-  pub granted : (caller : Caller) (o : OpenState) (info : NetworkInfo) (sam : SamInfo) (place number other timestamp moment authoritative : ℕ) →
+  pub granted : (caller : Caller) (o : SecureChannelState) (info : NetworkInfo) (sam : SamInfo) (place number other timestamp moment authoritative : ℕ) →
       settle (judge question.Logon (reply.Logon (record {
-        returned = Some (record { credential = return_of (open_key o) o.seed timestamp; timestamp = moment });
+        returned = Some (record { credential = return_of (key_of_channel o) o.seed timestamp; timestamp = moment });
         level = level_asked;
         info = Some sam;
         authoritative = authoritative;
@@ -95,13 +96,13 @@ pub record LogonsAreAsked : Type 0 where
       })) (standing.Open (after_call o timestamp)) caller.secret)
       (asking caller (standing.Open (after_call o timestamp)) info place number (Some (record { number = other; place = place; step = step.Reply question.Logon })))
       ≡ record {
-        taken = taken.Answer place (verdict.Granted (record sam { key = crypt_key (open_key o) sam.key }));
+        taken = taken.Answer place (verdict.Granted (record sam { key = crypt_key (key_of_channel o) sam.key }));
         state = at_rest caller (standing.Open (after_return true (after_call o timestamp))) (after place) number;
       }
-  pub refused : (caller : Caller) (o : OpenState) (info : NetworkInfo) (sam : Option SamInfo) (place number other timestamp moment level authoritative status : ℕ) →
+  pub refused : (caller : Caller) (o : SecureChannelState) (info : NetworkInfo) (sam : Option SamInfo) (place number other timestamp moment level authoritative status : ℕ) →
       (status == access_denied) ≡ false → (status == 0) ≡ false →
       settle (judge question.Logon (reply.Logon (record {
-        returned = Some (record { credential = return_of (open_key o) o.seed timestamp; timestamp = moment });
+        returned = Some (record { credential = return_of (key_of_channel o) o.seed timestamp; timestamp = moment });
         level = level;
         info = sam;
         authoritative = authoritative;

@@ -4,6 +4,7 @@ use Rattle.std.specs.Prelude.{ℕ, ◌≡◌, ◌<◌, ◌^◌, true, List, [], 
 use Rattle.wire_base.specs.Maps.{lookup, put, take_out}
 use Rattle.wire_base.specs.Names.{same_name}
 use Rattle.authenticators.specs.Sequences.{return_of}
+use Rattle.authenticators.specs.SecureChannels.{SecureChannelState, key_of_channel}
 use Rattle.outside.specs.declared.action.Action.TheVariants as action
 use Rattle.outside.specs.declared.action.Judged.TheVariants as judged
 use Rattle.outside.specs.declared.event.Event.TheVariants as event
@@ -19,10 +20,9 @@ use Rattle.account_table.specs.LookUps.{knows_in}
 use Rattle.account_table.specs.declared.account.Account.{Account}
 use Rattle.sam_logon.specs.Verdict.{table_after, verdict_of}
 use Rattle.end_links.specs.Binding.{bind_of}
+use Rattle.logon_stubs.specs.Interface.{netlogon_syntax}
 use Rattle.channel_client.specs.declared.caller.Caller.{Caller}
-use Rattle.channel_client.specs.Machine.{auth_call, challenge_call, level_asked, logon_call, netlogon_syntax, offered_flags, server_credential}
-use Rattle.channel_client.specs.Opened.{OpenState, open_key}
-use Rattle.domain_controller.specs.Channels.{ChannelState}
+use Rattle.channel_client.specs.Machine.{auth_call, challenge_call, level_asked, logon_call, offered_flags, server_credential}
 use Rattle.domain_controller.specs.Hearing.{bound_talk, first_talk}
 use Rattle.domain_controller.specs.Machine.{account_for, channel_for, info_of, status_of}
 use Rattle.domain_controller.specs.State.{State}
@@ -87,14 +87,14 @@ pub record ControllersStep : Type 0 where
         channels = put same_name caller.computer (channel_for account (pair_of client server) (auth_value caller client server)) computers.channels;
       }) (turn_link link))
   -- the logon is judged by the accounts as they stand, and leaves what the judgement does
-  pub judged : (table : AccountTable) (name : List ℕ) (computers : Computers) (link now number timestamp : ℕ) (caller : Caller) (o : OpenState) (c : ChannelState)
+  pub judged : (table : AccountTable) (name : List ℕ) (computers : Computers) (link now number timestamp : ℕ) (caller : Caller) (o c : SecureChannelState)
       (info : NetworkInfo) (left : List (List ℕ)) → number < 2 ^ 32 → IsTurnCall (logon_call caller o timestamp info) →
       lookup same_name caller.computer computers.channels ≡ Some c → IsInStep o c →
       let verdict : Verdict = verdict_of table name info now in
       step_of (controller_at table name computers (turn_link link)) (event.Bytes link (bytes_of_call (turn_request number (logon_call caller o timestamp info)) 5840)) now left
       ≡ whole_step left left
       (action.Judged (judged.Passed (status_of verdict))
-      ∷ action.Send link (reply_bytes number (passed_reply (open_key o) (return_of (open_key o) o.seed timestamp) verdict)) ∷ [])
+      ∷ action.Send link (reply_bytes number (passed_reply (key_of_channel o) (return_of (key_of_channel o) o.seed timestamp) verdict)) ∷ [])
       (controller_at (table_after table info now) name (record computers {
         channels = put same_name caller.computer (moved c timestamp) (take_out same_name caller.computer computers.channels);
       }) (turn_link link))

@@ -1,6 +1,7 @@
 -- What comes of the answer of a client whose hash is the stored one, and who may log on: it is
 -- granted, and both ends have one key (MS-NLMP 3.2.5.1.2, 3.4.5.1).
 use Rattle.std.specs.Prelude.{ℕ, ◌≡◌, ◌⊎◌, ◌↔◌, List, [], ◌∷◌, ◌++◌, length, replicate, Option, Some, None}
+use Rattle.channel_keys.specs.Hidden.{crypt_key}
 use Rattle.account_table.specs.AccountTable.{AccountTable}
 use Rattle.account_table.specs.Changes.{DifferInCounts, with_bad_count}
 use Rattle.account_table.specs.LookUps.{account_in, place_in}
@@ -14,9 +15,8 @@ use Rattle.sam_logon.specs.Granted.{at_level, sam_info_of}
 use Rattle.sam_logon.specs.MayLogOn.{MayLogOn}
 use Rattle.sam_logon.specs.Verdict.{table_after, verdict_of}
 use Rattle.authenticators.specs.Sequences.{return_of}
-use Rattle.channel_client.specs.Hidden.{crypt_key}
+use Rattle.authenticators.specs.SecureChannels.{SecureChannelState, key_of_channel}
 use Rattle.channel_client.specs.Machine.{level_asked}
-use Rattle.channel_client.specs.Opened.{OpenState, open_key}
 use Rattle.domain_controller.specs.Machine.{judge_info}
 use Rattle.logon_client.specs.declared.answering.Answer.{Answer}
 use Rattle.logon_client.specs.declared.plan.AuthKind.{AuthKind}
@@ -92,9 +92,9 @@ pub record LogonsAreGranted : Type 0 where
       ≡ record { verdict = Granted (sam_info_of table name account (base_key task message) now); table = cleared table task.user }
   -- the level that is asked carries all of what is granted, so that the reply grants it with its key hidden
   pub carried : (info : SamInfo) → at_level level_asked info ≡ info
-  pub reply : (o : OpenState) (timestamp : ℕ) (info : SamInfo) →
-      passed_reply (open_key o) (return_of (open_key o) o.seed timestamp) (Granted info)
-      ≡ granting o timestamp 0 1 (record info { key = crypt_key (open_key o) info.key })
+  pub reply : (o : SecureChannelState) (timestamp : ℕ) (info : SamInfo) →
+      passed_reply (key_of_channel o) (return_of (key_of_channel o) o.seed timestamp) (Granted info)
+      ≡ granting o timestamp 0 1 (record info { key = crypt_key (key_of_channel o) info.key })
   -- who has the base key finds the client's key
   pub key : (plan : MemberPlan) (task : ClientPlan) (challenge one two three : List ℕ) (then_now link : ℕ) (sam : SamInfo) → AreDraws one two three →
       let answer : Answer = answer_for plan task challenge then_now (drawn_of one two three) in

@@ -1,6 +1,7 @@
 -- A controller that has an enabled workstation's account of a member's computer (MS-NRPC 3.5.4.4.1,
 -- 3.5.4.4.3), also once it has judged logons, which change counts of bad passwords alone.
 use Rattle.std.specs.Prelude.{ℕ, ◌≡◌, true, false, List, Some}
+use Rattle.authenticators.specs.SecureChannels.{fresh_channel}
 use Rattle.account_table.specs.AccountTable.{AccountTable}
 use Rattle.account_table.specs.Changes.{DifferInCounts, with_count}
 use Rattle.account_table.specs.LookUps.{account_in, knows_in, machine_name}
@@ -9,7 +10,6 @@ use Rattle.account_table.specs.declared.account.Kind.TheVariants.{Workstation}
 use Rattle.logon_stubs.specs.declared.info.NetworkInfo.{NetworkInfo}
 use Rattle.sam_logon.specs.Verdict.{table_after}
 use Rattle.channel_client.specs.Machine.{offered_flags}
-use Rattle.channel_client.specs.Opened.{first_state}
 use Rattle.domain_controller.specs.Machine.{account_for, channel_for}
 use Rattle.member_server.specs.declared.plan.MemberPlan.{MemberPlan}
 use Rattle.member_server.specs.Machine.{caller_of}
@@ -26,7 +26,7 @@ pub record IsKnownLater (table : AccountTable) (plan : MemberPlan) (client serve
   pub count : ℕ
   pub knows : knows_in table.accounts plan.computer ≡ true
   pub machine : account_for table (auth_value (caller_of plan) client server) ≡ Some (with_count count account)
-  pub step : IsInStep (first_state plan.secret client server offered_flags)
+  pub step : IsInStep (fresh_channel plan.secret client server offered_flags)
       (channel_for (with_count count account) (pair_of client server) (auth_value (caller_of plan) client server))
 
 pub record ComputersAreKnown : Type 0 where

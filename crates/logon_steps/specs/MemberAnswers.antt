@@ -4,6 +4,8 @@ use Rattle.std.specs.Prelude.{ℕ, ◌≡◌, ◌+◌, ◌≤◌, ◌<◌, ◌^�
 use Rattle.authenticators.specs.Sequences.{return_of}
 use Rattle.memo_stubs.specs.Memo.{written_echo_reply, written_echo_request, written_who_reply}
 use Rattle.wire_base.specs.Numbers.{AreBytes}
+use Rattle.channel_keys.specs.Hidden.{crypt_key}
+use Rattle.authenticators.specs.SecureChannels.{SecureChannelState, after_call, after_return, key_of_channel}
 use Rattle.ntlm_seal.specs.Sessions.{SessionState}
 use Rattle.outside.specs.declared.action.Action.TheVariants as action
 use Rattle.outside.specs.declared.action.CloseCause.TheVariants as close
@@ -15,14 +17,12 @@ use Rattle.logon_stubs.specs.declared.calls.Reply.{Reply}
 use Rattle.logon_stubs.specs.declared.calls.Reply.TheVariants as reply
 use Rattle.logon_stubs.specs.declared.info.NetworkInfo.{NetworkInfo}
 use Rattle.logon_stubs.specs.declared.info.SamInfo.{SamInfo}
-use Rattle.channel_client.specs.Hidden.{crypt_key}
 use Rattle.channel_client.specs.declared.caller.Caller.{Caller}
 use Rattle.channel_client.specs.declared.state.Question.TheVariants as question
 use Rattle.channel_client.specs.declared.state.Standing.{Standing}
 use Rattle.channel_client.specs.declared.state.Standing.TheVariants as standing
 use Rattle.channel_client.specs.declared.state.Step.TheVariants as step
 use Rattle.channel_client.specs.Machine.{after, level_asked}
-use Rattle.channel_client.specs.Opened.{OpenState, after_call, after_return, open_key}
 use Rattle.logon_client.specs.declared.plan.ClientPlan.{ClientPlan}
 use Rattle.member_server.specs.declared.plan.MemberPlan.{MemberPlan}
 use Rattle.member_server.specs.declared.state.Dialling.TheVariants as dialling
@@ -38,9 +38,9 @@ use Rattle.logon_steps.specs.MemoCalls.{ReplyGoes, RequestGoes, logged_on}
 use Rattle.logon_steps.specs.Turning.{IsTurnReply, turn_response}
 
 -- the reply that grants, with a key that is hidden
-abbrev pub granting : OpenState → ℕ → ℕ → ℕ → SamInfo → Reply
+abbrev pub granting : SecureChannelState → ℕ → ℕ → ℕ → SamInfo → Reply
 granting o timestamp moment authoritative sam = reply.Logon (record {
-  returned = Some (record { credential = return_of (open_key o) o.seed timestamp; timestamp = moment });
+  returned = Some (record { credential = return_of (key_of_channel o) o.seed timestamp; timestamp = moment });
   level = level_asked;
   info = Some sam;
   authoritative = authoritative;
@@ -48,8 +48,8 @@ granting o timestamp moment authoritative sam = reply.Logon (record {
 })
 
 -- what is granted, with the plain key
-abbrev pub sam_shown : OpenState → SamInfo → SamInfo
-sam_shown o sam = record sam { key = crypt_key (open_key o) sam.key }
+abbrev pub sam_shown : SecureChannelState → SamInfo → SamInfo
+sam_shown o sam = record sam { key = crypt_key (key_of_channel o) sam.key }
 
 -- who is let in then
 abbrev pub let_in : ClientPlan → SamInfo → Logon → LoggedOn
@@ -62,7 +62,7 @@ let_in task sam logon = record {
 
 pub record LogonsEnd : Type 0 where
   -- the member tells that he is in, and WhoAmI, which was held, is answered
-  pub granted : (plan : MemberPlan) (caller : Caller) (o : OpenState) (info : NetworkInfo) (sam : SamInfo) (logon : Logon) (task : ClientPlan)
+  pub granted : (plan : MemberPlan) (caller : Caller) (o : SecureChannelState) (info : NetworkInfo) (sam : SamInfo) (logon : Logon) (task : ClientPlan)
       (place next number turn now timestamp moment authoritative most : ℕ) (one : Option SessionState) (left : List (List ℕ)) → number < 2 ^ 32 →
       let shown : SamInfo = sam_shown o sam in
       let on : LoggedOn = let_in task shown logon in

@@ -1,6 +1,7 @@
 -- The one accepted link of a member server, step by step, from its opening to its end (MS-NLMP
 -- 3.2.5.1; C706 12.6.3, 12.6.4).
 use Rattle.std.specs.Prelude.{ℕ, ◌≡◌, ◌≢◌, List, [], ◌∷◌, length, Option, None}
+use Rattle.authenticators.specs.SecureChannels.{SecureChannelState, after_call}
 use Rattle.ntlm_messages.specs.declared.messages.Authenticate.{Authenticate}
 use Rattle.ntlm_seal.specs.Sessions.{SessionState}
 use Rattle.outside.specs.declared.action.Action.TheVariants as action
@@ -15,7 +16,6 @@ use Rattle.channel_client.specs.declared.state.Standing.TheVariants as standing
 use Rattle.channel_client.specs.declared.state.Step.{Step}
 use Rattle.channel_client.specs.declared.state.Step.TheVariants as step
 use Rattle.channel_client.specs.Machine.{after, challenge_call, logon_call}
-use Rattle.channel_client.specs.Opened.{OpenState, after_call}
 use Rattle.logon_client.specs.declared.plan.ClientPlan.{ClientPlan}
 use Rattle.logon_client.specs.Answering.{bind_for}
 use Rattle.logon_client.specs.Plans.{CanLogOn}
@@ -79,7 +79,7 @@ pub record LinksStep : Type 0 where
       (member_at (logons_in_turn plan caller standing.Nothing info place (after number) number (step.Bind (challenge_call caller other))
       ((place, logon_for link task challenge message) ∷ []))
       (one_link link (asked_talk (bound_for task) place [])) (bind_waits number))
-  pub asks_again : (plan peer : MemberPlan) (caller : Caller) (o : OpenState) (place number link now then_now : ℕ) (task : ClientPlan) (challenge one two three : List ℕ)
+  pub asks_again : (plan peer : MemberPlan) (caller : Caller) (o : SecureChannelState) (place number link now then_now : ℕ) (task : ClientPlan) (challenge one two three : List ℕ)
       (left : List (List ℕ)) → CanLogOn task → HasShortNames peer → AreDraws one two three →
       let message : Authenticate = (answer_for peer task challenge then_now (drawn_of one two three)).message in
       let info : NetworkInfo = info_of message (flags_agreed task) challenge in

@@ -4,6 +4,7 @@ use Rattle.std.specs.Prelude.{ℕ, ◌≡◌, ◌<◌, ◌^◌, ◌&&◌, true, 
 use Rattle.wire_base.specs.Maps.{same_number, take_out}
 use Rattle.ntlm_flags.specs.Flags.{has_flag}
 use Rattle.channel_keys.specs.Flags.{rc4_flag}
+use Rattle.authenticators.specs.SecureChannels.{after_call, fresh_channel}
 use Rattle.outside.specs.declared.action.Action.TheVariants as action
 use Rattle.outside.specs.declared.action.CloseCause.TheVariants as close
 use Rattle.outside.specs.declared.event.Event.TheVariants as event
@@ -16,6 +17,7 @@ use Rattle.logon_stubs.specs.declared.calls.Reply.TheVariants as reply
 use Rattle.logon_stubs.specs.declared.info.NetworkInfo.{NetworkInfo}
 use Rattle.end_links.specs.Binding.{bind_of}
 use Rattle.end_links.specs.Links.{LinkState}
+use Rattle.logon_stubs.specs.Interface.{netlogon_syntax}
 use Rattle.channel_client.specs.declared.caller.Caller.{Caller}
 use Rattle.channel_client.specs.declared.state.Question.{Question}
 use Rattle.channel_client.specs.declared.state.Question.TheVariants as question
@@ -23,8 +25,7 @@ use Rattle.channel_client.specs.declared.state.Standing.{Standing}
 use Rattle.channel_client.specs.declared.state.Standing.TheVariants as standing
 use Rattle.channel_client.specs.declared.state.Step.{Step}
 use Rattle.channel_client.specs.declared.state.Step.TheVariants as step
-use Rattle.channel_client.specs.Machine.{Taking, after, auth_call, judge, logon_call, netlogon_syntax, offered_flags, question_of, server_credential, settle}
-use Rattle.channel_client.specs.Opened.{after_call, first_state}
+use Rattle.channel_client.specs.Machine.{Taking, after, auth_call, judge, logon_call, offered_flags, question_of, server_credential, settle}
 use Rattle.member_server.specs.declared.plan.MemberPlan.{MemberPlan}
 use Rattle.member_server.specs.declared.state.Dialling.{Dialling}
 use Rattle.member_server.specs.declared.state.Dialling.TheVariants as dialling
@@ -94,8 +95,8 @@ pub record TurnsStep : Type 0 where
       step_of (member_at (logons_in_turn plan caller (standing.Half client server) info place next number (step.Reply question.Authenticate) asked) links (on_turn link))
       (event.Bytes link (bytes_of_call (turn_response number r) 5840)) now left
       ≡ whole_step left left (action.Close link close.CallDone ∷ action.Dial plan.controller ∷ [])
-      (member_at (logons_in_turn plan caller (standing.Open (after_call (first_state caller.secret client server offered_flags) (timestamp_of now))) info place (after next) next
-      (step.Bind (logon_call caller (first_state caller.secret client server offered_flags) (timestamp_of now) (record info { logon_id = place }))) asked) links (bind_waits next))
+      (member_at (logons_in_turn plan caller (standing.Open (after_call (fresh_channel caller.secret client server offered_flags) (timestamp_of now))) info place (after next) next
+      (step.Bind (logon_call caller (fresh_channel caller.secret client server offered_flags) (timestamp_of now) (record info { logon_id = place }))) asked) links (bind_waits next))
   -- any other reply, by what the channel makes of it
   pub replied : (plan : MemberPlan) (caller : Caller) (how : Standing) (info : NetworkInfo) (place next number link now : ℕ) (q : Question) (r : Reply) (asked : List (ℕ × Logon))
       (links : List (ℕ × LinkState Talk)) (left : List (List ℕ)) → number < 2 ^ 32 → IsTurnReply q r →

@@ -17,11 +17,12 @@ use Rattle.end_links.specs.Agreed.{Agreed}
 use Rattle.end_links.specs.Binding.{bind_of}
 use Rattle.end_links.specs.Sending.{frames_of, joined_frames, request_of, response_of}
 use Rattle.end_links.specs.Serving.{served_cut}
+use Rattle.logon_stubs.specs.Interface.{netlogon_syntax}
 use Rattle.channel_client.specs.declared.answers.Taken.TheVariants as taken
 use Rattle.channel_client.specs.declared.state.Question.{Question}
 use Rattle.channel_client.specs.declared.state.Step.{Step}
 use Rattle.channel_client.specs.declared.state.Step.TheVariants as step
-use Rattle.channel_client.specs.Machine.{judge, netlogon_syntax, opnum_asked, question_of, settle, take_of, wait_for}
+use Rattle.channel_client.specs.Machine.{judge, opnum_asked, question_of, settle, take_of, wait_for}
 use Rattle.channel_client.specs.State.{Requester}
 use Rattle.domain_controller.specs.Hearing.{bound_talk, first_talk, is_served}
 use Rattle.domain_controller.specs.Machine.{Desk, by_call, controller_server, desk, goes_on, tell}

@@ -1,5 +1,6 @@
 pub mod Answers
 pub mod Calls
+pub mod Interface
 pub mod Layout
 pub mod Ranges
 pub mod Refusals

@@ -1,5 +1,4 @@
--- The NTSTATUS values that replies to Netlogon's calls carry (MS-ERREF 2.3.1), and the interface that the calls belong
--- to.
+-- The NTSTATUS values that replies to Netlogon's calls carry (MS-ERREF 2.3.1).
 use Rattle.std.specs.Prelude.{ℕ, List, [], ◌∷◌}
 
 abbrev pub access_denied : ℕ
@@ -59,11 +58,3 @@ statuses = access_denied ∷ invalid_info_class ∷ no_logon_servers ∷ no_such
     ∷ password_expired ∷ account_disabled ∷ no_such_domain ∷ no_trust_sam_account ∷ account_expired
     ∷ nologon_interdomain_trust_account ∷ nologon_workstation_trust_account ∷ nologon_server_trust_account
     ∷ password_must_change ∷ account_locked_out ∷ downgrade_detected ∷ []
-
--- the UUID of the interface, 12345678-1234-ABCD-EF00-01234567CFFB, as its bytes stand in a bind (MS-NRPC 2.1; C706
--- 14.1), and its version
-abbrev pub netlogon_uuid : List ℕ
-netlogon_uuid = 0x78 ∷ 0x56 ∷ 0x34 ∷ 0x12 ∷ 0x34 ∷ 0x12 ∷ 0xCD ∷ 0xAB ∷ 0xEF ∷ 0x00 ∷ 0x01 ∷ 0x23 ∷ 0x45 ∷ 0x67 ∷ 0xCF ∷ 0xFB ∷ []
-
-abbrev pub netlogon_version : ℕ
-netlogon_version = 1

@@ -1,8 +1,10 @@
-//! The NTSTATUS values that replies to Netlogon's calls carry (MS-ERREF 2.3.1), and the interface that the calls belong
-//! to.
+//! The NTSTATUS values that replies to Netlogon's calls carry (MS-ERREF 2.3.1).
 
 ghost use Rattle.std.specs.Prelude.{◌≡◌, ◌∷◌, []};
-ghost use Rattle.logon_stubs.specs.Status.{statuses, netlogon_uuid, netlogon_version};
+ghost use Rattle.logon_stubs.specs.Interface.{netlogon_syntax};
+ghost use Rattle.logon_stubs.specs.Status.{statuses};
+
+use crate::interface::NETLOGON;
 
 /// The caller may not make the call, or its credential or authenticator is wrong.
 pub const STATUS_ACCESS_DENIED: u32 = 0xC000_0022;
@@ -39,15 +41,7 @@ pub const STATUS_ACCOUNT_LOCKED_OUT: u32 = 0xC000_0234;
 /// The other side offers less than it has to.
 pub const STATUS_DOWNGRADE_DETECTED: u32 = 0xC000_0388;
 
-/// The UUID of Netlogon's interface, 12345678-1234-ABCD-EF00-01234567CFFB, as its bytes stand in a bind (MS-NRPC 2.1;
-/// C706 14.1).
-pub const NETLOGON_UUID: [u8; 16] = [
-    0x78, 0x56, 0x34, 0x12, 0x34, 0x12, 0xCD, 0xAB, 0xEF, 0x00, 0x01, 0x23, 0x45, 0x67, 0xCF, 0xFB,
-];
-/// Its version.
-pub const NETLOGON_VERSION: u32 = 1;
-
-/// The constants of this file are the numbers of the standards.
+/// The statuses and the interface are those of the definitions.
 pub fn what_constants_are()
     ensures statuses { (
         STATUS_ACCESS_DENIED ∷
@@ -68,6 +62,5 @@ pub fn what_constants_are()
         STATUS_ACCOUNT_LOCKED_OUT ∷
         STATUS_DOWNGRADE_DETECTED ∷
         []) ≡ statuses }
-    ensures uuid { NETLOGON_UUID ≡ netlogon_uuid }
-    ensures version { NETLOGON_VERSION ≡ netlogon_version }
+    ensures interface { NETLOGON ≡ netlogon_syntax }
 {}

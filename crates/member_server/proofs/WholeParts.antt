@@ -9,6 +9,7 @@ use Rattle.wire_base.specs.declared.units.UnitsRefused.{UnitsRefused}
 use Rattle.wire_base.proofs.NumberLaws.{AreBytes-drop, AreBytes-nil, AreBytes-take}
 use Rattle.wire_base.proofs.UnitLaws.{AreUnits-units_of, whole_units_from-units_of}
 use Rattle.ntlm_flags.specs.Flags.{has_flag, negotiate_unicode}
+use Rattle.authenticators.proofs.BlockLaws.{bytes_from_all}
 use Rattle.ntlm_messages.specs.Authenticate.{IsAuthenticate, authenticate_of}
 use Rattle.ntlm_messages.specs.Fields.{IsField, offset_at}
 use Rattle.ntlm_messages.specs.Text.{units_of_text}
@@ -24,7 +25,6 @@ use Rattle.rpc_units.specs.Reading.{unit_of}
 use Rattle.rpc_units.proofs.GrammarLaws.{IsUnit-unit_of}
 use Rattle.logon_stubs.specs.Ranges.{IsBlock}
 use Rattle.channel_client.specs.Whole.{InRangeLogon}
-use Rattle.channel_client.proofs.WholeLaws.{bytes_from_all}
 use Rattle.member_server.specs.Messages.{info_of}
 
 -- ---- the value of a unit's trailer

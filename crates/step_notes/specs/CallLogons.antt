@@ -6,6 +6,7 @@ use Rattle.wire_base.specs.Maps.{lookup, same_number}
 use Rattle.wire_base.specs.declared.authenticator.Authenticator.{Authenticator}
 use Rattle.authenticators.specs.Channels.{Channel, channel_key}
 use Rattle.authenticators.specs.Sequences.{authenticator_of, next_seed}
+use Rattle.authenticators.specs.SecureChannels.{SecureChannelState, after_call}
 use Rattle.outside.specs.declared.action.Action.{Action}
 use Rattle.outside.specs.declared.action.Action.TheVariants as action
 use Rattle.outside.specs.declared.event.Event.{Event}
@@ -18,7 +19,6 @@ use Rattle.end_links.specs.Sending.{joined_frames}
 use Rattle.end_links.specs.Serving.{ServedUnit}
 use Rattle.channel_client.specs.Effects.{IsCoherent, seed_in, step_in}
 use Rattle.channel_client.specs.Machine.{logon_call}
-use Rattle.channel_client.specs.Opened.{OpenState, after_call}
 use Rattle.channel_client.specs.State.{Requester}
 use Rattle.channel_client.specs.Turns.{is_out}
 use Rattle.channel_client.specs.declared.caller.Caller.{Caller}
@@ -61,7 +61,7 @@ HasSecret secret (standing.Open o) = o.secret ≡ secret
 
 -- the call has the authenticator by which the channel that stands came to its seed
 pub record IsStamped (caller : Caller) (how : Standing) (c : LogonCall) : Type 0 where
-  pub earlier : OpenState
+  pub earlier : SecureChannelState
   pub timestamp : ℕ
   pub stands : how ≡ standing.Open (after_call earlier timestamp)
   pub is : call.Logon c ≡ logon_call caller earlier timestamp c.info

@@ -7,6 +7,7 @@ use Rattle.std.specs.List.{AllByRecursion}
 use Rattle.wire_base.specs.Maps.{lookup}
 use Rattle.wire_base.specs.Names.{same_name}
 use Rattle.authenticators.specs.Channels.{Channel, SameChannel}
+use Rattle.authenticators.specs.SecureChannels.{SecureChannelState, channel_of}
 use Rattle.outside.specs.declared.action.Action.{Action}
 use Rattle.outside.specs.declared.action.Action.TheVariants as action
 use Rattle.outside.specs.declared.event.Event.TheVariants as event
@@ -35,7 +36,6 @@ use Rattle.channel_client.specs.declared.hearing.Hearing.TheVariants as hearing
 use Rattle.channel_client.specs.declared.state.Question.TheVariants as question
 use Rattle.channel_client.specs.declared.state.Standing.TheVariants as standing
 use Rattle.channel_client.specs.declared.state.Step.TheVariants as step
-use Rattle.domain_controller.specs.Channels.{ChannelState}
 use Rattle.domain_controller.specs.Hearing.{hear}
 use Rattle.domain_controller.specs.Machine.{Desk, account_for, by_call, controller_server, send_reply}
 use Rattle.domain_controller.specs.State.{State as ControllerState}
@@ -65,7 +65,7 @@ use Rattle.member_server.specs.declared.state.AtTurn.{AtTurn}
 use Rattle.member_server.specs.declared.state.TurnTalk.{TurnTalk}
 use Rattle.channel_events.specs.Marks.{Calling, Mark, Opening, Plain}
 use Rattle.step_notes.specs.ClientNotes.{ClientAt, made_note, units_of_client}
-use Rattle.step_notes.specs.ControllerNotes.{Where, answer_on, call_answer, channel_with, has_passed, logon_answer, opened_by, opening, passing, units_of_controller}
+use Rattle.step_notes.specs.ControllerNotes.{Where, answer_on, call_answer, has_passed, logon_answer, opened_by, opening, passing, units_of_controller}
 use Rattle.step_notes.specs.Marking.{answered_marks, clashes, sent_channel}
 use Rattle.step_notes.specs.MemberNotes.{TurnNote, half_channel, request_note, taking_note, turn_note}
 use Rattle.step_notes.specs.Records.{Judging, MessageMade, Sent, timestamp_in}
@@ -142,9 +142,9 @@ pub record Expects (d : Desk) (s : Requester) (client server : List ℕ) : Type 
 
 -- it keeps that channel, with whatever seed
 pub record HasChannel (computers : Computers) (channel : Channel) : Type 0 where
-  pub state : ChannelState
+  pub state : SecureChannelState
   pub kept : lookup same_name channel.computer computers.channels ≡ Some state
-  pub is : channel_with channel.controller channel.computer state ≡ channel
+  pub is : channel_of channel.controller channel.computer state ≡ channel
 
 -- the channel that a unit opens, if it does
 abbrev pub opened_call : ℕ → Call → Desk → Option Channel

@@ -8,6 +8,7 @@ use Rattle.ntlm_flags.specs.Flags.{has_flag}
 use Rattle.channel_keys.specs.Credentials.{cred_of}
 use Rattle.channel_keys.specs.Flags.{rc4_flag}
 use Rattle.authenticators.specs.Channels.{Channel}
+use Rattle.authenticators.specs.SecureChannels.{SecureChannelState, channel_of, key_of_channel}
 use Rattle.outside.specs.declared.action.Action.{Action}
 use Rattle.outside.specs.declared.action.Action.TheVariants as action
 use Rattle.outside.specs.declared.action.Judged.{Judged}
@@ -20,7 +21,6 @@ use Rattle.account_table.specs.declared.account.Account.{Account}
 use Rattle.rpc_units.specs.Stream.{cut_stream}
 use Rattle.end_links.specs.Links.{LinkState}
 use Rattle.end_links.specs.Serving.{ServedUnit, served_units}
-use Rattle.domain_controller.specs.Channels.{ChannelState, key_of_channel}
 use Rattle.domain_controller.specs.Hearing.{hear}
 use Rattle.domain_controller.specs.Laws.{is_passed}
 use Rattle.domain_controller.specs.Machine.{Desk, account_for, channel_for, controller_server}
@@ -30,7 +30,7 @@ use Rattle.domain_controller.specs.declared.hearing.Heard.{Heard}
 use Rattle.domain_controller.specs.declared.hearing.Heard.TheVariants as heard
 use Rattle.domain_controller.specs.declared.line.Line.{Line}
 use Rattle.domain_controller.specs.declared.state.Computers.{Computers}
-use Rattle.domain_controller.specs.declared.state.Pending.{Pending}
+use Rattle.domain_controller.specs.declared.state.ChallengePair.{ChallengePair}
 use Rattle.domain_controller.specs.declared.state.Running.{Running}
 use Rattle.domain_controller.specs.declared.state.Talk.{Talk}
 use Rattle.channel_events.specs.Marks.{Mark, Plain, Opened, ReplyTo}
@@ -55,20 +55,9 @@ units_of_controller c number piece now left =
 
 -- ---- channels
 
--- a channel as its controller keeps it, by which controller it is and the name of the computer
-abbrev pub channel_with : ℕ → List ℕ → ChannelState → Channel
-channel_with controller computer c = record {
-  controller = controller;
-  computer = computer;
-  secret = c.secret;
-  client = c.client;
-  server = c.server;
-  flags = c.flags;
-}
-
-abbrev pub channel_by : ℕ → List ℕ → Option ChannelState → Option Channel
+abbrev pub channel_by : ℕ → List ℕ → Option SecureChannelState → Option Channel
 channel_by controller computer None = None
-channel_by controller computer (Some c) = Some (channel_with controller computer c)
+channel_by controller computer (Some c) = Some (channel_of controller computer c)
 
 -- the channel of the computer that a call names
 abbrev pub channel_in : ℕ → Option (List ℕ) → Computers → Option Channel
@@ -76,22 +65,22 @@ channel_in controller None computers = None
 channel_in controller (Some computer) computers = channel_by controller computer (lookup same_name computer computers.channels)
 
 -- the channel that an accepted NetrServerAuthenticate2 opens; the arguments are those of the controller's own cases
-abbrev pub opened_if : Bool → ChannelState → Option ChannelState
+abbrev pub opened_if : Bool → SecureChannelState → Option SecureChannelState
 opened_if false channel = None
 opened_if true channel = Some channel
 
-abbrev pub opened_client : ChannelState → AuthCall → Option ChannelState
+abbrev pub opened_client : SecureChannelState → AuthCall → Option SecureChannelState
 opened_client channel c = opened_if (bytes_eq c.credential (cred_of (key_of_channel channel) channel.client)) channel
 
-abbrev pub opened_pair : Option Pending → Account → AuthCall → Option ChannelState
+abbrev pub opened_pair : Option ChallengePair → Account → AuthCall → Option SecureChannelState
 opened_pair None account c = None
 opened_pair (Some pair) account c = opened_client (channel_for account pair c) c
 
-abbrev pub opened_offer : Bool → Option Pending → Account → AuthCall → Option ChannelState
+abbrev pub opened_offer : Bool → Option ChallengePair → Account → AuthCall → Option SecureChannelState
 opened_offer false pair account c = None
 opened_offer true pair account c = opened_pair pair account c
 
-abbrev pub opened_account : Option Account → Option Pending → AuthCall → Option ChannelState
+abbrev pub opened_account : Option Account → Option ChallengePair → AuthCall → Option SecureChannelState
 opened_account None pair c = None
 opened_account (Some account) pair c = opened_offer (has_flag c.flags rc4_flag) pair account c
 

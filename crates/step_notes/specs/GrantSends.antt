@@ -15,8 +15,8 @@ use Rattle.account_table.specs.declared.account.Account.{Account}
 use Rattle.account_table.specs.LookUps.{account_in}
 use Rattle.sam_logon.specs.Granted.{granting_reply, sam_info_of}
 use Rattle.end_links.specs.Sending.{response_of}
-use Rattle.channel_client.specs.Hidden.{crypt_key}
-use Rattle.domain_controller.specs.Channels.{ChannelState, key_of_channel}
+use Rattle.channel_keys.specs.Hidden.{crypt_key}
+use Rattle.authenticators.specs.SecureChannels.{SecureChannelState, key_of_channel}
 use Rattle.domain_controller.specs.Laws.{IsNext}
 use Rattle.domain_controller.specs.Machine.{Desk, answer_logon}
 use Rattle.domain_controller.specs.declared.line.Line.{Line}
@@ -32,7 +32,7 @@ info_granted j account = sam_info_of j.table j.name account (base_key_asked j j.
 
 -- the reply on a channel whose authenticator passed, at the level that was asked for: that key stands in it under the
 -- session key of the channel
-abbrev pub reply_granted : Judging → Account → ChannelState → Authenticator → Reply
+abbrev pub reply_granted : Judging → Account → SecureChannelState → Authenticator → Reply
 reply_granted j account channel given =
     granting_reply
     (Some (record { credential = return_of (key_of_channel channel) channel.seed given.timestamp; timestamp = 0 }))

@@ -6,6 +6,7 @@ use Rattle.wire_base.specs.Names.{same_name}
 use Rattle.wire_base.specs.declared.authenticator.Authenticator.{Authenticator}
 use Rattle.authenticators.specs.Channels.{Channel}
 use Rattle.authenticators.specs.Sequences.{Passes}
+use Rattle.authenticators.specs.SecureChannels.{SecureChannelState, key_of_channel}
 use Rattle.outside.specs.declared.action.Judged.{Judged}
 use Rattle.outside.specs.declared.action.Judged.TheVariants as judged
 use Rattle.ntlm_responses.specs.Verification.{base_key_of}
@@ -13,7 +14,6 @@ use Rattle.logon_stubs.specs.declared.calls.LogonCall.{LogonCall}
 use Rattle.logon_stubs.specs.declared.info.NetworkInfo.{NetworkInfo}
 use Rattle.account_table.specs.declared.account.Account.{Account}
 use Rattle.account_table.specs.LookUps.{account_in}
-use Rattle.domain_controller.specs.Channels.{ChannelState, key_of_channel}
 use Rattle.domain_controller.specs.Laws.{IsNext}
 use Rattle.domain_controller.specs.declared.state.Computers.{Computers}
 use Rattle.step_notes.specs.ControllerNotes.{channel_in, has_passed}
@@ -44,7 +44,7 @@ base_key_asked j info = base_key_of (stored_hash j info) info.user info.domain i
 pub record IsBarredBy (computers : Computers) (c : LogonCall) : Type 0 where
   pub computer : List ℕ
   pub given : Authenticator
-  pub channel : ChannelState
+  pub channel : SecureChannelState
   pub named : c.computer ≡ Some computer
   pub there : c.authenticator ≡ Some given
   pub stands : lookup same_name computer computers.channels ≡ Some channel

@@ -14,14 +14,14 @@ use Rattle.account_table.specs.LookUps.{knows_in}
 use Rattle.domain_controller.specs.Machine.{Desk, answer_authenticate, answer_challenge, answer_logon, desk}
 use Rattle.domain_controller.specs.declared.line.Line.{Line}
 use Rattle.domain_controller.specs.declared.state.Computers.{Computers}
-use Rattle.domain_controller.specs.declared.state.Pending.{Pending}
+use Rattle.domain_controller.specs.declared.state.ChallengePair.{ChallengePair}
 use Rattle.domain_controller.specs.declared.state.Work.{Work}
 use Rattle.step_notes.specs.ControllerNotes.{channel_by, opened_by}
 
 -- ---- what is kept
 
 -- the server's challenge that waits for a computer, and its channel with the controller of that number
-abbrev pub server_in : Option Pending → Option (List ℕ)
+abbrev pub server_in : Option ChallengePair → Option (List ℕ)
 server_in None = None
 server_in (Some pair) = Some pair.server
 

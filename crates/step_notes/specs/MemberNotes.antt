@@ -14,9 +14,10 @@ use Rattle.ntlm_messages.specs.Challenge.{written_challenge}
 use Rattle.outside.specs.declared.event.Event.TheVariants as event
 use Rattle.logon_stubs.specs.declared.calls.Call.TheVariants as call
 use Rattle.wire_base.specs.declared.authenticator.Authenticator.{Authenticator}
+use Rattle.authenticators.specs.SecureChannels.{channel_of}
 use Rattle.end_links.specs.Links.{LinkState}
 use Rattle.end_links.specs.Serving.{ServedUnit, served_units}
-use Rattle.channel_client.specs.Effects.{channel_of, stands_in, step_in}
+use Rattle.channel_client.specs.Effects.{stands_in, step_in}
 use Rattle.channel_client.specs.Machine.{Taking, offered_flags, place_of, take_of}
 use Rattle.channel_client.specs.State.{Requester}
 use Rattle.channel_client.specs.declared.answers.Taken.{Taken}

@@ -5,6 +5,7 @@ use Rattle.authenticators.specs.Channels.{Channel}
 use Rattle.authenticators.specs.Sequences.{return_of}
 use Rattle.channel_keys.specs.Credentials.{cred_of}
 use Rattle.wire_base.specs.declared.authenticator.Authenticator.{Authenticator}
+use Rattle.authenticators.specs.SecureChannels.{SecureChannelState, key_of_channel}
 use Rattle.outside.specs.declared.action.Action.{Action}
 use Rattle.outside.specs.declared.action.Judged.TheVariants as judged
 use Rattle.outside.specs.declared.event.Event.TheVariants as event
@@ -14,7 +15,6 @@ use Rattle.logon_stubs.specs.declared.calls.Reply.TheVariants as reply
 use Rattle.logon_stubs.specs.declared.info.Verdict.{Verdict}
 use Rattle.logon_stubs.specs.Writing.{written_reply}
 use Rattle.end_links.specs.Sending.{response_of}
-use Rattle.domain_controller.specs.Channels.{ChannelState, key_of_channel}
 use Rattle.domain_controller.specs.Laws.{IsNext}
 use Rattle.domain_controller.specs.Machine.{info_of, judge_info, status_of}
 use Rattle.domain_controller.specs.ReadBack.{opened_reply}
@@ -45,7 +45,7 @@ reply_with key credential level verdict = reply.Logon (record {
 })
 
 -- on a channel whose next authenticator the call has
-abbrev pub reply_passed : Judging → ChannelState → Authenticator → Reply
+abbrev pub reply_passed : Judging → SecureChannelState → Authenticator → Reply
 reply_passed j channel given =
     reply_with (key_of_channel channel) (return_of (key_of_channel channel) channel.seed given.timestamp) j.logon.validation
     (verdict_passed j)

@@ -6,6 +6,7 @@ use Rattle.wire_base.specs.Names.{same_name}
 use Rattle.wire_base.specs.declared.authenticator.Authenticator.{Authenticator}
 use Rattle.ntlm_flags.specs.Flags.{has_flag}
 use Rattle.channel_keys.specs.Flags.{rc4_flag}
+use Rattle.authenticators.specs.SecureChannels.{SecureChannelState}
 use Rattle.outside.specs.declared.action.Action.{Action}
 use Rattle.outside.specs.declared.action.Action.TheVariants as action
 use Rattle.outside.specs.declared.action.CloseCause.{CloseCause}
@@ -27,7 +28,6 @@ use Rattle.account_table.specs.declared.account.Account.{Account}
 use Rattle.account_table.specs.LookUps.{knows_in}
 use Rattle.end_links.specs.Links.{LinkState}
 use Rattle.end_links.specs.Serving.{ServedPart, Service, served_by, served_cut, then_open, then_talk}
-use Rattle.domain_controller.specs.Channels.{ChannelState}
 use Rattle.domain_controller.specs.Hearing.{first_talk, hear}
 use Rattle.domain_controller.specs.Machine.{Desk, account_for, answer_logon, by_call, by_heard, channel_for, controller_server, draw_challenge, judge_account, judge_channel, judge_offer, judge_pair, judge_return, open_channel, put_pair_if, take_pair}
 use Rattle.domain_controller.specs.State.{State as ControllerState}
@@ -35,7 +35,7 @@ use Rattle.domain_controller.specs.Step.{LinkMap, StepPart, after_units, by_even
 use Rattle.domain_controller.specs.declared.hearing.Heard.{Heard}
 use Rattle.domain_controller.specs.declared.hearing.Heard.TheVariants as heard
 use Rattle.domain_controller.specs.declared.line.Line.{Line}
-use Rattle.domain_controller.specs.declared.state.Pending.{Pending}
+use Rattle.domain_controller.specs.declared.state.ChallengePair.{ChallengePair}
 use Rattle.domain_controller.specs.declared.state.Running.{Running}
 use Rattle.domain_controller.specs.declared.state.Talk.{Talk}
 use Rattle.domain_controller.specs.declared.state.Work.{Work}
@@ -75,7 +75,7 @@ as_before actions = omega arith
 sends_one : (actions : List Action) (link : ℕ) (bytes : List ℕ) → told_by (actions ++ action.Send link bytes ∷ []) ≤ told_by actions + 1
 sends_one actions link bytes = sent (told_by actions + 1) actions link bytes (as_before actions)
 
-pair_sent : (knows : Bool) (computer : List ℕ) (pair : Pending) (work : Work) (link : ℕ) (bytes : List ℕ) →
+pair_sent : (knows : Bool) (computer : List ℕ) (pair : ChallengePair) (work : Work) (link : ℕ) (bytes : List ℕ) →
     told_by ((put_pair_if knows computer pair work).actions ++ action.Send link bytes ∷ []) ≤ told_by work.actions + 1
 pair_sent false computer pair work link bytes = sends_one work.actions link bytes
 pair_sent true computer pair work link bytes = sends_one work.actions link bytes
@@ -84,19 +84,19 @@ drawn_few : (left : List (List ℕ)) (line : Line) (c : ChallengeCall) (talk : T
 drawn_few [] line c talk d = tt
 drawn_few (server ∷ left) line c talk d = pair_sent (knows_in d.table.accounts c.computer) c.computer _ d.work _ _
 
-opened_few : (right : Bool) (channel : ChannelState) (line : Line) (c : AuthCall) (work : Work) → told_by (open_channel right channel line c work).actions ≤ told_by work.actions + 1
+opened_few : (right : Bool) (channel : SecureChannelState) (line : Line) (c : AuthCall) (work : Work) → told_by (open_channel right channel line c work).actions ≤ told_by work.actions + 1
 opened_few false channel line c work = sends_one work.actions _ _
 opened_few true channel line c work = sends_one work.actions _ _
 
-pair_few : (pair : Option Pending) (account : Account) (line : Line) (c : AuthCall) (work : Work) → told_by (judge_pair pair account line c work).actions ≤ told_by work.actions + 1
+pair_few : (pair : Option ChallengePair) (account : Account) (line : Line) (c : AuthCall) (work : Work) → told_by (judge_pair pair account line c work).actions ≤ told_by work.actions + 1
 pair_few None account line c work = sends_one work.actions _ _
 pair_few (Some pair) account line c work = opened_few _ (channel_for account pair c) line c work
 
-offer_few : (offers : Bool) (pair : Option Pending) (account : Account) (line : Line) (c : AuthCall) (work : Work) → told_by (judge_offer offers pair account line c work).actions ≤ told_by work.actions + 1
+offer_few : (offers : Bool) (pair : Option ChallengePair) (account : Account) (line : Line) (c : AuthCall) (work : Work) → told_by (judge_offer offers pair account line c work).actions ≤ told_by work.actions + 1
 offer_few false pair account line c work = sends_one work.actions _ _
 offer_few true pair account line c work = pair_few pair account line c work
 
-account_few : (account : Option Account) (pair : Option Pending) (line : Line) (c : AuthCall) (work : Work) → told_by (judge_account account pair line c work).actions ≤ told_by work.actions + 1
+account_few : (account : Option Account) (pair : Option ChallengePair) (line : Line) (c : AuthCall) (work : Work) → told_by (judge_account account pair line c work).actions ≤ told_by work.actions + 1
 account_few None pair line c work = sends_one work.actions _ _
 account_few (Some account) pair line c work = offer_few (has_flag c.flags rc4_flag) pair account line c work
 
@@ -105,7 +105,7 @@ return_few : (credential : Option (List ℕ)) (key name : List ℕ) (now : ℕ) 
 return_few None key name now line info validation d = judged_one d.work.actions judged.Barred _ _
 return_few (Some credential) key name now line info validation d = judged_one d.work.actions _ _ _
 
-channel_few : (channel : Option ChannelState) (computer : List ℕ) (given : Authenticator) (name : List ℕ) (now : ℕ) (line : Line) (info : NetworkInfo) (validation : ℕ) (d : Desk) →
+channel_few : (channel : Option SecureChannelState) (computer : List ℕ) (given : Authenticator) (name : List ℕ) (now : ℕ) (line : Line) (info : NetworkInfo) (validation : ℕ) (d : Desk) →
     told_by (judge_channel channel computer given name now line info validation d).work.actions ≤ told_by d.work.actions + 1
 channel_few None computer given name now line info validation d = judged_one d.work.actions judged.NoChannel _ _
 channel_few (Some channel) computer given name now line info validation d = return_few _ _ name now line info validation _

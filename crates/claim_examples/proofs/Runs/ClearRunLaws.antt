@@ -6,6 +6,7 @@ use Rattle.std.specs.List.{AllByRecursion}
 use Rattle.std.proofs.lemmas.List.{length-append}
 use Rattle.wire_base.specs.Names.{same_name}
 use Rattle.wire_base.proofs.MapLaws.{lookup-put_same}
+use Rattle.authenticators.specs.SecureChannels.{channel_of, SecureChannelState, after_call, key_of_channel}
 use Rattle.outside.specs.declared.action.CloseCause.TheVariants as close
 use Rattle.outside.specs.declared.action.Judged.TheVariants as judged
 use Rattle.rpc_units.specs.Writing.{written}
@@ -16,14 +17,11 @@ use Rattle.logon_stubs.specs.declared.calls.Reply.{Reply}
 use Rattle.logon_stubs.specs.declared.info.SamInfo.{SamInfo}
 use Rattle.memo_stubs.specs.Memo.{written_echo_reply, written_echo_request}
 use Rattle.memo_stubs.proofs.MemoLaws.{reply_stub, request_stub}
-use Rattle.channel_client.specs.Effects.{channel_of}
 use Rattle.channel_client.specs.Machine.{after, challenge_call, offered_flags}
-use Rattle.channel_client.specs.Opened.{OpenState, after_call, open_key}
 use Rattle.channel_client.specs.declared.state.Question.TheVariants as question
 use Rattle.channel_client.specs.declared.state.Standing.{Standing}
 use Rattle.channel_client.specs.declared.state.Standing.TheVariants as standing
 use Rattle.channel_client.specs.declared.state.Step.TheVariants as step
-use Rattle.domain_controller.specs.Channels.{ChannelState}
 use Rattle.domain_controller.specs.declared.state.Computers.{Computers}
 use Rattle.logon_client.specs.Answering.{bind_for}
 use Rattle.logon_client.specs.Machine as steps
@@ -33,7 +31,6 @@ use Rattle.logon_client.specs.declared.state.Phase.TheVariants as client_phase
 use Rattle.member_server.specs.Turns.{timestamp_of}
 use Rattle.channel_events.specs.Marks.{OneOf}
 use Rattle.channel_events.proofs.ListLaws.{all_weaker, one_found, one_weaker, one_with}
-use Rattle.step_notes.specs.ControllerNotes.{channel_with}
 use Rattle.step_notes.specs.Judged.{hash_in}
 use Rattle.step_notes.specs.Records.{Book, Judging, MessageTaken, OutcomeTold, blank}
 use Rattle.world_moves.specs.declared.bag.BagUnit.{BagUnit}
@@ -211,7 +208,7 @@ module _ (plan : Plan) (client member controller : ℕ) (can : CanComeIn plan cl
 
   -- the key of the channel, and the session base key by the accounts as the controller keeps them
   abbrev key : List ℕ
-  key = open_key (opens_as g one other)
+  key = key_of_channel (opens_as g one other)
 
   abbrev base : List ℕ
   base = base_key_of (hash_in (account_in can.table.accounts (info_asked j a).user)) (info_asked j a).user (info_asked j a).domain (info_asked j a).nt
@@ -277,8 +274,8 @@ module _ (plan : Plan) (client member controller : ℕ) (can : CanComeIn plan cl
       let n3 : ℕ = after n2 in
       let n4 : ℕ = after n3 in
       let n5 : ℕ = after n4 in
-      let o : OpenState = opens_as g one other in
-      let c : ChannelState = channel_as j can.machine one other in
+      let o : SecureChannelState = opens_as g one other in
+      let c : SecureChannelState = channel_as j can.machine one other in
       let sam : SamInfo = sam_for j a can.table can.name can.account plan.now in
       let half : Standing = standing.Half one other in
       let how : Standing = standing.Open (after_call o stamp) in
@@ -302,7 +299,7 @@ module _ (plan : Plan) (client member controller : ℕ) (can : CanComeIn plan cl
       let names8 : Names s8 t1 = names_stay s7 s8 t1 (same_turn s7) names7 in
       let found = lookup-put_same same_name j.caller.computer c paired.channels (same_computer j.caller.computer) in
       let in_step = calls_are_answered.in_step j.caller one other can.machine opened.secret in
-      let named : channel_with controller j.caller.computer c ≡ channel_of controller j.caller.computer o =
+      let named : channel_of controller j.caller.computer c ≡ channel_of controller j.caller.computer o =
       ap (λ (secret : List ℕ). record { controller = controller; computer = j.caller.computer; secret = secret; client = one; server = other; flags = offered_flags }) opened.secret in
       let answered = grants_so j a o c can.table can.name can.account now_open t3.link n5 plan.now left (after_below n4) opened.caller opened.info found in_step opened.can opened.units opened.draws opened.found opened.hash opened.may in
       let r : Reply = granting o stamp 0 1 (hidden o sam) in

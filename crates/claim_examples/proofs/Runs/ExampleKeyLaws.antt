@@ -19,12 +19,12 @@ use Rattle.digest_parts.specs.Hmac.{hmac_of, key_block, padded_key, shortened}
 use Rattle.rc4_stream.specs.Rc4.{applied, key_byte, shuffled, state_after}
 use Rattle.channel_keys.specs.Credentials.{cred_of}
 use Rattle.channel_keys.specs.SessionKeys.{strong_key_of}
+use Rattle.authenticators.specs.SecureChannels.{key_of_channel}
 use Rattle.outside.specs.Counter.{challenge_of, maker_key_of}
 use Rattle.ntlm_messages.specs.Pairs.{written_pairs}
 use Rattle.ntlm_responses.specs.Hashes.{key_v2_of}
 use Rattle.ntlm_responses.specs.Responses.{proof_of, response_v2_of, temp_of}
 use Rattle.ntlm_responses.specs.Verification.{base_key_by, base_key_of}
-use Rattle.channel_client.specs.Opened.{open_key}
 use Rattle.logon_client.specs.Answering.{pairs_sent}
 use Rattle.logon_steps.specs.Calling.{TravelsAsZeros}
 use Rattle.logon_steps.specs.Granting.{base_key}
@@ -122,7 +122,7 @@ channel_key_so : strong_key_of file1_plan.secret of_computer of_controller ≡ c
 unfolding strong_key_of
 channel_key_so = ap (λ (challenges : List ℕ). hmac_of file1_plan.secret challenges) both_digest_so ∙ under_secret
 
-open_key_so : open_key (first_channel ann_plan 0 0 0 ann_can) ≡ channel_key
+open_key_so : key_of_channel (first_channel ann_plan 0 0 0 ann_can) ≡ channel_key
 open_key_so =
     ap₂ (λ (client server : List ℕ). strong_key_of file1_plan.secret client server) (drawn_so 4 of_computer fifth_cred) (drawn_so 5 of_controller sixth_cred) ∙ channel_key_so
 
@@ -204,7 +204,7 @@ first_byte : slice_index (applied channel_key 0 (replicate 16 0)) 0 ≡ bit_xor 
 unfolding applied
 first_byte = refl
 
-pub ann_key_arrives : TravelsAsZeros (open_key (first_channel ann_plan 0 0 0 ann_can)) ann_base_key → ⊥
+pub ann_key_arrives : TravelsAsZeros (key_of_channel (first_channel ann_plan 0 0 0 ann_can)) ann_base_key → ⊥
 ann_key_arrives zeros =
     let both : base_bytes ≡ applied channel_key 0 (replicate 16 0) = sym base_key_so ∙ zeros ∙ ap (λ (key : List ℕ). applied key 0 (replicate 16 0)) open_key_so in
     let one : 0x73 ≡ 0x6F = ap (λ (bytes : List ℕ). slice_index bytes 0) both ∙ first_byte ∙ ap (λ (byte : ℕ). bit_xor 0 byte) key_byte_so in

@@ -6,9 +6,8 @@ use Rattle.std.specs.List.{AllByRecursion}
 use Rattle.wire_base.specs.Maps.{lookup}
 use Rattle.wire_base.specs.Names.{same_name}
 use Rattle.rc4_stream.specs.Rc4.{applied}
+use Rattle.authenticators.specs.SecureChannels.{SecureChannelState, key_of_channel}
 use Rattle.end_links.specs.Serving.{ServedUnit}
-use Rattle.channel_client.specs.Opened.{OpenState, open_key}
-use Rattle.domain_controller.specs.Channels.{ChannelState, key_of_channel}
 use Rattle.logon_client.specs.State.{State as ClientState}
 use Rattle.member_server.specs.State.{State as MemberState}
 use Rattle.member_server.specs.declared.state.AtTurn.{AtTurn}
@@ -64,12 +63,12 @@ abbrev pub OnlyTravels : (key base : List ℕ) → List Judging → Type 0
 OnlyTravels key base judged = AllByRecursion (λ (j : Judging). TravelsAsZeros j j.logon.info → KeyTravels key base) judged
 
 -- it is the key of the client's answer under the key of its member's channel, where the controller keeps that channel
-pub travels_so : (j : Judging) (o : OpenState) (state : ChannelState) (computer : List ℕ) → has_passed j.how ≡ true → j.logon.computer ≡ Some computer →
-    lookup same_name computer j.computers.channels ≡ Some state → key_of_channel state ≡ open_key o → TravelsAsZeros j j.logon.info → KeyTravels (open_key o) (base_key_asked j j.logon.info)
+pub travels_so : (j : Judging) (o state : SecureChannelState) (computer : List ℕ) → has_passed j.how ≡ true → j.logon.computer ≡ Some computer →
+    lookup same_name computer j.computers.channels ≡ Some state → key_of_channel state ≡ key_of_channel o → TravelsAsZeros j j.logon.info → KeyTravels (key_of_channel o) (base_key_asked j j.logon.info)
 travels_so j o state computer passed named found same zeros =
     zeros ∙ ap (λ (is : Bool). key_bytes (channel_if is j)) passed
     ∙ ap (λ (name : Option (List ℕ)). key_bytes (channel_in j.controller name j.computers)) named
-    ∙ ap (λ (kept : Option ChannelState). key_bytes (channel_by j.controller computer kept)) found
+    ∙ ap (λ (kept : Option SecureChannelState). key_bytes (channel_by j.controller computer kept)) found
     ∙ ap (λ (key : List ℕ). applied key 0 (replicate 16 0)) same
 
 pub none_travels : (key base : List ℕ) (judged : List Judging) → length judged ≤ 0 → OnlyTravels key base judged

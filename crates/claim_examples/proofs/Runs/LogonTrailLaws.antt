@@ -5,6 +5,7 @@ use Rattle.std.proofs.Common.{◌≡◌, ℕ, ◌<◌, ◌^◌, arith, true, Lis
 use Rattle.wire_base.specs.Maps.{lookup}
 use Rattle.wire_base.specs.Names.{same_name}
 use Rattle.authenticators.specs.Channels.{Channel}
+use Rattle.authenticators.specs.SecureChannels.{channel_of, SecureChannelState, after_call, key_of_channel}
 use Rattle.outside.specs.declared.action.Action.TheVariants as action
 use Rattle.outside.specs.declared.action.Judged.{Judged}
 use Rattle.outside.specs.declared.event.Event.TheVariants as event
@@ -14,23 +15,21 @@ use Rattle.logon_stubs.specs.declared.calls.Call.{Call}
 use Rattle.logon_stubs.specs.declared.calls.Reply.{Reply}
 use Rattle.logon_stubs.specs.declared.info.NetworkInfo.{NetworkInfo}
 use Rattle.logon_stubs.specs.declared.info.SamInfo.{SamInfo}
-use Rattle.channel_client.specs.Effects.{channel_of, stands_in}
+use Rattle.channel_client.specs.Effects.{stands_in}
 use Rattle.channel_client.specs.Machine.{Taking, after, judge, logon_call, settle, wait_for}
-use Rattle.channel_client.specs.Opened.{OpenState, after_call, open_key}
 use Rattle.channel_client.specs.State.{Requester}
 use Rattle.channel_client.specs.declared.state.Question.TheVariants as question
 use Rattle.channel_client.specs.declared.state.Standing.{Standing}
 use Rattle.channel_client.specs.declared.state.Standing.TheVariants as standing
 use Rattle.channel_client.specs.declared.state.Step.TheVariants as step
 use Rattle.channel_events.specs.Marks.{Calling, ReplyTo}
-use Rattle.domain_controller.specs.Channels.{ChannelState}
 use Rattle.domain_controller.specs.Hearing.{bound_talk}
 use Rattle.domain_controller.specs.Machine.{Desk, by_call}
 use Rattle.domain_controller.specs.State.{State as ControllerState}
 use Rattle.domain_controller.specs.Step.{step_of as controller_step_of}
 use Rattle.domain_controller.specs.declared.state.Computers.{Computers}
 use Rattle.step_notes.specs.ChannelNames.{HasChannel, place_answered}
-use Rattle.step_notes.specs.ControllerNotes.{Answered, channel_with, has_passed, judged_in, judging_of, new_actions, passing}
+use Rattle.step_notes.specs.ControllerNotes.{Answered, has_passed, judged_in, judging_of, new_actions, passing}
 use Rattle.step_notes.specs.Marking.{answered_marks}
 use Rattle.step_notes.specs.MemberNotes.{asked_note}
 use Rattle.step_notes.specs.Judged.{hash_in}
@@ -73,14 +72,14 @@ pub record FineSo (s : State) (count : ℕ) (Holds : Book → Type 0) (b : Book)
 abbrev pub key_in_turn : Turn → NetworkInfo → List ℕ
 key_in_turn t info = base_key_of (hash_in (account_in t.table.accounts info.user)) info.user info.domain info.nt
 
-pub logon_trail : (s : State) (t : Turn) (accounts : AccountTable) (next number stamp : ℕ) (o : OpenState) (state : ChannelState) (info : NetworkInfo) (sam : SamInfo) (how_judged : Judged) (computers kept : Computers)
+pub logon_trail : (s : State) (t : Turn) (accounts : AccountTable) (next number stamp : ℕ) (o state : SecureChannelState) (info : NetworkInfo) (sam : SamInfo) (how_judged : Judged) (computers kept : Computers)
     (left : List (List ℕ)) (moment : ℕ) (after_step : ControllerState) (Holds : Book → Type 0) →
     TurnSeen s t (with_accounts accounts t) next number (logon_call t.caller o stamp info) (granting o stamp 0 1 sam) computers kept left left moment → IsBetween t → number < 2 ^ 32 → next < 2 ^ 32 →
     Names s t → t.how ≡ standing.Open (after_call o stamp) → IsTurnCall (logon_call t.caller o stamp info) → IsTurnReply question.Logon (granting o stamp 0 1 sam) →
-    lookup same_name t.caller.computer computers.channels ≡ Some state → IsInStep o state → channel_with t.at_controller t.caller.computer state ≡ channel_of t.at_controller t.caller.computer o →
+    lookup same_name t.caller.computer computers.channels ≡ Some state → IsInStep o state → channel_of t.at_controller t.caller.computer state ≡ channel_of t.at_controller t.caller.computer o →
     controller_step_of (controller_at t.table t.name computers (turn_link t.link)) (event.Bytes t.link (bytes_of_call (turn_request next (logon_call t.caller o stamp info)) 5840)) moment left
     ≡ whole_step left left (action.Judged how_judged ∷ action.Send t.link (reply_bytes next (granting o stamp 0 1 sam)) ∷ []) after_step →
-    ((k : ℕ) (b : Book) → OnlyTravels (open_key o) (key_in_turn t info) b.judged → Holds (note (world_at k (goes (goes (goes (connects s))))) move.Onward b)) →
+    ((k : ℕ) (b : Book) → OnlyTravels (key_of_channel o) (key_in_turn t info) b.judged → Holds (note (world_at k (goes (goes (goes (connects s))))) move.Onward b)) →
     Trail s turn_moves (Fine s 0) (FineSo (turned s) 1 Holds)
 logon_trail s t accounts next number stamp o state info sam how_judged computers kept left moment after_step Holds seen between below below_next names how is_call is_reply found in_step is_named steps holds =
     let c : Call = logon_call t.caller o stamp info in
@@ -103,7 +102,7 @@ logon_trail s t accounts next number stamp o state info sam how_judged computers
     ∙ ap (λ (h : Standing). settle (judge q r h t.caller.secret) (asking t.caller h t.info t.place (after next) (Some (record { number = next; place = t.place; step = step.Reply q })))) how
     ∙ logons_are_asked.granted t.caller o t.info sam t.place (after next) next stamp 0 1 in
     turn_trail s t (with_accounts accounts t) next number c r computers kept left left moment 0 (Calling named asks.next_call stamp) (Some t.place)
-    (λ (b : Book). FineAnd s4 1 (Some named) b × OnlyTravels (open_key o) base b.judged) (FineSo (turned s) 1 Holds) seen between below names
+    (λ (b : Book). FineAnd s4 1 (Some named) b × OnlyTravels (key_of_channel o) base b.judged) (FineSo (turned s) 1 Holds) seen between below names
     (ap (λ (h : Standing). asked_note (Some (step.Reply q)) h t.at_controller asks (wait_for asks t.place (step.Reply q))) how)
     (λ k b f.
     let j : ℕ → Judging = λ unit. judging_of (where_in_turn s3 t next c computers k unit) (turn_line t.link next) _ d then_so in
@@ -116,10 +115,10 @@ logon_trail s t accounts next number stamp o state info sam how_judged computers
       reply_waits s3 t next c computers k 0 1 left moment b (reply_bytes next r) (Some named) f.fine called (ReplyTo named next called.came.number)
           (ap (λ (a : Answered). answered_marks (a ∷ [])) (one called.came.number)) refl
           (judged_bag s3 t (after next) next (step.Reply q) c computers left left moment how_judged (reply_bytes next r) after_step called.came.number between steps seen.call),
-      subst (OnlyTravels (open_key o) base)
+      subst (OnlyTravels (key_of_channel o) base)
           (sym (called.judged ∙ ap (λ (a : Answered). onto (judged_of (a ∷ []) called.numbers) b.judged) (one called.came.number))) (
             travels_so (record (j called.came.number) { reply = first_of called.numbers }) o state t.caller.computer passed refl found in_step.key,
-            none_travels (open_key o) base b.judged f.fine.few,
+            none_travels (key_of_channel o) base b.judged f.fine.few,
           ),
     ))
     (λ k b f. record {

@@ -5,9 +5,7 @@ use Rattle.std.specs.Prelude.{◌==◌, slice_get}
 use Rattle.wire_base.specs.Maps.{take_out}
 use Rattle.wire_base.specs.Names.{same_name}
 use Rattle.wire_base.proofs.MapLaws.{lookup-put_same}
-use Rattle.channel_client.specs.Effects.{channel_of}
-use Rattle.channel_client.specs.Opened.{OpenState, after_call, after_return}
-use Rattle.domain_controller.specs.Channels.{ChannelState}
+use Rattle.authenticators.specs.SecureChannels.{channel_of, SecureChannelState, after_call, after_return}
 use Rattle.member_server.specs.Turns.{timestamp_of}
 use Rattle.member_server.specs.declared.plan.MemberPlan.{MemberPlan}
 use Rattle.member_server.specs.declared.state.Dialling.TheVariants as dialling
@@ -65,10 +63,10 @@ module _ (plan : Plan) (client member controller number : ℕ) (is : IsPlan plan
   abbrev stamp : ℕ
   stamp = timestamp_of plan.now
 
-  abbrev o : OpenState
+  abbrev o : SecureChannelState
   o = after_return true (after_call (opens_as g (draw plan 4) (draw plan 5)) stamp)
 
-  abbrev c : ChannelState
+  abbrev c : SecureChannelState
   c = moved (channel_as (joined g []) can.machine (draw plan 4) (draw plan 5)) stamp
 
   its_controller : controller_of member s ≡ controller

@@ -13,13 +13,14 @@ use Rattle.rpc_units.specs.Writing.{written}
 use Rattle.end_links.specs.Binding.{bind_of}
 use Rattle.logon_stubs.specs.declared.calls.Call.{Call}
 use Rattle.logon_stubs.specs.declared.calls.Reply.{Reply}
-use Rattle.channel_client.specs.Machine.{after, netlogon_syntax, question_of, take_of, wait_for}
+use Rattle.channel_client.specs.Machine.{after, question_of, take_of, wait_for}
 use Rattle.channel_client.specs.State.{Requester}
 use Rattle.channel_client.specs.declared.state.Question.{Question}
 use Rattle.channel_client.specs.declared.state.Standing.{Standing}
 use Rattle.channel_client.specs.declared.state.Step.{Step}
 use Rattle.channel_client.specs.declared.state.Step.TheVariants as step
 use Rattle.authenticators.specs.Channels.{Channel}
+use Rattle.logon_stubs.specs.Interface.{netlogon_syntax}
 use Rattle.channel_events.specs.Marks.{Mark}
 use Rattle.domain_controller.specs.Hearing.{first_talk}
 use Rattle.domain_controller.specs.Machine.{Desk}

@@ -18,7 +18,8 @@ use Rattle.logon_stubs.specs.declared.info.Verdict.{Verdict}
 use Rattle.logon_stubs.specs.declared.info.Verdict.TheVariants.{Granted, Status}
 use Rattle.rc4_stream.specs.Rc4.{applied}
 use Rattle.rc4_stream.proofs.Rc4Laws.{applied-applied}
-use Rattle.channel_client.specs.Hidden.{crypt_by, crypt_key, is_zero}
+use Rattle.channel_keys.specs.Hidden.{crypt_by, crypt_key, is_zero}
+use Rattle.authenticators.specs.SecureChannels.{channel_of}
 use Rattle.ntlm_responses.specs.Verification.{base_key_of}
 use Rattle.account_table.specs.AccountTable.{AccountTable}
 use Rattle.account_table.specs.LookUps.{account_in}
@@ -31,7 +32,7 @@ use Rattle.member_server.specs.Outcomes.{key_in, outcome_of}
 use Rattle.member_server.specs.Turns.{ending_of}
 use Rattle.member_server.specs.declared.state.Logon.{Logon}
 use Rattle.channel_events.specs.Marks.{OneOf, ReplyTo}
-use Rattle.step_notes.specs.ControllerNotes.{channel_by, channel_in, channel_with, has_passed}
+use Rattle.step_notes.specs.ControllerNotes.{channel_by, channel_in, has_passed}
 use Rattle.step_notes.specs.Judged.{IsJudgedRight, base_key_asked, channel_if, hash_in, passed_channel, stored_hash}
 use Rattle.step_notes.specs.Marking.{clashes, is_channel, sent_channel}
 use Rattle.step_notes.specs.Records.{ChallengeSent, Judging, JudgementTold, MessageMade, MessageTaken, OutcomeTold, Sent}
@@ -110,9 +111,9 @@ pub record StandsFor (j : Judging) : Type 0 where
 pub channel_there : (j : Judging) → IsJudgedRight j → has_passed j.how ≡ true → StandsFor j
 channel_there j right passed =
     let next : IsNext j.computers j.logon = right.passed.0 passed in
-    let found : channel_in j.controller j.logon.computer j.computers ≡ Some (channel_with j.controller next.computer next.channel) =
+    let found : channel_in j.controller j.logon.computer j.computers ≡ Some (channel_of j.controller next.computer next.channel) =
     ap (λ (name : Option (List ℕ)). channel_in j.controller name j.computers) next.named ∙ ap (λ (c : _). channel_by j.controller next.computer c) next.stands in
-    record { channel = channel_with j.controller next.computer next.channel; found = found; passed = ap (λ (p : Bool). channel_if p j) passed ∙ found }
+    record { channel = channel_of j.controller next.computer next.channel; found = found; passed = ap (λ (p : Bool). channel_if p j) passed ∙ found }
 
 -- the channel that a unit was made for is the one on which a credential passed in it
 pub record IsMade (made : Option Channel) (channel : Channel) : Type 0 where

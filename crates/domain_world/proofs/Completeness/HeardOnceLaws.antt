@@ -26,7 +26,7 @@ use Rattle.account_table.specs.AccountTable.{AccountTable}
 use Rattle.end_links.specs.Binding.{bind_of}
 use Rattle.end_links.specs.Links.{LinkState}
 use Rattle.end_links.specs.Serving.{IsFragmentOf, ServedPart, Server, ServedUnit, served_units, units_on, units_then}
-use Rattle.channel_client.specs.Machine.{netlogon_syntax}
+use Rattle.logon_stubs.specs.Interface.{netlogon_syntax}
 use Rattle.channel_events.specs.Marks.{Plain}
 use Rattle.domain_controller.specs.Hearing.{bound_talk, first_talk, hear, hear_joined, hear_opnum, hear_read, hear_stub}
 use Rattle.domain_controller.specs.Machine.{Desk, by_call, by_heard, controller_server}

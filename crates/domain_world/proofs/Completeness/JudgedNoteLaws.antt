@@ -11,6 +11,7 @@ use Rattle.outside.specs.Machine.{Stepped}
 use Rattle.rpc_units.specs.Calls.{bytes_of_call}
 use Rattle.ntlm_responses.specs.Verification.{base_key_of}
 use Rattle.authenticators.specs.Sequences.{authenticator_of, return_of}
+use Rattle.authenticators.specs.SecureChannels.{SecureChannelState, key_of_channel}
 use Rattle.end_links.specs.Serving.{ServedPart}
 use Rattle.logon_stubs.specs.declared.calls.Call.{Call}
 use Rattle.logon_stubs.specs.declared.calls.LogonCall.{LogonCall}
@@ -22,8 +23,6 @@ use Rattle.channel_client.specs.declared.state.Question.TheVariants as question
 use Rattle.channel_client.specs.declared.state.Step.TheVariants as step
 use Rattle.channel_client.specs.declared.caller.Caller.{Caller}
 use Rattle.channel_client.specs.Machine.{after, level_asked}
-use Rattle.channel_client.specs.Opened.{OpenState, open_key}
-use Rattle.domain_controller.specs.Channels.{ChannelState}
 use Rattle.domain_controller.specs.Hearing.{bound_talk}
 use Rattle.domain_controller.specs.Machine.{Desk, by_call, put_channel, take_channel, with_judgement}
 use Rattle.domain_controller.specs.declared.line.Line.{Line}
@@ -83,17 +82,17 @@ pub record IsGrant (key base : List ℕ) (j : Judging) : Type 0 where
   pub zeros : KeyTravels key base → TravelsAsZeros j j.logon.info
 
 -- the logon of the call
-abbrev pub logon_value : Caller → OpenState → ℕ → NetworkInfo → LogonCall
+abbrev pub logon_value : Caller → SecureChannelState → ℕ → NetworkInfo → LogonCall
 logon_value caller o timestamp info = record {
   server = None;
   computer = Some caller.computer;
-  authenticator = Some (authenticator_of (open_key o) o.seed timestamp);
+  authenticator = Some (authenticator_of (key_of_channel o) o.seed timestamp);
   returned = Some (record { credential = replicate 8 0; timestamp = 0 });
   info = info;
   validation = level_asked;
 }
 
-module _ (p : LogonComing) (a : Asked) (v : TurnAt) (o : OpenState) (c : ChannelState) (timestamp moment : ℕ) (left : List (List ℕ)) (known : IsKnown p) (user : HasUser p) (is : IsTurning p a v)
+module _ (p : LogonComing) (a : Asked) (v : TurnAt) (o c : SecureChannelState) (timestamp moment : ℕ) (left : List (List ℕ)) (known : IsKnown p) (user : HasUser p) (is : IsTurning p a v)
     (aimed : IsAimed p v (Third o c timestamp)) (may : MayLogOn p.table (info_told p.meeting.task) moment) where
   abbrev info : NetworkInfo
   info = info_asked (own p) a
@@ -111,7 +110,7 @@ module _ (p : LogonComing) (a : Asked) (v : TurnAt) (o : OpenState) (c : Channel
   passed_so =
       ap (λ (part : ServedPart Desk Talk). judged_in (new_actions (work_after part) before))
       (calls_are_answered.judges p.meeting.caller o c info timestamp line (bound_talk None turn_agreed) p.name moment before left aimed.1 aimed.2)
-      ∙ ap (λ (j : Judgement). judged_in (new_actions (Some (with_judgement j line level_asked (open_key o) (return_of (open_key o) o.seed timestamp)
+      ∙ ap (λ (j : Judgement). judged_in (new_actions (Some (with_judgement j line level_asked (key_of_channel o) (return_of (key_of_channel o) o.seed timestamp)
       (put_channel p.meeting.caller.computer (moved c timestamp) (take_channel p.meeting.caller.computer before.work)))) before))
       (logons_are_granted.granted p.meeting.plan p.meeting.task a.challenge a.one a.two a.three a.then_now p.meeting.place moment p.table p.name p.account known.can known.units is.answering.draws
       user.found user.hash may)
@@ -131,13 +130,13 @@ module _ (p : LogonComing) (a : Asked) (v : TurnAt) (o : OpenState) (c : Channel
   abbrev judging_then : Where → Judging
   judging_then w = judging_of w line (logon_value p.meeting.caller o timestamp info) before then_so
 
-  bytes_so : (w : Where) (number : Option ℕ) → key_bytes (passed_channel (record (judging_then w) { reply = number })) ≡ applied (open_key o) 0 (replicate 16 0)
+  bytes_so : (w : Where) (number : Option ℕ) → key_bytes (passed_channel (record (judging_then w) { reply = number })) ≡ applied (key_of_channel o) 0 (replicate 16 0)
   bytes_so w number =
       ap (λ (how : Option Judged). key_bytes (channel_if (has_passed how) (record (judging_then w) { reply = number }))) passed_so
-      ∙ ap (λ (found : Option ChannelState). key_bytes (channel_by w.controller p.meeting.caller.computer found)) aimed.1
+      ∙ ap (λ (found : Option SecureChannelState). key_bytes (channel_by w.controller p.meeting.caller.computer found)) aimed.1
       ∙ ap (λ (key : List ℕ). applied key 0 (replicate 16 0)) aimed.2.key
 
-  pub grant_so : (w : Where) (number : Option ℕ) → IsGrant (open_key o) (base_key p.meeting.task (message_for (own p) a)) (record (judging_then w) { reply = number })
+  pub grant_so : (w : Where) (number : Option ℕ) → IsGrant (key_of_channel o) (base_key p.meeting.task (message_for (own p) a)) (record (judging_then w) { reply = number })
   grant_so w number = record { how = passed_so; zeros = λ zeros. base_so ∙ zeros ∙ sym (bytes_so w number) }
 
   pub judging_so : (w : Where) → (turn_answer p.name moment (length v.links) v.next (call_for p a (Third o c timestamp)) w before left).judging ≡ Some (judging_then w)
@@ -147,9 +146,9 @@ module _ (p : LogonComing) (a : Asked) (v : TurnAt) (o : OpenState) (c : Channel
 
 -- ---- the move at which it is judged
 
-pub grant_noted : (p : LogonComing) (w : World) (b : Book) (a : Asked) (who : WhoAsked p a) (v : TurnAt) (o : OpenState) (c : ChannelState) (timestamp : ℕ) (left : List (List ℕ)) (moment : ℕ) → IsKnown p →
+pub grant_noted : (p : LogonComing) (w : World) (b : Book) (a : Asked) (who : WhoAsked p a) (v : TurnAt) (o c : SecureChannelState) (timestamp : ℕ) (left : List (List ℕ)) (moment : ℕ) → IsKnown p →
     HasUser p → MayLogOnAt p w.state → Fits p (Calls a who v (Third o c timestamp)) → Shows w.state (scene_of p (Calls a who v (Third o c timestamp)) left moment) →
-    OneOf (IsGrant (open_key o) (base_key p.meeting.task (message_for (own p) a))) (note w move.Onward b).judged
+    OneOf (IsGrant (key_of_channel o) (base_key p.meeting.task (message_for (own p) a))) (note w move.Onward b).judged
 grant_noted p w b a who v o c timestamp left moment known user may_log fits shows =
     let s : State = w.state in
     let call : Call = call_for p a (Third o c timestamp) in
@@ -178,8 +177,8 @@ grant_noted p w b a who v o c timestamp left moment known user may_log fits show
     (ap (λ (stepped : Stepped ControllerState). stepped.answer)
     (controllers_step.judged p.table p.name v.computers (length v.links) moment v.next timestamp p.meeting.caller o c (info_asked (own p) a) left fits.0.next_below can fits.1.1 fits.1.2))) in
     let numbers : List ℕ = numbers_on unit.link true s1.bag later.bag in
-    subst (λ (now : Book). OneOf (IsGrant (open_key o) (base_key p.meeting.task (message_for (own p) a))) now.judged)
+    subst (λ (now : Book). OneOf (IsGrant (key_of_channel o) (base_key p.meeting.task (message_for (own p) a))) now.judged)
     (sym (came.noted w.moves b ∙ ap (λ (found : Option ControllerState). note_controller found at by bytes s1 later b) shows.controller))
-    (subst (λ (js : List Judging). OneOf (IsGrant (open_key o) (base_key p.meeting.task (message_for (own p) a))) (onto js b.judged)) (sym (to.judged numbers))
-    (newest (IsGrant (open_key o) (base_key p.meeting.task (message_for (own p) a))) one _ numbers b.judged (judging_so p a v o c timestamp moment left known user fits.0 fits.1 may where_so)
+    (subst (λ (js : List Judging). OneOf (IsGrant (key_of_channel o) (base_key p.meeting.task (message_for (own p) a))) (onto js b.judged)) (sym (to.judged numbers))
+    (newest (IsGrant (key_of_channel o) (base_key p.meeting.task (message_for (own p) a))) one _ numbers b.judged (judging_so p a v o c timestamp moment left known user fits.0 fits.1 may where_so)
     (grant_so p a v o c timestamp moment left known user fits.0 fits.1 may where_so)))

@@ -3,12 +3,11 @@
 -- It serves `logons_succeed`.
 use Rattle.std.proofs.Common.{◌≡◌, ℕ, refl, sym, subst, List, [], ◌∷◌, length, Some, inl}
 use Rattle.std.specs.List.{AllByRecursion}
+use Rattle.authenticators.specs.SecureChannels.{SecureChannelState, key_of_channel}
 use Rattle.outside.specs.declared.action.Action.TheVariants as action
 use Rattle.outside.specs.declared.action.CloseCause.TheVariants as close
 use Rattle.outside.specs.declared.action.Judged.TheVariants as judged
 use Rattle.outside.specs.declared.action.Outcome.TheVariants as outcome
-use Rattle.channel_client.specs.Opened.{OpenState, open_key}
-use Rattle.domain_controller.specs.Channels.{ChannelState}
 use Rattle.account_table.specs.AccountTable.{AccountTable}
 use Rattle.channel_events.specs.Marks.{OneOf}
 use Rattle.channel_events.proofs.ListLaws.{one_found}
@@ -43,12 +42,12 @@ IsTold p a told = (told.link ≡ (own p).link) × (told.member ≡ p.meeting.at_
 -- of a logon that is so far
 abbrev pub IsWritten : Coming → Progress → Book → Type 0
 IsWritten p NotYet b = Unit {0}
-IsWritten p (WasJudged a o) b = OneOf (IsGrant (open_key o) (base_key p.meeting.task (message_for (own p) a))) b.judged
+IsWritten p (WasJudged a o) b = OneOf (IsGrant (key_of_channel o) (base_key p.meeting.task (message_for (own p) a))) b.judged
 IsWritten p (WasTold a) b = OneOf (IsTold p a) b.told
 
 pub written_stays : (p : Coming) (far : Progress) (what : Move) (w : World) (b : Book) → IsPlaced w.state → IsWritten p far b → IsWritten p far (note w what b)
 written_stays p NotYet what w b placed is = tt
-written_stays p (WasJudged a o) what w b placed is = judged_stays (IsGrant (open_key o) (base_key p.meeting.task (message_for (own p) a))) (what ∷ []) w b placed is
+written_stays p (WasJudged a o) what w b placed is = judged_stays (IsGrant (key_of_channel o) (base_key p.meeting.task (message_for (own p) a))) (what ∷ []) w b placed is
 written_stays p (WasTold a) what w b placed is = told_stays (IsTold p a) (what ∷ []) w b placed is
 
 -- no key of a call that was granted travels as zeros
@@ -86,13 +85,13 @@ module _ (p : Coming) (w : World) (b : Book) (known : IsKnown p) (user : HasUser
   call_written a who v (Second client server) left moment fits shows = tt
   call_written a who v (Third o c timestamp) left moment fits shows = grant_noted p w b a who v o c timestamp left moment known user may fits shows
 
-  granted_written : (a : Asked) (who : WhoAsked p a) (v : TurnAt) (o : OpenState) (c : ChannelState) (timestamp judged_at : ℕ) (accounts : AccountTable) (left : List (List ℕ)) (moment : ℕ) →
+  granted_written : (a : Asked) (who : WhoAsked p a) (v : TurnAt) (o c : SecureChannelState) (timestamp judged_at : ℕ) (accounts : AccountTable) (left : List (List ℕ)) (moment : ℕ) →
       Fits p (Granted a who v o c timestamp judged_at accounts) → Shows w.state (scene_of p (Granted a who v o c timestamp judged_at accounts) left moment) →
       IsWritten p (WasJudged a o) b → OneOf (IsTold p a) (note w move.Onward b).told
   granted_written a who v o c timestamp judged_at accounts left moment fits shows is =
       let tells : TellsIn p w.state a v =
       grants_tell.tells p w.state a who v o c timestamp judged_at accounts left moment known fits
-      (safe (open_key o) (base_key p.meeting.task (message_for (own p) a)) (written_stays p (WasJudged a o) move.Onward w b placed is)) shows in
+      (safe (key_of_channel o) (base_key p.meeting.task (message_for (own p) a)) (written_stays p (WasJudged a o) move.Onward w b placed is)) shows in
       told_so p a w b (length v.links) tells.answer tells.rest tells.are
 
   pub onward_written : (phase : LogonPhase p) (left : List (List ℕ)) (moment : ℕ) → Fits p phase → Shows w.state (scene_of p phase left moment) → IsWritten p (progress_of phase) b →
@@ -120,7 +119,7 @@ module _ (p : Coming) (w : World) (b : Book) (known : IsKnown p) (user : HasUser
   call_arrives a who v (First client) left moment fits shows = tt
   call_arrives a who v (Second client server) left moment fits shows = tt
   call_arrives a who v (Third o c timestamp) left moment fits shows = λ signed zeros.
-      safe (open_key o) (base_key p.meeting.task (message_for (own p) a)) (grant_noted p w b a who v o c timestamp left moment known user may fits shows) zeros
+      safe (key_of_channel o) (base_key p.meeting.task (message_for (own p) a)) (grant_noted p w b a who v o c timestamp left moment known user may fits shows) zeros
 
   -- the key of a call that is granted arrives
   pub onward_arrives : (phase : LogonPhase p) (left : List (List ℕ)) (moment : ℕ) → Fits p phase → Shows w.state (scene_of p phase left moment) → ArrivesAt p phase move.Onward

@@ -11,6 +11,7 @@ use Rattle.wire_base.specs.declared.authenticator.Authenticator.{Authenticator}
 use Rattle.ntlm_flags.specs.Flags.{has_flag}
 use Rattle.channel_keys.specs.Credentials.{cred_of}
 use Rattle.channel_keys.specs.Flags.{rc4_flag}
+use Rattle.authenticators.specs.SecureChannels.{SecureChannelState, channel_by as moved_by_call, key_of_channel, passes_on, return_by}
 use Rattle.outside.specs.declared.action.Action.{Action}
 use Rattle.outside.specs.declared.action.Action.TheVariants as action
 use Rattle.outside.specs.declared.action.StepRefused.{StepRefused}
@@ -28,7 +29,6 @@ use Rattle.account_table.specs.LookUps.{knows_in}
 use Rattle.account_table.specs.declared.account.Account.{Account}
 use Rattle.end_links.specs.Links.{LinkState}
 use Rattle.end_links.specs.Serving.{ServedPart, Service, served_by, served_cut, then_open, then_talk, ServedUnit}
-use Rattle.domain_controller.specs.Channels.{ChannelState, channel_by as moved_by_call, key_of_channel, passes_on, return_by}
 use Rattle.domain_controller.specs.Hearing.{hear}
 use Rattle.domain_controller.specs.Machine.{Desk, account_for, answer_logon, by_call, by_heard, channel_for, controller_server, desk, draw_challenge, judge_account, judge_channel, judge_offer, judge_pair, judge_return, open_channel, put_channel, put_pair_if, take_channel, take_pair}
 use Rattle.domain_controller.specs.State.{State as ControllerState}
@@ -36,7 +36,7 @@ use Rattle.domain_controller.specs.Step.{LinkMap, first_desk, halted, serve_on, 
 use Rattle.domain_controller.specs.declared.hearing.Heard.{Heard}
 use Rattle.domain_controller.specs.declared.hearing.Heard.TheVariants as heard
 use Rattle.domain_controller.specs.declared.line.Line.{Line}
-use Rattle.domain_controller.specs.declared.state.Pending.{Pending}
+use Rattle.domain_controller.specs.declared.state.ChallengePair.{ChallengePair}
 use Rattle.domain_controller.specs.declared.state.Running.{Running}
 use Rattle.domain_controller.specs.declared.state.Talk.{Talk}
 use Rattle.domain_controller.specs.declared.state.Work.{Work}
@@ -72,7 +72,7 @@ judged_here : (link : ℕ) (actions : List Action) (how : _) (other : ℕ) (byte
 judged_here link actions how other bytes on here =
     sends_here link (actions ++ action.Judged how ∷ []) other bytes on (all_push (IsHere link) actions (action.Judged how) here tt)
 
-pair_here : (link : ℕ) (knows : Bool) (computer : List ℕ) (pair : Pending) (work : Work) → AllHere link work.actions → AllHere link (put_pair_if knows computer pair work).actions
+pair_here : (link : ℕ) (knows : Bool) (computer : List ℕ) (pair : ChallengePair) (work : Work) → AllHere link work.actions → AllHere link (put_pair_if knows computer pair work).actions
 pair_here link false computer pair work here = here
 pair_here link true computer pair work here = here
 
@@ -90,20 +90,20 @@ draw_here link [] line c talk d on here = tt
 draw_here link (server ∷ left) line c talk d on here =
     sends_here link _ line.link _ on (pair_here link (knows_in d.table.accounts c.computer) c.computer (record { client = c.challenge; server = server }) d.work here)
 
-open_here : (link : ℕ) (right : Bool) (channel : ChannelState) (line : Line) (c : AuthCall) (work : Work) → line.link ≡ link → AllHere link work.actions → AllHere link (open_channel right channel line c work).actions
+open_here : (link : ℕ) (right : Bool) (channel : SecureChannelState) (line : Line) (c : AuthCall) (work : Work) → line.link ≡ link → AllHere link work.actions → AllHere link (open_channel right channel line c work).actions
 open_here link false channel line c work on here = sends_here link work.actions line.link _ on here
 open_here link true channel line c work on here = sends_here link work.actions line.link _ on here
 
-offer_pair_here : (link : ℕ) (pair : Option Pending) (account : Account) (line : Line) (c : AuthCall) (work : Work) → line.link ≡ link → AllHere link work.actions → AllHere link (judge_pair pair account line c work).actions
+offer_pair_here : (link : ℕ) (pair : Option ChallengePair) (account : Account) (line : Line) (c : AuthCall) (work : Work) → line.link ≡ link → AllHere link work.actions → AllHere link (judge_pair pair account line c work).actions
 offer_pair_here link None account line c work on here = sends_here link work.actions line.link _ on here
 offer_pair_here link (Some pair) account line c work on here =
     open_here link (bytes_eq c.credential (cred_of (key_of_channel (channel_for account pair c)) pair.client)) (channel_for account pair c) line c work on here
 
-offer_here : (link : ℕ) (offers : Bool) (pair : Option Pending) (account : Account) (line : Line) (c : AuthCall) (work : Work) → line.link ≡ link → AllHere link work.actions → AllHere link (judge_offer offers pair account line c work).actions
+offer_here : (link : ℕ) (offers : Bool) (pair : Option ChallengePair) (account : Account) (line : Line) (c : AuthCall) (work : Work) → line.link ≡ link → AllHere link work.actions → AllHere link (judge_offer offers pair account line c work).actions
 offer_here link false pair account line c work on here = sends_here link work.actions line.link _ on here
 offer_here link true pair account line c work on here = offer_pair_here link pair account line c work on here
 
-account_here : (link : ℕ) (account : Option Account) (pair : Option Pending) (line : Line) (c : AuthCall) (work : Work) → line.link ≡ link → AllHere link work.actions → AllHere link (judge_account account pair line c work).actions
+account_here : (link : ℕ) (account : Option Account) (pair : Option ChallengePair) (line : Line) (c : AuthCall) (work : Work) → line.link ≡ link → AllHere link work.actions → AllHere link (judge_account account pair line c work).actions
 account_here link None pair line c work on here = sends_here link work.actions line.link _ on here
 account_here link (Some account) pair line c work on here = offer_here link (has_flag c.flags rc4_flag) pair account line c work on here
 
@@ -112,7 +112,7 @@ return_here : (link : ℕ) (credential : Option (List ℕ)) (key name : List ℕ
 return_here link None key name now line info validation d on here = judged_here link d.work.actions _ line.link _ on here
 return_here link (Some credential) key name now line info validation d on here = judged_here link d.work.actions _ line.link _ on here
 
-channel_here : (link : ℕ) (found : Option ChannelState) (computer : List ℕ) (given : Authenticator) (name : List ℕ) (now : ℕ) (line : Line) (info : NetworkInfo) (validation : ℕ) (d : Desk) → line.link ≡ link →
+channel_here : (link : ℕ) (found : Option SecureChannelState) (computer : List ℕ) (given : Authenticator) (name : List ℕ) (now : ℕ) (line : Line) (info : NetworkInfo) (validation : ℕ) (d : Desk) → line.link ≡ link →
     AllHere link d.work.actions → AllHere link (judge_channel found computer given name now line info validation d).work.actions
 channel_here link None computer given name now line info validation d on here = judged_here link d.work.actions _ line.link _ on here
 channel_here link (Some channel) computer given name now line info validation d on here =

@@ -6,9 +6,9 @@ use Rattle.std.specs.List.{AllByRecursion}
 use Rattle.std.proofs.lemmas.List.Elements.{All-weaker, recursion_from_All}
 use Rattle.wire_base.specs.Maps.{lookup, same_number, take_out}
 use Rattle.channel_keys.specs.Des.{IsBlock}
+use Rattle.authenticators.proofs.BlockLaws.{bytes_from_all}
 use Rattle.outside.specs.Counter.{challenges_from, most_draws}
 use Rattle.logon_stubs.specs.Ranges as stubs
-use Rattle.channel_client.proofs.WholeLaws.{bytes_from_all}
 use Rattle.outside.specs.declared.action.StepRefused.{StepRefused}
 use Rattle.outside.specs.declared.event.Event.{Event}
 use Rattle.outside.specs.declared.event.Event.TheVariants as event

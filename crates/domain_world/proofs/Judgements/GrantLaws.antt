@@ -5,6 +5,7 @@ use Rattle.std.specs.List.{AllByRecursion}
 use Rattle.wire_base.specs.Maps.{lookup, same_number}
 use Rattle.wire_base.specs.Names.{same_name}
 use Rattle.wire_base.specs.declared.authenticator.Authenticator.{Authenticator}
+use Rattle.authenticators.specs.SecureChannels.{SecureChannelState, key_of_channel, channel_by, passes_on, return_by}
 use Rattle.outside.specs.Drawing.{Drawing}
 use Rattle.outside.specs.Machine.{step_by, then_part}
 use Rattle.outside.specs.declared.action.Action.{Action}
@@ -21,7 +22,6 @@ use Rattle.account_table.specs.Changes.{DifferInCounts}
 use Rattle.account_table.proofs.ChangeLaws.{differs-again, differs-none}
 use Rattle.end_links.specs.Links.{LinkState}
 use Rattle.end_links.specs.Serving.{ServedPart, ServedUnit, served_units, units_on, units_then}
-use Rattle.domain_controller.specs.Channels.{ChannelState, key_of_channel, channel_by, passes_on, return_by}
 use Rattle.domain_controller.specs.Hearing.{hear}
 use Rattle.domain_controller.proofs.CountLaws.{PartCounts, counts_by_verdict, heard-differs, part-differs}
 use Rattle.domain_controller.specs.Laws.{is_passed}
@@ -77,7 +77,7 @@ module _ (name : List ℕ) (now : ℕ) (line : Line) (info : NetworkInfo) (valid
   return_status None key d = refused_status d.work.actions judged.Barred _ (judge_info d.table name now info validation).verdict refl
   return_status (Some credential) key d = λ passed. told_first d.work.actions (judged.Passed (status_of (judge_info d.table name now info validation).verdict)) _
 
-  channel_status : (found : Option ChannelState) (computer : List ℕ) (given : Authenticator) (d : Desk) →
+  channel_status : (found : Option SecureChannelState) (computer : List ℕ) (given : Authenticator) (d : Desk) →
       HasStatus (told_by d.work.actions (judge_channel found computer given name now line info validation d)) (judge_info d.table name now info validation).verdict
   channel_status None computer given d = refused_status d.work.actions judged.NoChannel _ (judge_info d.table name now info validation).verdict refl
   channel_status (Some channel) computer given d =

@@ -4,10 +4,10 @@ use Rattle.std.proofs.Common.{◌≡◌, ℕ, ◌+◌, Bool, true, false, List, 
 use Rattle.wire_base.specs.Maps.{lookup}
 use Rattle.wire_base.specs.Names.{same_name}
 use Rattle.authenticators.specs.Channels.{Channel, SameChannel, same_channel}
+use Rattle.authenticators.specs.SecureChannels.{SecureChannelState, channel_of}
 use Rattle.channel_events.proofs.SameLaws.{fails_so, found_same, one_channel}
-use Rattle.domain_controller.specs.Channels.{ChannelState}
 use Rattle.domain_controller.specs.declared.state.Computers.{Computers}
-use Rattle.step_notes.specs.ControllerNotes.{channel_by, channel_in, channel_with, has_passed}
+use Rattle.step_notes.specs.ControllerNotes.{channel_by, channel_in, has_passed}
 use Rattle.step_notes.specs.Judged.{channel_if, passed_channel}
 use Rattle.step_notes.specs.Marking.{is_channel}
 use Rattle.step_notes.specs.Records.{Judging}
@@ -50,12 +50,12 @@ moved_past channel j judgings none =
 -- it is that of the computer that the call names, as the controller keeps it
 pub record IsFound (controller : ℕ) (computer : Option (List ℕ)) (computers : Computers) (channel : Channel) : Type 0 where
   pub name : List ℕ
-  pub state : ChannelState
+  pub state : SecureChannelState
   pub named : computer ≡ Some name
   pub stands : lookup same_name name computers.channels ≡ Some state
-  pub is : channel_with controller name state ≡ channel
+  pub is : channel_of controller name state ≡ channel
 
-found_by : (found : Option ChannelState) (controller : ℕ) (name : List ℕ) (computers : Computers) (channel : Channel) → lookup same_name name computers.channels ≡ found →
+found_by : (found : Option SecureChannelState) (controller : ℕ) (name : List ℕ) (computers : Computers) (channel : Channel) → lookup same_name name computers.channels ≡ found →
     channel_by controller name found ≡ Some channel → IsFound controller (Some name) computers channel
 found_by None controller name computers channel stands is = absurd cc
 found_by (Some state) controller name computers channel stands is = record { name = name; state = state; named = refl; stands = stands; is = cc }

@@ -10,6 +10,7 @@ use Rattle.channel_keys.specs.Des.{IsBlock}
 use Rattle.channel_keys.proofs.CredLaws.{IsBlock-cred_of}
 use Rattle.authenticators.specs.Channels.{Channel, SameChannel, channel_key}
 use Rattle.authenticators.specs.Sequences.{Passes, add_to, moved_by, seed_after}
+use Rattle.authenticators.specs.SecureChannels.{SecureChannelState, key_of_channel, channel_of}
 use Rattle.authenticators.proofs.ChannelLaws.{channel_key-same}
 use Rattle.authenticators.proofs.ReplayLaws.{replay}
 use Rattle.authenticators.proofs.SeedLaws.{IsBlock-add_to, add_to-add_to, seed_after-moved_by}
@@ -19,13 +20,12 @@ use Rattle.outside.specs.declared.event.Event.{Event}
 use Rattle.outside.specs.declared.event.Event.TheVariants as event
 use Rattle.outside.proofs.CounterLaws.{challenges_from-distinct}
 use Rattle.account_table.specs.AccountTable.{AccountTable}
-use Rattle.domain_controller.specs.Channels.{ChannelState, key_of_channel}
 use Rattle.domain_controller.specs.Laws.{IsNext}
 use Rattle.domain_controller.specs.State.{State as ControllerState}
 use Rattle.domain_controller.specs.Step.{first_state}
 use Rattle.logon_client.specs.State.{State as ClientState}
 use Rattle.member_server.specs.State.{State as MemberState}
-use Rattle.step_notes.specs.ControllerNotes.{channel_in, channel_with, has_passed}
+use Rattle.step_notes.specs.ControllerNotes.{channel_in, has_passed}
 use Rattle.step_notes.specs.Judged.{channel_if}
 use Rattle.step_notes.specs.Marking.{is_channel}
 use Rattle.step_notes.specs.MemberNotes.{turn_units}
@@ -186,10 +186,10 @@ later_right (one ∷ later) j earlier right = later_right later j earlier right.
 -- the call is checked on the channel
 pub record IsOn (j : Judging) (channel : Channel) : Type 0 where
   pub name : List ℕ
-  pub state : ChannelState
+  pub state : SecureChannelState
   pub named : j.logon.computer ≡ Some name
   pub stands : lookup same_name name j.computers.channels ≡ Some state
-  pub same : SameChannel (channel_with j.controller name state) channel
+  pub same : SameChannel (channel_of j.controller name state) channel
 
 on_by : (found : Option Channel) (j : Judging) (channel : Channel) → channel_in j.controller j.logon.computer j.computers ≡ found → is_channel found channel ≡ true → IsOn j channel
 on_by None j channel is same = absurd cc
@@ -212,14 +212,14 @@ some_is one other is = cc
 
 module _ (j : Judging) (channel : Channel) (on : IsOn j channel) where
   key_is : key_of_channel on.state ≡ channel_key channel
-  key_is = channel_key-same (channel_with j.controller on.name on.state) channel on.same
+  key_is = channel_key-same (channel_of j.controller on.name on.state) channel on.same
 
   -- the seed that the call met
   seed_is : (older : List Judging) → AreMoved (j ∷ older) → on.state.seed ≡ add_to (cred_of (channel_key channel) channel.client) (moved_on channel older)
   seed_is older moved =
       (subst (λ (o : Option (List ℕ)). IsMovedIn older j.controller o j.computers) on.named moved.0) on.state on.stands
-      ∙ ap₂ (λ (key client : List ℕ). add_to (cred_of key client) (moved_on (channel_with j.controller on.name on.state) older)) key_is on.same.client
-      ∙ ap (λ (n : ℕ). add_to (cred_of (channel_key channel) channel.client) n) (moved_same (channel_with j.controller on.name on.state) channel on.same older)
+      ∙ ap₂ (λ (key client : List ℕ). add_to (cred_of key client) (moved_on (channel_of j.controller on.name on.state) older)) key_is on.same.client
+      ∙ ap (λ (n : ℕ). add_to (cred_of (channel_key channel) channel.client) n) (moved_same (channel_of j.controller on.name on.state) channel on.same older)
 
   -- its authenticator passes there where it is the next one
   next_passes : (seed : List ℕ) (given : Authenticator) → on.state.seed ≡ seed → j.logon.authenticator ≡ Some given → IsNext j.computers j.logon → Passes (channel_key channel) seed given
@@ -230,7 +230,7 @@ module _ (j : Judging) (channel : Channel) (on : IsOn j channel) where
       let own : next.given ≡ given = some_is next.given given (sym next.there ∙ there) in
       subst (λ (s : List ℕ). Passes (channel_key channel) s given) is
       (subst (λ (key : List ℕ). Passes key on.state.seed given) key_is
-      (subst (λ (c : ChannelState). Passes (key_of_channel c) c.seed given) state
+      (subst (λ (c : SecureChannelState). Passes (key_of_channel c) c.seed given) state
       (subst (λ (g : Authenticator). Passes (key_of_channel next.channel) next.channel.seed g) own next.passes)))
 
   passes_next : (seed : List ℕ) (given : Authenticator) → on.state.seed ≡ seed → j.logon.authenticator ≡ Some given → Passes (channel_key channel) seed given → IsNext j.computers j.logon

@@ -4,7 +4,6 @@
 use Rattle.std.proofs.Common.{◌≡◌, ◌≢◌, ℕ, ◌+◌, Bool, true, false, List, [], ◌∷◌, length, drop, Option, Some, None, refl, sym, ap, subst, ◌∙◌, inl, inr, arith, bytes_eq}
 use Rattle.std.specs.List.{AllByRecursion}
 use Rattle.std.proofs.lemmas.Bool.{cases_Bool}
-use Rattle.std.proofs.lemmas.Slice.Eq.{bytes_eq-Decides}
 use Rattle.wire_base.specs.declared.authenticator.Authenticator.{Authenticator}
 use Rattle.wire_base.specs.Maps.{IsMap, lookup, put, take_out}
 use Rattle.wire_base.specs.Names.{SameName, same_name}
@@ -16,6 +15,7 @@ use Rattle.channel_keys.specs.Flags.{rc4_flag}
 use Rattle.channel_keys.proofs.CredLaws.{IsBlock-cred_of}
 use Rattle.authenticators.specs.Channels.{Channel}
 use Rattle.authenticators.specs.Sequences.{add_to}
+use Rattle.authenticators.specs.SecureChannels.{SecureChannelState, channel_by, key_of_channel, passes_on, return_by, channel_of}
 use Rattle.authenticators.proofs.SeedLaws.{add_to-add_to, add_to-zero}
 use Rattle.outside.specs.declared.action.Judged.{Judged}
 use Rattle.outside.specs.declared.action.Judged.TheVariants as judged
@@ -24,14 +24,13 @@ use Rattle.logon_stubs.specs.declared.calls.LogonCall.{LogonCall}
 use Rattle.logon_stubs.specs.declared.info.NetworkInfo.{NetworkInfo}
 use Rattle.account_table.specs.declared.account.Account.{Account}
 use Rattle.channel_events.proofs.SameLaws.{itself}
-use Rattle.domain_controller.specs.Channels.{ChannelState, channel_by, key_of_channel, passes_on, return_by}
 use Rattle.domain_controller.specs.Laws.{KeepsComputer}
 use Rattle.domain_controller.specs.Machine.{Desk, answer_logon, channel_for, desk, judge_account, judge_channel, judge_offer, judge_pair, judge_return, open_channel, put_channel, put_pair_if, take_channel, take_pair}
 use Rattle.domain_controller.specs.declared.line.Line.{Line}
 use Rattle.domain_controller.specs.declared.state.Computers.{Computers}
-use Rattle.domain_controller.specs.declared.state.Pending.{Pending}
+use Rattle.domain_controller.specs.declared.state.ChallengePair.{ChallengePair}
 use Rattle.domain_controller.specs.declared.state.Work.{Work}
-use Rattle.step_notes.specs.ControllerNotes.{Where, channel_in, channel_with, has_passed, judged_in}
+use Rattle.step_notes.specs.ControllerNotes.{Where, channel_in, has_passed, judged_in}
 use Rattle.step_notes.specs.ControllerNotes as notes
 use Rattle.step_notes.specs.Judged.{channel_if, passed_channel}
 use Rattle.step_notes.specs.Marking.{is_channel}
@@ -44,33 +43,33 @@ use Rattle.domain_world.proofs.Judgements.MovedLaws.{moved_past, moved_same, not
 -- ---- what is known
 
 -- the seed at which a channel opens
-abbrev pub first_seed : ChannelState → List ℕ
+abbrev pub first_seed : SecureChannelState → List ℕ
 first_seed c = cred_of (key_of_channel c) c.client
 
 -- the seed is that one, moved by what passed on the channel of that controller and computer
-abbrev pub IsMoved : List Judging → ℕ → List ℕ → ChannelState → Type 0
-IsMoved judgings controller name c = c.seed ≡ add_to (first_seed c) (moved_on (channel_with controller name c) judgings)
+abbrev pub IsMoved : List Judging → ℕ → List ℕ → SecureChannelState → Type 0
+IsMoved judgings controller name c = c.seed ≡ add_to (first_seed c) (moved_on (channel_of controller name c) judgings)
 
 -- the challenge is none of those that are left
 abbrev pub IsSpent : List ℕ → List (List ℕ) → Type 0
 IsSpent challenge left = AllByRecursion (λ (one : List ℕ). one ≢ challenge) left
 
 -- a channel of the controller and the computer
-abbrev pub channel_of : ℕ → List ℕ → List ℕ → List ℕ → List ℕ → ℕ → Channel
-channel_of controller name secret client server flags =
+abbrev pub channel_from : ℕ → List ℕ → List ℕ → List ℕ → List ℕ → ℕ → Channel
+channel_from controller name secret client server flags =
     record { controller = controller; computer = name; secret = secret; client = client; server = server; flags = flags }
 
 -- nothing passed on a channel of the controller and the computer with that server challenge
 abbrev pub IsUnheard : List Judging → ℕ → List ℕ → List ℕ → Type 0
 IsUnheard judgings controller name server =
-    (secret client : List ℕ) (flags : ℕ) → moved_on (channel_of controller name secret client server flags) judgings ≡ 0
+    (secret client : List ℕ) (flags : ℕ) → moved_on (channel_from controller name secret client server flags) judgings ≡ 0
 
 -- Of a computer: its channel's seed moved so; nothing passed on a channel that its challenges that wait may open; and
 -- their server challenges are two, neither of which is left.
 pub record IsKept (judgings : List Judging) (left : List (List ℕ)) (controller : ℕ) (name : List ℕ) (computers : Computers) : Type 0 where
-  pub channels : (c : ChannelState) → lookup same_name name computers.channels ≡ Some c → IsMoved judgings controller name c × IsSpent c.server left
-  pub pairs : (pair : Pending) → lookup same_name name computers.pending ≡ Some pair → IsUnheard judgings controller name pair.server × IsSpent pair.server left
-  pub differ : (c : ChannelState) (pair : Pending) → lookup same_name name computers.channels ≡ Some c → lookup same_name name computers.pending ≡ Some pair → c.server ≢ pair.server
+  pub channels : (c : SecureChannelState) → lookup same_name name computers.channels ≡ Some c → IsMoved judgings controller name c × IsSpent c.server left
+  pub pairs : (pair : ChallengePair) → lookup same_name name computers.pending ≡ Some pair → IsUnheard judgings controller name pair.server × IsSpent pair.server left
+  pub differ : (c : SecureChannelState) (pair : ChallengePair) → lookup same_name name computers.channels ≡ Some c → lookup same_name name computers.pending ≡ Some pair → c.server ≢ pair.server
 
 -- of all computers of a controller
 pub record AreKept (judgings : List Judging) (left : List (List ℕ)) (controller : ℕ) (computers : Computers) : Type 0 where
@@ -81,7 +80,7 @@ pub record AreKept (judgings : List Judging) (left : List (List ℕ)) (controlle
 abbrev pub IsMovedIn : List Judging → ℕ → Option (List ℕ) → Computers → Type 0
 IsMovedIn judgings controller None computers = Unit {0}
 IsMovedIn judgings controller (Some name) computers =
-    (c : ChannelState) → lookup same_name name computers.channels ≡ Some c → IsMoved judgings controller name c
+    (c : SecureChannelState) → lookup same_name name computers.channels ≡ Some c → IsMoved judgings controller name c
 
 abbrev pub AreMoved : List Judging → Type 0
 AreMoved [] = Unit {0}
@@ -109,7 +108,7 @@ keeps_all name computers = record { pair = refl; channel = refl }
 
 -- the channel and the challenges of a computer are those of before, and so is how far seeds moved
 pub kept_on : (judgings now : List Judging) (left rest : List (List ℕ)) (controller : ℕ) (name : List ℕ) (old new : Computers) → KeepsComputer name old new →
-    ((secret client server : List ℕ) (flags : ℕ) → moved_on (channel_of controller name secret client server flags) now ≡ moved_on (channel_of controller name secret client server flags) judgings) →
+    ((secret client server : List ℕ) (flags : ℕ) → moved_on (channel_from controller name secret client server flags) now ≡ moved_on (channel_from controller name secret client server flags) judgings) →
     ((challenge : List ℕ) → IsSpent challenge left → IsSpent challenge rest) → IsKept judgings left controller name old → IsKept now rest controller name new
 kept_on judgings now left rest controller name old new keeps moved fewer kept = record {
   channels = λ c there.
@@ -122,9 +121,9 @@ kept_on judgings now left rest controller name old new keeps moved fewer kept = 
 }
 
 moved_named : (judgings : List Judging) (controller : ℕ) (one other secret client server : List ℕ) (flags : ℕ) → same_name one other ≡ true →
-    moved_on (channel_of controller one secret client server flags) judgings ≡ moved_on (channel_of controller other secret client server flags) judgings
+    moved_on (channel_from controller one secret client server flags) judgings ≡ moved_on (channel_from controller other secret client server flags) judgings
 moved_named judgings controller one other secret client server flags same =
-    moved_same (channel_of controller one secret client server flags) (channel_of controller other secret client server flags)
+    moved_same (channel_from controller one secret client server flags) (channel_from controller other secret client server flags)
     (record { controller = refl; computer = (same_name-Decides one other).0 same; secret = refl; client = refl; server = refl; flags = refl }) judgings
 
 -- what is known of a computer is known of it by its name in another case
@@ -171,17 +170,17 @@ pair_kept false judgings server left controller name client work order kept = re
       (λ challenge spent. fewer_left challenge server left spent) (kept.each other);
 }
 pair_kept true judgings server left controller name client work order kept =
-    let pair : Pending = record { client = client; server = server } in
+    let pair : ChallengePair = record { client = client; server = server } in
     let there : lookup same_name name (put same_name name pair work.computers.pending) ≡ Some pair =
     lookup-put_same same_name name pair work.computers.pending (IsSameness-same_name.reflexive name) in
-    let is : (other : Pending) → lookup same_name name (put same_name name pair work.computers.pending) ≡ Some other → pair ≡ other = λ other waits. some_is pair other (sym there ∙ waits) in
+    let is : (other : ChallengePair) → lookup same_name name (put same_name name pair work.computers.pending) ≡ Some other → pair ≡ other = λ other waits. some_is pair other (sym there ∙ waits) in
     let new : Computers = (put_pair_if true name pair work).computers in
     let here : IsKept judgings left controller name new = record {
       channels = λ c stands. let was = (kept.each name).channels c stands in (was.0, was.1.1);
       pairs = λ other waits.
-          subst (λ (p : Pending). IsUnheard judgings controller name p.server × IsSpent p.server left) (is other waits)
-          (λ secret client flags. order.unheard.0 (channel_of controller name secret client server flags) refl, order.apart.0);
-      differ = λ c other stands waits same. ((kept.each name).channels c stands).1.0 (ap Pending.server (is other waits) ∙ sym same);
+          subst (λ (p : ChallengePair). IsUnheard judgings controller name p.server × IsSpent p.server left) (is other waits)
+          (λ secret client flags. order.unheard.0 (channel_from controller name secret client server flags) refl, order.apart.0);
+      differ = λ c other stands waits same. ((kept.each name).channels c stands).1.0 (ap ChallengePair.server (is other waits) ∙ sym same);
     } in
     record {
       map = IsMap-put same_name name pair work.computers.pending IsSameness-same_name kept.map;
@@ -194,7 +193,7 @@ pair_kept true judgings server left controller name client work order kept =
 -- ---- challenges are taken, and may open a channel
 
 module _ (judgings : List Judging) (left : List (List ℕ)) (controller : ℕ) where
-  none_waits : (name : List ℕ) (computers : Computers) → IsMap same_name computers.pending → (pair : Pending) → lookup same_name name (take_out same_name name computers.pending) ≡ Some pair → ⊥
+  none_waits : (name : List ℕ) (computers : Computers) → IsMap same_name computers.pending → (pair : ChallengePair) → lookup same_name name (take_out same_name name computers.pending) ≡ Some pair → ⊥
   none_waits name computers map pair waits =
       absurd (let none : None ≡ Some pair = sym (lookup-take_out_same same_name name computers.pending IsSameness-same_name map) ∙ waits in cc)
 
@@ -215,12 +214,12 @@ module _ (judgings : List Judging) (left : List (List ℕ)) (controller : ℕ) w
             (λ challenge spent. spent) (kept.each other));
       }
 
-  opened_kept : (right : Bool) (pair : Pending) (account : Account) (line : Line) (c : AuthCall) (work : Work) → lookup same_name c.computer work.computers.pending ≡ Some pair →
-      bytes_eq c.credential (first_seed (channel_for account pair c)) ≡ right → AreKept judgings left controller work.computers →
+  opened_kept : (right : Bool) (pair : ChallengePair) (account : Account) (line : Line) (c : AuthCall) (work : Work) → lookup same_name c.computer work.computers.pending ≡ Some pair →
+      AreKept judgings left controller work.computers →
       AreKept judgings left controller (open_channel right (channel_for account pair c) line c (take_pair c.computer work)).computers
-  opened_kept false pair account line c work waits is kept = taken_kept c.computer work kept
-  opened_kept true pair account line c work waits is kept =
-      let opened : ChannelState = channel_for account pair c in
+  opened_kept false pair account line c work waits kept = taken_kept c.computer work kept
+  opened_kept true pair account line c work waits kept =
+      let opened : SecureChannelState = channel_for account pair c in
       let name : List ℕ = c.computer in
       let taken : Work = take_pair name work in
       let new : Computers = (put_channel name opened taken).computers in
@@ -228,12 +227,11 @@ module _ (judgings : List Judging) (left : List (List ℕ)) (controller : ℕ) w
       let fresh = (kept.each name).pairs pair waits in
       let there : lookup same_name name new.channels ≡ Some opened = lookup-put_same same_name name opened taken.computers.channels (IsSameness-same_name.reflexive name) in
       let moved : IsMoved judgings controller name opened =
-      (bytes_eq-Decides c.credential (first_seed opened)).0 is
-      ∙ sym (add_to-zero (first_seed opened) (IsBlock-cred_of (key_of_channel opened) opened.client))
+      sym (add_to-zero (first_seed opened) (IsBlock-cred_of (key_of_channel opened) opened.client))
       ∙ ap (λ (n : ℕ). add_to (first_seed opened) n) (sym (fresh.0 opened.secret opened.client opened.flags)) in
       let here : IsKept judgings left controller name new = record {
         channels = λ other stands.
-            subst (λ (x : ChannelState). IsMoved judgings controller name x × IsSpent x.server left) (some_is opened other (sym there ∙ stands)) (moved, fresh.1);
+            subst (λ (x : SecureChannelState). IsMoved judgings controller name x × IsSpent x.server left) (some_is opened other (sym there ∙ stands)) (moved, fresh.1);
         pairs = λ other waits. absurd (none_waits name work.computers kept.map other waits);
         differ = λ c other stands waits. absurd (none_waits name work.computers kept.map other waits);
       } in
@@ -245,18 +243,18 @@ module _ (judgings : List Judging) (left : List (List ℕ)) (controller : ℕ) w
             (λ challenge spent. spent) (was.each other));
       }
 
-  pair_opened : (pair : Option Pending) (account : Account) (line : Line) (c : AuthCall) (work : Work) → lookup same_name c.computer work.computers.pending ≡ pair →
+  pair_opened : (pair : Option ChallengePair) (account : Account) (line : Line) (c : AuthCall) (work : Work) → lookup same_name c.computer work.computers.pending ≡ pair →
       AreKept judgings left controller work.computers → AreKept judgings left controller (judge_pair pair account line c (take_pair c.computer work)).computers
   pair_opened None account line c work waits kept = taken_kept c.computer work kept
   pair_opened (Some pair) account line c work waits kept =
-      opened_kept (bytes_eq c.credential (first_seed (channel_for account pair c))) pair account line c work waits refl kept
+      opened_kept (bytes_eq c.credential (first_seed (channel_for account pair c))) pair account line c work waits kept
 
-  offer_opened : (offered : Bool) (pair : Option Pending) (account : Account) (line : Line) (c : AuthCall) (work : Work) → lookup same_name c.computer work.computers.pending ≡ pair →
+  offer_opened : (offered : Bool) (pair : Option ChallengePair) (account : Account) (line : Line) (c : AuthCall) (work : Work) → lookup same_name c.computer work.computers.pending ≡ pair →
       AreKept judgings left controller work.computers → AreKept judgings left controller (judge_offer offered pair account line c (take_pair c.computer work)).computers
   offer_opened false pair account line c work waits kept = taken_kept c.computer work kept
   offer_opened true pair account line c work waits kept = pair_opened pair account line c work waits kept
 
-  pub account_opened : (account : Option Account) (pair : Option Pending) (line : Line) (c : AuthCall) (work : Work) → lookup same_name c.computer work.computers.pending ≡ pair →
+  pub account_opened : (account : Option Account) (pair : Option ChallengePair) (line : Line) (c : AuthCall) (work : Work) → lookup same_name c.computer work.computers.pending ≡ pair →
       AreKept judgings left controller work.computers → AreKept judgings left controller (judge_account account pair line c (take_pair c.computer work)).computers
   account_opened None pair line c work waits kept = taken_kept c.computer work kept
   account_opened (Some account) pair line c work waits kept = offer_opened (has_flag c.flags rc4_flag) pair account line c work waits kept
@@ -304,9 +302,9 @@ module _ (judgings : List Judging) (left : List (List ℕ)) (j : Judging) (kept 
       absurd cc)
 
   -- challenges that wait open no channel on which the call passed
-  pair_unheard : (name : List ℕ) (pair : Pending) → lookup same_name name j.computers.pending ≡ Some pair → IsUnheard (j ∷ judgings) j.controller name pair.server
+  pair_unheard : (name : List ℕ) (pair : ChallengePair) → lookup same_name name j.computers.pending ≡ Some pair → IsUnheard (j ∷ judgings) j.controller name pair.server
   pair_unheard name pair waits secret client flags =
-      moved_past (channel_of j.controller name secret client pair.server flags) j judgings (λ other passed same.
+      moved_past (channel_from j.controller name secret client pair.server flags) j judgings (λ other passed same.
       let found = passed_in j other passed in
       let one : same_name found.name name ≡ true =
       (same_name-Decides found.name name).1 (subst (λ (c : Channel). SameName c.computer name) (sym found.is) same.computer) in
@@ -321,28 +319,28 @@ module _ (judgings : List Judging) (left : List (List ℕ)) (j : Judging) (kept 
     each = λ name.
         kept_on judgings (j ∷ judgings) left left j.controller name j.computers new
         (record { pair = ap (λ entries. lookup same_name name entries) pending; channel = ap (λ entries. lookup same_name name entries) channels })
-        (λ secret client server flags. moved_past (channel_of j.controller name secret client server flags) j judgings (λ other passed same. none other passed))
+        (λ secret client server flags. moved_past (channel_from j.controller name secret client server flags) j judgings (λ other passed same. none other passed))
         (λ challenge spent. spent) (kept.each name);
   }
 
-  passed_here : (name : List ℕ) (c : ChannelState) → has_passed j.how ≡ true → j.logon.computer ≡ Some name → lookup same_name name j.computers.channels ≡ Some c →
-      passed_on (channel_with j.controller name c) j ≡ true
+  passed_here : (name : List ℕ) (c : SecureChannelState) → has_passed j.how ≡ true → j.logon.computer ≡ Some name → lookup same_name name j.computers.channels ≡ Some c →
+      passed_on (channel_of j.controller name c) j ≡ true
   passed_here name c passed named stands =
-      ap (λ (found : Option Channel). is_channel found (channel_with j.controller name c))
+      ap (λ (found : Option Channel). is_channel found (channel_of j.controller name c))
       (ap (λ (b : Bool). channel_if b j) passed ∙ ap (λ (o : Option (List ℕ)). channel_in j.controller o j.computers) named
-      ∙ ap (λ (found : Option ChannelState). notes.channel_by j.controller name found) stands)
-      ∙ itself (channel_with j.controller name c)
+      ∙ ap (λ (found : Option SecureChannelState). notes.channel_by j.controller name found) stands)
+      ∙ itself (channel_of j.controller name c)
 
   -- its channel's seed moves where it passes
-  seed_moved : (passes : Bool) (name : List ℕ) (given : Authenticator) (c : ChannelState) → has_passed j.how ≡ passes → j.logon.computer ≡ Some name → j.logon.authenticator ≡ Some given →
+  seed_moved : (passes : Bool) (name : List ℕ) (given : Authenticator) (c : SecureChannelState) → has_passed j.how ≡ passes → j.logon.computer ≡ Some name → j.logon.authenticator ≡ Some given →
       lookup same_name name j.computers.channels ≡ Some c → IsMoved (j ∷ judgings) j.controller name (channel_by passes c given)
   seed_moved false name given c passed named there stands =
       ((kept.each name).channels c stands).0
       ∙ ap (λ (n : ℕ). add_to (first_seed c) n)
-      (sym (moved_past (channel_with j.controller name c) j judgings (λ other found same. not_passed (has_passed j.how) j other passed found)))
+      (sym (moved_past (channel_of j.controller name c) j judgings (λ other found same. not_passed (has_passed j.how) j other passed found)))
   seed_moved true name given c passed named there stands =
-      let before : ℕ = moved_on (channel_with j.controller name c) judgings in
-      let moved : moved_on (channel_with j.controller name c) (j ∷ judgings) ≡ given.timestamp + 1 + before =
+      let before : ℕ = moved_on (channel_of j.controller name c) judgings in
+      let moved : moved_on (channel_of j.controller name c) (j ∷ judgings) ≡ given.timestamp + 1 + before =
       ap (λ (b : Bool). moved_if b (timestamp_of j) before) (passed_here name c passed named stands)
       ∙ ap (λ (o : Option Authenticator). timestamp_in o + 1 + before) there in
       let sum : before + (given.timestamp + 1) ≡ given.timestamp + 1 + before = omega arith in
@@ -350,30 +348,30 @@ module _ (judgings : List Judging) (left : List (List ℕ)) (j : Judging) (kept 
       ∙ add_to-add_to (first_seed c) before (given.timestamp + 1)
       ∙ ap (λ (n : ℕ). add_to (first_seed c) n) (sum ∙ sym moved)
 
-  server_stays : (passes : Bool) (c : ChannelState) (given : Authenticator) → c.server ≡ (channel_by passes c given).server
+  server_stays : (passes : Bool) (c : SecureChannelState) (given : Authenticator) → c.server ≡ (channel_by passes c given).server
   server_stays false c given = refl
   server_stays true c given = refl
 
   -- the channel is put back so
-  moved_kept : (passes : Bool) (name : List ℕ) (given : Authenticator) (c : ChannelState) (new : Computers) → has_passed j.how ≡ passes → j.logon.computer ≡ Some name →
+  moved_kept : (passes : Bool) (name : List ℕ) (given : Authenticator) (c : SecureChannelState) (new : Computers) → has_passed j.how ≡ passes → j.logon.computer ≡ Some name →
       j.logon.authenticator ≡ Some given → lookup same_name name j.computers.channels ≡ Some c → new.pending ≡ j.computers.pending →
       new.channels ≡ put same_name name (channel_by passes c given) (take_out same_name name j.computers.channels) → AreKept (j ∷ judgings) left j.controller new
   moved_kept passes name given c new passed named there stands pending channels =
-      let moved : ChannelState = channel_by passes c given in
+      let moved : SecureChannelState = channel_by passes c given in
       let taken = take_out same_name name j.computers.channels in
       let now : lookup same_name name new.channels ≡ Some moved =
       ap (λ entries. lookup same_name name entries) channels ∙ lookup-put_same same_name name moved taken (IsSameness-same_name.reflexive name) in
-      let was : (pair : Pending) → lookup same_name name new.pending ≡ Some pair → lookup same_name name j.computers.pending ≡ Some pair =
+      let was : (pair : ChallengePair) → lookup same_name name new.pending ≡ Some pair → lookup same_name name j.computers.pending ≡ Some pair =
       λ pair waits. sym (ap (λ entries. lookup same_name name entries) pending) ∙ waits in
       let spent : IsSpent moved.server left = subst (λ (x : List ℕ). IsSpent x left) (server_stays passes c given) ((kept.each name).channels c stands).1 in
       let here : IsKept (j ∷ judgings) left j.controller name new = record {
         channels = λ other stands_now.
-            subst (λ (x : ChannelState). IsMoved (j ∷ judgings) j.controller name x × IsSpent x.server left) (some_is moved other (sym now ∙ stands_now))
+            subst (λ (x : SecureChannelState). IsMoved (j ∷ judgings) j.controller name x × IsSpent x.server left) (some_is moved other (sym now ∙ stands_now))
             (seed_moved passes name given c passed named there stands, spent);
         pairs = λ pair waits. (pair_unheard name pair (was pair waits), ((kept.each name).pairs pair (was pair waits)).1);
         differ = λ other pair stands_now waits same.
             (kept.each name).differ c pair stands (was pair waits)
-            (server_stays passes c given ∙ ap ChannelState.server (some_is moved other (sym now ∙ stands_now)) ∙ same);
+            (server_stays passes c given ∙ ap SecureChannelState.server (some_is moved other (sym now ∙ stands_now)) ∙ same);
       } in
       record {
         map = subst (λ entries. IsMap same_name entries) (sym pending) kept.map;
@@ -384,7 +382,7 @@ module _ (judgings : List Judging) (left : List (List ℕ)) (j : Judging) (kept 
                   ∙ put_others same_name name other moved taken IsSameness-same_name apart
                   ∙ taken_others same_name name other j.computers.channels IsSameness-same_name apart;
             })
-            (λ secret client server flags. unnamed_unmoved name (channel_of j.controller other secret client server flags) named apart)
+            (λ secret client server flags. unnamed_unmoved name (channel_from j.controller other secret client server flags) named apart)
             (λ challenge spent. spent) (kept.each other));
       }
 
@@ -408,12 +406,12 @@ judged_as how number w line c d = record {
 abbrev pub told_in : Desk → Desk → Option Judged
 told_in before after = judged_in (drop (length before.work.actions) after.work.actions)
 
-how_passes : (passes : Bool) (key : List ℕ) (channel : ChannelState) (given : Authenticator) (name : List ℕ) (now : ℕ) (line : Line) (info : NetworkInfo) (validation : ℕ) (d : Desk) →
+how_passes : (passes : Bool) (key : List ℕ) (channel : SecureChannelState) (given : Authenticator) (name : List ℕ) (now : ℕ) (line : Line) (info : NetworkInfo) (validation : ℕ) (d : Desk) →
     has_passed (told_in d (judge_return (return_by passes channel given) key name now line info validation d)) ≡ passes
 how_passes true key channel given name now line info validation d = ap has_passed (told_first d.work.actions (judged.Passed _) _)
 how_passes false key channel given name now line info validation d = ap has_passed (told_first d.work.actions judged.Barred _)
 
-no_channel_found : (name other : List ℕ) (c : ChannelState) (computers : Computers) → name ≡ other → lookup same_name name computers.channels ≡ Some c → lookup same_name other computers.channels ≡ None → ⊥
+no_channel_found : (name other : List ℕ) (c : SecureChannelState) (computers : Computers) → name ≡ other → lookup same_name name computers.channels ≡ Some c → lookup same_name other computers.channels ≡ None → ⊥
 no_channel_found name other c computers same stands none =
     absurd (let both : Some c ≡ None = sym stands ∙ ap (λ (n : List ℕ). lookup same_name n computers.channels) same ∙ none in cc)
 
@@ -421,7 +419,7 @@ none_is : {T : Type 0} (value : T) → None ≡ Some value → ⊥
 none_is value is = absurd cc
 
 module _ (judgings : List Judging) (left : List (List ℕ)) (number : Option ℕ) (w : Where) (line : Line) (c : LogonCall) (name : List ℕ) (now : ℕ) (info : NetworkInfo) (validation : ℕ) where
-  channel_judged : (found : Option ChannelState) (how : Option Judged) (computer : List ℕ) (given : Authenticator) (d : Desk) → c.computer ≡ Some computer → c.authenticator ≡ Some given →
+  channel_judged : (found : Option SecureChannelState) (how : Option Judged) (computer : List ℕ) (given : Authenticator) (d : Desk) → c.computer ≡ Some computer → c.authenticator ≡ Some given →
       lookup same_name computer d.work.computers.channels ≡ found →
       how ≡ told_in d (judge_channel found computer given name now line info validation (desk d.table (take_channel computer d.work))) → AreKept judgings left w.controller d.work.computers →
       AreKept (judged_as how number w line c d ∷ judgings) left w.controller (judge_channel found computer given name now line info validation (desk d.table (take_channel computer d.work))).work.computers

@@ -37,7 +37,7 @@ use Rattle.world_moves.specs.Ends.{EndStates, controller_step}
 use Rattle.domain_world.specs.Claims.{moved_on}
 use Rattle.domain_world.specs.Past.{first_of, judged_of, later_of, onto, with_reply}
 use Rattle.domain_world.proofs.Challenges.MessageOnceLaws.{set_cases}
-use Rattle.domain_world.proofs.Judgements.SeedLaws.{AreApart, AreKept, AreUnheard, IsInOrder, IsSpent, account_opened, channel_of, drawn_order, judged_as, judged_order, keeps_all, kept_on, logon_kept, others_unmoved, pair_kept}
+use Rattle.domain_world.proofs.Judgements.SeedLaws.{AreApart, AreKept, AreUnheard, IsInOrder, IsSpent, account_opened, channel_from, drawn_order, judged_as, judged_order, keeps_all, kept_on, logon_kept, others_unmoved, pair_kept}
 use Rattle.domain_world.proofs.Judgements.ToldLaws.{IsNoBytes, standing_at, step_after, step_link}
 
 -- ---- fewer challenges are left
@@ -70,7 +70,7 @@ kept_rest judgings now rest left controller computers is moved kept = record {
   map = kept.map;
   each = λ name.
       kept_on judgings now left rest controller name computers computers (keeps_all name computers)
-      (λ secret client server flags. moved (channel_of controller name secret client server flags) refl) (spent_rest rest left is) (kept.each name);
+      (λ secret client server flags. moved (channel_from controller name secret client server flags) refl) (spent_rest rest left is) (kept.each name);
 }
 
 -- ---- a part of a step of a controller

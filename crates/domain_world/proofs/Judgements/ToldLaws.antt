@@ -10,6 +10,7 @@ use Rattle.wire_base.specs.Names.{same_name}
 use Rattle.ntlm_flags.specs.Flags.{has_flag}
 use Rattle.channel_keys.specs.Flags.{rc4_flag}
 use Rattle.authenticators.specs.Channels.{Channel}
+use Rattle.authenticators.specs.SecureChannels.{SecureChannelState}
 use Rattle.outside.specs.declared.action.Action.{Action}
 use Rattle.outside.specs.declared.action.Action.TheVariants as action
 use Rattle.outside.specs.declared.action.CloseCause.{CloseCause}
@@ -33,7 +34,6 @@ use Rattle.account_table.specs.declared.account.Account.{Account}
 use Rattle.account_table.specs.LookUps.{knows_in}
 use Rattle.end_links.specs.Links.{LinkState}
 use Rattle.end_links.specs.Serving.{ServedPart, Service, served_by, served_cut, then_open, then_talk, ServedUnit, served_units, units_on, units_then}
-use Rattle.domain_controller.specs.Channels.{ChannelState}
 use Rattle.domain_controller.specs.Hearing.{hear}
 use Rattle.domain_controller.specs.Machine.{Desk, account_for, answer_logon, by_heard, channel_for, controller_server, draw_challenge, judge_account, judge_offer, judge_pair, open_channel, put_pair_if, send_fault, send_reply, take_pair}
 use Rattle.domain_controller.specs.Laws.{judges_call}
@@ -43,7 +43,7 @@ use Rattle.domain_controller.specs.declared.hearing.Heard.{Heard}
 use Rattle.domain_controller.specs.declared.hearing.Heard.TheVariants as heard
 use Rattle.domain_controller.specs.declared.line.Line.{Line}
 use Rattle.domain_controller.specs.declared.state.Computers.{Computers}
-use Rattle.domain_controller.specs.declared.state.Pending.{Pending}
+use Rattle.domain_controller.specs.declared.state.ChallengePair.{ChallengePair}
 use Rattle.domain_controller.specs.declared.state.Running.{Running}
 use Rattle.domain_controller.specs.declared.state.Talk.{Talk}
 use Rattle.domain_controller.specs.declared.state.Work.{Work}
@@ -127,7 +127,7 @@ abbrev pub Follows : Where → List JudgementTold → ServedPart Desk Talk → T
 Follows w told (Err why) = Unit {0}
 Follows w told (Ok part) = acted w part.value.0.work.actions ≡ told
 
-pair_actions : (knows : Bool) (computer : List ℕ) (pair : Pending) (work : Work) → (put_pair_if knows computer pair work).actions ≡ work.actions
+pair_actions : (knows : Bool) (computer : List ℕ) (pair : ChallengePair) (work : Work) → (put_pair_if knows computer pair work).actions ≡ work.actions
 pair_actions false computer pair work = refl
 pair_actions true computer pair work = refl
 
@@ -143,25 +143,25 @@ fault_sent w work line status = sends w work.actions _ _
 drawn_told : (left : List (List ℕ)) (w : Where) (line : Line) (c : ChallengeCall) (talk : Talk) (d : Desk) → Follows w (acted w d.work.actions ++ []) (draw_challenge left line c talk d)
 drawn_told [] w line c talk d = tt
 drawn_told (server ∷ left) w line c talk d =
-    let pair : Pending = record { client = c.challenge; server = server } in
+    let pair : ChallengePair = record { client = c.challenge; server = server } in
     no_more _ (acted w d.work.actions)
     (reply_sent w (put_pair_if (knows_in d.table.accounts c.computer) c.computer pair d.work) line (reply.Challenge (record { challenge = server; status = 0 }))
     ∙ ap (λ (actions : List Action). acted w actions) (pair_actions (knows_in d.table.accounts c.computer) c.computer pair d.work))
 
-opened_told : (right : Bool) (w : Where) (channel : ChannelState) (line : Line) (c : AuthCall) (work : Work) → acted w (open_channel right channel line c work).actions ≡ acted w work.actions
+opened_told : (right : Bool) (w : Where) (channel : SecureChannelState) (line : Line) (c : AuthCall) (work : Work) → acted w (open_channel right channel line c work).actions ≡ acted w work.actions
 opened_told false w channel line c work = sends w work.actions _ _
 opened_told true w channel line c work = sends w work.actions _ _
 
-pair_told : (pair : Option Pending) (w : Where) (account : Account) (line : Line) (c : AuthCall) (work : Work) → acted w (judge_pair pair account line c work).actions ≡ acted w work.actions
+pair_told : (pair : Option ChallengePair) (w : Where) (account : Account) (line : Line) (c : AuthCall) (work : Work) → acted w (judge_pair pair account line c work).actions ≡ acted w work.actions
 pair_told None w account line c work = sends w work.actions _ _
 pair_told (Some pair) w account line c work = opened_told _ w (channel_for account pair c) line c work
 
-offer_told : (offers : Bool) (pair : Option Pending) (w : Where) (account : Account) (line : Line) (c : AuthCall) (work : Work) →
+offer_told : (offers : Bool) (pair : Option ChallengePair) (w : Where) (account : Account) (line : Line) (c : AuthCall) (work : Work) →
     acted w (judge_offer offers pair account line c work).actions ≡ acted w work.actions
 offer_told false pair w account line c work = sends w work.actions _ _
 offer_told true pair w account line c work = pair_told pair w account line c work
 
-account_told : (account : Option Account) (pair : Option Pending) (w : Where) (line : Line) (c : AuthCall) (work : Work) →
+account_told : (account : Option Account) (pair : Option ChallengePair) (w : Where) (line : Line) (c : AuthCall) (work : Work) →
     acted w (judge_account account pair line c work).actions ≡ acted w work.actions
 account_told None pair w line c work = sends w work.actions _ _
 account_told (Some account) pair w line c work = offer_told (has_flag c.flags rc4_flag) pair w account line c work

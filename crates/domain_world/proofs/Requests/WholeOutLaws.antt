@@ -10,12 +10,13 @@ use Rattle.outside.specs.Machine.{Part, step_by, then_part}
 use Rattle.outside.specs.declared.action.StepRefused.{StepRefused}
 use Rattle.outside.specs.declared.event.Event.TheVariants as event
 use Rattle.authenticators.specs.Channels.{Channel}
+use Rattle.authenticators.specs.SecureChannels.{channel_of}
 use Rattle.rpc_units.specs.Calls.{IsHeard}
 use Rattle.rpc_units.specs.Stream.{cut_stream}
 use Rattle.rpc_units.specs.declared.unit.Unit.{Unit as RpcUnit}
 use Rattle.end_links.specs.Links.{LinkState}
 use Rattle.end_links.specs.Serving.{ServedPart}
-use Rattle.channel_client.specs.Effects.{IsCoherent, MatchesStep, channel_of, stands_in, step_in}
+use Rattle.channel_client.specs.Effects.{IsCoherent, MatchesStep, stands_in, step_in}
 use Rattle.channel_client.specs.Machine.{act, can_start, hear, judge, needs_challenge, place_of, settle, take_of}
 use Rattle.channel_client.specs.State.{Requester}
 use Rattle.channel_client.specs.declared.hearing.Hearing.{Hearing}

@@ -2,8 +2,9 @@
 -- It serves `sequences_are_shared`.
 use Rattle.std.proofs.Common.{◌≡◌, ℕ, List, ◌++◌, Option, Some, None, slice_get, refl, sym, ap, subst, ◌∙◌}
 use Rattle.authenticators.specs.Channels.{Channel}
+use Rattle.authenticators.specs.SecureChannels.{channel_of}
 use Rattle.rpc_units.specs.declared.unit.Unit.{Unit as RpcUnit}
-use Rattle.channel_client.specs.Effects.{HasEffect, IsCoherent, MatchesStep, asking_in, channel_of, effect_heard, effect_judged, number_in, stands_in, step_in, view_of}
+use Rattle.channel_client.specs.Effects.{HasEffect, IsCoherent, MatchesStep, asking_in, effect_heard, effect_judged, number_in, stands_in, step_in, view_of}
 use Rattle.channel_client.specs.Machine.{act, hear, judge, place_of, settle, take_of}
 use Rattle.channel_client.specs.State.{Requester}
 use Rattle.channel_client.specs.declared.answers.Taken.{Taken}

@@ -5,7 +5,8 @@ use Rattle.std.proofs.Common.{◌≡◌, ◌≢◌, ◌⊎◌, ℕ, zero, suc, �
 use Rattle.std.specs.List.{AllByRecursion}
 use Rattle.std.proofs.lemmas.List.{map-append}
 use Rattle.authenticators.specs.Channels.{Channel}
-use Rattle.channel_client.specs.Effects.{channel_of, stands_in, step_in}
+use Rattle.authenticators.specs.SecureChannels.{channel_of}
+use Rattle.channel_client.specs.Effects.{stands_in, step_in}
 use Rattle.channel_client.specs.Machine.{ask_by, ask_of, can_start, lose_of, start_of}
 use Rattle.channel_client.specs.State.{Requester}
 use Rattle.channel_client.specs.declared.state.Pending.{Pending}

@@ -7,6 +7,7 @@ use Rattle.std.proofs.lemmas.List.{append-nil, map-append}
 use Rattle.std.proofs.lemmas.List.Elements.{filter-append}
 use Rattle.authenticators.specs.Channels.{Channel, same_channel}
 use Rattle.authenticators.specs.Sequences.{moved_by}
+use Rattle.authenticators.specs.SecureChannels.{channel_of}
 use Rattle.channel_client.specs.declared.caller.Caller.{Caller}
 use Rattle.channel_client.specs.declared.state.Pending.{Pending}
 use Rattle.channel_client.specs.declared.state.Standing.{Standing}
@@ -16,7 +17,7 @@ use Rattle.channel_client.specs.declared.hearing.Hearing.{Hearing}
 use Rattle.channel_client.specs.declared.hearing.Hearing.TheVariants as hearing
 use Rattle.channel_client.specs.declared.judging.Judgement.{Judgement}
 use Rattle.channel_client.specs.declared.judging.Judgement.TheVariants as judgement
-use Rattle.channel_client.specs.Effects.{Answers, Begins, Calls, Changes, Counts, Drops, Effect, HasEffect, IsCoherent, Moves, Opens, Stays, View, channel_of, effect_heard, effect_judged, effect_next, effect_of_take, view_of}
+use Rattle.channel_client.specs.Effects.{Answers, Begins, Calls, Changes, Counts, Drops, Effect, HasEffect, IsCoherent, Moves, Opens, Stays, View, effect_heard, effect_judged, effect_next, effect_of_take, view_of}
 use Rattle.channel_client.specs.Machine.{ask_of, can_start, hear, judge, lose_of, needs_challenge, start_of, take_of}
 use Rattle.channel_client.specs.State.{Requester}
 use Rattle.channel_client.proofs.EffectLaws.{steps_have_effects}

@@ -9,9 +9,9 @@ use Rattle.std.proofs.lemmas.List.{map-append}
 use Rattle.rpc_units.specs.declared.unit.Unit.{Unit as RpcUnit}
 use Rattle.authenticators.specs.Channels.{Channel, SameChannel}
 use Rattle.authenticators.specs.Sequences.{add_to, moved_by}
+use Rattle.authenticators.specs.SecureChannels.{SecureChannelState, channel_of}
 use Rattle.authenticators.proofs.ChannelLaws.{same_channel-Decides}
 use Rattle.channel_client.specs.declared.state.Pending.{Pending}
-use Rattle.domain_controller.specs.Channels.{ChannelState}
 use Rattle.domain_controller.specs.declared.state.Running.{Running as ControllerRunning}
 use Rattle.channel_events.specs.Marks.{Mark, OneOf, Plain, Opening, Opened, Calling, ReplyTo}
 use Rattle.channel_events.specs.Seeds.{channel_seed, client_credential}
@@ -20,7 +20,7 @@ use Rattle.channel_events.proofs.ListLaws.{moved_none, moved_one, one_weaker, on
 use Rattle.channel_events.proofs.SameLaws.{one_channel, same_back}
 use Rattle.member_server.specs.Dials.{TurnsAreDialled}
 use Rattle.member_server.specs.Laws.{AsksWhatWaits}
-use Rattle.step_notes.specs.ControllerNotes.{channel_with, has_passed}
+use Rattle.step_notes.specs.ControllerNotes.{has_passed}
 use Rattle.step_notes.specs.Judged.{passed_channel}
 use Rattle.step_notes.specs.Marking.{is_channel, mark_channel, sent_channel}
 use Rattle.step_notes.specs.Records.{Judging, Sent}
@@ -241,8 +241,8 @@ module _ (past : Past) (known : IsProved past) (heard : AnswersAreHeard past) (c
 
 -- ---- a controller's seed
 
-kept_seed : (p : Past) (controller : ℕ) (computer : List ℕ) (c : ChannelState) (left : List (List ℕ)) → SeedsFollow p.book.judged left p.world.state.ends.controllers →
-    (keeps : Keeps p.world.state controller computer c) → c.seed ≡ add_to (client_credential (channel_with controller computer c)) (moved_on (channel_with controller computer c) p.book.judged)
+kept_seed : (p : Past) (controller : ℕ) (computer : List ℕ) (c : SecureChannelState) (left : List (List ℕ)) → SeedsFollow p.book.judged left p.world.state.ends.controllers →
+    (keeps : Keeps p.world.state controller computer c) → c.seed ≡ add_to (client_credential (channel_of controller computer c)) (moved_on (channel_of controller computer c) p.book.judged)
 kept_seed p controller computer c left follow keeps =
     let kept = subst (λ (r : Option ControllerRunning). AreKeptIf p.book.judged left controller r) keeps.runs (follow.each controller keeps.state keeps.at) in
     ((kept.each computer).channels c keeps.kept).0
@@ -252,7 +252,7 @@ pub sequence_shared : (p : Past) → IsProved p → AnswersAreHeard p → IsClea
 sequence_shared p known heard clear units judged stamped called own left follow member = record {
   own = λ channel o stands. own member channel o stands;
   other = λ channel o c stands keeps same none.
-      let kept : Channel = channel_with channel.controller channel.computer c in
+      let kept : Channel = channel_of channel.controller channel.computer c in
       let seed : c.seed ≡ add_to (client_credential channel) (moved_on channel p.book.judged) =
       kept_seed p channel.controller channel.computer c left follow keeps
       ∙ ap₂ add_to (same_credential kept channel same) (moved_same kept channel same p.book.judged) in

@@ -3,9 +3,9 @@
 -- heard whole. Which are proved is said in docs/CLAIMS.md.
 use Rattle.std.specs.Prelude.{ℕ, ◌≡◌, ◌≢◌, Bool, true, false, List, Some, slice_get, AllPairs}
 use Rattle.std.specs.List.{AllByRecursion}
+use Rattle.channel_keys.specs.Hidden.{crypt_key}
 use Rattle.authenticators.specs.Channels.{Channel, channel_key}
 use Rattle.outside.specs.declared.action.Outcome.{Outcome}
-use Rattle.channel_client.specs.Hidden.{crypt_key}
 use Rattle.logon_stubs.specs.declared.info.SamInfo.{SamInfo}
 use Rattle.logon_stubs.specs.declared.info.Verdict.{Verdict}
 use Rattle.logon_stubs.specs.declared.info.Verdict.TheVariants.{Granted, Status}

@@ -3,6 +3,7 @@
 use Rattle.std.specs.Prelude.{ℕ, ◌≡◌, ◌==◌, true, false, Some, Ok, slice_get}
 use Rattle.std.specs.List.{AllByRecursion}
 use Rattle.authenticators.specs.Channels.{Channel, SameChannel, channel_key}
+use Rattle.authenticators.specs.SecureChannels.{SecureChannelState, key_of_channel}
 use Rattle.outside.specs.declared.action.Outcome.{Outcome}
 use Rattle.rpc_units.specs.Joining.{stub_of}
 use Rattle.logon_stubs.specs.Calls.{reply_of}
@@ -11,7 +12,6 @@ use Rattle.logon_stubs.specs.declared.calls.LogonReply.{LogonReply}
 use Rattle.logon_stubs.specs.declared.calls.Reply.TheVariants as reply
 use Rattle.logon_stubs.specs.declared.info.Verdict.{Verdict}
 use Rattle.channel_client.specs.Machine.{judge_logon}
-use Rattle.channel_client.specs.Opened.{OpenState, open_key}
 use Rattle.channel_client.specs.declared.judging.Judgement.TheVariants as judgement
 use Rattle.channel_client.specs.declared.state.Standing.TheVariants as standing
 use Rattle.member_server.specs.Outcomes.{outcome_of}
@@ -39,14 +39,14 @@ RepliesAreReadBack past =
 -- was made for that channel.
 pub record IsReadIn (past : Past) (message : MessageTaken) (u : ℕ) (result : Outcome) : Type 0 where
   pub channel : Channel
-  pub stood : OpenState
-  pub key : open_key stood ≡ channel_key channel
+  pub stood : SecureChannelState
+  pub key : key_of_channel stood ≡ channel_key channel
   pub carrier : BagUnit
   pub there : slice_get past.world.state.bag u ≡ Some carrier
   pub whole : IsWholeUnit carrier.bytes
   pub read : LogonReply
   pub reads : reply_of 2 (stub_of whole.unit.body) ≡ Ok (reply.Logon read)
-  pub later : OpenState
+  pub later : SecureChannelState
   pub verdict : Verdict
   pub judged : judge_logon (read.status == access_denied) (standing.Open stood) read.returned read.status read.level read.info ≡ judgement.Answer later verdict
   pub is : result ≡ outcome_of (ending_of verdict) message.logon

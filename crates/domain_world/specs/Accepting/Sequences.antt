@@ -3,7 +3,7 @@
 use Rattle.std.specs.Prelude.{ℕ, ◌≡◌, ◌≢◌, ◌⊎◌, true, false, List, [], ◌∷◌, ◌++◌, map, Option, Some, slice_get}
 use Rattle.std.specs.List.{AllByRecursion}
 use Rattle.authenticators.specs.Channels.{Channel, SameChannel}
-use Rattle.channel_client.specs.Opened.{OpenState}
+use Rattle.authenticators.specs.SecureChannels.{SecureChannelState}
 use Rattle.channel_client.specs.declared.state.Pending.{Pending}
 use Rattle.channel_events.specs.Marks.{Calling, OneOf, ReplyTo}
 use Rattle.logon_stubs.specs.declared.calls.Call.TheVariants as call
@@ -99,7 +99,7 @@ pub record CallsOfTurns (past : Past) (channel : Channel) (turn : Option Pending
 -- so it is of each channel that stands at a member
 abbrev pub TurnsAreCalled : Past → Type 0
 TurnsAreCalled past =
-    (member : ℕ) (channel : Channel) (o : OpenState) → (stands : Stands past.world.state member channel o) →
+    (member : ℕ) (channel : Channel) (o : SecureChannelState) → (stands : Stands past.world.state member channel o) →
     CallsOfTurns past channel stands.turn (timestamps_on member channel past.book.turns)
 
 -- ---- replies

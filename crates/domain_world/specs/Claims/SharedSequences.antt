@@ -5,20 +5,17 @@ use Rattle.std.specs.List.{list_any}
 use Rattle.wire_base.specs.Maps.{lookup}
 use Rattle.wire_base.specs.Names.{same_name}
 use Rattle.authenticators.specs.Channels.{Channel, SameChannel, same_channel}
-use Rattle.channel_client.specs.Effects.{channel_of}
-use Rattle.channel_client.specs.Opened.{OpenState}
+use Rattle.authenticators.specs.SecureChannels.{channel_of, SecureChannelState}
 use Rattle.channel_client.specs.Turns.{is_out}
 use Rattle.channel_client.specs.declared.state.Standing.TheVariants as standing
 use Rattle.channel_client.specs.declared.state.Pending.{Pending}
 use Rattle.channel_events.specs.Seeds.{channel_seed}
-use Rattle.domain_controller.specs.Channels.{ChannelState}
 use Rattle.domain_controller.specs.State.{State as ControllerState}
 use Rattle.domain_controller.specs.declared.state.Running.{Running as ControllerRunning}
 use Rattle.member_server.specs.Dials.{IsWaiting}
 use Rattle.member_server.specs.Laws.{is_dialled}
 use Rattle.member_server.specs.State.{State as MemberState}
 use Rattle.member_server.specs.declared.state.Running.{Running as MemberRunning}
-use Rattle.step_notes.specs.ControllerNotes.{channel_with}
 use Rattle.step_notes.specs.Records.{Judging, LogonTurn}
 use Rattle.world_moves.specs.declared.links.EndId.TheVariants.{Member}
 use Rattle.world_moves.specs.declared.state.State.{State}
@@ -66,7 +63,7 @@ pub record IsBeforeTurn (turn : Option Pending) (seed : List ℕ) (channel : Cha
   pub seed_before : seed ≡ channel_seed channel earlier
 
 -- the channel that stands at a member, and its state there
-pub record Stands (s : State) (member : ℕ) (channel : Channel) (o : OpenState) : Type 0 where
+pub record Stands (s : State) (member : ℕ) (channel : Channel) (o : SecureChannelState) : Type 0 where
   pub state : MemberState
   pub running : MemberRunning
   pub at : slice_get s.ends.members member ≡ Some state
@@ -79,7 +76,7 @@ pub record Stands (s : State) (member : ℕ) (channel : Channel) (o : OpenState)
 -- ---- the controller's side
 
 -- the controller has a channel for that computer, in this state
-pub record Keeps (s : State) (controller : ℕ) (computer : List ℕ) (c : ChannelState) : Type 0 where
+pub record Keeps (s : State) (controller : ℕ) (computer : List ℕ) (c : SecureChannelState) : Type 0 where
   pub state : ControllerState
   pub running : ControllerRunning
   pub at : slice_get s.ends.controllers controller ≡ Some state
@@ -100,7 +97,7 @@ any_foreign channel judgings = list_any (λ (j : Judging). is_foreign channel j.
 -- channel, each plus one: the first part of the claim, which speaks of the member alone.
 abbrev pub SequenceIsOwn : Past → ℕ → Type 0
 SequenceIsOwn past member =
-    (channel : Channel) (o : OpenState) → Stands past.world.state member channel o →
+    (channel : Channel) (o : SecureChannelState) → Stands past.world.state member channel o →
     o.seed ≡ channel_seed channel (timestamps_on member channel past.book.turns)
 
 -- each member's is
@@ -111,9 +108,9 @@ SequencesAreOwn past = (member : ℕ) → SequenceIsOwn past member
 -- passed on it, the controller's seed is the member's, or with a turn out the one before that turn.
 pub record SequenceIsShared (past : Past) (member : ℕ) : Type 0 where
   pub own : SequenceIsOwn past member
-  pub other : (channel : Channel) (o : OpenState) (c : ChannelState) → (stands : Stands past.world.state member channel o) →
+  pub other : (channel : Channel) (o c : SecureChannelState) → (stands : Stands past.world.state member channel o) →
       Keeps past.world.state channel.controller channel.computer c →
-      SameChannel (channel_with channel.controller channel.computer c) channel →
+      SameChannel (channel_of channel.controller channel.computer c) channel →
       any_foreign channel past.book.judged ≡ false →
       (c.seed ≡ o.seed) ⊎ IsBeforeTurn stands.turn c.seed channel (timestamps_on member channel past.book.turns)
 

@@ -2,12 +2,12 @@
 -- asked.
 -- Of `any_phases_go_on`.
 use Rattle.std.proofs.Common.{◌≡◌, ℕ, ◌≤◌, refl, sym, ap, ◌∙◌, List, [], ◌∷◌, ◌++◌, length, arith, inl, inr}
+use Rattle.authenticators.specs.SecureChannels.{SecureChannelState}
 use Rattle.rpc_units.specs.Numbers.{rpc_s_server_unavailable}
 use Rattle.logon_stubs.specs.Ranges.{IsBlock}
 use Rattle.account_table.proofs.ChangeLaws.{differs-none}
 use Rattle.channel_client.specs.declared.state.Standing.{Standing}
 use Rattle.channel_client.specs.declared.state.Standing.TheVariants as standing
-use Rattle.domain_controller.specs.Channels.{ChannelState}
 use Rattle.member_server.specs.Outcomes.{session_in}
 use Rattle.member_server.specs.Turns.{timestamp_of}
 use Rattle.world_moves.specs.declared.links.Route.TheVariants.{ToMember}
@@ -39,8 +39,8 @@ use Rattle.logon_runs.proofs.Seen.TurnSceneLaws.{turns_are_seen}
 use Rattle.logon_runs.proofs.Seen.TwoLinkLaws.{got_last, turns_have_links}
 
 -- no channel is known at the controller
-abbrev pub no_channel : ChannelState
-no_channel = record { secret = []; client = []; server = []; flags = 0; seed = [] }
+abbrev pub no_channel : SecureChannelState
+no_channel = record { secret = []; client = []; server = []; flags = 0; seed = []; awaited = None }
 
 -- ---- the phase that follows
 

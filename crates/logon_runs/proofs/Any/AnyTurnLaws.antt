@@ -8,6 +8,7 @@ use Rattle.std.proofs.lemmas.Slice.Eq.{bytes_eq-Decides}
 use Rattle.wire_base.specs.Maps.{lookup, take_out}
 use Rattle.wire_base.specs.Names.{same_name}
 use Rattle.wire_base.proofs.MapLaws.{lookup-put_same}
+use Rattle.authenticators.specs.SecureChannels.{SecureChannelState, after_call, after_return, fresh_channel}
 use Rattle.outside.specs.declared.action.DropCause.{DropCause}
 use Rattle.outside.specs.declared.action.DropCause.TheVariants as drop_cause
 use Rattle.outside.specs.Machine.{Stepped}
@@ -28,8 +29,6 @@ use Rattle.channel_client.specs.declared.state.Standing.{Standing}
 use Rattle.channel_client.specs.declared.state.Standing.TheVariants as standing
 use Rattle.channel_client.specs.declared.state.Step.TheVariants as step
 use Rattle.channel_client.specs.Machine.{after, auth_call, challenge_call, judge, judge_auth, judge_credential, logon_call, offered_flags, server_credential}
-use Rattle.channel_client.specs.Opened.{OpenState, after_call, after_return, first_state}
-use Rattle.domain_controller.specs.Channels.{ChannelState}
 use Rattle.domain_controller.specs.Machine.{channel_for}
 use Rattle.domain_controller.specs.State.{State as ControllerState}
 use Rattle.domain_controller.specs.Whole.{InRangeTable}
@@ -137,10 +136,10 @@ module _ (plan : Plan) (p : Coming) (s : State) where
   -- the channel stands, in step
   second_kept : (v : TurnAt) (now : ℕ) (client server : List ℕ) (left : List (List ℕ)) (told : ToldProof p.table p.name v.computers (length v.links) now v.next p.meeting.caller client server left) →
       v.next < 2 ^ 32 → IsTurnCall (auth_call p.meeting.caller client server) → HasSecret p → lookup same_name p.meeting.caller.computer v.computers.pending ≡ Some (pair_of client server) →
-      KeepsInStep p told.later (first_state p.meeting.caller.secret client server offered_flags)
+      KeepsInStep p told.later (fresh_channel p.meeting.caller.secret client server offered_flags)
   second_kept v now client server left told below can known waits =
       let name : List ℕ = p.meeting.caller.computer in
-      let c : ChannelState = channel_for known.machine (pair_of client server) (auth_value p.meeting.caller client server) in
+      let c : SecureChannelState = channel_for known.machine (pair_of client server) (auth_value p.meeting.caller client server) in
       record {
         channel = c;
         keeps = subst (λ (k : Computers). lookup same_name name k.channels ≡ Some c)
@@ -152,12 +151,12 @@ module _ (plan : Plan) (p : Coming) (s : State) where
       }
 
   -- it has moved, at both ends
-  third_kept : (v : TurnAt) (now timestamp : ℕ) (o : OpenState) (info : NetworkInfo) (left : List (List ℕ))
+  third_kept : (v : TurnAt) (now timestamp : ℕ) (o : SecureChannelState) (info : NetworkInfo) (left : List (List ℕ))
       (told : ToldLogon p.table p.name v.computers (length v.links) now v.next timestamp p.meeting.caller o info left) → v.next < 2 ^ 32 →
       IsTurnCall (logon_call p.meeting.caller o timestamp info) → KeepsInStep p v.computers o → KeepsInStep p told.later (after_return true (after_call o timestamp))
   third_kept v now timestamp o info left told below can step_so =
       let name : List ℕ = p.meeting.caller.computer in
-      let c : ChannelState = moved step_so.channel timestamp in
+      let c : SecureChannelState = moved step_so.channel timestamp in
       record {
         channel = c;
         keeps = subst (λ (k : Computers). lookup same_name name k.channels ≡ Some c)
@@ -176,7 +175,7 @@ module _ (plan : Plan) (p : Coming) (s : State) where
         let told : ToldChallenge p.table p.name v.computers (length v.links) moment v.next p.meeting.caller client three.one more =
         controllers_answer.challenge p.table p.name v.computers (length v.links) moment v.next p.meeting.caller client three.one more turning.next_below can in
         leads_less plan p s _ (On (Halved a who (record v { computers = told.later }) client three.one)) (three.one ∷ []) more moment (omega arith) three.are (
-          turning_with a v told.later turning (λ other apart. ap (λ (channels : List (List ℕ × ChannelState)). lookup same_name other channels) told.kept) there,
+          turning_with a v told.later turning (λ other apart. ap (λ (channels : List (List ℕ × SecureChannelState)). lookup same_name other channels) told.kept) there,
           three.first,
           λ is_own. first_kept v moment client three.one more told turning.next_below can (able.own_secret is_own),
         )
@@ -200,7 +199,7 @@ module _ (plan : Plan) (p : Coming) (s : State) where
         (proof_reply told.credential told.status) v.computers told.later left left moment
         (between a who v (Second client server) left moment turning aimed) can told.steps shows)
 
-    third_answered : (o : OpenState) (c : ChannelState) (timestamp : ℕ) → IsReadyBy plan p s → MayAim plan p v (Third o c timestamp) →
+    third_answered : (o c : SecureChannelState) (timestamp : ℕ) → IsReadyBy plan p s → MayAim plan p v (Third o c timestamp) →
         Shows s (scene_of p (Calls a who v (Third o c timestamp)) left moment) → IsOnward plan p s (onward s).state
     third_answered o c timestamp ready aimed shows =
         let can : IsTurnCall (call_for p a (Third o c timestamp)) = calls_can_go.logon p.meeting.caller o timestamp (info_asked (own p) a) able.caller aimed.0 turning.answering.info in
@@ -282,7 +281,7 @@ module _ (plan : Plan) (p : Coming) (s : State) where
         (turns_have_links.met (own p) before how turning.joined_so) (turns_have_links.taken (own p) before how turning.joined_so) shows)
 
     -- the logon is refused, and the channel stands
-    refused_on : (r : Reply) (o : OpenState) (status : ℕ) → IsTurnReply question.Logon r →
+    refused_on : (r : Reply) (o : SecureChannelState) (status : ℕ) → IsTurnReply question.Logon r →
         judge question.Logon r (standing_for aim) p.meeting.caller.secret ≡ judgement.Answer o (verdict.Status status) → (IsOwn plan p → KeepsInStep p v.computers o) →
         Shows s (turn_scene (with_accounts accounts (turn_on p a who.later (who.sent ∷ []) v aim)) (after v.next) v.next (step.Reply question.Logon) v.computers (turn_link (length v.links))
         (unit_back (with_accounts accounts (turn_on p a who.later (who.sent ∷ []) v aim)) (reply_bytes v.next r) ∷ []) left moment) → IsOnward plan p s (onward s).state
@@ -299,13 +298,13 @@ module _ (plan : Plan) (p : Coming) (s : State) where
 
   -- the channel opens by the credential that is awaited
   opened_on : (a : Asked) (who : WhoAsked p a) (v : TurnAt) (client server : List ℕ) (left : List (List ℕ)) (moment : ℕ) → IsTurningBy plan p a v →
-      (IsOwn plan p → KeepsInStep p v.computers (first_state p.meeting.caller.secret client server offered_flags)) →
+      (IsOwn plan p → KeepsInStep p v.computers (fresh_channel p.meeting.caller.secret client server offered_flags)) →
       Shows s (any_scene p (Told a who v client server (server_credential p.meeting.caller.secret client server) 0) left moment) → IsOnward plan p s (onward s).state
   opened_on a who v client server left moment turning stands shows =
       let t : Turn = turn_before p a who.later (who.sent ∷ []) v in
       let half : Standing = standing.Half client server in
       let out : Turn = turn_on p a who.later (who.sent ∷ []) v (Second client server) in
-      let o : OpenState = first_state p.meeting.caller.secret client server offered_flags in
+      let o : SecureChannelState = fresh_channel p.meeting.caller.secret client server offered_flags in
       leads plan p s _ (On (DialsHeld a who (turn_after p v) (Third o no_channel (timestamp_of moment)))) left moment shows.left
       (turning_after a who v (Second client server) turning, (timestamp_below moment, stands))
       (subst (λ (map : OpenMap). Shows (onward s).state
@@ -316,7 +315,7 @@ module _ (plan : Plan) (p : Coming) (s : State) where
       turning.next_below refl refl (calls_can_go.proved p.meeting.caller.secret client server) shows))
 
   pub any_told : (a : Asked) (who : WhoAsked p a) (v : TurnAt) (client server credential : List ℕ) (status : ℕ) (left : List (List ℕ)) (moment : ℕ) → IsAble plan p → IsTurningBy plan p a v →
-      IsTurnReply question.Authenticate (proof_reply credential status) → (IsOwn plan p → KeepsInStep p v.computers (first_state p.meeting.caller.secret client server offered_flags)) →
+      IsTurnReply question.Authenticate (proof_reply credential status) → (IsOwn plan p → KeepsInStep p v.computers (fresh_channel p.meeting.caller.secret client server offered_flags)) →
       Shows s (any_scene p (Told a who v client server credential status) left moment) → IsOnward plan p s (onward s).state
   any_told a who v client server credential status left moment able turning goes stands shows =
       let secret : List ℕ = p.meeting.caller.secret in
@@ -337,7 +336,7 @@ module _ (plan : Plan) (p : Coming) (s : State) where
       ]
 
   -- by how the reply to the logon's call is judged: the client is refused, or let in
-  module _ (a : Asked) (who : WhoAsked p a) (v : TurnAt) (o : OpenState) (c : ChannelState) (timestamp : ℕ) (accounts : AccountTable) (answer : Reply) (left : List (List ℕ)) (moment : ℕ)
+  module _ (a : Asked) (who : WhoAsked p a) (v : TurnAt) (o c : SecureChannelState) (timestamp : ℕ) (accounts : AccountTable) (answer : Reply) (left : List (List ℕ)) (moment : ℕ)
       (fits : IsJudgedBy plan p a v o timestamp accounts answer) (shows : Shows s (judged_scene p a who v o c timestamp accounts answer left moment)) where
     judged_on : (found : ChannelJudgement) → judge question.Logon answer (standing.Open (after_call o timestamp)) p.meeting.caller.secret ≡ found → IsLogonJudged (info_in answer) (after_call o timestamp) found →
         IsOnward plan p s (onward s).state ⊎ IsLetIn plan p s
@@ -347,7 +346,7 @@ module _ (plan : Plan) (p : Coming) (s : State) where
         inl (dropped_on a who v (Third o c timestamp) left moment accounts fits.turning fits.differs fits.ranged question.Logon answer cause fits.goes judged shows)
     judged_on (judgement.Answer state (verdict.Status status)) judged is =
         inl (refused_on a who v (Third o c timestamp) left moment accounts fits.turning fits.differs fits.ranged answer state status fits.goes judged
-        (λ is_own. subst (λ (state : OpenState). KeepsInStep p v.computers state) (sym is) (fits.stands is_own)) shows)
+        (λ is_own. subst (λ (state : SecureChannelState). KeepsInStep p v.computers state) (sym is) (fits.stands is_own)) shows)
     judged_on (judgement.Answer state (verdict.Granted sam)) judged is = inr (record {
       a = a;
       who = who;
@@ -361,7 +360,7 @@ module _ (plan : Plan) (p : Coming) (s : State) where
       left = left;
       moment = moment;
       fits = fits;
-      judged = judged ∙ ap (λ (state : OpenState). judgement.Answer state (verdict.Granted sam)) is.0;
+      judged = judged ∙ ap (λ (state : SecureChannelState). judgement.Answer state (verdict.Granted sam)) is.0;
       shows = shows;
     })
 

@@ -9,6 +9,7 @@ use Rattle.wire_base.specs.declared.authenticator.Authenticator.{Authenticator}
 use Rattle.wire_base.proofs.MapLaws.{put_others, taken_others}
 use Rattle.wire_base.proofs.NameLaws.{IsSameness-same_name}
 use Rattle.channel_keys.specs.Credentials.{cred_of}
+use Rattle.channel_keys.specs.Hidden.{crypt_key, is_zero}
 use Rattle.authenticators.specs.Sequences.{authenticator_of, return_of}
 use Rattle.outside.specs.declared.action.Judged.TheVariants as judged
 use Rattle.outside.specs.declared.event.Event.TheVariants as event
@@ -32,13 +33,11 @@ use Rattle.account_table.proofs.ChangeLaws.{differs-none}
 use Rattle.sam_logon.specs.Verdict.{IfGranted, judgement_of}
 use Rattle.sam_logon.proofs.GrantedLaws.{granting-CanWrite, granting-InRange}
 use Rattle.end_links.specs.Serving.{ServedPart}
-use Rattle.channel_client.specs.Hidden.{crypt_key, is_zero}
 use Rattle.channel_client.specs.declared.caller.Caller.{Caller}
 use Rattle.channel_client.specs.declared.state.Question.TheVariants as question
 use Rattle.channel_client.specs.Machine.{auth_call, challenge_call, level_asked, logon_call, offered_flags}
-use Rattle.channel_client.specs.Opened.{OpenState, open_key}
-use Rattle.channel_client.proofs.WholeLaws.{cred_block}
-use Rattle.domain_controller.specs.Channels.{ChannelState, channel_by, key_of_channel, passes_on, return_by}
+use Rattle.authenticators.specs.SecureChannels.{SecureChannelState, key_of_channel, channel_by, passes_on, return_by}
+use Rattle.authenticators.proofs.BlockLaws.{cred_block}
 use Rattle.domain_controller.specs.Hearing.{bound_talk}
 use Rattle.domain_controller.specs.Machine.{Desk, account_for, channel_for, desk, goes_on, judge_account, judge_channel, judge_info, judge_pair, judge_return as return_judged, open_channel, put_channel, put_pair_if, reply_info, send_reply, status_of, take_channel, take_pair}
 use Rattle.domain_controller.specs.State.{State}
@@ -46,7 +45,7 @@ use Rattle.domain_controller.specs.Step.{after_units, first_desk, step_of}
 use Rattle.domain_controller.specs.Whole.{InRangeTable}
 use Rattle.domain_controller.specs.declared.line.Line.{Line}
 use Rattle.domain_controller.specs.declared.state.Computers.{Computers}
-use Rattle.domain_controller.specs.declared.state.Pending.{Pending}
+use Rattle.domain_controller.specs.declared.state.ChallengePair.{ChallengePair}
 use Rattle.domain_controller.specs.declared.state.Talk.{Talk}
 use Rattle.domain_controller.specs.declared.state.Work.{Work}
 use Rattle.domain_controller.proofs.LevelLaws.{short_at}
@@ -125,7 +124,7 @@ module _ (table : AccountTable) (name : List ℕ) (computers : Computers) (link 
     steps = is;
   }
 
-  opened_told : (right : Bool) (channel : ChannelState) → IsProof (open_channel right channel (line_at link number) (auth_value caller client server) proof_work) →
+  opened_told : (right : Bool) (channel : SecureChannelState) → IsProof (open_channel right channel (line_at link number) (auth_value caller client server) proof_work) →
       ToldProof table name computers link now number caller client server left
   opened_told false channel is = denied access_denied (omega arith) is
   opened_told true channel is = record {
@@ -137,14 +136,14 @@ module _ (table : AccountTable) (name : List ℕ) (computers : Computers) (link 
     steps = is;
   }
 
-  pair_told : (pair : Option Pending) (account : Account) → IsProof (judge_pair pair account (line_at link number) (auth_value caller client server) proof_work) →
+  pair_told : (pair : Option ChallengePair) (account : Account) → IsProof (judge_pair pair account (line_at link number) (auth_value caller client server) proof_work) →
       ToldProof table name computers link now number caller client server left
   pair_told None account is = denied access_denied (omega arith) is
   pair_told (Some pair) account is =
-      let channel : ChannelState = channel_for account pair (auth_value caller client server) in
+      let channel : SecureChannelState = channel_for account pair (auth_value caller client server) in
       opened_told (bytes_eq (auth_value caller client server).credential (cred_of (key_of_channel channel) channel.client)) channel is
 
-  account_told : (found : Option Account) (pair : Option Pending) → IsProof (judge_account found pair (line_at link number) (auth_value caller client server) proof_work) →
+  account_told : (found : Option Account) (pair : Option ChallengePair) → IsProof (judge_account found pair (line_at link number) (auth_value caller client server) proof_work) →
       ToldProof table name computers link now number caller client server left
   account_told None pair is = denied _ (omega arith) is
   account_told (Some account) pair is = pair_told pair account is
@@ -221,10 +220,10 @@ passed_goes key credential (verdict.Granted info) block fits refuses =
       names = tells_short r (name_so (reply_info level_asked key info) short range.info);
     }
 
-module _ (table : AccountTable) (name : List ℕ) (computers : Computers) (link now number timestamp : ℕ) (caller : Caller) (o : OpenState) (info : NetworkInfo) (left : List (List ℕ))
+module _ (table : AccountTable) (name : List ℕ) (computers : Computers) (link now number timestamp : ℕ) (caller : Caller) (o : SecureChannelState) (info : NetworkInfo) (left : List (List ℕ))
     (ranged : InRangeTable table) (is_name : IsName name) (below : now < 2 ^ 64) where
   abbrev given : Authenticator
-  given = authenticator_of (open_key o) o.seed timestamp
+  given = authenticator_of (key_of_channel o) o.seed timestamp
 
   abbrev logon_desk : Desk
   logon_desk = desk table (take_channel caller.computer (desk_at table computers link).work)
@@ -238,7 +237,7 @@ module _ (table : AccountTable) (name : List ℕ) (computers : Computers) (link 
   taken_out : KeepsBut caller.computer logon_desk.work.computers computers
   taken_out = λ other apart. taken_others same_name caller.computer other computers.channels IsSameness-same_name apart
 
-  put_back : (channel : ChannelState) → KeepsBut caller.computer (put_channel caller.computer channel logon_desk.work).computers computers
+  put_back : (channel : SecureChannelState) → KeepsBut caller.computer (put_channel caller.computer channel logon_desk.work).computers computers
   put_back channel = λ other apart.
       put_others same_name caller.computer other channel logon_desk.work.computers.channels IsSameness-same_name apart ∙ taken_out other apart
 
@@ -250,7 +249,7 @@ module _ (table : AccountTable) (name : List ℕ) (computers : Computers) (link 
   unfolding judgement_of
   refuses_so = verdict_refuses table name info now
 
-  return_told : (passes : Bool) (channel : ChannelState) →
+  return_told : (passes : Bool) (channel : SecureChannelState) →
       IsLogon (return_judged (return_by passes channel given) (key_of_channel channel) name now (line_at link number) info level_asked
       (desk table (put_channel caller.computer (channel_by passes channel given) logon_desk.work))) →
       ToldLogon table name computers link now number timestamp caller o info left
@@ -284,7 +283,7 @@ module _ (table : AccountTable) (name : List ℕ) (computers : Computers) (link 
         steps = is;
       }
 
-  channel_told : (found : Option ChannelState) → IsLogon (judge_channel found caller.computer given name now (line_at link number) info level_asked logon_desk) →
+  channel_told : (found : Option SecureChannelState) → IsLogon (judge_channel found caller.computer given name now (line_at link number) info level_asked logon_desk) →
       ToldLogon table name computers link now number timestamp caller o info left
   channel_told None is = record {
     later = logon_desk.work.computers;

@@ -5,13 +5,13 @@ use Rattle.std.proofs.lemmas.Option.{slice_get_cases}
 use Rattle.std.specs.Prelude.{◌⊎◌}
 use Rattle.wire_base.specs.Maps.{lookup}
 use Rattle.wire_base.specs.Names.{same_name}
+use Rattle.authenticators.specs.SecureChannels.{SecureChannelState}
 use Rattle.account_table.specs.AccountTable.{AccountTable}
 use Rattle.account_table.specs.declared.account.Account.{Account}
 use Rattle.account_table.proofs.ChangeLaws.{differs-again}
 use Rattle.channel_client.specs.declared.state.Standing.{Standing}
 use Rattle.channel_client.specs.declared.state.Standing.TheVariants as standing
 use Rattle.channel_client.specs.Machine.{after as next_place}
-use Rattle.channel_client.specs.Opened.{OpenState}
 use Rattle.domain_controller.specs.State.{State as ControllerState}
 use Rattle.domain_controller.specs.declared.state.Computers.{Computers}
 use Rattle.domain_controller.specs.declared.state.Running.{Running}
@@ -112,7 +112,7 @@ module _ (plan : Plan) (s : State) (rest : AtRest plan s) (client member control
       }
 
   -- its own member
-  member_in_step : (at : ℕ) (o : OpenState) → at ≡ controller → KeepsInStep (coming_from plan s rest client member controller three account machine) over.settled.computers o →
+  member_in_step : (at : ℕ) (o : SecureChannelState) → at ≡ controller → KeepsInStep (coming_from plan s rest client member controller three account machine) over.settled.computers o →
       IsInStepAt after at three.member_plan o
   member_in_step at o same step_so = subst (λ (n : ℕ). IsInStepAt after n three.member_plan o) (sym same)
       (record {
@@ -128,7 +128,7 @@ module _ (plan : Plan) (s : State) (rest : AtRest plan s) (client member control
   nobody_reached : (at : ℕ) → end_of_peer three.member_plan.controller (first_ends plan) ≡ Some (Controller at) → route_to (Member member) (end_of_peer three.member_plan.controller (first_ends plan)) ≡ None → ⊥
   nobody_reached at there nobody = some_not (sym (ap (λ (end : Option EndId). route_to (Member member) end) there) ∙ nobody)
 
-  member_open : (at : ℕ) (o : OpenState) → HasOwnComputer plan member three.member_plan at → IsReachedOrNot plan member three.member_plan controller →
+  member_open : (at : ℕ) (o : SecureChannelState) → HasOwnComputer plan member three.member_plan at → IsReachedOrNot plan member three.member_plan controller →
       (HasOwnComputer plan member three.member_plan controller → KeepsInStep (coming_from plan s rest client member controller three account machine) over.settled.computers o) →
       IsInStepAt after at three.member_plan o
   member_open at o is_own (inl there) keeps =
@@ -153,7 +153,7 @@ module _ (plan : Plan) (s : State) (rest : AtRest plan s) (client member control
   }
 
   -- another member's channel
-  still_in_step : (at : ℕ) (peer : MemberPlan) (o : OpenState) → at ≢ member → (k : ℕ) → HasOwnComputer plan at peer k → IsInStepAt s k peer o → (k ≡ controller) ⊎ (k ≢ controller) →
+  still_in_step : (at : ℕ) (peer : MemberPlan) (o : SecureChannelState) → at ≢ member → (k : ℕ) → HasOwnComputer plan at peer k → IsInStepAt s k peer o → (k ≡ controller) ⊎ (k ≢ controller) →
       IsInStepAt after k peer o
   still_in_step at peer o apart k is_own old (inl same) =
       let cr : ControllerRests plan s controller three.table = rest.controllers controller three.table three.is_table in

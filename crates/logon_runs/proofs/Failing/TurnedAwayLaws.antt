@@ -9,6 +9,8 @@ use Rattle.wire_base.specs.Names.{same_name}
 use Rattle.wire_base.proofs.MapLaws.{lookup-put_same, put_others, taken_others}
 use Rattle.wire_base.proofs.NameLaws.{IsSameness-same_name}
 use Rattle.authenticators.specs.Sequences.{return_of}
+use Rattle.authenticators.specs.SecureChannels.{SecureChannelState, after_call, after_return, key_of_channel}
+use Rattle.authenticators.proofs.BlockLaws.{cred_block}
 use Rattle.outside.specs.declared.action.Action.TheVariants as action
 use Rattle.outside.specs.declared.action.Judged.TheVariants as judged
 use Rattle.outside.specs.Machine.{whole_step}
@@ -28,15 +30,12 @@ use Rattle.account_table.specs.declared.table.Route.TheVariants.{Own, Trust, Els
 use Rattle.account_table.proofs.ChangeLaws.{differs-none}
 use Rattle.sam_logon.specs.Rules.{Rule, Shown, first_refusal, refusal_by, rules_for, shown_by_response}
 use Rattle.sam_logon.specs.Verdict.{judgement_of, table_after, verdict_by, verdict_of, verdict_routed, verdict_shown}
-use Rattle.channel_client.proofs.WholeLaws.{cred_block}
 use Rattle.channel_client.specs.declared.judging.Judgement.TheVariants as judgement
 use Rattle.channel_client.specs.declared.state.Question.TheVariants as question
 use Rattle.channel_client.specs.declared.state.Standing.{Standing}
 use Rattle.channel_client.specs.declared.state.Standing.TheVariants as standing
 use Rattle.channel_client.specs.declared.state.Step.TheVariants as step
 use Rattle.channel_client.specs.Machine.{after, judge, judge_awaited, judge_logon, judge_status, level_asked}
-use Rattle.channel_client.specs.Opened.{OpenState, after_call, after_return, open_key}
-use Rattle.domain_controller.specs.Channels.{ChannelState}
 use Rattle.domain_controller.specs.Machine.{status_of}
 use Rattle.domain_controller.specs.Whole.{InRangeTable}
 use Rattle.domain_controller.specs.declared.state.Computers.{Computers}
@@ -132,7 +131,7 @@ refusals_so p a moment status is = refusal_from _ status (verdict_refuses p.tabl
 
 -- ---- the reply that refuses can be taken
 
-refusing_goes : (o : OpenState) (timestamp status : ℕ) → status < 2 ^ 32 → IsTurnReply question.Logon (refusing o timestamp status)
+refusing_goes : (o : SecureChannelState) (timestamp status : ℕ) → status < 2 ^ 32 → IsTurnReply question.Logon (refusing o timestamp status)
 refusing_goes o timestamp status small =
     let writes : CanWriteReply (refusing o timestamp status) = tt in
     let range : InRangeReply (refusing o timestamp status) = record {
@@ -149,20 +148,20 @@ refusing_goes o timestamp status small =
       short = omega (arith, written_reply-few (refusing o timestamp status) writes range tt);
     }
 
-refused_judged : (o : OpenState) (timestamp status : ℕ) (secret : List ℕ) → IsRefusal status →
+refused_judged : (o : SecureChannelState) (timestamp status : ℕ) (secret : List ℕ) → IsRefusal status →
     judge question.Logon (refusing o timestamp status) (standing.Open (after_call o timestamp)) secret
     ≡ judgement.Answer (after_return true (after_call o timestamp)) (verdict.Status status)
 refused_judged o timestamp status secret is =
-    let returned : Option Authenticator = Some (record { credential = return_of (open_key o) o.seed timestamp; timestamp = 0 }) in
+    let returned : Option Authenticator = Some (record { credential = return_of (key_of_channel o) o.seed timestamp; timestamp = 0 }) in
     ap (λ (d : Bool). judge_logon d (standing.Open (after_call o timestamp)) returned status level_asked None) is.not_denied
-    ∙ ap (λ (same : Bool). judge_awaited same status level_asked None (after_call o timestamp)) (same_bytes (return_of (open_key o) o.seed timestamp))
+    ∙ ap (λ (same : Bool). judge_awaited same status level_asked None (after_call o timestamp)) (same_bytes (return_of (key_of_channel o) o.seed timestamp))
     ∙ ap (λ (z : Bool). judge_status z status level_asked None (after_return true (after_call o timestamp))) is.not_zero
 
 judged_range : (p : Coming) (a : Asked) (moment : ℕ) → InRangeTable p.table → InRangeTable (table_after p.table (info_asked (own p) a) moment)
 unfolding judgement_of
 judged_range p a moment range = judged_table p.table p.name moment (info_asked (own p) a) level_asked range
 
-refuses_so : (p : Coming) (s : State) (a : Asked) (who : WhoAsked p a) (v : TurnAt) (o : OpenState) (c : ChannelState) (timestamp : ℕ) (left : List (List ℕ)) (moment status : ℕ) → IsKnown p →
+refuses_so : (p : Coming) (s : State) (a : Asked) (who : WhoAsked p a) (v : TurnAt) (o c : SecureChannelState) (timestamp : ℕ) (left : List (List ℕ)) (moment status : ℕ) → IsKnown p →
     Fits p (Calls a who v (Third o c timestamp)) → verdict_of p.table p.name (info_asked (own p) a) moment ≡ verdict.Status status →
     Shows s (scene_of p (Calls a who v (Third o c timestamp)) left moment) → IsAway p (onward s).state
 refuses_so p s a who v o c timestamp left moment status known fits is shows =
@@ -170,7 +169,7 @@ refuses_so p s a who v o c timestamp left moment status known fits is shows =
     let later : Computers = with_moved (own p) c timestamp v.computers in
     let name : List ℕ = p.meeting.caller.computer in
     let accounts : AccountTable = table_after p.table (info_asked (own p) a) moment in
-    let rest : List (List ℕ × ChannelState) = take_out same_name name v.computers.channels in
+    let rest : List (List ℕ × SecureChannelState) = take_out same_name name v.computers.channels in
     let link : ℕ = length v.links in
     let out : Turn = turn_on p a who.later (who.sent ∷ []) v (Third o c timestamp) in
     record {
@@ -198,7 +197,7 @@ refuses_so p s a who v o c timestamp left moment status known fits is shows =
           (turns_have_links.between (own p) (turn_before p a who.later (who.sent ∷ []) v) (standing_for (Third o c timestamp)) fits.0.joined_so) can
           (controllers_step.judged p.table p.name v.computers link moment v.next timestamp p.meeting.caller o c (info_asked (own p) a) left fits.0.next_below can fits.1.1 fits.1.2
           ∙ ap (λ (found : Verdict). whole_step left left
-          (action.Judged (judged.Passed (status_of found)) ∷ action.Send link (reply_bytes v.next (passed_reply (open_key o) (return_of (open_key o) o.seed timestamp) found)) ∷ [])
+          (action.Judged (judged.Passed (status_of found)) ∷ action.Send link (reply_bytes v.next (passed_reply (key_of_channel o) (return_of (key_of_channel o) o.seed timestamp) found)) ∷ [])
           (controller_at accounts p.name later (turn_link link))) is) shows;
     }
 
@@ -219,14 +218,14 @@ lost_so p a v ranged is = record {
 
 -- ---- a unit comes
 
-refused_on : (p : Coming) (s : State) (a : Asked) (who : WhoAsked p a) (v : TurnAt) (o : OpenState) (c : ChannelState) (timestamp : ℕ) (accounts : AccountTable) (status : ℕ)
+refused_on : (p : Coming) (s : State) (a : Asked) (who : WhoAsked p a) (v : TurnAt) (o c : SecureChannelState) (timestamp : ℕ) (accounts : AccountTable) (status : ℕ)
     (left : List (List ℕ)) (moment : ℕ) → FitsAway p (Refused a who v o c timestamp accounts status) → Shows s (away_scene p (Refused a who v o c timestamp accounts status) left moment) →
     IsAway p (onward s).state
 refused_on p s a who v o c timestamp accounts status left moment fits shows =
     let how : Standing = standing.Open (after_call o timestamp) in
     let before : Turn = turn_before p a who.later (who.sent ∷ []) v in
     let out : Turn = turn_on p a who.later (who.sent ∷ []) v (Third o c timestamp) in
-    let o_then : OpenState = after_return true (after_call o timestamp) in
+    let o_then : SecureChannelState = after_return true (after_call o timestamp) in
     record {
       phase = Faulted a who.later (record { how = standing.Open o_then; number = after v.next; links = out.links; table = accounts; computers = v.computers }) error_access_denied;
       left = left;
@@ -401,7 +400,7 @@ rests_left p s (move.Hand link back bytes) steps at = absurd steps
 rests_left p s (move.Shut number) steps at = absurd steps
 rests_left p s (move.Restart number) steps at = absurd steps
 
-refuses_left : (p : Coming) (s : State) (a : Asked) (who : WhoAsked p a) (v : TurnAt) (o : OpenState) (c : ChannelState) (timestamp : ℕ) (left : List (List ℕ)) (moment status : ℕ) (known : IsKnown p)
+refuses_left : (p : Coming) (s : State) (a : Asked) (who : WhoAsked p a) (v : TurnAt) (o c : SecureChannelState) (timestamp : ℕ) (left : List (List ℕ)) (moment status : ℕ) (known : IsKnown p)
     (fits : Fits p (Calls a who v (Third o c timestamp))) (is : verdict_of p.table p.name (info_asked (own p) a) moment ≡ verdict.Status status)
     (shows : Shows s (scene_of p (Calls a who v (Third o c timestamp)) left moment)) → (refuses_so p s a who v o c timestamp left moment status known fits is shows).left ≡ left
 unfolding refuses_so

@@ -1,10 +1,10 @@
 -- What is seen at each move of a first logon, up to the answer of WhoAmI.
 -- Of `first_logons_are_seen`.
 use Rattle.std.proofs.Common.{ℕ, List, [], ◌∷◌, arith}
+use Rattle.authenticators.specs.SecureChannels.{SecureChannelState}
 use Rattle.logon_stubs.specs.declared.info.SamInfo.{SamInfo}
 use Rattle.memo_stubs.specs.Memo.{written_who_reply}
 use Rattle.memo_stubs.proofs.MemoLaws.{who_stub}
-use Rattle.channel_client.specs.Opened.{OpenState}
 use Rattle.logon_client.specs.declared.state.Terms.{Terms}
 use Rattle.member_server.specs.declared.state.LoggedOn.{LoggedOn}
 use Rattle.member_server.specs.Outcomes.{name_in}
@@ -36,7 +36,7 @@ first_logons_are_seen = record {
       let a : Asked = asked_at challenge one two three moment in
       let j : Meeting = joined g links in
       let k : Meeting = with_controller j table name computers in
-      let o : OpenState = opens_as g client server in
+      let o : SecureChannelState = opens_as g client server in
       let sam : SamInfo = sam_for j a table name account moment in
       let on : LoggedOn = on_for j a o sam in
       let told : List ℕ = name_in (sam_shown o (hidden o sam)) in

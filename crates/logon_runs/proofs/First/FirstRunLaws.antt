@@ -4,13 +4,12 @@ use Rattle.std.proofs.Common.{ℕ, true, List, [], ◌∷◌, refl}
 use Rattle.wire_base.specs.Maps.{take_out}
 use Rattle.wire_base.specs.Names.{same_name}
 use Rattle.wire_base.proofs.MapLaws.{lookup-put_same}
+use Rattle.authenticators.specs.SecureChannels.{SecureChannelState, after_call, after_return}
 use Rattle.logon_stubs.specs.declared.info.SamInfo.{SamInfo}
 use Rattle.account_table.specs.AccountTable.{AccountTable}
 use Rattle.channel_client.specs.declared.state.Standing.{Standing}
 use Rattle.channel_client.specs.declared.state.Standing.TheVariants as standing
 use Rattle.channel_client.specs.Machine.{after}
-use Rattle.channel_client.specs.Opened.{OpenState, after_call, after_return}
-use Rattle.domain_controller.specs.Channels.{ChannelState}
 use Rattle.domain_controller.specs.declared.state.Computers.{Computers}
 use Rattle.member_server.specs.Turns.{timestamp_of}
 use Rattle.logon_steps.specs.Granting.{cleared}
@@ -30,7 +29,7 @@ pub first_turns_run : FirstTurnsRun
 first_turns_run = record {
   granted = λ s g a client server table name account machine computers waits left moment is reach who back shows.
       let stamp : ℕ = timestamp_of moment in
-      let o : OpenState = opens_as g client server in
+      let o : SecureChannelState = opens_as g client server in
       let sam : SamInfo = sam_for g a table name account moment in
       let sent : List ℕ = who.sent in
       let n5 : ℕ = after (after (after (after (after g.number)))) in
@@ -49,8 +48,8 @@ first_turns_run = record {
       (after_below (after (after (after (after g.number))))) (between_still t3 accounts (turns_have_links.between g t2 how met2)) is.joined is.logon_reply is.short who back refl
       (turns_have_links.met g t2 how met2) (turns_have_links.taken g t2 how met2) seen.logon.reply;
   stays = λ g client server machine computers timestamp secret.
-      let o : OpenState = opens_as g client server in
-      let c : ChannelState = channel_as g machine client server in
+      let o : SecureChannelState = opens_as g client server in
+      let c : SecureChannelState = channel_as g machine client server in
       record {
         member = after_return true (after_call o timestamp);
         stands = refl;

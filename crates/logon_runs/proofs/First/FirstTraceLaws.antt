@@ -3,6 +3,7 @@
 use Rattle.std.proofs.Common.{ℕ, ◌<◌, ◌^◌, List, [], ◌∷◌, refl, subst, arith}
 use Rattle.wire_base.specs.Names.{same_name}
 use Rattle.wire_base.proofs.MapLaws.{lookup-put_same}
+use Rattle.authenticators.specs.SecureChannels.{SecureChannelState, after_call}
 use Rattle.outside.specs.declared.action.Judged.TheVariants as judged
 use Rattle.logon_stubs.specs.declared.calls.Call.{Call}
 use Rattle.logon_stubs.specs.declared.calls.Reply.{Reply}
@@ -14,8 +15,6 @@ use Rattle.channel_client.specs.declared.state.Standing.{Standing}
 use Rattle.channel_client.specs.declared.state.Standing.TheVariants as standing
 use Rattle.channel_client.specs.declared.state.Step.TheVariants as step
 use Rattle.channel_client.specs.Machine.{after, auth_call, challenge_call, logon_call, offered_flags, server_credential}
-use Rattle.channel_client.specs.Opened.{OpenState, after_call}
-use Rattle.domain_controller.specs.Channels.{ChannelState}
 use Rattle.domain_controller.specs.declared.state.Computers.{Computers}
 use Rattle.member_server.specs.Messages.{info_of}
 use Rattle.member_server.specs.Turns.{timestamp_of}
@@ -68,8 +67,8 @@ first_turns_are_seen = record {
       let n4 : ℕ = after n3 in
       let n5 : ℕ = after n4 in
       let n6 : ℕ = after n5 in
-      let o : OpenState = opens_as g client server in
-      let c : ChannelState = channel_as g machine client server in
+      let o : SecureChannelState = opens_as g client server in
+      let c : SecureChannelState = channel_as g machine client server in
       let sam : SamInfo = sam_for g a table name account moment in
       let half : Standing = standing.Half client server in
       let how : Standing = standing.Open (after_call o stamp) in

@@ -2,6 +2,7 @@
 -- Of `grants_rest`.
 use Rattle.std.proofs.Common.{◌≡◌, ℕ, List, [], ◌∷◌, length, sym, subst, ◌∙◌, inl, inr}
 use Rattle.std.specs.List.{AllByRecursion}
+use Rattle.authenticators.specs.SecureChannels.{SecureChannelState, after_call}
 use Rattle.logon_stubs.specs.declared.calls.Reply.{Reply}
 use Rattle.logon_stubs.specs.declared.info.SamInfo.{SamInfo}
 use Rattle.logon_stubs.specs.declared.info.Verdict.TheVariants as verdict
@@ -11,8 +12,6 @@ use Rattle.channel_client.specs.declared.state.Question.TheVariants as question
 use Rattle.channel_client.specs.declared.state.Standing.{Standing}
 use Rattle.channel_client.specs.declared.state.Standing.TheVariants as standing
 use Rattle.channel_client.specs.Machine.{after as next_number, judge}
-use Rattle.channel_client.specs.Opened.{OpenState, after_call}
-use Rattle.domain_controller.specs.Channels.{ChannelState}
 use Rattle.world_moves.specs.declared.moves.Move.{Move}
 use Rattle.world_moves.specs.declared.moves.Move.TheVariants as move
 use Rattle.world_moves.specs.declared.state.State.{State}
@@ -66,8 +65,8 @@ over_so : (g : Meeting) (left : List (List ℕ)) (now : State) → GoesOn g left
 over_so g left now (inl at) units = absurd (grants_go_on.waits g left now at units)
 over_so g left now (inr over) units = over
 
-rests_so : (p : Coming) (s : State) (a : Asked) (who : WhoAsked p a) (v : TurnAt) (o : OpenState) (c : ChannelState) (timestamp : ℕ) (accounts : AccountTable) (r : Reply)
-    (o_then : OpenState) (sam : SamInfo) (left : List (List ℕ)) (moment : ℕ) → CanGoOn p a v → IsTurnReply question.Logon r → HasShortName sam →
+rests_so : (p : Coming) (s : State) (a : Asked) (who : WhoAsked p a) (v : TurnAt) (o c : SecureChannelState) (timestamp : ℕ) (accounts : AccountTable) (r : Reply)
+    (o_then : SecureChannelState) (sam : SamInfo) (left : List (List ℕ)) (moment : ℕ) → CanGoOn p a v → IsTurnReply question.Logon r → HasShortName sam →
     judge question.Logon r (standing.Open (after_call o timestamp)) p.meeting.caller.secret ≡ judgement.Answer o_then (verdict.Granted sam) →
     Shows s (judged_scene p a who v o c timestamp accounts r left moment) →
     (moves : List Move) → AllByRecursion IsStepOn moves →

@@ -5,6 +5,7 @@ use Rattle.std.specs.Prelude.{◌⊎◌, ◌&&◌}
 use Rattle.wire_base.specs.Maps.{lookup, same_number, take_out}
 use Rattle.wire_base.specs.Units.{AreUnits}
 use Rattle.ntlm_flags.specs.Flags.{has_flag, negotiate_extended_sessionsecurity}
+use Rattle.authenticators.specs.SecureChannels.{SecureChannelState}
 use Rattle.ntlm_messages.specs.declared.messages.Authenticate.{Authenticate}
 use Rattle.outside.specs.declared.action.Action.TheVariants as action
 use Rattle.outside.specs.declared.action.CloseCause.TheVariants as close
@@ -19,7 +20,6 @@ use Rattle.channel_client.specs.declared.state.Standing.{Standing}
 use Rattle.channel_client.specs.declared.state.Standing.TheVariants as standing
 use Rattle.channel_client.specs.declared.state.Step.TheVariants as step
 use Rattle.channel_client.specs.Machine.{judge}
-use Rattle.channel_client.specs.Opened.{OpenState}
 use Rattle.domain_controller.specs.declared.state.Computers.{Computers}
 use Rattle.logon_client.specs.declared.outcome.ClientOutcome.{ClientOutcome}
 use Rattle.logon_client.specs.declared.outcome.ClientOutcome.TheVariants.{NoAnswer}
@@ -262,7 +262,7 @@ let_in_new g challenge message sam short units = record {
   session = new_member (has_flag (flags_agreed g.task) negotiate_extended_sessionsecurity) (key_in sam (logon_for g.link g.task challenge message)) (flags_agreed g.task);
 }
 
-module _ (s : State) (g : Meeting) (terms : Terms) (info : NetworkInfo) (challenge : List ℕ) (message : Authenticate) (bytes : List ℕ) (table : AccountTable) (name : List ℕ) (how : Standing) (o : OpenState)
+module _ (s : State) (g : Meeting) (terms : Terms) (info : NetworkInfo) (challenge : List ℕ) (message : Authenticate) (bytes : List ℕ) (table : AccountTable) (name : List ℕ) (how : Standing) (o : SecureChannelState)
     (links : List Route) (opened : OpenMap) (link next number : ℕ) (q : Asking) (r : Reply) (sam : SamInfo) (computers : Computers) (left : List (List ℕ)) (moment : ℕ) where
   abbrev its_turn : Turn
   its_turn = failing_turn g (client_phase.Asked terms client_question.Who) info challenge message (bytes ∷ []) table name how links opened link

@@ -1,6 +1,7 @@
 -- The steps of a member that lets a client in, with whatever key, and of one on whose link somebody is let in.
 -- Of `grants_go_on`.
 use Rattle.std.proofs.Common.{◌≡◌, ℕ, ◌<◌, ◌^◌, List, [], ◌∷◌, None, refl, ap, ◌∙◌}
+use Rattle.authenticators.specs.SecureChannels.{SecureChannelState}
 use Rattle.outside.specs.declared.action.Action.{Action}
 use Rattle.outside.specs.declared.action.Action.TheVariants as action
 use Rattle.outside.specs.declared.action.CloseCause.TheVariants as close
@@ -20,7 +21,6 @@ use Rattle.channel_client.specs.declared.state.Standing.{Standing}
 use Rattle.channel_client.specs.declared.state.Standing.TheVariants as standing
 use Rattle.channel_client.specs.declared.state.Step.TheVariants as step
 use Rattle.channel_client.specs.Machine.{after, judge, settle}
-use Rattle.channel_client.specs.Opened.{OpenState}
 use Rattle.channel_client.specs.State.{Requester}
 use Rattle.logon_client.specs.declared.plan.ClientPlan.{ClientPlan}
 use Rattle.member_server.specs.declared.outcomes.Ending.TheVariants as ending
@@ -56,7 +56,7 @@ use Rattle.rpc_units.specs.declared.unit.Body.TheVariants.{Request}
 -- ---- the turn's reply
 
 -- by what the held request comes to
-granted_served : (plan : MemberPlan) (caller : Caller) (how : Standing) (o : OpenState) (info : NetworkInfo) (place next number turn now : ℕ) (q : Question) (r : Reply) (sam : SamInfo) (logon : Logon)
+granted_served : (plan : MemberPlan) (caller : Caller) (how : Standing) (o : SecureChannelState) (info : NetworkInfo) (place next number turn now : ℕ) (q : Question) (r : Reply) (sam : SamInfo) (logon : Logon)
     (task : ClientPlan) (bytes : List ℕ) (served : Served) (left : List (List ℕ)) → number < 2 ^ 32 → IsTurnReply q r → judge q r how caller.secret ≡ judgement.Answer o (verdict.Granted sam) →
     let told : List Action = action.Close turn close.CallDone ∷ action.Told logon.link (outcome_of (ending.Granted sam) logon) ∷ [] in
     let alone : Work = waiting_work plan (at_rest caller (standing.Open o) (after place) next) [] [] told in
@@ -81,7 +81,7 @@ granted_served plan caller how o info place next number turn now q r sam logon t
     (next_turn now (after_served (then_held what (λ next_at said. serve_held [] next_at said)) [] logon.link alone, dialling.Nothing) left)) comes
 
 -- the member tells that he is in, and answers what is held
-pub granted_replies : (plan : MemberPlan) (caller : Caller) (how : Standing) (o : OpenState) (info : NetworkInfo) (place next number turn now : ℕ) (q : Question) (r : Reply) (sam : SamInfo) (logon : Logon)
+pub granted_replies : (plan : MemberPlan) (caller : Caller) (how : Standing) (o : SecureChannelState) (info : NetworkInfo) (place next number turn now : ℕ) (q : Question) (r : Reply) (sam : SamInfo) (logon : Logon)
     (task : ClientPlan) (sent : ℕ) (bytes : List ℕ) (left : List (List ℕ)) → number < 2 ^ 32 → IsTurnReply q r → judge q r how caller.secret ≡ judgement.Answer o (verdict.Granted sam) →
     (is : IsReplied task sent (let_in task sam logon) bytes) →
     step_of (member_at (logons_in_turn plan caller how info place next number (step.Reply q) ((place, logon) ∷ [])) (one_link logon.link (asked_talk (bound_for task) place (bytes ∷ [])))
@@ -92,7 +92,7 @@ granted_replies plan caller how o info place next number turn now q r sam logon 
     granted_served plan caller how o info place next number turn now q r sam logon task bytes _ left below reply_is granted (is.replies _)
 
 -- or it closes the link
-pub granted_shuts : (plan : MemberPlan) (caller : Caller) (how : Standing) (o : OpenState) (info : NetworkInfo) (place next number turn now : ℕ) (q : Question) (r : Reply) (sam : SamInfo) (logon : Logon)
+pub granted_shuts : (plan : MemberPlan) (caller : Caller) (how : Standing) (o : SecureChannelState) (info : NetworkInfo) (place next number turn now : ℕ) (q : Question) (r : Reply) (sam : SamInfo) (logon : Logon)
     (task : ClientPlan) (bytes : List ℕ) (left : List (List ℕ)) → number < 2 ^ 32 → IsTurnReply q r → judge q r how caller.secret ≡ judgement.Answer o (verdict.Granted sam) →
     (is : IsShut (let_in task sam logon) bytes) →
     step_of (member_at (logons_in_turn plan caller how info place next number (step.Reply q) ((place, logon) ∷ [])) (one_link logon.link (asked_talk (bound_for task) place (bytes ∷ [])))

@@ -3,19 +3,19 @@
 use Rattle.std.proofs.Common.{◌≡◌, ℕ, ◌<◌, ◌≤◌, ◌^◌, Bool, true, false, refl, sym, subst, ◌∙◌, List, [], ◌∷◌, ◌++◌, length, Option, Some, None, arith, inr}
 use Rattle.std.specs.Prelude.{◌==◌}
 use Rattle.wire_base.specs.Units.{AreUnits}
+use Rattle.channel_keys.specs.Hidden.{crypt_key}
+use Rattle.authenticators.specs.SecureChannels.{SecureChannelState, after_call, after_return, fresh_channel, key_of_channel}
 use Rattle.ntlm_seal.specs.Sessions.{SessionState}
 use Rattle.logon_stubs.specs.Ranges.{IsBlock}
 use Rattle.logon_stubs.specs.declared.info.SamInfo.{SamInfo}
 use Rattle.memo_stubs.specs.Memo.{written_echo_reply, written_echo_request, written_who_reply}
 use Rattle.memo_stubs.proofs.MemoLaws.{reply_stub, request_stub, who_stub}
 use Rattle.account_table.specs.AccountTable.{AccountTable}
-use Rattle.channel_client.specs.Opened.{OpenState, after_call, after_return, first_state, open_key}
 use Rattle.channel_client.specs.declared.state.Question.TheVariants as question
 use Rattle.channel_client.specs.declared.state.Standing.{Standing}
 use Rattle.channel_client.specs.declared.state.Standing.TheVariants as standing
 use Rattle.channel_client.specs.declared.state.Step.TheVariants as step
 use Rattle.channel_client.specs.Machine.{after}
-use Rattle.domain_controller.specs.Channels.{ChannelState}
 use Rattle.logon_client.specs.declared.securing.Sending.{Sending}
 use Rattle.logon_client.specs.Machine as client
 use Rattle.member_server.specs.declared.state.LoggedOn.{LoggedOn}
@@ -50,7 +50,6 @@ use Rattle.logon_runs.proofs.Seen.LinkSceneLaws.{meetings_are_seen}
 use Rattle.logon_runs.proofs.RunLaws.{between_still}
 use Rattle.logon_runs.proofs.Seen.TwoLinkLaws.{got_last, turns_have_links}
 use Rattle.ntlm_responses.proofs.ResponseLaws.{All-base_key_of, length-base_key_of}
-use Rattle.channel_client.specs.Hidden.{crypt_key}
 use Rattle.logon_client.specs.declared.outcome.ClientOutcome.TheVariants.{In}
 use Rattle.logon_client.specs.declared.state.Phase.TheVariants as client_phase
 use Rattle.logon_client.specs.declared.state.Question.TheVariants as client_question
@@ -66,10 +65,10 @@ base_block p a = (
   are_bytes (base_key p.meeting.task (message_for (own p) a)) (All-base_key_of p.meeting.task.hash p.meeting.task.user p.meeting.task.domain (message_for (own p) a).nt),
 )
 
-module _ (p : Coming) (a : Asked) (o : OpenState) (timestamp judged_at : ℕ) (known : IsKnown p) where
+module _ (p : Coming) (a : Asked) (o : SecureChannelState) (timestamp judged_at : ℕ) (known : IsKnown p) where
   pub reply_then : judged_at < 2 ^ 64 → IsTurnReply question.Logon (granting o timestamp 0 1 (hidden o (sam_for (own p) a p.table p.name p.account judged_at)))
   reply_then below =
-      subst (λ (k : List ℕ). IsTurnReply question.Logon (granting o timestamp 0 1 (record (sam_for (own p) a p.table p.name p.account judged_at) { key = crypt_key (open_key o) k })))
+      subst (λ (k : List ℕ). IsTurnReply question.Logon (granting o timestamp 0 1 (record (sam_for (own p) a p.table p.name p.account judged_at) { key = crypt_key (key_of_channel o) k })))
       (sym (logons_are_granted.has_key p.table p.name p.account (base_key p.meeting.task (message_for (own p) a)) judged_at))
       (calls_can_go.granted o timestamp p.table p.name p.account (base_key p.meeting.task (message_for (own p) a)) judged_at known.ranged.domain known.ranged.sid known.named known.account_so
       (base_block p a) below)
@@ -82,14 +81,14 @@ pub sent_same : (one other : Sending) → Some one ≡ Some other → one ≡ ot
 sent_same one other is = cc
 
 -- the turn's reply waits, with what the client sent and its session since
-abbrev pub granted_scene : Coming → Asked → Sending → TurnAt → OpenState → ChannelState → ℕ → ℕ → AccountTable → List (List ℕ) → ℕ → Scene
+abbrev pub granted_scene : Coming → Asked → Sending → TurnAt → SecureChannelState → SecureChannelState → ℕ → ℕ → AccountTable → List (List ℕ) → ℕ → Scene
 granted_scene p a sending v o c timestamp judged_at accounts left moment =
     turn_scene (with_accounts accounts (turn_on p a sending.session (sending.bytes ∷ []) v (Third o c timestamp))) (after v.next) v.next (step.Reply question.Logon) v.computers
     (turn_link (length v.links))
     (unit_back (with_accounts accounts (turn_on p a sending.session (sending.bytes ∷ []) v (Third o c timestamp)))
     (reply_bytes v.next (granting o timestamp 0 1 (hidden o (sam_for (own p) a p.table p.name p.account judged_at)))) ∷ []) left moment
 
-abbrev ending_of : Coming → TurnAt → OpenState → ℕ → AccountTable → Ending
+abbrev ending_of : Coming → TurnAt → SecureChannelState → ℕ → AccountTable → Ending
 ending_of p v o timestamp accounts = record {
   member = after_return true (after_call o timestamp);
   number = after v.next;
@@ -98,7 +97,7 @@ ending_of p v o timestamp accounts = record {
   computers = v.computers;
 }
 
-pub granted_on : (p : Coming) (s : State) (a : Asked) (who : WhoAsked p a) (v : TurnAt) (o : OpenState) (c : ChannelState) (timestamp judged_at : ℕ) (accounts : AccountTable)
+pub granted_on : (p : Coming) (s : State) (a : Asked) (who : WhoAsked p a) (v : TurnAt) (o c : SecureChannelState) (timestamp judged_at : ℕ) (accounts : AccountTable)
     (left : List (List ℕ)) (moment : ℕ) → IsKnown p → Fits p (Granted a who v o c timestamp judged_at accounts) →
     Shows s (scene_of p (Granted a who v o c timestamp judged_at accounts) left moment) → ComesBy p (WasTold a) s (onward s).state
 granted_on p s a who v o c timestamp judged_at accounts left moment known fits shows =
@@ -147,7 +146,7 @@ granted_on p s a who v o c timestamp judged_at accounts left moment known fits s
 -- the name of the domain and of the account
 told_short : (p : Coming) → IsKnown p → (length (told_of p) ≤ 129) × AreUnits (told_of p)
 told_short p known =
-    let told : CanBeTold (own p) (record { challenge = []; one = []; two = []; three = []; then_now = 0 }) (first_state [] [] [] 0) p.table p.name p.account 0 =
+    let told : CanBeTold (own p) (record { challenge = []; one = []; two = []; three = []; then_now = 0 }) (fresh_channel [] [] [] 0) p.table p.name p.account 0 =
     grants_are_told.told (own p) _ _ p.table p.name p.account 0 known.ranged.domain known.ranged.sid known.named known.account_so (omega arith) in
     (subst (λ (n : List ℕ). length n ≤ 129) told.found told.short, subst AreUnits told.found told.units)
 

@@ -17,6 +17,7 @@ use Rattle.logon_stubs.specs.declared.calls.Reply.TheVariants as reply
 use Rattle.logon_stubs.specs.declared.info.SamInfo.{SamInfo}
 use Rattle.logon_stubs.specs.declared.info.Verdict.{Verdict}
 use Rattle.std.specs.List.{AllByRecursion}
+use Rattle.authenticators.specs.SecureChannels.{SecureChannelState, after_call, fresh_channel, key_of_channel}
 use Rattle.account_table.specs.AccountTable.{AccountTable}
 use Rattle.account_table.specs.Changes.{at_place, with_bad_count, with_count}
 use Rattle.account_table.specs.LookUps.{place_in}
@@ -25,13 +26,11 @@ use Rattle.account_table.specs.declared.account.Account.{Account}
 use Rattle.sam_logon.proofs.GrantedLaws.{in_range-counted}
 use Rattle.domain_controller.specs.Whole.{InRangeTable}
 use Rattle.sam_logon.specs.MayLogOn.{MayLogOn}
-use Rattle.channel_client.specs.Opened.{OpenState, after_call, first_state, open_key}
 use Rattle.channel_client.specs.declared.state.Question.TheVariants as question
 use Rattle.channel_client.specs.declared.state.Standing.{Standing}
 use Rattle.channel_client.specs.declared.state.Standing.TheVariants as standing
 use Rattle.channel_client.specs.declared.state.Step.TheVariants as step
 use Rattle.channel_client.specs.Machine.{after, offered_flags, server_credential}
-use Rattle.domain_controller.specs.Channels.{ChannelState}
 use Rattle.domain_controller.specs.State.{State as ControllerState}
 use Rattle.domain_controller.specs.Step.{step_of as controller_step_of}
 use Rattle.domain_controller.specs.declared.state.Computers.{Computers}
@@ -118,7 +117,7 @@ first_answered p s a who v client left moment known ready fits shows =
     (left_so s (λ (l : List (List ℕ)). scene_of p (Calls a who v (First client)) l moment) left _ shows.left three.are shows))
 
 -- the channel stands, and others are as they were
-abbrev stands_at : Coming → List ℕ → List ℕ → ChannelState
+abbrev stands_at : Coming → List ℕ → List ℕ → SecureChannelState
 stands_at p client server = channel_for p.machine (pair_of client server) (auth_value p.meeting.caller client server)
 
 abbrev with_stands : Coming → List ℕ → List ℕ → Computers → Computers
@@ -132,7 +131,7 @@ second_answered : (p : Coming) (s : State) (a : Asked) (who : WhoAsked p a) (v :
 second_answered p s a who v client server left moment known fits shows =
     let can : IsTurnCall (call_for p a (Second client server)) = calls_can_go.authenticate p.meeting.caller client server known.caller in
     let later : Computers = with_stands p client server v.computers in
-    let c : ChannelState = stands_at p client server in
+    let c : SecureChannelState = stands_at p client server in
     let name : List ℕ = p.meeting.caller.computer in
     under p s _ (Proved a who (record v { computers = later }) client server) left moment shows.left (
       record {
@@ -165,7 +164,7 @@ cleared_range : (table : AccountTable) (user : List ℕ) → InRangeTable table 
 cleared_range table user is = cleared_at_range (place_in table.accounts user) table is
 
 -- what the controller makes of the logon's call
-grants_then : (p : Coming) (a : Asked) (v : TurnAt) (o : OpenState) (c : ChannelState) (timestamp moment : ℕ) (left : List (List ℕ)) → IsKnown p → HasUser p → IsTurning p a v →
+grants_then : (p : Coming) (a : Asked) (v : TurnAt) (o c : SecureChannelState) (timestamp moment : ℕ) (left : List (List ℕ)) → IsKnown p → HasUser p → IsTurning p a v →
     IsAimed p v (Third o c timestamp) → MayLogOn p.table (info_told p.meeting.task) moment → IsTurnCall (call_for p a (Third o c timestamp)) →
     let sam : SamInfo = sam_for (own p) a p.table p.name p.account moment in
     controller_step_of (controller_at p.table p.name v.computers (turn_link (length v.links)))
@@ -179,7 +178,7 @@ grants_then p a v o c timestamp moment left known user is aimed may can =
     let draws : AreDraws a.one a.two a.three = is.answering.draws in
     controllers_step.judged p.table p.name v.computers link moment v.next timestamp p.meeting.caller o c (info_asked (own p) a) left is.next_below can aimed.1 aimed.2
     ∙ ap₂ (λ (found : Verdict) (accounts : AccountTable). whole_step left left
-    (action.Judged (judged.Passed (status_of found)) ∷ action.Send link (reply_bytes v.next (passed_reply (open_key o) (return_of (open_key o) o.seed timestamp) found)) ∷ [])
+    (action.Judged (judged.Passed (status_of found)) ∷ action.Send link (reply_bytes v.next (passed_reply (key_of_channel o) (return_of (key_of_channel o) o.seed timestamp) found)) ∷ [])
     (controller_at accounts p.name later (turn_link link)))
     (logons_are_granted.verdict p.meeting.plan p.meeting.task a.challenge a.one a.two a.three a.then_now p.meeting.place moment p.table p.name p.account known.can known.units draws
     user.found user.hash may)
@@ -188,7 +187,7 @@ grants_then p a v o c timestamp moment left known user is aimed may can =
     ∙ ap (λ (r : Reply). whole_step left left (action.Judged (judged.Passed 0) ∷ action.Send link (reply_bytes v.next r) ∷ [])
     (controller_at (cleared p.table p.meeting.task.user) p.name later (turn_link link))) (logons_are_granted.reply o timestamp sam)
 
-third_answered : (p : Coming) (s : State) (a : Asked) (who : WhoAsked p a) (v : TurnAt) (o : OpenState) (c : ChannelState) (timestamp : ℕ) (left : List (List ℕ)) (moment : ℕ) → IsKnown p → HasUser p → MayLogOnAt p s →
+third_answered : (p : Coming) (s : State) (a : Asked) (who : WhoAsked p a) (v : TurnAt) (o c : SecureChannelState) (timestamp : ℕ) (left : List (List ℕ)) (moment : ℕ) → IsKnown p → HasUser p → MayLogOnAt p s →
     IsReady p s → IsTurning p a v × IsAimed p v (Third o c timestamp) → KeyArrives (own p) a o → Shows s (scene_of p (Calls a who v (Third o c timestamp)) left moment) →
     ComesBy p (WasJudged a o) s (onward s).state
 third_answered p s a who v o c timestamp left moment known user may_log ready fits arrives shows =
@@ -196,7 +195,7 @@ third_answered p s a who v o c timestamp left moment known user may_log ready fi
     let later : Computers = with_moved (own p) c timestamp v.computers in
     let name : List ℕ = p.meeting.caller.computer in
     let accounts : AccountTable = cleared p.table p.meeting.task.user in
-    let rest : List (List ℕ × ChannelState) = take_out same_name name v.computers.channels in
+    let rest : List (List ℕ × SecureChannelState) = take_out same_name name v.computers.channels in
     let may_then : MayLogOn p.table (info_told p.meeting.task) s.moment =
     subst (λ (found : Option ControllerState). IsSomeAnd found (λ (k : ControllerState). MayLogOn k.table (info_told p.meeting.task) s.moment)) shows.controller may_log in
     let may : MayLogOn p.table (info_told p.meeting.task) moment = subst (λ (now : ℕ). MayLogOn p.table (info_told p.meeting.task) now) shows.moment may_then in
@@ -266,7 +265,7 @@ proved_on p s a who v client server left moment fits shows =
     let t : Turn = turn_before p a who.later (who.sent ∷ []) v in
     let half : Standing = standing.Half client server in
     let out : Turn = turn_on p a who.later (who.sent ∷ []) v (Second client server) in
-    let o : OpenState = first_state p.meeting.caller.secret client server offered_flags in
+    let o : SecureChannelState = fresh_channel p.meeting.caller.secret client server offered_flags in
     under p s _ (DialsHeld a who (turn_after p v) (Third o fits.1.0 (timestamp_of moment))) left moment shows.left
     (turning_after p a who v (Second client server) fits.0, (timestamp_below moment, fits.1.1, fits.1.2))
     (subst (λ (map : OpenMap). Shows (onward s).state

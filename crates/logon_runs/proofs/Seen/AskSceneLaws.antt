@@ -2,6 +2,7 @@
 -- Of `logons_are_seen`.
 use Rattle.std.proofs.Common.{◌≡◌, ℕ, ◌≤◌, ◌<◌, ◌+◌, ◌^◌, true, List, [], ◌∷◌, ◌++◌, length, Option, Some, None, refl, sym, ap, subst, ◌∙◌, arith, append-nil, slice_get}
 use Rattle.wire_base.specs.Maps.{same_number, take_out}
+use Rattle.authenticators.specs.SecureChannels.{SecureChannelState, after_call, after_return}
 use Rattle.ntlm_messages.specs.declared.messages.Authenticate.{Authenticate}
 use Rattle.outside.specs.declared.action.Action.TheVariants as action
 use Rattle.outside.specs.declared.action.CloseCause.TheVariants as close
@@ -18,7 +19,6 @@ use Rattle.channel_client.specs.declared.state.Standing.{Standing}
 use Rattle.channel_client.specs.declared.state.Standing.TheVariants as standing
 use Rattle.channel_client.specs.declared.state.Step.TheVariants as step
 use Rattle.channel_client.specs.Machine.{after}
-use Rattle.channel_client.specs.Opened.{OpenState, after_call, after_return}
 use Rattle.domain_controller.specs.declared.state.Computers.{Computers}
 use Rattle.logon_client.specs.declared.state.Phase.{Phase as ClientPhase}
 use Rattle.member_server.specs.declared.state.LoggedOn.{LoggedOn}
@@ -57,7 +57,7 @@ use Rattle.logon_runs.proofs.Seen.TurningSceneLaws.{scenes_turn}
 use Rattle.logon_runs.proofs.Seen.TurnSceneLaws.{closes_turn, heard_back}
 
 -- the same where the turn is written out
-granted_at : (s : State) (g : Meeting) (info : NetworkInfo) (table : AccountTable) (name : List ℕ) (links : List Route) (opened : OpenMap) (link : ℕ) (o : OpenState) (waits : ClientPhase)
+granted_at : (s : State) (g : Meeting) (info : NetworkInfo) (table : AccountTable) (name : List ℕ) (links : List Route) (opened : OpenMap) (link : ℕ) (o : SecureChannelState) (waits : ClientPhase)
     (challenge : List ℕ) (message : Authenticate) (sam : SamInfo)
     (next number timestamp stamp authoritative most : ℕ) (computers : Computers) (one : Option SessionState) (left : List (List ℕ)) (moment : ℕ) →
     let shown : SamInfo = sam_shown o sam in

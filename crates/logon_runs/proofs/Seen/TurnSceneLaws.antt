@@ -5,6 +5,7 @@ use Rattle.std.specs.Prelude.{◌&&◌}
 use Rattle.wire_base.specs.Maps.{same_number, take_out}
 use Rattle.ntlm_flags.specs.Flags.{has_flag}
 use Rattle.channel_keys.specs.Flags.{rc4_flag}
+use Rattle.authenticators.specs.SecureChannels.{SecureChannelState, after_call, fresh_channel}
 use Rattle.outside.specs.declared.action.Action.TheVariants as action
 use Rattle.outside.specs.declared.event.Event.TheVariants as event
 use Rattle.outside.specs.declared.action.CloseCause.TheVariants as close
@@ -13,13 +14,13 @@ use Rattle.rpc_units.specs.Writing.{written}
 use Rattle.end_links.specs.Binding.{bind_of}
 use Rattle.logon_stubs.specs.declared.calls.Reply.{Reply}
 use Rattle.logon_stubs.specs.declared.calls.Reply.TheVariants as reply
-use Rattle.channel_client.specs.Opened.{OpenState, after_call, first_state}
+use Rattle.logon_stubs.specs.Interface.{netlogon_syntax}
 use Rattle.channel_client.specs.declared.state.Question.TheVariants as question
 use Rattle.channel_client.specs.declared.state.Standing.{Standing}
 use Rattle.channel_client.specs.declared.state.Standing.TheVariants as standing
 use Rattle.channel_client.specs.declared.state.Step.{Step}
 use Rattle.channel_client.specs.declared.state.Step.TheVariants as step
-use Rattle.channel_client.specs.Machine.{after, auth_call, logon_call, netlogon_syntax, offered_flags, question_of, server_credential}
+use Rattle.channel_client.specs.Machine.{after, auth_call, logon_call, offered_flags, question_of, server_credential}
 use Rattle.domain_controller.specs.Hearing.{first_talk}
 use Rattle.domain_controller.specs.Step.{LinkMap}
 use Rattle.domain_controller.specs.declared.state.Computers.{Computers}
@@ -108,7 +109,7 @@ half_ends s t how next number client server computers left moment is_nothing bet
 opened_ends : (s : State) (t : Turn) (how : Standing) (next number flags : ℕ) (client server : List ℕ) (computers : Computers) (left : List (List ℕ)) (moment : ℕ) → t.how ≡ standing.Half client server → IsBetween t → number < 2 ^ 32 →
     (has_flag offered_flags flags && has_flag flags rc4_flag) ≡ true →
     let r : Reply = reply.Authenticate (record { credential = server_credential t.caller.secret client server; flags = flags; status = 0 }) in
-    let o : OpenState = first_state t.caller.secret client server offered_flags in
+    let o : SecureChannelState = fresh_channel t.caller.secret client server offered_flags in
     IsTurnReply question.Authenticate r →
     Shows s (turn_scene t next number (step.Reply question.Authenticate) computers (turn_link t.link) (unit_back t (reply_bytes number r) ∷ []) left moment) →
     Shows (onward s).state

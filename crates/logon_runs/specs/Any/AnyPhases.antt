@@ -4,6 +4,7 @@
 use Rattle.std.specs.Prelude.{ℕ, ◌≡◌, ◌<◌, ◌^◌, ◌⊎◌, true, false, List, [], ◌∷◌, length, None, Some}
 use Rattle.wire_base.specs.Maps.{lookup}
 use Rattle.wire_base.specs.Names.{IsName, same_name}
+use Rattle.authenticators.specs.SecureChannels.{SecureChannelState, after_call, after_return, fresh_channel}
 use Rattle.logon_stubs.specs.Ranges.{IsBlock}
 use Rattle.logon_stubs.specs.declared.calls.Reply.{Reply}
 use Rattle.logon_stubs.specs.declared.calls.Reply.TheVariants as reply
@@ -19,8 +20,6 @@ use Rattle.channel_client.specs.declared.state.Standing.{Standing}
 use Rattle.channel_client.specs.declared.state.Standing.TheVariants as standing
 use Rattle.channel_client.specs.declared.state.Step.TheVariants as step
 use Rattle.channel_client.specs.Machine.{after, judge, offered_flags}
-use Rattle.channel_client.specs.Opened.{OpenState, after_call, after_return, first_state}
-use Rattle.domain_controller.specs.Channels.{ChannelState}
 use Rattle.domain_controller.specs.Machine.{account_for}
 use Rattle.domain_controller.specs.Whole.{InRangeTable}
 use Rattle.domain_controller.specs.declared.state.Computers.{Computers}
@@ -62,8 +61,8 @@ pub record HasSecret (p : Coming) : Type 0 where
   pub secret : machine.hash ≡ p.meeting.caller.secret
 
 -- it keeps the channel in step
-pub record KeepsInStep (p : Coming) (computers : Computers) (o : OpenState) : Type 0 where
-  pub channel : ChannelState
+pub record KeepsInStep (p : Coming) (computers : Computers) (o : SecureChannelState) : Type 0 where
+  pub channel : SecureChannelState
   pub keeps : lookup same_name p.meeting.caller.computer computers.channels ≡ Some channel
   pub in_step : IsInStep o channel
 
@@ -111,7 +110,7 @@ pub record IsHeard (plan : Plan) (p : Coming) (s : State) : Type 0 where
 pub data AnyPhase (p : Coming) : Type 0 where
   On : (phase : LogonPhase p) → AnyPhase p
   Told : (a : Asked) (who : WhoAsked p a) (v : TurnAt) (client server credential : List ℕ) (status : ℕ) → AnyPhase p
-  Judged : (a : Asked) (who : WhoAsked p a) (v : TurnAt) (o : OpenState) (c : ChannelState) (timestamp : ℕ) (accounts : AccountTable) (answer : Reply) → AnyPhase p
+  Judged : (a : Asked) (who : WhoAsked p a) (v : TurnAt) (o c : SecureChannelState) (timestamp : ℕ) (accounts : AccountTable) (answer : Reply) → AnyPhase p
   Away : (phase : AwayPhase p) → AnyPhase p
 
 -- the reply to the second call
@@ -176,7 +175,7 @@ MayFitAway plan p (Unheard a who e) = IsLeft plan p e
 MayFitAway plan p (Faulted a later e status) = IsLeft plan p e × (status < 2 ^ 32)
 
 -- the reply to the third call, and what the member's channel comes to by it
-pub record IsJudgedBy (plan : Plan) (p : Coming) (a : Asked) (v : TurnAt) (o : OpenState) (timestamp : ℕ) (accounts : AccountTable) (answer : Reply) : Type 0 where
+pub record IsJudgedBy (plan : Plan) (p : Coming) (a : Asked) (v : TurnAt) (o : SecureChannelState) (timestamp : ℕ) (accounts : AccountTable) (answer : Reply) : Type 0 where
   pub turning : IsTurningBy plan p a v
   pub goes : IsTurnReply question.Logon answer
   pub names : TellsShort answer
@@ -188,7 +187,7 @@ abbrev pub MayFit : (plan : Plan) (p : Coming) → AnyPhase p → Type 0
 MayFit plan p (On phase) = MayFitOn plan p phase
 MayFit plan p (Told a who v client server credential status) =
     IsTurningBy plan p a v × IsTurnReply question.Authenticate (proof_reply credential status)
-    × (IsOwn plan p → KeepsInStep p v.computers (first_state p.meeting.caller.secret client server offered_flags))
+    × (IsOwn plan p → KeepsInStep p v.computers (fresh_channel p.meeting.caller.secret client server offered_flags))
 MayFit plan p (Judged a who v o c timestamp accounts answer) = IsJudgedBy plan p a v o timestamp accounts answer
 MayFit plan p (Away phase) = MayFitAway plan p phase
 
@@ -214,8 +213,8 @@ pub record IsLetIn (plan : Plan) (p : Coming) (s : State) : Type 0 where
   pub a : Asked
   pub who : WhoAsked p a
   pub v : TurnAt
-  pub o : OpenState
-  pub c : ChannelState
+  pub o : SecureChannelState
+  pub c : SecureChannelState
   pub timestamp : ℕ
   pub accounts : AccountTable
   pub answer : Reply

@@ -3,6 +3,7 @@
 use Rattle.std.specs.Prelude.{ℕ, ◌≡◌, ◌<◌, ◌^◌, false, List, [], ◌∷◌}
 use Rattle.wire_base.specs.Maps.{lookup}
 use Rattle.wire_base.specs.Names.{IsName, same_name}
+use Rattle.authenticators.specs.SecureChannels.{SecureChannelState}
 use Rattle.outside.specs.declared.action.Action.TheVariants as action
 use Rattle.outside.specs.declared.action.Judged.{Judged}
 use Rattle.outside.specs.declared.event.Event.TheVariants as event
@@ -20,7 +21,6 @@ use Rattle.channel_client.specs.declared.judging.Judgement.TheVariants as judgem
 use Rattle.channel_client.specs.declared.state.Question.TheVariants as question
 use Rattle.channel_client.specs.declared.state.Standing.TheVariants as standing
 use Rattle.channel_client.specs.Machine.{auth_call, challenge_call, judge, logon_call, offered_flags}
-use Rattle.channel_client.specs.Opened.{OpenState}
 use Rattle.domain_controller.specs.Step.{step_of}
 use Rattle.domain_controller.specs.Whole.{InRangeTable}
 use Rattle.domain_controller.specs.declared.state.Computers.{Computers}
@@ -55,10 +55,10 @@ pub record ToldProof (table : AccountTable) (name : List ℕ) (computers : Compu
 -- where the channel's end takes it as granted, the name that is told fits
 abbrev pub TellsShort : Reply → Type 0
 TellsShort r =
-    (o state : OpenState) (secret : List ℕ) (sam : SamInfo) → judge question.Logon r (standing.Open o) secret ≡ judgement.Answer state (verdict.Granted sam) → HasShortName sam
+    (o state : SecureChannelState) (secret : List ℕ) (sam : SamInfo) → judge question.Logon r (standing.Open o) secret ≡ judgement.Answer state (verdict.Granted sam) → HasShortName sam
 
 -- the logon is judged, or not; of the accounts counts of bad passwords change alone
-pub record ToldLogon (table : AccountTable) (name : List ℕ) (computers : Computers) (link now number timestamp : ℕ) (caller : Caller) (o : OpenState) (info : NetworkInfo) (left : List (List ℕ)) : Type 0 where
+pub record ToldLogon (table : AccountTable) (name : List ℕ) (computers : Computers) (link now number timestamp : ℕ) (caller : Caller) (o : SecureChannelState) (info : NetworkInfo) (left : List (List ℕ)) : Type 0 where
   pub later : Computers
   pub others : KeepsBut caller.computer later computers
   pub accounts : AccountTable
@@ -76,6 +76,6 @@ pub record ControllersAnswer : Type 0 where
       IsTurnCall (challenge_call caller client) → ToldChallenge table name computers link now number caller client server left
   pub proof : (table : AccountTable) (name : List ℕ) (computers : Computers) (link now number : ℕ) (caller : Caller) (client server : List ℕ) (left : List (List ℕ)) → number < 2 ^ 32 →
       IsTurnCall (auth_call caller client server) → ToldProof table name computers link now number caller client server left
-  pub logon : (table : AccountTable) (name : List ℕ) (computers : Computers) (link now number timestamp : ℕ) (caller : Caller) (o : OpenState) (info : NetworkInfo) (left : List (List ℕ)) →
+  pub logon : (table : AccountTable) (name : List ℕ) (computers : Computers) (link now number timestamp : ℕ) (caller : Caller) (o : SecureChannelState) (info : NetworkInfo) (left : List (List ℕ)) →
       number < 2 ^ 32 → IsTurnCall (logon_call caller o timestamp info) → InRangeTable table → IsName name → now < 2 ^ 64 →
       ToldLogon table name computers link now number timestamp caller o info left

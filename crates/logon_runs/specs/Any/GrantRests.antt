@@ -3,6 +3,7 @@
 use Rattle.std.specs.List.{AllByRecursion}
 use Rattle.std.specs.Prelude.{ℕ, ◌≡◌, ◌≤◌, ◌<◌, ◌^◌, List, [], ◌∷◌, length}
 use Rattle.wire_base.specs.Units.{AreUnits}
+use Rattle.authenticators.specs.SecureChannels.{SecureChannelState, after_call}
 use Rattle.logon_stubs.specs.declared.calls.Reply.{Reply}
 use Rattle.logon_stubs.specs.declared.info.SamInfo.{SamInfo}
 use Rattle.logon_stubs.specs.declared.info.Verdict.TheVariants as verdict
@@ -12,8 +13,6 @@ use Rattle.channel_client.specs.declared.state.Question.TheVariants as question
 use Rattle.channel_client.specs.declared.state.Standing.TheVariants as standing
 use Rattle.channel_client.specs.declared.state.Step.TheVariants as step
 use Rattle.channel_client.specs.Machine.{after as next_number, judge}
-use Rattle.channel_client.specs.Opened.{OpenState, after_call}
-use Rattle.domain_controller.specs.Channels.{ChannelState}
 use Rattle.logon_client.specs.Plans.{CanLogOn}
 use Rattle.logon_client.specs.declared.outcome.ClientOutcome.{ClientOutcome}
 use Rattle.member_server.specs.Outcomes.{name_in}
@@ -37,17 +36,17 @@ use Rattle.logon_runs.specs.Seen.Waiting.{waiting}
 
 -- the turn of the logon's own call, whose controller has these accounts by then; the channel's state at the controller
 -- isn't used
-abbrev pub judged_turn : (p : Coming) (a : Asked) → WhoAsked p a → TurnAt → OpenState → ChannelState → ℕ → AccountTable → Turn
+abbrev pub judged_turn : (p : Coming) (a : Asked) → WhoAsked p a → TurnAt → SecureChannelState → SecureChannelState → ℕ → AccountTable → Turn
 judged_turn p a who v o c timestamp accounts = with_accounts accounts (turn_on p a who.later (who.sent ∷ []) v (Third o c timestamp))
 
 -- the reply to it waits, whichever it is
-abbrev pub judged_scene : (p : Coming) (a : Asked) → WhoAsked p a → TurnAt → OpenState → ChannelState → ℕ → AccountTable → Reply → List (List ℕ) → ℕ → Scene
+abbrev pub judged_scene : (p : Coming) (a : Asked) → WhoAsked p a → TurnAt → SecureChannelState → SecureChannelState → ℕ → AccountTable → Reply → List (List ℕ) → ℕ → Scene
 judged_scene p a who v o c timestamp accounts r left moment =
     turn_scene (judged_turn p a who v o c timestamp accounts) (next_number v.next) v.next (step.Reply question.Logon) v.computers (turn_link (length v.links))
     (unit_back (judged_turn p a who v o c timestamp accounts) (reply_bytes v.next r) ∷ []) left moment
 
 -- what is left of it then: the member's channel has that state
-abbrev pub judged_rest : (p : Coming) (a : Asked) → WhoAsked p a → TurnAt → OpenState → ChannelState → ℕ → AccountTable → OpenState → Settled
+abbrev pub judged_rest : (p : Coming) (a : Asked) → WhoAsked p a → TurnAt → SecureChannelState → SecureChannelState → ℕ → AccountTable → SecureChannelState → Settled
 judged_rest p a who v o c timestamp accounts o_then = record {
   how = standing.Open o_then;
   number = next_number v.next;
@@ -81,8 +80,8 @@ pub record HasSettled (p : Coming) (s : State) (e : Settled) (after : State) : T
 
 pub record GrantsRest : Type 0 where
   -- the reply comes, and the member lets the client in by it, with whatever key
-  pub rests : (p : Coming) (s : State) (a : Asked) (who : WhoAsked p a) (v : TurnAt) (o : OpenState) (c : ChannelState) (timestamp : ℕ) (accounts : AccountTable) (r : Reply)
-      (o_then : OpenState) (sam : SamInfo) (left : List (List ℕ)) (moment : ℕ) → CanGoOn p a v → IsTurnReply question.Logon r → HasShortName sam →
+  pub rests : (p : Coming) (s : State) (a : Asked) (who : WhoAsked p a) (v : TurnAt) (o c : SecureChannelState) (timestamp : ℕ) (accounts : AccountTable) (r : Reply)
+      (o_then : SecureChannelState) (sam : SamInfo) (left : List (List ℕ)) (moment : ℕ) → CanGoOn p a v → IsTurnReply question.Logon r → HasShortName sam →
       judge question.Logon r (standing.Open (after_call o timestamp)) p.meeting.caller.secret ≡ judgement.Answer o_then (verdict.Granted sam) →
       Shows s (judged_scene p a who v o c timestamp accounts r left moment) →
       (moves : List Move) → AllByRecursion IsStepOn moves →

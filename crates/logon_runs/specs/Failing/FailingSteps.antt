@@ -1,6 +1,7 @@
 -- The steps of a member and a client where a logon fails: its dial or its turn fails, or the controller refuses it, and
 -- WhoAmI is answered with a fault (MS-NRPC 3.1.4; C706 12.6.4.7; the statuses are this project's own choice).
 use Rattle.std.specs.Prelude.{ℕ, ◌≡◌, ◌<◌, ◌^◌, ◌==◌, List, [], ◌∷◌, Option, None}
+use Rattle.authenticators.specs.SecureChannels.{SecureChannelState}
 use Rattle.ntlm_seal.specs.Sessions.{SessionState}
 use Rattle.outside.specs.declared.action.Action.TheVariants as action
 use Rattle.outside.specs.declared.action.CloseCause.TheVariants as close
@@ -24,7 +25,6 @@ use Rattle.channel_client.specs.declared.state.Standing.{Standing}
 use Rattle.channel_client.specs.declared.state.Standing.TheVariants as standing
 use Rattle.channel_client.specs.declared.state.Step.TheVariants as step
 use Rattle.channel_client.specs.Machine.{after, judge}
-use Rattle.channel_client.specs.Opened.{OpenState}
 use Rattle.logon_client.specs.declared.plan.ClientPlan.{ClientPlan}
 use Rattle.logon_client.specs.declared.state.Phase.TheVariants as client_phase
 use Rattle.logon_client.specs.declared.state.Question.TheVariants as client_question
@@ -62,7 +62,7 @@ pub record FailingsStep : Type 0 where
       (action.Close turn close.CallDone ∷ action.Told logon.link (outcome.NoController cause) ∷ action.Send logon.link (who_fault rpc_s_server_unavailable) ∷ [])
       (member_at (logons_at_rest plan caller standing.Nothing (after place) next) (one_link logon.link (out_talk task rpc_s_server_unavailable)) dialling.Nothing)
   -- the controller refuses it with a status, and the channel stands on
-  pub refuses : (plan : MemberPlan) (caller : Caller) (how : Standing) (o : OpenState) (info : NetworkInfo) (place next number turn now most status : ℕ) (q : Question) (r : Reply) (logon : Logon)
+  pub refuses : (plan : MemberPlan) (caller : Caller) (how : Standing) (o : SecureChannelState) (info : NetworkInfo) (place next number turn now most status : ℕ) (q : Question) (r : Reply) (logon : Logon)
       (task : ClientPlan) (one other : Option SessionState) (left : List (List ℕ)) → number < 2 ^ 32 → IsTurnReply q r →
       judge q r how caller.secret ≡ judgement.Answer o (verdict.Status status) → (who : RequestGoes most task.level 2 0 [] one other) →
       member_step_of (member_at (logons_in_turn plan caller how info place next number (step.Reply q) ((place, logon) ∷ [])) (one_link logon.link (asked_talk (bound_for task) place (who.sent ∷ [])))

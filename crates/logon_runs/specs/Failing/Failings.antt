@@ -2,6 +2,7 @@
 -- fault that the client then hears (this project's own choice).
 use Rattle.std.specs.Prelude.{ℕ, ◌≡◌, ◌<◌, ◌^◌, ◌==◌, List, [], ◌∷◌, Option, None, Some, slice_get}
 use Rattle.wire_base.specs.Maps.{same_number, take_out}
+use Rattle.authenticators.specs.SecureChannels.{SecureChannelState}
 use Rattle.ntlm_messages.specs.declared.messages.Authenticate.{Authenticate}
 use Rattle.ntlm_seal.specs.Sessions.{SessionState}
 use Rattle.outside.specs.declared.action.DropCause.{DropCause}
@@ -17,7 +18,6 @@ use Rattle.channel_client.specs.declared.state.Standing.{Standing}
 use Rattle.channel_client.specs.declared.state.Standing.TheVariants as standing
 use Rattle.channel_client.specs.declared.state.Step.TheVariants as step
 use Rattle.channel_client.specs.Machine.{after, judge}
-use Rattle.channel_client.specs.Opened.{OpenState}
 use Rattle.domain_controller.specs.declared.state.Computers.{Computers}
 use Rattle.logon_client.specs.declared.outcome.ClientOutcome.TheVariants.{NoAnswer}
 use Rattle.logon_client.specs.declared.outcome.NoAnswerCause.TheVariants as no_answer
@@ -91,7 +91,7 @@ pub record FailingsAreSeen : Type 0 where
       Shows (onward s).state
       (meeting_scene (settled_at g table name computers standing.Nothing next links) waits (out_talk g.task rpc_s_server_unavailable) (unit_down g (who_fault rpc_s_server_unavailable) ∷ []) left moment)
   pub refused : (s : State) (g : Meeting) (waits : ClientPhase) (info : NetworkInfo) (challenge : List ℕ) (message : Authenticate) (table : AccountTable) (name : List ℕ)
-      (how : Standing) (o : OpenState) (links : List Route) (opened : OpenMap) (link next number most status : ℕ) (q : Question) (r : Reply) (computers : Computers) (one other : Option SessionState)
+      (how : Standing) (o : SecureChannelState) (links : List Route) (opened : OpenMap) (link next number most status : ℕ) (q : Question) (r : Reply) (computers : Computers) (one other : Option SessionState)
       (left : List (List ℕ)) (moment : ℕ) → (who : RequestGoes most g.task.level 2 0 [] one other) →
       let t : Turn = failing_turn g waits info challenge message (who.sent ∷ []) table name how links opened link in
       number < 2 ^ 32 → IsBetween t → IsTurnReply q r → judge q r how g.caller.secret ≡ judgement.Answer o (verdict.Status status) →

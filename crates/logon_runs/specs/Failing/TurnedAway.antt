@@ -5,6 +5,7 @@ use Rattle.wire_base.specs.Maps.{lookup}
 use Rattle.wire_base.specs.Names.{same_name}
 use Rattle.ntlm_seal.specs.Sessions.{SessionState}
 use Rattle.authenticators.specs.Sequences.{return_of}
+use Rattle.authenticators.specs.SecureChannels.{SecureChannelState, key_of_channel}
 use Rattle.rpc_units.specs.Numbers.{rpc_s_server_unavailable}
 use Rattle.logon_stubs.specs.Status.{access_denied}
 use Rattle.logon_stubs.specs.declared.calls.Reply.{Reply}
@@ -17,8 +18,6 @@ use Rattle.channel_client.specs.declared.state.Standing.{Standing}
 use Rattle.channel_client.specs.declared.state.Standing.TheVariants as standing
 use Rattle.channel_client.specs.declared.state.Step.TheVariants as step
 use Rattle.channel_client.specs.Machine.{after}
-use Rattle.channel_client.specs.Opened.{OpenState, open_key}
-use Rattle.domain_controller.specs.Channels.{ChannelState}
 use Rattle.domain_controller.specs.Whole.{InRangeTable}
 use Rattle.domain_controller.specs.declared.state.Computers.{Computers}
 use Rattle.logon_client.specs.declared.outcome.ClientOutcome.{ClientOutcome}
@@ -52,12 +51,12 @@ abbrev pub settled_in : Coming → Settled → Meeting
 settled_in p e = settled_at (own p) e.table p.name e.computers e.how e.number e.links
 
 -- the reply that refuses
-abbrev pub refusing : OpenState → ℕ → ℕ → Reply
-refusing o timestamp status = passed_reply (open_key o) (return_of (open_key o) o.seed timestamp) (verdict.Status status)
+abbrev pub refusing : SecureChannelState → ℕ → ℕ → Reply
+refusing o timestamp status = passed_reply (key_of_channel o) (return_of (key_of_channel o) o.seed timestamp) (verdict.Status status)
 
 -- the phases: the reply that refuses waits; WhoAmI does, where nobody is let in; the fault does
 pub data AwayPhase (p : Coming) : Type 0 where
-  Refused : (a : Asked) (who : WhoAsked p a) (v : TurnAt) (o : OpenState) (c : ChannelState) (timestamp : ℕ) (accounts : AccountTable) (status : ℕ) → AwayPhase p
+  Refused : (a : Asked) (who : WhoAsked p a) (v : TurnAt) (o c : SecureChannelState) (timestamp : ℕ) (accounts : AccountTable) (status : ℕ) → AwayPhase p
   Unheard : (a : Asked) (who : WhoAsked p a) (e : Settled) → AwayPhase p
   Faulted : (a : Asked) (later : Option SessionState) (e : Settled) (status : ℕ) → AwayPhase p
 
@@ -113,7 +112,7 @@ pub record LogonsAreTurnedAway : Type 0 where
   -- each status of a verdict is such a one
   pub refusals : (p : Coming) (a : Asked) (moment status : ℕ) → verdict_of p.table p.name (info_asked (own p) a) moment ≡ verdict.Status status → IsRefusal status
   -- the controller refuses the logon; its table then has other counts of bad passwords
-  pub refuses : (p : Coming) (s : State) (a : Asked) (who : WhoAsked p a) (v : TurnAt) (o : OpenState) (c : ChannelState) (timestamp : ℕ) (left : List (List ℕ)) (moment status : ℕ) → IsKnown p →
+  pub refuses : (p : Coming) (s : State) (a : Asked) (who : WhoAsked p a) (v : TurnAt) (o c : SecureChannelState) (timestamp : ℕ) (left : List (List ℕ)) (moment status : ℕ) → IsKnown p →
       Fits p (Calls a who v (Third o c timestamp)) → verdict_of p.table p.name (info_asked (own p) a) moment ≡ verdict.Status status →
       Shows s (scene_of p (Calls a who v (Third o c timestamp)) left moment) → IsAway p (onward s).state
   -- the member reaches no controller, before WhoAmI is held or once it is
@@ -128,7 +127,7 @@ pub record LogonsAreTurnedAway : Type 0 where
   -- each move leads on, or to the end
   pub goes_on : (p : Coming) (s : State) (what : Move) → IsStepOn what → IsAway p s → IsAway p (act s what).state ⊎ HasEnded p (act s what).state
   -- it draws no challenge, from the judgement on
-  pub judged_draws : (p : Coming) (s : State) (a : Asked) (who : WhoAsked p a) (v : TurnAt) (o : OpenState) (c : ChannelState) (timestamp : ℕ) (left : List (List ℕ)) (moment status : ℕ) →
+  pub judged_draws : (p : Coming) (s : State) (a : Asked) (who : WhoAsked p a) (v : TurnAt) (o c : SecureChannelState) (timestamp : ℕ) (left : List (List ℕ)) (moment status : ℕ) →
       (known : IsKnown p) (fits : Fits p (Calls a who v (Third o c timestamp))) → (is : verdict_of p.table p.name (info_asked (own p) a) moment ≡ verdict.Status status) →
       Shows s (scene_of p (Calls a who v (Third o c timestamp)) left moment) → (onward s).state.chances.left ≡ s.chances.left
   pub draws : (p : Coming) (s : State) (what : Move) → IsStepOn what → IsAway p s → (act s what).state.chances.left ≡ s.chances.left

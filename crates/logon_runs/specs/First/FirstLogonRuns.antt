@@ -3,10 +3,10 @@
 -- where the moment stays and WhoAmI comes before the member's dial is answered.
 use Rattle.std.specs.Prelude.{ℕ, ◌≡◌, ◌≤◌, ◌==◌, true, false, List, [], ◌∷◌, length, Some, slice_get}
 use Rattle.wire_base.specs.Units.{AreUnits}
+use Rattle.authenticators.specs.SecureChannels.{SecureChannelState}
 use Rattle.logon_stubs.specs.declared.info.SamInfo.{SamInfo}
 use Rattle.account_table.specs.AccountTable.{AccountTable}
 use Rattle.account_table.specs.declared.account.Account.{Account}
-use Rattle.channel_client.specs.Opened.{OpenState}
 use Rattle.domain_controller.specs.declared.state.Computers.{Computers}
 use Rattle.logon_client.specs.State.{State as ClientState}
 use Rattle.logon_client.specs.declared.outcome.ClientOutcome.TheVariants.{In}
@@ -58,7 +58,7 @@ pub record FirstLogonsRun : Type 0 where
       (table : AccountTable) (name : List ℕ) (account machine : Account) (computers : Computers) (left : List (List ℕ)) (moment : ℕ) →
       let a : Asked = asked_at challenge one two three moment in
       let sam : SamInfo = sam_for (joined g links) a table name account moment in
-      let o : OpenState = opens_as g client server in
+      let o : SecureChannelState = opens_as g client server in
       let end : Meeting = after_first g links machine client server table name computers moment in
       ComesInFirst s g number links a client server table name account machine moment → (g.task.echo == 0) ≡ true →
       Shows s (rest_scene (with_controller g table name computers) before links (challenge ∷ one ∷ two ∷ three ∷ client ∷ server ∷ left) moment []) →
@@ -68,7 +68,7 @@ pub record FirstLogonsRun : Type 0 where
       (table : AccountTable) (name : List ℕ) (account machine : Account) (computers : Computers) (left : List (List ℕ)) (moment : ℕ) →
       let a : Asked = asked_at challenge one two three moment in
       let sam : SamInfo = sam_for (joined g links) a table name account moment in
-      let o : OpenState = opens_as g client server in
+      let o : SecureChannelState = opens_as g client server in
       let end : Meeting = after_first g links machine client server table name computers moment in
       ComesInFirst s g number links a client server table name account machine moment → (g.task.echo == 0) ≡ false →
       Shows s (rest_scene (with_controller g table name computers) before links (challenge ∷ one ∷ two ∷ three ∷ client ∷ server ∷ left) moment []) →

@@ -4,6 +4,7 @@
 use Rattle.std.specs.Prelude.{ℕ, ◌≡◌, true, ◌≤◌, ◌<◌, ◌^◌, List, [], ◌∷◌, ◌++◌, length, Some, None}
 use Rattle.wire_base.specs.Maps.{put, take_out}
 use Rattle.wire_base.specs.Names.{same_name}
+use Rattle.authenticators.specs.SecureChannels.{SecureChannelState, after_call, after_return, fresh_channel}
 use Rattle.rpc_units.specs.Writing.{written}
 use Rattle.logon_stubs.specs.Ranges.{IsBlock}
 use Rattle.logon_stubs.specs.declared.info.SamInfo.{SamInfo}
@@ -15,8 +16,6 @@ use Rattle.sam_logon.specs.MayLogOn.{MayLogOn}
 use Rattle.channel_client.specs.declared.state.Question.TheVariants as question
 use Rattle.channel_client.specs.declared.state.Standing.TheVariants as standing
 use Rattle.channel_client.specs.Machine.{after, offered_flags}
-use Rattle.channel_client.specs.Opened.{OpenState, after_call, after_return, first_state}
-use Rattle.domain_controller.specs.Channels.{ChannelState}
 use Rattle.domain_controller.specs.Machine.{account_for, channel_for}
 use Rattle.domain_controller.specs.declared.state.Computers.{Computers}
 use Rattle.logon_client.specs.Plans.{CanLogOn}
@@ -44,10 +43,10 @@ use Rattle.logon_runs.specs.Runs.{Asked, StandsInStep, connects, goes, hidden, i
 use Rattle.logon_runs.specs.Scenes.{Shows}
 
 -- the channel as it opens, at the member and at the controller
-abbrev pub opens_as : Meeting → List ℕ → List ℕ → OpenState
-opens_as g client server = first_state g.caller.secret client server offered_flags
+abbrev pub opens_as : Meeting → List ℕ → List ℕ → SecureChannelState
+opens_as g client server = fresh_channel g.caller.secret client server offered_flags
 
-abbrev pub channel_as : Meeting → Account → List ℕ → List ℕ → ChannelState
+abbrev pub channel_as : Meeting → Account → List ℕ → List ℕ → SecureChannelState
 channel_as g machine client server = channel_for machine (pair_of client server) (auth_value g.caller client server)
 
 -- the member has no channel, the controller knows the computer and its secret, and grants the logon
@@ -96,7 +95,7 @@ abbrev pub one_more : Meeting → List Route → List Route
 one_more g links = links ++ ToController g.at_member g.at_controller ∷ []
 
 -- the member's channel rests, after three turns
-abbrev pub rested_first : Meeting → OpenState → ℕ → Meeting
+abbrev pub rested_first : Meeting → SecureChannelState → ℕ → Meeting
 rested_first g o timestamp = record g {
   how = standing.Open (after_return true (after_call o timestamp));
   place = after g.place;
@@ -108,7 +107,7 @@ pub record FirstTurnsRun : Type 0 where
   pub granted : (s : State) (g : Meeting) (a : Asked) (client server : List ℕ) (table : AccountTable) (name : List ℕ) (account machine : Account) (computers : Computers)
       (waits : ClientPhase) (left : List (List ℕ)) (moment : ℕ) → IsToBeOpened g a client server table name account machine moment →
       end_of_peer g.plan.controller s.ends ≡ Some (Controller g.at_controller) →
-      let o : OpenState = opens_as g client server in
+      let o : SecureChannelState = opens_as g client server in
       let sam : SamInfo = sam_for g a table name account moment in
       let on : LoggedOn = on_for g a o sam in
       (who : RequestGoes 1 g.task.level 2 0 [] (terms_for g.plan g.task a.challenge a.then_now (drawn_of a.one a.two a.three)).session on.session)

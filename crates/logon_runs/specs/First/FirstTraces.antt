@@ -1,6 +1,7 @@
 -- What is seen at each move of a first logon, up to the answer of WhoAmI (MS-NLMP 3.1.5.1, 3.2.5.1; MS-NRPC 3.1.4.1,
 -- 3.5.4.4.1, 3.5.4.4.3, 3.5.4.5.3), where the moment stays and WhoAmI comes before the member's dial is answered.
 use Rattle.std.specs.Prelude.{ℕ, ◌≡◌, List, [], ◌∷◌, Option, Some, None}
+use Rattle.authenticators.specs.SecureChannels.{after_call}
 use Rattle.ntlm_seal.specs.Sessions.{SessionState}
 use Rattle.rpc_units.specs.Calls.{bytes_of_call}
 use Rattle.rpc_units.specs.Writing.{written}
@@ -8,11 +9,11 @@ use Rattle.end_links.specs.Binding.{bind_of}
 use Rattle.logon_stubs.specs.declared.calls.Call.{Call}
 use Rattle.logon_stubs.specs.declared.calls.Reply.{Reply}
 use Rattle.logon_stubs.specs.declared.calls.Reply.TheVariants as reply
+use Rattle.logon_stubs.specs.Interface.{netlogon_syntax}
 use Rattle.memo_stubs.specs.Memo.{written_who_reply}
 use Rattle.account_table.specs.AccountTable.{AccountTable}
 use Rattle.account_table.specs.declared.account.Account.{Account}
-use Rattle.channel_client.specs.Machine.{after, auth_call, challenge_call, logon_call, netlogon_syntax, offered_flags, question_of, server_credential}
-use Rattle.channel_client.specs.Opened.{after_call}
+use Rattle.channel_client.specs.Machine.{after, auth_call, challenge_call, logon_call, offered_flags, question_of, server_credential}
 use Rattle.channel_client.specs.declared.state.Standing.TheVariants as standing
 use Rattle.channel_client.specs.declared.state.Step.TheVariants as step
 use Rattle.domain_controller.specs.Hearing.{first_talk}

@@ -1,13 +1,13 @@
 -- The first logon in a world, from its plan to the client's outcome: the moves, the plan's values of which it is
 -- granted, and what it comes to (this project's own choice).
 use Rattle.std.specs.Prelude.{ℕ, ◌≡◌, ◌-◌, ◌==◌, Bool, true, false, List, [], ◌∷◌, ◌++◌, length, Some, slice_get}
+use Rattle.authenticators.specs.SecureChannels.{SecureChannelState}
 use Rattle.outside.specs.Counter.{challenge_of, challenges_from, most_draws}
 use Rattle.account_table.specs.AccountTable.{AccountTable}
 use Rattle.account_table.specs.LookUps.{account_in, machine_name}
 use Rattle.account_table.specs.declared.account.Account.{Account}
 use Rattle.account_table.specs.declared.account.Kind.TheVariants.{Workstation}
 use Rattle.sam_logon.specs.MayLogOn.{MayLogOn}
-use Rattle.channel_client.specs.Opened.{OpenState}
 use Rattle.channel_client.specs.declared.state.Standing.TheVariants as standing
 use Rattle.domain_controller.specs.Step.{first_state}
 use Rattle.domain_controller.specs.declared.state.Computers.{Computers}
@@ -114,7 +114,7 @@ first_meeting plan client member controller can = record {
 }
 
 -- the channel as the member opens it, with the two challenges drawn last
-abbrev pub first_channel : (plan : Plan) (client member controller : ℕ) → CanComeIn plan client member controller → OpenState
+abbrev pub first_channel : (plan : Plan) (client member controller : ℕ) → CanComeIn plan client member controller → SecureChannelState
 first_channel plan client member controller can = opens_as (first_meeting plan client member controller can) (draw plan 4) (draw plan 5)
 
 -- where units are signed, the session base key doesn't travel as zeros

@@ -4,6 +4,7 @@
 use Rattle.std.specs.Prelude.{ℕ, ◌≡◌, ◌≤◌, ◌<◌, ◌^◌, ◌⊎◌, List, [], ◌∷◌, length, None, Some, slice_get}
 use Rattle.wire_base.specs.Maps.{same_number, take_out}
 use Rattle.wire_base.specs.Units.{AreUnits}
+use Rattle.authenticators.specs.SecureChannels.{SecureChannelState}
 use Rattle.ntlm_messages.specs.declared.messages.Authenticate.{Authenticate}
 use Rattle.logon_stubs.specs.declared.calls.Reply.{Reply}
 use Rattle.logon_stubs.specs.declared.info.NetworkInfo.{NetworkInfo}
@@ -16,7 +17,6 @@ use Rattle.channel_client.specs.declared.state.Standing.{Standing}
 use Rattle.channel_client.specs.declared.state.Standing.TheVariants as standing
 use Rattle.channel_client.specs.declared.state.Step.TheVariants as step
 use Rattle.channel_client.specs.Machine.{judge}
-use Rattle.channel_client.specs.Opened.{OpenState}
 use Rattle.domain_controller.specs.declared.state.Computers.{Computers}
 use Rattle.logon_client.specs.declared.outcome.ClientOutcome.{ClientOutcome}
 use Rattle.logon_client.specs.declared.state.Phase.TheVariants as client_phase
@@ -104,7 +104,7 @@ pub record GrantsGoOn : Type 0 where
       IsRequest client.who_number client.who_opnum who.sent × AreTerms 1 (record (terms_at p a) { session = who.later })
   -- the turn's reply comes, and the member takes it as one that grants the logon, with whatever key
   pub granted : (s : State) (g : Meeting) (terms : Terms) (info : NetworkInfo) (challenge : List ℕ) (message : Authenticate) (bytes : List ℕ) (table : AccountTable) (name : List ℕ)
-      (how : Standing) (o : OpenState) (links : List Route) (opened : OpenMap) (link next number : ℕ) (q : Asking) (r : Reply) (sam : SamInfo) (computers : Computers)
+      (how : Standing) (o : SecureChannelState) (links : List Route) (opened : OpenMap) (link next number : ℕ) (q : Asking) (r : Reply) (sam : SamInfo) (computers : Computers)
       (left : List (List ℕ)) (moment : ℕ) →
       let t : Turn = failing_turn g (client_phase.Asked terms client_question.Who) info challenge message (bytes ∷ []) table name how links opened link in
       CanLogOn g.task → IsRequest client.who_number client.who_opnum bytes → AreTerms 1 terms → length (name_in sam) ≤ 129 → AreUnits (name_in sam) →

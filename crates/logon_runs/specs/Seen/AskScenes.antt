@@ -2,6 +2,7 @@
 -- them, as it is seen of a scene (MS-NLMP 3.2.5.1.2).
 use Rattle.std.specs.Prelude.{ℕ, ◌≡◌, ◌≢◌, ◌+◌, ◌≤◌, ◌<◌, ◌^◌, true, List, [], ◌∷◌, length, Option, Some, None, slice_get}
 use Rattle.wire_base.specs.Maps.{lookup, same_number, take_out}
+use Rattle.authenticators.specs.SecureChannels.{SecureChannelState, after_call, after_return}
 use Rattle.ntlm_messages.specs.declared.messages.Authenticate.{Authenticate}
 use Rattle.ntlm_seal.specs.Sessions.{SessionState}
 use Rattle.rpc_units.specs.Writing.{written}
@@ -16,7 +17,6 @@ use Rattle.channel_client.specs.declared.state.Standing.TheVariants as standing
 use Rattle.channel_client.specs.declared.state.Step.{Step}
 use Rattle.channel_client.specs.declared.state.Step.TheVariants as step
 use Rattle.channel_client.specs.Machine.{after, challenge_call, logon_call}
-use Rattle.channel_client.specs.Opened.{OpenState, after_call, after_return}
 use Rattle.domain_controller.specs.Step.{LinkMap}
 use Rattle.domain_controller.specs.declared.state.Computers.{Computers}
 use Rattle.logon_client.specs.declared.state.Phase.{Phase as ClientPhase}
@@ -113,7 +113,7 @@ pub record LogonsAreSeen : Type 0 where
       Shows (onward s).state
       (dial_scene (turn_of g waits info (logon_for g.link g.task challenge message) (asked_talk (bound_for g.task) g.place []) table name) (its_link g) standing.Nothing
       (after g.number) g.number (challenge_call g.caller other) computers (unit_up g sent ∷ []) left moment)
-  pub asks_again : (s : State) (g : Meeting) (o : OpenState) (waits : ClientPhase) (challenge one two three sent : List ℕ) (then_now : ℕ) (table : AccountTable) (name : List ℕ)
+  pub asks_again : (s : State) (g : Meeting) (o : SecureChannelState) (waits : ClientPhase) (challenge one two three sent : List ℕ) (then_now : ℕ) (table : AccountTable) (name : List ℕ)
       (computers : Computers) (left : List (List ℕ)) (moment : ℕ) → g.how ≡ standing.Open o → CanLogOn g.task → HasShortNames g.plan → AreDraws one two three →
       let message : Authenticate = (answer_for g.plan g.task challenge then_now (drawn_of one two three)).message in
       let info : NetworkInfo = info_of message (flags_agreed g.task) challenge in
@@ -135,7 +135,7 @@ pub record LogonsAreSeen : Type 0 where
       Shows s (turn_scene (with_talk g.link (asked_talk (bound_for g.task) t.place []) t) next number what computers there (unit_up g goes.sent ∷ later) left moment) →
       Shows (onward s).state (turn_scene (with_talk g.link (asked_talk (bound_for g.task) t.place (goes.sent ∷ [])) t) next number what computers there later left moment)
   -- the logon is granted, and WhoAmI is answered
-  pub granted : (s : State) (g : Meeting) (t : Turn) (o : OpenState) (waits : ClientPhase) (challenge : List ℕ) (message : Authenticate) (sam : SamInfo)
+  pub granted : (s : State) (g : Meeting) (t : Turn) (o : SecureChannelState) (waits : ClientPhase) (challenge : List ℕ) (message : Authenticate) (sam : SamInfo)
       (next number timestamp stamp authoritative most : ℕ) (computers : Computers) (one : Option SessionState) (left : List (List ℕ)) (moment : ℕ) → number < 2 ^ 32 → IsBetween t → IsJoined g →
       let shown : SamInfo = sam_shown o sam in
       let logon : Logon = logon_for g.link g.task challenge message in

@@ -5,6 +5,7 @@ use Rattle.std.specs.Prelude.{ℕ, ◌≡◌, ◌<◌, ◌^◌, ◌&&◌, true, 
 use Rattle.wire_base.specs.Maps.{lookup, put, same_number, take_out}
 use Rattle.ntlm_flags.specs.Flags.{has_flag}
 use Rattle.channel_keys.specs.Flags.{rc4_flag}
+use Rattle.authenticators.specs.SecureChannels.{SecureChannelState, after_call, fresh_channel}
 use Rattle.outside.specs.declared.action.Action.TheVariants as action
 use Rattle.outside.specs.declared.action.Judged.{Judged}
 use Rattle.outside.specs.declared.event.Event.TheVariants as event
@@ -17,15 +18,15 @@ use Rattle.logon_stubs.specs.declared.calls.Call.{Call}
 use Rattle.logon_stubs.specs.declared.calls.Reply.{Reply}
 use Rattle.logon_stubs.specs.declared.calls.Reply.TheVariants as reply
 use Rattle.logon_stubs.specs.declared.info.NetworkInfo.{NetworkInfo}
+use Rattle.logon_stubs.specs.Interface.{netlogon_syntax}
 use Rattle.account_table.specs.AccountTable.{AccountTable}
 use Rattle.channel_client.specs.declared.caller.Caller.{Caller}
-use Rattle.channel_client.specs.Opened.{OpenState, after_call, first_state}
 use Rattle.channel_client.specs.declared.state.Question.TheVariants as question
 use Rattle.channel_client.specs.declared.state.Standing.TheVariants as standing
 use Rattle.channel_client.specs.declared.state.Standing.{Standing}
 use Rattle.channel_client.specs.declared.state.Step.{Step}
 use Rattle.channel_client.specs.declared.state.Step.TheVariants as step
-use Rattle.channel_client.specs.Machine.{after, auth_call, logon_call, netlogon_syntax, offered_flags, question_of, server_credential}
+use Rattle.channel_client.specs.Machine.{after, auth_call, logon_call, offered_flags, question_of, server_credential}
 use Rattle.domain_controller.specs.Hearing.{first_talk}
 use Rattle.domain_controller.specs.Step.{LinkMap, step_of as controller_step_of}
 use Rattle.domain_controller.specs.declared.state.Computers.{Computers}
@@ -153,7 +154,7 @@ pub record TurnsAreSeen : Type 0 where
   pub opened : (s : State) (t : Turn) (next number flags : ℕ) (client server : List ℕ) (computers : Computers) (left : List (List ℕ)) (moment : ℕ) → IsBetween t → number < 2 ^ 32 →
       t.how ≡ standing.Half client server → (has_flag offered_flags flags && has_flag flags rc4_flag) ≡ true →
       let r : Reply = reply.Authenticate (record { credential = server_credential t.caller.secret client server; flags = flags; status = 0 }) in
-      let o : OpenState = first_state t.caller.secret client server offered_flags in
+      let o : SecureChannelState = fresh_channel t.caller.secret client server offered_flags in
       IsTurnReply question.Authenticate r →
       Shows s (turn_scene t next number (step.Reply question.Authenticate) computers (turn_link t.link) (unit_back t (reply_bytes number r) ∷ []) left moment) →
       Shows (onward s).state

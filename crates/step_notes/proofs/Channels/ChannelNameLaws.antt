@@ -15,6 +15,7 @@ use Rattle.ntlm_flags.specs.Flags.{has_flag}
 use Rattle.channel_keys.specs.Credentials.{cred_of}
 use Rattle.channel_keys.specs.Flags.{rc4_flag, supported_flags}
 use Rattle.channel_keys.specs.SessionKeys.{key_of}
+use Rattle.authenticators.specs.SecureChannels.{channel_of, SecureChannelState, after_return, fresh_channel, is_awaited, channel_by as moved_by_call, key_of_channel, passes_on, return_by}
 use Rattle.rpc_units.specs.declared.unit.Body.{Body}
 use Rattle.rpc_units.specs.declared.unit.Body.TheVariants.{Bind, BindAck, BindNak, Auth3, Request, Response, Fault}
 use Rattle.rpc_units.specs.declared.unit.Unit.{Unit as RpcUnit}
@@ -33,9 +34,8 @@ use Rattle.account_table.specs.LookUps.{knows_in}
 use Rattle.account_table.specs.declared.account.Account.{Account}
 use Rattle.end_links.specs.Binding.{limit_of}
 use Rattle.end_links.specs.Serving.{ServedPart}
-use Rattle.channel_client.specs.Effects.{channel_of, stands_in, step_in}
+use Rattle.channel_client.specs.Effects.{stands_in, step_in}
 use Rattle.channel_client.specs.Machine.{Taking, act, ask_by, auth_call, begin_with, can_start, challenge_call, hear, hear_ack, hear_body, hear_by, is_accepting, judge, judge_auth, judge_awaited, judge_challenge, judge_credential, judge_flags, judge_level, judge_logon, judge_return, judge_status, level_asked, offered_flags, place_of, question_of, server_credential, settle, start_by, wait_for, waiting_limit}
-use Rattle.channel_client.specs.Opened.{OpenState, after_return, first_state, is_awaited}
 use Rattle.channel_client.specs.State.{Requester}
 use Rattle.channel_client.specs.declared.answers.Taken.TheVariants as taken
 use Rattle.channel_client.specs.declared.caller.Caller.{Caller}
@@ -50,20 +50,19 @@ use Rattle.channel_client.specs.declared.state.Standing.{Standing}
 use Rattle.channel_client.specs.declared.state.Standing.TheVariants as standing
 use Rattle.channel_client.specs.declared.state.Step.TheVariants as step
 use Rattle.channel_client.specs.declared.state.Waiting.{Waiting}
-use Rattle.domain_controller.specs.Channels.{ChannelState, channel_by as moved_by_call, key_of_channel, passes_on, return_by}
 use Rattle.domain_controller.specs.Hearing.{hear as hear_unit}
 use Rattle.domain_controller.specs.Machine.{Desk, account_for, answer_authenticate, answer_challenge, answer_logon, by_call, by_heard, channel_for, desk, draw_challenge, grant_flags, judge_account, judge_channel, judge_offer, judge_pair, judge_return as return_logon, open_channel, put_channel, put_pair_if, send_reply, take_channel, take_pair}
 use Rattle.domain_controller.specs.declared.hearing.Heard.{Heard}
 use Rattle.domain_controller.specs.declared.hearing.Heard.TheVariants as heard
 use Rattle.domain_controller.specs.declared.line.Line.{Line}
 use Rattle.domain_controller.specs.declared.state.Computers.{Computers}
-use Rattle.domain_controller.specs.declared.state.Pending.{Pending as Pair}
+use Rattle.domain_controller.specs.declared.state.ChallengePair.{ChallengePair}
 use Rattle.domain_controller.specs.declared.state.Talk.{Talk}
 use Rattle.domain_controller.specs.declared.state.Work.{Work}
 use Rattle.channel_events.specs.Marks.{Calling, Opening}
 use Rattle.channel_events.proofs.SameLaws.{same_self}
 use Rattle.step_notes.specs.ChannelNames.{AreFramesOf, CallsAreNamedAlike, ChallengesAreShared, ChannelsAreNamedAlike, ChannelsStandAsAsked, ExchangesHaveNoClash, Expects, HasChannel, IsOfOther, OpeningsAreNamedAlike, OwnUnitsAreNoClash, StandsOrGoes, WillAsk, WillCall, WillOpen, frames_sent, opened_call, opened_unit, channel_marked, passed_note, place_answered, standing_channel}
-use Rattle.step_notes.specs.ControllerNotes.{Answered, channel_by, channel_in, channel_with, has_passed, judging_by, opened_account, opened_by, opened_if, opened_offer, opened_pair, opening, passing}
+use Rattle.step_notes.specs.ControllerNotes.{Answered, channel_by, channel_in, has_passed, judging_by, opened_account, opened_by, opened_if, opened_offer, opened_pair, opening, passing}
 use Rattle.step_notes.specs.Marking.{clashes, is_channel}
 use Rattle.step_notes.specs.MemberNotes.{TurnNote, asked_note, half_channel, request_note, taking_note, timestamp_bound}
 use Rattle.step_notes.specs.Records.{Judging, Sent, timestamp_in}
@@ -73,7 +72,7 @@ some_is : {T : Type 0} (one other : T) → Some one ≡ Some other → one ≡ o
 some_is one other is = cc
 
 -- both challenges, as a controller keeps them
-abbrev pub pair_of : List ℕ → List ℕ → Pair
+abbrev pub pair_of : List ℕ → List ℕ → ChallengePair
 pair_of client server = record { client = client; server = server }
 
 -- ---- a turn that starts
@@ -260,8 +259,8 @@ calling_asked (hearing.Drop cause) controller s channel logon number place frame
 abbrev pub Fits : Judgement → Standing → List ℕ → Type 0
 Fits (judgement.Half client server) how secret = Unit {0}
 Fits (judgement.Opened o) how secret =
-    (client : List ℕ) × (server : List ℕ) × (how ≡ standing.Half client server) × (o ≡ first_state secret client server offered_flags)
-Fits (judgement.Answer o v) how secret = (p : OpenState) × (how ≡ standing.Open p) × (o ≡ after_return true p)
+    (client : List ℕ) × (server : List ℕ) × (how ≡ standing.Half client server) × (o ≡ fresh_channel secret client server offered_flags)
+Fits (judgement.Answer o v) how secret = (p : SecureChannelState) × (how ≡ standing.Open p) × (o ≡ after_return true p)
 Fits (judgement.Drop cause) how secret = Unit {0}
 
 challenge_fits : (granted : Bool) (client server : List ℕ) (how : Standing) (secret : List ℕ) → Fits (judge_challenge granted client server) how secret
@@ -283,20 +282,20 @@ auth_fits true (standing.Half client server) secret credential flags =
     credential_fits (bytes_eq credential (server_credential secret client server)) secret client server flags
 auth_fits true (standing.Open o) secret credential flags = tt
 
-level_fits : (asked : Bool) (info : Option SamInfo) (p : OpenState) (secret : List ℕ) → Fits (judge_level asked info (after_return true p)) (standing.Open p) secret
+level_fits : (asked : Bool) (info : Option SamInfo) (p : SecureChannelState) (secret : List ℕ) → Fits (judge_level asked info (after_return true p)) (standing.Open p) secret
 level_fits false info p secret = tt
 level_fits true None p secret = tt
 level_fits true (Some info) p secret = (p, refl, refl)
 
-status_fits : (granted : Bool) (status level : ℕ) (info : Option SamInfo) (p : OpenState) (secret : List ℕ) → Fits (judge_status granted status level info (after_return true p)) (standing.Open p) secret
+status_fits : (granted : Bool) (status level : ℕ) (info : Option SamInfo) (p : SecureChannelState) (secret : List ℕ) → Fits (judge_status granted status level info (after_return true p)) (standing.Open p) secret
 status_fits false status level info p secret = (p, refl, refl)
 status_fits true status level info p secret = level_fits (level == level_asked) info p secret
 
-awaited_fits : (right : Bool) (status level : ℕ) (info : Option SamInfo) (p : OpenState) (secret : List ℕ) → Fits (judge_awaited right status level info p) (standing.Open p) secret
+awaited_fits : (right : Bool) (status level : ℕ) (info : Option SamInfo) (p : SecureChannelState) (secret : List ℕ) → Fits (judge_awaited right status level info p) (standing.Open p) secret
 awaited_fits false status level info p secret = tt
 awaited_fits true status level info p secret = status_fits (status == 0) status level info p secret
 
-return_fits : (returned : Option Authenticator) (status level : ℕ) (info : Option SamInfo) (p : OpenState) (secret : List ℕ) → Fits (judge_return returned status level info p) (standing.Open p) secret
+return_fits : (returned : Option Authenticator) (status level : ℕ) (info : Option SamInfo) (p : SecureChannelState) (secret : List ℕ) → Fits (judge_return returned status level info p) (standing.Open p) secret
 return_fits None status level info p secret = tt
 return_fits (Some returned) status level info p secret = awaited_fits (is_awaited p.awaited returned.credential) status level info p secret
 
@@ -334,8 +333,8 @@ opened_settles (judgement.Opened o) controller s fit is = (
   fit.0,
   fit.1,
   fit.2,
-  ap (λ (x : OpenState). Some (channel_of controller s.caller.computer x)) fit.3,
-  ap (λ (x : OpenState). passed_note (channel_of controller s.caller.computer x) None) fit.3,
+  ap (λ (x : SecureChannelState). Some (channel_of controller s.caller.computer x)) fit.3,
+  ap (λ (x : SecureChannelState). passed_note (channel_of controller s.caller.computer x) None) fit.3,
 )
 opened_settles (judgement.Answer o v) controller s fit is = absurd cc
 opened_settles (judgement.Drop cause) controller s fit is = absurd cc
@@ -361,7 +360,7 @@ settled_stands (judgement.Half client server) controller s channel fit stands = 
 settled_stands (judgement.Opened o) controller s channel fit stands = absurd (no_half controller s.caller.computer s.standing channel fit.0 fit.1 stands fit.2)
 settled_stands (judgement.Answer o v) controller s channel fit stands =
     let before : Some (channel_of controller s.caller.computer fit.0) ≡ Some channel = sym (ap (stands_in controller s.caller.computer) fit.1) ∙ stands in
-    still channel (Some (channel_of controller s.caller.computer o)) (ap (λ (x : OpenState). Some (channel_of controller s.caller.computer x)) fit.2 ∙ before)
+    still channel (Some (channel_of controller s.caller.computer o)) (ap (λ (x : SecureChannelState). Some (channel_of controller s.caller.computer x)) fit.2 ∙ before)
 settled_stands (judgement.Drop cause) controller s channel fit stands = tt
 
 acted_stands : (what : Hearing) (controller : ℕ) (s : Requester) (channel : Channel) → standing_channel controller s ≡ Some channel →
@@ -386,8 +385,8 @@ answer_settles (judgement.Answer o v) controller s place fit is =
     let same : place_of s.turn ≡ place = cc in (
       channel_of controller s.caller.computer fit.0,
       ap (stands_in controller s.caller.computer) fit.1,
-      ap (λ (x : OpenState). Some (channel_of controller s.caller.computer x)) fit.2,
-      ap₂ (λ (x : OpenState) (p : ℕ). passed_note (channel_of controller s.caller.computer x) (Some p)) fit.2 same,
+      ap (λ (x : SecureChannelState). Some (channel_of controller s.caller.computer x)) fit.2,
+      ap₂ (λ (x : SecureChannelState) (p : ℕ). passed_note (channel_of controller s.caller.computer x) (Some p)) fit.2 same,
     )
 answer_settles (judgement.Drop cause) controller s place fit is = absurd cc
 
@@ -414,7 +413,7 @@ auth_of s client server = record {
 }
 
 -- the channel that it opens with an account
-abbrev pub channel_opened : Account → Requester → List ℕ → List ℕ → ChannelState
+abbrev pub channel_opened : Account → Requester → List ℕ → List ℕ → SecureChannelState
 channel_opened account s client server = channel_for account (pair_of client server) (auth_of s client server)
 
 offers : has_flag offered_flags rc4_flag ≡ true
@@ -441,13 +440,13 @@ named controller computer client server secret flags =
     record { controller = controller; computer = computer; secret = secret; client = client; server = server; flags = flags }
 
 named_alike : (controller : ℕ) (account : Account) (s : Requester) (client server : List ℕ) → account.hash ≡ s.caller.secret →
-    channel_with controller s.caller.computer (channel_opened account s client server) ≡ half_channel controller s client server
+    channel_of controller s.caller.computer (channel_opened account s client server) ≡ half_channel controller s client server
 named_alike controller account s client server same = ap₂ (named controller s.caller.computer client server) same granted
 
 opens_named : (controller : ℕ) (s : Requester) (client server : List ℕ) (d : Desk) → Expects d s client server → opened_by controller (auth_of s client server) d ≡ Some (half_channel controller s client server)
 opens_named controller s client server d expects =
     ap (channel_by controller s.caller.computer)
-    (ap₂ (λ (account : Option Account) (pair : Option Pair). opened_account account pair (auth_of s client server)) expects.found expects.pair
+    (ap₂ (λ (account : Option Account) (pair : Option ChallengePair). opened_account account pair (auth_of s client server)) expects.found expects.pair
     ∙ opened_known expects.account s client server expects.secret)
     ∙ ap Some (named_alike controller expects.account s client server expects.secret)
 
@@ -463,7 +462,7 @@ put_named : (s : Requester) (client server : List ℕ) (line : Line) (d : Desk) 
     (answer_authenticate d.table line (auth_of s client server) d.work).computers.channels
     ≡ put same_name s.caller.computer (channel_opened expects.account s client server) d.work.computers.channels
 put_named s client server line d expects =
-    ap₂ (λ (account : Option Account) (pair : Option Pair). (judge_account account pair line (auth_of s client server) (take_pair s.caller.computer d.work)).computers.channels) expects.found expects.pair
+    ap₂ (λ (account : Option Account) (pair : Option ChallengePair). (judge_account account pair line (auth_of s client server) (take_pair s.caller.computer d.work)).computers.channels) expects.found expects.pair
     ∙ put_known expects.account s client server line (take_pair s.caller.computer d.work) expects.secret
 
 keeps_named : (controller : ℕ) (s : Requester) (client server : List ℕ) (line : Line) (d : Desk) → Expects d s client server →
@@ -507,7 +506,7 @@ same_channels : (old new : Computers) (channel : Channel) → new.channels ≡ o
 same_channels old new channel same has =
     record { state = has.state; kept = ap (lookup same_name channel.computer) same ∙ has.kept; is = has.is }
 
-pair_keeps : (knows : Bool) (computer : List ℕ) (pair : Pair) (work : Work) → (put_pair_if knows computer pair work).computers.channels ≡ work.computers.channels
+pair_keeps : (knows : Bool) (computer : List ℕ) (pair : ChallengePair) (work : Work) → (put_pair_if knows computer pair work).computers.channels ≡ work.computers.channels
 pair_keeps false computer pair work = refl
 pair_keeps true computer pair work = refl
 
@@ -522,7 +521,7 @@ draw_has (server ∷ left) line c talk d channel has =
     same_channels d.work.computers _ channel (pair_keeps (knows_in d.table.accounts c.computer) c.computer (record { client = c.challenge; server = server }) d.work) has
 
 -- another opening leaves it, unless it is accepted for that computer
-open_has : (right : Bool) (controller : ℕ) (state : ChannelState) (line : Line) (c : AuthCall) (work : Work) (channel : Channel) → HasChannel work.computers channel →
+open_has : (right : Bool) (controller : ℕ) (state : SecureChannelState) (line : Line) (c : AuthCall) (work : Work) (channel : Channel) → HasChannel work.computers channel →
     IsOfOther channel.computer (channel_by controller c.computer (opened_if right state)) → HasChannel (open_channel right state line c work).computers channel
 open_has false controller state line c work channel has other = same_channels work.computers _ channel refl has
 open_has true controller state line c work channel has other = record {
@@ -531,18 +530,18 @@ open_has true controller state line c work channel has other = record {
   is = has.is;
 }
 
-pair_has : (pair : Option Pair) (controller : ℕ) (account : Account) (line : Line) (c : AuthCall) (work : Work) (channel : Channel) → HasChannel work.computers channel →
+pair_has : (pair : Option ChallengePair) (controller : ℕ) (account : Account) (line : Line) (c : AuthCall) (work : Work) (channel : Channel) → HasChannel work.computers channel →
     IsOfOther channel.computer (channel_by controller c.computer (opened_pair pair account c)) → HasChannel (judge_pair pair account line c work).computers channel
 pair_has None controller account line c work channel has other = same_channels work.computers _ channel refl has
 pair_has (Some pair) controller account line c work channel has other =
     open_has (bytes_eq c.credential (cred_of (key_of_channel (channel_for account pair c)) pair.client)) controller (channel_for account pair c) line c work channel has other
 
-offer_has : (offered : Bool) (pair : Option Pair) (controller : ℕ) (account : Account) (line : Line) (c : AuthCall) (work : Work) (channel : Channel) → HasChannel work.computers channel →
+offer_has : (offered : Bool) (pair : Option ChallengePair) (controller : ℕ) (account : Account) (line : Line) (c : AuthCall) (work : Work) (channel : Channel) → HasChannel work.computers channel →
     IsOfOther channel.computer (channel_by controller c.computer (opened_offer offered pair account c)) → HasChannel (judge_offer offered pair account line c work).computers channel
 offer_has false pair controller account line c work channel has other = same_channels work.computers _ channel refl has
 offer_has true pair controller account line c work channel has other = pair_has pair controller account line c work channel has other
 
-account_has : (account : Option Account) (pair : Option Pair) (controller : ℕ) (line : Line) (c : AuthCall) (work : Work) (channel : Channel) → HasChannel work.computers channel →
+account_has : (account : Option Account) (pair : Option ChallengePair) (controller : ℕ) (line : Line) (c : AuthCall) (work : Work) (channel : Channel) → HasChannel work.computers channel →
     IsOfOther channel.computer (channel_by controller c.computer (opened_account account pair c)) → HasChannel (judge_account account pair line c work).computers channel
 account_has None pair controller line c work channel has other = same_channels work.computers _ channel refl has
 account_has (Some account) pair controller line c work channel has other = offer_has (has_flag c.flags rc4_flag) pair controller account line c work channel has other
@@ -567,13 +566,13 @@ tests_alike one other key is =
           ]
     ]
 
-found_alike : (one other : List ℕ) (entries : List (List ℕ × ChannelState)) → same_name one other ≡ true → lookup same_name one entries ≡ lookup same_name other entries
+found_alike : (one other : List ℕ) (entries : List (List ℕ × SecureChannelState)) → same_name one other ≡ true → lookup same_name one entries ≡ lookup same_name other entries
 found_alike one other [] is = refl
 found_alike one other (entry ∷ entries) is =
     ap (λ (hit : Bool). if hit then Some entry.1 else lookup same_name one entries) (tests_alike one other entry.0 is)
-    ∙ ap (λ (rest : Option ChannelState). if same_name other entry.0 then Some entry.1 else rest) (found_alike one other entries is)
+    ∙ ap (λ (rest : Option SecureChannelState). if same_name other entry.0 then Some entry.1 else rest) (found_alike one other entries is)
 
-moved_named : (passes : Bool) (controller : ℕ) (computer : List ℕ) (state : ChannelState) (given : Authenticator) → channel_with controller computer (moved_by_call passes state given) ≡ channel_with controller computer state
+moved_named : (passes : Bool) (controller : ℕ) (computer : List ℕ) (state : SecureChannelState) (given : Authenticator) → channel_of controller computer (moved_by_call passes state given) ≡ channel_of controller computer state
 moved_named false controller computer state given = refl
 moved_named true controller computer state given = refl
 
@@ -583,11 +582,11 @@ returned_same None key name now line info validation d = refl
 returned_same (Some credential) key name now line info validation d = refl
 
 -- the channel of another computer
-other_has : (found : Option ChannelState) (computer : List ℕ) (given : Authenticator) (name : List ℕ) (now : ℕ) (line : Line) (info : NetworkInfo) (validation : ℕ) (d : Desk) (channel : Channel) →
+other_has : (found : Option SecureChannelState) (computer : List ℕ) (given : Authenticator) (name : List ℕ) (now : ℕ) (line : Line) (info : NetworkInfo) (validation : ℕ) (d : Desk) (channel : Channel) →
     same_name computer channel.computer ≡ false → HasChannel d.work.computers channel → HasChannel (judge_channel found computer given name now line info validation d).work.computers channel
 other_has None computer given name now line info validation d channel differs has = same_channels d.work.computers _ channel refl has
 other_has (Some state) computer given name now line info validation d channel differs has =
-    let moved : ChannelState = moved_by_call (passes_on state given) state given in
+    let moved : SecureChannelState = moved_by_call (passes_on state given) state given in
     let later : Desk = desk d.table (put_channel computer moved d.work) in
     let same = returned_same (return_by (passes_on state given) state given) (key_of_channel state) name now line info validation later in
     record {
@@ -598,11 +597,11 @@ other_has (Some state) computer given name now line info validation d channel di
     }
 
 -- the channel itself, which was taken out
-own_has : (state : ChannelState) (computer : List ℕ) (given : Authenticator) (name : List ℕ) (now : ℕ) (line : Line) (info : NetworkInfo) (validation : ℕ) (d : Desk) (channel : Channel) →
-    same_name computer channel.computer ≡ true → channel_with channel.controller channel.computer state ≡ channel →
+own_has : (state : SecureChannelState) (computer : List ℕ) (given : Authenticator) (name : List ℕ) (now : ℕ) (line : Line) (info : NetworkInfo) (validation : ℕ) (d : Desk) (channel : Channel) →
+    same_name computer channel.computer ≡ true → channel_of channel.controller channel.computer state ≡ channel →
     HasChannel (judge_channel (Some state) computer given name now line info validation d).work.computers channel
 own_has state computer given name now line info validation d channel same is =
-    let moved : ChannelState = moved_by_call (passes_on state given) state given in
+    let moved : SecureChannelState = moved_by_call (passes_on state given) state given in
     let later : Desk = desk d.table (put_channel computer moved d.work) in
     let kept = returned_same (return_by (passes_on state given) state given) (key_of_channel state) name now line info validation later in
     record {
@@ -619,7 +618,7 @@ named_has computer given name now line info validation d channel has =
     let after_taking : Desk = desk d.table (take_channel computer d.work) in
     elim (cases_Bool (same_name computer channel.computer)) [
       | inl same ↦
-          subst (λ (found : Option ChannelState). HasChannel (judge_channel found computer given name now line info validation after_taking).work.computers channel)
+          subst (λ (found : Option SecureChannelState). HasChannel (judge_channel found computer given name now line info validation after_taking).work.computers channel)
           (sym (found_alike computer channel.computer d.work.computers.channels same ∙ has.kept))
           (own_has has.state computer given name now line info validation after_taking channel same has.is)
       | inr differs ↦

@@ -5,6 +5,7 @@ use Rattle.std.specs.Prelude.{bytes_eq}
 use Rattle.ntlm_flags.specs.Flags.{has_flag}
 use Rattle.channel_keys.specs.Flags.{rc4_flag}
 use Rattle.wire_base.specs.declared.authenticator.Authenticator.{Authenticator}
+use Rattle.authenticators.specs.SecureChannels.{SecureChannelState, after_return, is_awaited}
 use Rattle.rpc_units.specs.declared.unit.Unit.{Unit as RpcUnit}
 use Rattle.rpc_units.specs.declared.unit.Body.{Body}
 use Rattle.rpc_units.specs.declared.unit.Body.TheVariants.{Bind, BindAck, BindNak, Auth3, Request, Response, Fault}
@@ -19,7 +20,6 @@ use Rattle.logon_stubs.specs.declared.info.SamInfo.{SamInfo}
 use Rattle.logon_stubs.specs.declared.refused.StubRefused.{StubRefused}
 use Rattle.channel_client.specs.Effects.{MatchesCall, MatchesStep, effect_heard, effect_judged, effect_next, number_in, step_in, view_at, view_of}
 use Rattle.channel_client.specs.Machine.{act, after, ask_by, hear, hear_ack, hear_body, hear_by, hear_reply, hear_stub, is_accepting, judge, judge_auth, judge_awaited, judge_challenge, judge_credential, judge_flags, judge_level, judge_logon, judge_return, judge_status, level_asked, offered_flags, opnum_asked, place_of, question_of, server_credential, settle, start_by, wait_for, waiting_limit}
-use Rattle.channel_client.specs.Opened.{OpenState, after_return, is_awaited}
 use Rattle.channel_client.specs.State.{Requester}
 use Rattle.channel_client.specs.declared.hearing.Hearing.{Hearing}
 use Rattle.channel_client.specs.declared.hearing.Hearing.TheVariants as hearing
@@ -114,20 +114,20 @@ auth_first true (standing.Half client server) secret credential flags q =
     credential_first (bytes_eq credential (server_credential secret client server)) secret client server flags q
 auth_first true (standing.Open o) secret credential flags q = tt
 
-level_first : (asked : Bool) (info : Option SamInfo) (o : OpenState) (q : Question) → AsksFirst (judge_level asked info o) q
+level_first : (asked : Bool) (info : Option SamInfo) (o : SecureChannelState) (q : Question) → AsksFirst (judge_level asked info o) q
 level_first false info o q = tt
 level_first true None o q = tt
 level_first true (Some info) o q = tt
 
-status_first : (granted : Bool) (status level : ℕ) (info : Option SamInfo) (o : OpenState) (q : Question) → AsksFirst (judge_status granted status level info o) q
+status_first : (granted : Bool) (status level : ℕ) (info : Option SamInfo) (o : SecureChannelState) (q : Question) → AsksFirst (judge_status granted status level info o) q
 status_first false status level info o q = tt
 status_first true status level info o q = level_first (level == level_asked) info o q
 
-awaited_first : (right : Bool) (status level : ℕ) (info : Option SamInfo) (o : OpenState) (q : Question) → AsksFirst (judge_awaited right status level info o) q
+awaited_first : (right : Bool) (status level : ℕ) (info : Option SamInfo) (o : SecureChannelState) (q : Question) → AsksFirst (judge_awaited right status level info o) q
 awaited_first false status level info o q = tt
 awaited_first true status level info o q = status_first (status == 0) status level info (after_return true o) q
 
-return_first : (returned : Option Authenticator) (status level : ℕ) (info : Option SamInfo) (o : OpenState) (q : Question) → AsksFirst (judge_return returned status level info o) q
+return_first : (returned : Option Authenticator) (status level : ℕ) (info : Option SamInfo) (o : SecureChannelState) (q : Question) → AsksFirst (judge_return returned status level info o) q
 return_first None status level info o q = tt
 return_first (Some returned) status level info o q = awaited_first (is_awaited o.awaited returned.credential) status level info o q
 

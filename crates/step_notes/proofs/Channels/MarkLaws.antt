@@ -10,6 +10,7 @@ use Rattle.ntlm_flags.specs.Flags.{has_flag}
 use Rattle.channel_keys.specs.Credentials.{cred_of}
 use Rattle.channel_keys.specs.Flags.{rc4_flag}
 use Rattle.authenticators.specs.Channels.{Channel}
+use Rattle.authenticators.specs.SecureChannels.{SecureChannelState, channel_by as moved_by_call, key_of_channel, passes_on, return_by}
 use Rattle.outside.specs.declared.action.Action.{Action}
 use Rattle.outside.specs.declared.action.Action.TheVariants as action
 use Rattle.outside.specs.declared.action.Judged.{Judged}
@@ -48,7 +49,6 @@ use Rattle.channel_client.specs.declared.state.Standing.{Standing}
 use Rattle.channel_client.specs.declared.state.Standing.TheVariants as standing
 use Rattle.channel_client.specs.declared.state.Step.{Step}
 use Rattle.channel_client.specs.declared.state.Step.TheVariants as step
-use Rattle.domain_controller.specs.Channels.{ChannelState, channel_by as moved_by_call, key_of_channel, passes_on, return_by}
 use Rattle.domain_controller.specs.Hearing.{hear, hear_bound, hear_context, hear_fresh, hear_joined, hear_on, hear_opnum, hear_read, hear_stub, hear_whole, bound_talk, is_served}
 use Rattle.domain_controller.specs.Machine.{Desk, account_for, answer_logon, by_call, by_heard, channel_for, controller_server, desk, draw_challenge, judge_account, judge_channel, judge_offer, judge_pair, judge_return, open_channel, put_channel, put_pair_if, send_reply, take_channel, take_pair}
 use Rattle.domain_controller.specs.State.{State as ControllerState}
@@ -56,7 +56,7 @@ use Rattle.domain_controller.specs.Step.{LinkMap, StepPart, after_units, first_d
 use Rattle.domain_controller.specs.declared.hearing.Heard.{Heard}
 use Rattle.domain_controller.specs.declared.hearing.Heard.TheVariants as heard
 use Rattle.domain_controller.specs.declared.line.Line.{Line}
-use Rattle.domain_controller.specs.declared.state.Pending.{Pending}
+use Rattle.domain_controller.specs.declared.state.ChallengePair.{ChallengePair}
 use Rattle.domain_controller.specs.declared.state.Running.{Running}
 use Rattle.domain_controller.specs.declared.state.Talk.{Talk}
 use Rattle.domain_controller.specs.declared.state.Work.{Work}
@@ -155,7 +155,7 @@ abbrev pub SendsOne : List Action → ℕ → ServedPart Desk Talk → Type 0
 SendsOne old link (Err why) = Unit {0}
 SendsOne old link (Ok part) = links_sent part.value.0.work.actions ≡ links_sent old ++ link ∷ []
 
-pair_actions : (knows : Bool) (computer : List ℕ) (pair : Pending) (work : Work) → (put_pair_if knows computer pair work).actions ≡ work.actions
+pair_actions : (knows : Bool) (computer : List ℕ) (pair : ChallengePair) (work : Work) → (put_pair_if knows computer pair work).actions ≡ work.actions
 pair_actions false computer pair work = refl
 pair_actions true computer pair work = refl
 
@@ -168,19 +168,19 @@ draw_one (server ∷ left) line c talk d =
     reply_one (put_pair_if (knows_in d.table.accounts c.computer) c.computer (record { client = c.challenge; server = server }) d.work) line _
     ∙ ap (λ (actions : List Action). links_sent actions ++ line.link ∷ []) (pair_actions (knows_in d.table.accounts c.computer) c.computer (record { client = c.challenge; server = server }) d.work)
 
-open_one : (right : Bool) (channel : ChannelState) (line : Line) (c : AuthCall) (work : Work) → links_sent (open_channel right channel line c work).actions ≡ links_sent work.actions ++ line.link ∷ []
+open_one : (right : Bool) (channel : SecureChannelState) (line : Line) (c : AuthCall) (work : Work) → links_sent (open_channel right channel line c work).actions ≡ links_sent work.actions ++ line.link ∷ []
 open_one false channel line c work = one_more work.actions line.link _
 open_one true channel line c work = one_more work.actions line.link _
 
-pair_one : (pair : Option Pending) (account : Account) (line : Line) (c : AuthCall) (work : Work) → links_sent (judge_pair pair account line c work).actions ≡ links_sent work.actions ++ line.link ∷ []
+pair_one : (pair : Option ChallengePair) (account : Account) (line : Line) (c : AuthCall) (work : Work) → links_sent (judge_pair pair account line c work).actions ≡ links_sent work.actions ++ line.link ∷ []
 pair_one None account line c work = one_more work.actions line.link _
 pair_one (Some pair) account line c work = open_one (bytes_eq c.credential (cred_of (key_of_channel (channel_for account pair c)) pair.client)) (channel_for account pair c) line c work
 
-offer_one : (offers : Bool) (pair : Option Pending) (account : Account) (line : Line) (c : AuthCall) (work : Work) → links_sent (judge_offer offers pair account line c work).actions ≡ links_sent work.actions ++ line.link ∷ []
+offer_one : (offers : Bool) (pair : Option ChallengePair) (account : Account) (line : Line) (c : AuthCall) (work : Work) → links_sent (judge_offer offers pair account line c work).actions ≡ links_sent work.actions ++ line.link ∷ []
 offer_one false pair account line c work = one_more work.actions line.link _
 offer_one true pair account line c work = pair_one pair account line c work
 
-account_one : (account : Option Account) (pair : Option Pending) (line : Line) (c : AuthCall) (work : Work) → links_sent (judge_account account pair line c work).actions ≡ links_sent work.actions ++ line.link ∷ []
+account_one : (account : Option Account) (pair : Option ChallengePair) (line : Line) (c : AuthCall) (work : Work) → links_sent (judge_account account pair line c work).actions ≡ links_sent work.actions ++ line.link ∷ []
 account_one None pair line c work = one_more work.actions line.link _
 account_one (Some account) pair line c work = offer_one (has_flag c.flags rc4_flag) pair account line c work
 
@@ -189,7 +189,7 @@ return_one : (credential : Option (List ℕ)) (key name : List ℕ) (now : ℕ) 
 return_one None key name now line info validation d = judged_more d.work.actions _ line.link _
 return_one (Some credential) key name now line info validation d = judged_more d.work.actions _ line.link _
 
-channel_one : (found : Option ChannelState) (computer : List ℕ) (given : Authenticator) (name : List ℕ) (now : ℕ) (line : Line) (info : NetworkInfo) (validation : ℕ) (d : Desk) →
+channel_one : (found : Option SecureChannelState) (computer : List ℕ) (given : Authenticator) (name : List ℕ) (now : ℕ) (line : Line) (info : NetworkInfo) (validation : ℕ) (d : Desk) →
     links_sent (judge_channel found computer given name now line info validation d).work.actions ≡ links_sent d.work.actions ++ line.link ∷ []
 channel_one None computer given name now line info validation d = judged_more d.work.actions _ line.link _
 channel_one (Some channel) computer given name now line info validation d =

@@ -11,8 +11,8 @@ use Rattle.ntlm_responses.specs.Verification.{base_key_of}
 use Rattle.account_table.specs.AccountTable.{AccountTable}
 use Rattle.account_table.specs.declared.account.Account.{Account}
 use Rattle.sam_logon.specs.Granted.{granting_reply, sam_info_of}
-use Rattle.channel_client.specs.Hidden.{crypt_key}
-use Rattle.domain_controller.specs.Channels.{key_of_channel}
+use Rattle.channel_keys.specs.Hidden.{crypt_key}
+use Rattle.authenticators.specs.SecureChannels.{key_of_channel}
 use Rattle.domain_controller.specs.Machine.{Desk, status_of}
 use Rattle.domain_controller.specs.declared.line.Line.{Line}
 use Rattle.step_notes.specs.ControllerNotes.{Where, has_passed, judged_in, judging_of, new_actions}

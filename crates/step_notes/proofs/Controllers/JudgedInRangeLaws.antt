@@ -5,6 +5,7 @@ use Rattle.std.specs.List.{AllByRecursion}
 use Rattle.wire_base.specs.Maps.{lookup, same_number}
 use Rattle.wire_base.specs.Names.{IsName}
 use Rattle.authenticators.specs.Channels.{Channel}
+use Rattle.authenticators.specs.SecureChannels.{key_of_channel}
 use Rattle.outside.specs.declared.action.Action.{Action}
 use Rattle.outside.specs.declared.action.StepRefused.{StepRefused}
 use Rattle.outside.specs.declared.event.Event.TheVariants as event
@@ -18,7 +19,6 @@ use Rattle.logon_stubs.specs.Writing.{written_reply}
 use Rattle.end_links.specs.Links.{LinkState}
 use Rattle.end_links.specs.Sending.{response_of}
 use Rattle.end_links.specs.Serving.{ServedPart, ServedUnit, served_units, units_on, units_then}
-use Rattle.domain_controller.specs.Channels.{key_of_channel}
 use Rattle.domain_controller.specs.Hearing.{hear}
 use Rattle.domain_controller.specs.Machine.{Desk, controller_server}
 use Rattle.domain_controller.specs.ReadBack.{IsReadBack}

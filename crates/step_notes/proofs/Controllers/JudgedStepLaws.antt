@@ -6,12 +6,12 @@ use Rattle.wire_base.specs.Maps.{lookup}
 use Rattle.wire_base.specs.Names.{same_name}
 use Rattle.wire_base.specs.declared.authenticator.Authenticator.{Authenticator}
 use Rattle.authenticators.specs.Sequences.{Passes}
+use Rattle.authenticators.specs.SecureChannels.{SecureChannelState, key_of_channel, passes_on, return_by, channel_by}
 use Rattle.outside.specs.declared.action.Action.{Action}
 use Rattle.outside.specs.declared.action.Action.TheVariants as action
 use Rattle.outside.specs.declared.action.Judged.{Judged}
 use Rattle.outside.specs.declared.action.Judged.TheVariants as judged
 use Rattle.logon_stubs.specs.declared.calls.LogonCall.{LogonCall}
-use Rattle.domain_controller.specs.Channels.{ChannelState, key_of_channel, passes_on, return_by, channel_by}
 use Rattle.domain_controller.specs.Laws.{IsNext}
 use Rattle.domain_controller.specs.Machine.{Desk, answer_logon, desk, judge_channel, judge_return, put_channel, take_channel}
 use Rattle.domain_controller.specs.declared.line.Line.{Line}
@@ -62,18 +62,18 @@ right_passed status computers c next free = record {
 one_given : (given other : Authenticator) → Some given ≡ Some other → given ≡ other
 one_given given other is = cc
 
-one_channel : (computer other : List ℕ) (channel another : ChannelState) (computers : Computers) → Some computer ≡ Some other → lookup same_name computer computers.channels ≡ Some channel →
+one_channel : (computer other : List ℕ) (channel another : SecureChannelState) (computers : Computers) → Some computer ≡ Some other → lookup same_name computer computers.channels ≡ Some channel →
     lookup same_name other computers.channels ≡ Some another → channel ≡ another
 one_channel computer other channel another computers is stands also =
     let same : computer ≡ other = cc in
     let both : Some channel ≡ Some another = sym stands ∙ ap (λ (n : List ℕ). lookup same_name n computers.channels) same ∙ also in
     cc
 
-not_both : (channel other : ChannelState) (given more : Authenticator) → channel ≡ other → given ≡ more → passes_on channel given ≡ false → passes_on other more ≡ true → ⊥
+not_both : (channel other : SecureChannelState) (given more : Authenticator) → channel ≡ other → given ≡ more → passes_on channel given ≡ false → passes_on other more ≡ true → ⊥
 not_both channel other given more same alike fails passes = absurd cc
 
-same_pass : (channel other : ChannelState) (given more : Authenticator) → channel ≡ other → given ≡ more → passes_on channel given ≡ true → passes_on other more ≡ true
-same_pass channel other given more same alike passes = ap (λ (x : ChannelState). passes_on x more) (sym same) ∙ ap (λ (g : Authenticator). passes_on channel g) (sym alike) ∙ passes
+same_pass : (channel other : SecureChannelState) (given more : Authenticator) → channel ≡ other → given ≡ more → passes_on channel given ≡ true → passes_on other more ≡ true
+same_pass channel other given more same alike passes = ap (λ (x : SecureChannelState). passes_on x more) (sym same) ∙ ap (λ (g : Authenticator). passes_on channel g) (sym alike) ∙ passes
 
 none_some : {T : Type 0} {found : Option T} {value : T} → found ≡ None → found ≡ Some value → ⊥
 none_some is so = absurd cc
@@ -84,16 +84,16 @@ next_unbarred computers c next barred =
     let channel : next.channel ≡ barred.channel = one_channel next.computer barred.computer next.channel barred.channel computers (sym next.named ∙ barred.named) next.stands barred.stands in
     let given : next.given ≡ barred.given = one_given next.given barred.given (sym next.there ∙ barred.there) in
     barred.fails (subst (λ (g : Authenticator). Passes (key_of_channel barred.channel) barred.channel.seed g) given
-    (subst (λ (one : ChannelState). Passes (key_of_channel one) one.seed next.given) channel next.passes))
+    (subst (λ (one : SecureChannelState). Passes (key_of_channel one) one.seed next.given) channel next.passes))
 
-no_channel_there : (c : LogonCall) (computer : List ℕ) (computers : Computers) (other : List ℕ) (channel : ChannelState) → c.computer ≡ Some computer → lookup same_name computer computers.channels ≡ None →
+no_channel_there : (c : LogonCall) (computer : List ℕ) (computers : Computers) (other : List ℕ) (channel : SecureChannelState) → c.computer ≡ Some computer → lookup same_name computer computers.channels ≡ None →
     c.computer ≡ Some other → lookup same_name other computers.channels ≡ Some channel → ⊥
 no_channel_there c computer computers other channel named none also stands =
     let same : Some computer ≡ Some other = sym named ∙ also in
     let one : computer ≡ other = cc in
     none_some (ap (λ (n : List ℕ). lookup same_name n computers.channels) (sym one) ∙ none) stands
 
-by_pass : (passes : Bool) (c : LogonCall) (computer : List ℕ) (given : Authenticator) (channel : ChannelState) (computers : Computers) (name : List ℕ) (now : ℕ) (line : Line) (d : Desk) →
+by_pass : (passes : Bool) (c : LogonCall) (computer : List ℕ) (given : Authenticator) (channel : SecureChannelState) (computers : Computers) (name : List ℕ) (now : ℕ) (line : Line) (d : Desk) →
     c.computer ≡ Some computer → c.authenticator ≡ Some given → lookup same_name computer computers.channels ≡ Some channel → passes_on channel given ≡ passes →
     Told d.work.actions (judge_return (return_by passes channel given) (key_of_channel channel) name now line c.info c.validation d).work.actions computers c
 by_pass true c computer given channel computers name now line d named there stands passes = told_by d.work.actions (judged.Passed _) _ _ _ c
@@ -106,7 +106,7 @@ by_pass false c computer given channel computers name now line d named there sta
     (λ next. not_both channel next.channel given next.given (one_channel computer next.computer channel next.channel computers (sym named ∙ next.named) stands next.stands) (one_given given next.given (sym there ∙ next.there)) passes ((bytes_eq-Decides _ _).1 next.passes))
     (record { computer = computer; given = given; channel = channel; named = named; there = there; stands = stands; fails = λ is. not_both channel channel given given refl refl passes ((bytes_eq-Decides _ _).1 is) }))
 
-by_channel : (found : Option ChannelState) (c : LogonCall) (computer : List ℕ) (given : Authenticator) (computers : Computers) (name : List ℕ) (now : ℕ) (line : Line) (d : Desk) →
+by_channel : (found : Option SecureChannelState) (c : LogonCall) (computer : List ℕ) (given : Authenticator) (computers : Computers) (name : List ℕ) (now : ℕ) (line : Line) (d : Desk) →
     c.computer ≡ Some computer → c.authenticator ≡ Some given → lookup same_name computer computers.channels ≡ found →
     Told d.work.actions (judge_channel found computer given name now line c.info c.validation d).work.actions computers c
 by_channel None c computer given computers name now line d named there stands = told_by d.work.actions judged.NoChannel _ _ _ c

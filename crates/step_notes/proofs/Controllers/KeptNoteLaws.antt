@@ -12,17 +12,17 @@ use Rattle.ntlm_flags.specs.Flags.{has_flag}
 use Rattle.channel_keys.specs.Credentials.{cred_of}
 use Rattle.channel_keys.specs.Flags.{rc4_flag}
 use Rattle.authenticators.specs.Channels.{Channel, SameChannel}
+use Rattle.authenticators.specs.SecureChannels.{SecureChannelState, channel_by as moved_by_call, key_of_channel, passes_on, return_by, channel_of}
 use Rattle.logon_stubs.specs.declared.calls.AuthCall.{AuthCall}
 use Rattle.logon_stubs.specs.declared.info.NetworkInfo.{NetworkInfo}
 use Rattle.account_table.specs.LookUps.{knows_in}
 use Rattle.account_table.specs.declared.account.Account.{Account}
-use Rattle.domain_controller.specs.Channels.{ChannelState, channel_by as moved_by_call, key_of_channel, passes_on, return_by}
 use Rattle.domain_controller.specs.Machine.{Desk, account_for, answer_logon, channel_for, desk, judge_account, judge_channel, judge_offer, judge_pair, open_channel, put_channel, put_pair_if, take_channel, take_pair}
 use Rattle.domain_controller.specs.declared.line.Line.{Line}
 use Rattle.domain_controller.specs.declared.state.Computers.{Computers}
-use Rattle.domain_controller.specs.declared.state.Pending.{Pending}
+use Rattle.domain_controller.specs.declared.state.ChallengePair.{ChallengePair}
 use Rattle.domain_controller.specs.declared.state.Work.{Work}
-use Rattle.step_notes.specs.ControllerNotes.{channel_by, channel_with, opened_account, opened_if, opened_offer, opened_pair}
+use Rattle.step_notes.specs.ControllerNotes.{channel_by, opened_account, opened_if, opened_offer, opened_pair}
 use Rattle.step_notes.specs.KeptNotes.{Accepts, CallsAreKept, IsKeptBy, KeepsNoMore, WaitsIfKnown, server_in, waits_in}
 use Rattle.channel_events.proofs.ListLaws.{no_some, not_both, some_is}
 use Rattle.step_notes.proofs.Controllers.ComputerLaws.{lookup_named, return_computers, taken_none}
@@ -63,7 +63,7 @@ no_more controller before later is =
 
 -- ---- a challenge
 
-challenge_kept : (known : Bool) (controller : ℕ) (computer : List ℕ) (pair : Pending) (work : Work) →
+challenge_kept : (known : Bool) (controller : ℕ) (computer : List ℕ) (pair : ChallengePair) (work : Work) →
     WaitsIfKnown known controller computer pair.server work.computers (put_pair_if known computer pair work).computers
 challenge_kept false controller computer pair work = refl
 challenge_kept true controller computer pair work = record {
@@ -78,28 +78,28 @@ challenge_kept true controller computer pair work = record {
 -- ---- an opening
 
 -- what it comes to, by the channel that it opens: the pair is taken out, and the channel is put
-abbrev pub IsOpened : Option ChannelState → Option Pending → List ℕ → Work → Work → Type 0
+abbrev pub IsOpened : Option SecureChannelState → Option ChallengePair → List ℕ → Work → Work → Type 0
 IsOpened None pair computer taken later = later.computers ≡ taken.computers
 IsOpened (Some channel) pair computer taken later =
-    (p : Pending) × (pair ≡ Some p) × (channel.server ≡ p.server) × (later.computers ≡ (put_channel computer channel taken).computers)
+    (p : ChallengePair) × (pair ≡ Some p) × (channel.server ≡ p.server) × (later.computers ≡ (put_channel computer channel taken).computers)
 
-client_opened : (right : Bool) (account : Account) (p : Pending) (line : Line) (c : AuthCall) (taken : Work) →
+client_opened : (right : Bool) (account : Account) (p : ChallengePair) (line : Line) (c : AuthCall) (taken : Work) →
     IsOpened (opened_if right (channel_for account p c)) (Some p) c.computer taken (open_channel right (channel_for account p c) line c taken)
 client_opened false account p line c taken = refl
 client_opened true account p line c taken = (p, refl, refl, refl)
 
-pair_opened : (pair : Option Pending) (account : Account) (line : Line) (c : AuthCall) (taken : Work) →
+pair_opened : (pair : Option ChallengePair) (account : Account) (line : Line) (c : AuthCall) (taken : Work) →
     IsOpened (opened_pair pair account c) pair c.computer taken (judge_pair pair account line c taken)
 pair_opened None account line c taken = refl
 pair_opened (Some p) account line c taken =
     client_opened (bytes_eq c.credential (cred_of (key_of_channel (channel_for account p c)) p.client)) account p line c taken
 
-offer_opened : (offered : Bool) (pair : Option Pending) (account : Account) (line : Line) (c : AuthCall) (taken : Work) →
+offer_opened : (offered : Bool) (pair : Option ChallengePair) (account : Account) (line : Line) (c : AuthCall) (taken : Work) →
     IsOpened (opened_offer offered pair account c) pair c.computer taken (judge_offer offered pair account line c taken)
 offer_opened false pair account line c taken = refl
 offer_opened true pair account line c taken = pair_opened pair account line c taken
 
-account_opened : (account : Option Account) (pair : Option Pending) (line : Line) (c : AuthCall) (taken : Work) →
+account_opened : (account : Option Account) (pair : Option ChallengePair) (line : Line) (c : AuthCall) (taken : Work) →
     IsOpened (opened_account account pair c) pair c.computer taken (judge_account account pair line c taken)
 account_opened None pair line c taken = refl
 account_opened (Some account) pair line c taken = offer_opened (has_flag c.flags rc4_flag) pair account line c taken
@@ -114,7 +114,7 @@ waited_other computer name challenge computers map at =
       | inr other ↦ (sym (ap server_in other.1) ∙ at, other.0)
     ]
 
-opening_kept : (found : Option ChannelState) (controller : ℕ) (computer : List ℕ) (work later : Work) → IsMap same_name work.computers.pending →
+opening_kept : (found : Option SecureChannelState) (controller : ℕ) (computer : List ℕ) (work later : Work) → IsMap same_name work.computers.pending →
     IsOpened found (lookup same_name computer work.computers.pending) computer (take_pair computer work) later →
     IsKeptBy controller computer (channel_by controller computer found) work.computers later.computers
 opening_kept None controller computer work later map is =
@@ -123,7 +123,7 @@ opening_kept None controller computer work later map is =
       ap server_in (lookup-take_out_same same_name computer work.computers.pending IsSameness-same_name map),
     )
 opening_kept (Some channel) controller computer work later map is =
-    subst (λ (x : Computers). Accepts controller computer (channel_with controller computer channel) work.computers x) (sym is.3)
+    subst (λ (x : Computers). Accepts controller computer (channel_of controller computer channel) work.computers x) (sym is.3)
     (record {
       controller_is = refl;
       computer_is = refl;
@@ -133,8 +133,8 @@ opening_kept (Some channel) controller computer work later map is =
       served = λ name challenge at. waited_other computer name challenge work.computers map at;
       kept = λ name c at. elim (found_put computer name channel work.computers.channels) [
         | inl here ↦ inl (
-            subst (λ (x : Channel). SameChannel (channel_with controller computer channel) x)
-            (some_is (channel_with controller name channel) c (sym (ap (channel_by controller name) here.1) ∙ at))
+            subst (λ (x : Channel). SameChannel (channel_of controller computer channel) x)
+            (some_is (channel_of controller name channel) c (sym (ap (channel_by controller name) here.1) ∙ at))
             (record { controller = refl; computer = sym here.0; secret = refl; client = refl; server = refl; flags = refl })
             )
         | inr other ↦ inr (sym (ap (channel_by controller name) other) ∙ at)
@@ -143,13 +143,13 @@ opening_kept (Some channel) controller computer work later map is =
 
 -- ---- a call on a channel
 
-moved_alike : (passes : Bool) (controller : ℕ) (name : List ℕ) (state : ChannelState) (given : Authenticator) →
-    channel_with controller name (moved_by_call passes state given) ≡ channel_with controller name state
+moved_alike : (passes : Bool) (controller : ℕ) (name : List ℕ) (state : SecureChannelState) (given : Authenticator) →
+    channel_of controller name (moved_by_call passes state given) ≡ channel_of controller name state
 moved_alike false controller name state given = refl
 moved_alike true controller name state given = refl
 
 -- what is found of a name after its entry was taken out and put back, moved on
-found_back : (key name : List ℕ) (old new : ChannelState) (entries : List (List ℕ × ChannelState)) → lookup same_name key entries ≡ Some old →
+found_back : (key name : List ℕ) (old new : SecureChannelState) (entries : List (List ℕ × SecureChannelState)) → lookup same_name key entries ≡ Some old →
     ((lookup same_name name (put same_name key new (take_out same_name key entries)) ≡ Some new) × (lookup same_name name entries ≡ Some old))
     ⊎ (lookup same_name name (put same_name key new (take_out same_name key entries)) ≡ lookup same_name name entries)
 found_back key name old new entries there =
@@ -165,15 +165,15 @@ found_back key name old new entries there =
           )
     ]
 
-found_kept : (found : Option ChannelState) (controller : ℕ) (computer : List ℕ) (given : Authenticator) (name : List ℕ) (now : ℕ) (line : Line) (info : NetworkInfo) (validation : ℕ) (d : Desk) →
+found_kept : (found : Option SecureChannelState) (controller : ℕ) (computer : List ℕ) (given : Authenticator) (name : List ℕ) (now : ℕ) (line : Line) (info : NetworkInfo) (validation : ℕ) (d : Desk) →
     lookup same_name computer d.work.computers.channels ≡ found →
     KeepsNoMore controller d.work.computers (judge_channel found computer given name now line info validation (desk d.table (take_channel computer d.work))).work.computers
 found_kept None controller computer given name now line info validation d stands =
     no_more controller d.work.computers (take_channel computer d.work).computers
-    (ap (λ (channels : List (List ℕ × ChannelState)). record d.work.computers { channels = channels }) (taken_none computer d.work.computers.channels stands))
+    (ap (λ (channels : List (List ℕ × SecureChannelState)). record d.work.computers { channels = channels }) (taken_none computer d.work.computers.channels stands))
 found_kept (Some channel) controller computer given name now line info validation d stands =
     let passes : Bool = passes_on channel given in
-    let moved : ChannelState = moved_by_call passes channel given in
+    let moved : SecureChannelState = moved_by_call passes channel given in
     let back : Desk = desk d.table (put_channel computer moved (take_channel computer d.work)) in
     subst (λ (x : Computers). KeepsNoMore controller d.work.computers x)
     (sym (return_computers (return_by passes channel given) (key_of_channel channel) name now line info validation back))

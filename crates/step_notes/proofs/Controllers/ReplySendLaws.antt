@@ -15,7 +15,7 @@ use Rattle.logon_stubs.specs.declared.info.Verdict.{Verdict}
 use Rattle.logon_stubs.specs.Writing.{written_reply}
 use Rattle.end_links.specs.Sending.{response_of}
 use Rattle.authenticators.specs.Sequences.{return_of}
-use Rattle.domain_controller.specs.Channels.{ChannelState, channel_by, key_of_channel, passes_on, return_by}
+use Rattle.authenticators.specs.SecureChannels.{SecureChannelState, channel_by, key_of_channel, passes_on, return_by}
 use Rattle.domain_controller.specs.Laws.{IsNext, is_passed}
 use Rattle.domain_controller.specs.Machine.{Desk, answer_logon, desk, judge_channel, judge_return, put_channel, status_of, take_channel}
 use Rattle.domain_controller.specs.declared.line.Line.{Line}
@@ -53,7 +53,7 @@ SendsIfPassed w line c d after =
     has_passed (judging_of w line c d (Some after)).how ≡ true → IsSentAsPassed (judging_of w line c d (Some after)) line (new_actions (Some after) d)
 
 module _ (w : Where) (line : Line) (c : LogonCall) (d : Desk) where
-  pass_sends : (passes : Bool) (computer : List ℕ) (given : Authenticator) (channel moved : ChannelState) → c.computer ≡ Some computer → c.authenticator ≡ Some given →
+  pass_sends : (passes : Bool) (computer : List ℕ) (given : Authenticator) (channel moved : SecureChannelState) → c.computer ≡ Some computer → c.authenticator ≡ Some given →
       lookup same_name computer d.work.computers.channels ≡ Some channel → passes_on channel given ≡ passes →
       SendsIfPassed w line c d (judge_return (return_by passes channel given) (key_of_channel channel) w.name w.moment line c.info c.validation (desk d.table (put_channel computer moved (take_channel computer d.work))))
   pass_sends false computer given channel moved named there stands passes is = absurd (not_refused d.work.actions judged.Barred _ refl is)
@@ -70,7 +70,7 @@ module _ (w : Where) (line : Line) (c : LogonCall) (d : Desk) where
     actions = dropped d.work.actions _ _;
   }
 
-  channel_sends : (found : Option ChannelState) (computer : List ℕ) (given : Authenticator) → c.computer ≡ Some computer → c.authenticator ≡ Some given →
+  channel_sends : (found : Option SecureChannelState) (computer : List ℕ) (given : Authenticator) → c.computer ≡ Some computer → c.authenticator ≡ Some given →
       lookup same_name computer d.work.computers.channels ≡ found →
       SendsIfPassed w line c d (judge_channel found computer given w.name w.moment line c.info c.validation (desk d.table (take_channel computer d.work)))
   channel_sends None computer given named there stands is = absurd (not_refused d.work.actions judged.NoChannel _ refl is)

@@ -10,6 +10,7 @@ use Rattle.ntlm_flags.specs.Flags.{has_flag}
 use Rattle.channel_keys.specs.Credentials.{cred_of}
 use Rattle.channel_keys.specs.Flags.{rc4_flag}
 use Rattle.authenticators.specs.Channels.{Channel}
+use Rattle.authenticators.specs.SecureChannels.{SecureChannelState, key_of_channel, channel_of}
 use Rattle.outside.specs.declared.action.Action.{Action}
 use Rattle.outside.specs.declared.action.Action.TheVariants as action
 use Rattle.outside.specs.declared.action.CloseCause.TheVariants as close
@@ -26,7 +27,6 @@ use Rattle.account_table.specs.LookUps.{knows_in}
 use Rattle.account_table.specs.declared.account.Account.{Account}
 use Rattle.end_links.specs.Links.{LinkState}
 use Rattle.end_links.specs.Serving.{ServedPart, Service, served_by, served_cut, then_open, then_talk, ServedUnit, served_units, units_on, units_then}
-use Rattle.domain_controller.specs.Channels.{ChannelState, key_of_channel}
 use Rattle.domain_controller.specs.Hearing.{hear}
 use Rattle.domain_controller.specs.Machine.{Desk, account_for, answer_challenge, answer_logon, by_heard, channel_for, controller_server, draw_challenge, judge_account, judge_offer, judge_pair, open_channel, put_pair_if, take_pair}
 use Rattle.domain_controller.specs.State.{State as ControllerState}
@@ -34,12 +34,12 @@ use Rattle.domain_controller.specs.Step.{LinkMap, StepPart, after_units, first_d
 use Rattle.domain_controller.specs.declared.hearing.Heard.{Heard}
 use Rattle.domain_controller.specs.declared.hearing.Heard.TheVariants as heard
 use Rattle.domain_controller.specs.declared.line.Line.{Line}
-use Rattle.domain_controller.specs.declared.state.Pending.{Pending}
+use Rattle.domain_controller.specs.declared.state.ChallengePair.{ChallengePair}
 use Rattle.domain_controller.specs.declared.state.Running.{Running}
 use Rattle.domain_controller.specs.declared.state.Talk.{Talk}
 use Rattle.domain_controller.specs.declared.state.Work.{Work}
 use Rattle.step_notes.specs.ChannelNames.{sends_in, sent_by}
-use Rattle.step_notes.specs.ControllerNotes.{Answered, Where, answer_on, channel_in, channel_by, channel_with, has_passed, heard_answer, judged_in, judging_by, judging_of, logon_answer, new_actions, opened_account, opened_if, opened_mark, opened_offer, opened_pair, opening, passing, plain, reply_mark, units_at, units_by}
+use Rattle.step_notes.specs.ControllerNotes.{Answered, Where, answer_on, channel_in, channel_by, has_passed, heard_answer, judged_in, judging_by, judging_of, logon_answer, new_actions, opened_account, opened_if, opened_mark, opened_offer, opened_pair, opening, passing, plain, reply_mark, units_at, units_by}
 use Rattle.step_notes.specs.Judged.{channel_if}
 use Rattle.step_notes.specs.Records.{Judging}
 use Rattle.step_notes.specs.ReplySends.{AreSentFor, CarriesReply, IsItsReply, IsOpeningReply, IsSentIf, RepliesAreSentAsJudged, standing_at}
@@ -86,7 +86,7 @@ sends_after old between link bytes same =
 sends_one : (old : List Action) (link : ℕ) (bytes : List ℕ) → SendsOne old (old ++ action.Send link bytes ∷ [])
 sends_one old link bytes = sends_after old old link bytes refl
 
-pair_actions : (knows : Bool) (computer : List ℕ) (pair : Pending) (work : Work) → (put_pair_if knows computer pair work).actions ≡ work.actions
+pair_actions : (knows : Bool) (computer : List ℕ) (pair : ChallengePair) (work : Work) → (put_pair_if knows computer pair work).actions ≡ work.actions
 pair_actions false computer pair work = refl
 pair_actions true computer pair work = refl
 
@@ -94,26 +94,26 @@ drawn_one : (left : List (List ℕ)) (line : Line) (c : ChallengeCall) (talk : T
 drawn_one [] line c talk d = tt
 drawn_one (server ∷ left) line c talk d =
     let knows : Bool = knows_in d.table.accounts c.computer in
-    let pair : Pending = record { client = c.challenge; server = server } in
+    let pair : ChallengePair = record { client = c.challenge; server = server } in
     let one : SendsOne d.work.actions (answer_challenge d.table line c server d.work).actions =
     sends_after d.work.actions (put_pair_if knows c.computer pair d.work).actions line.link _ (pair_actions knows c.computer pair d.work) in
     record { new = one.bytes ∷ []; is = one.is; each = (tt, tt) }
 
 -- what opens a channel is the reply that does
-abbrev OpensBy : Option ChannelState → List ℕ → Type 0
+abbrev OpensBy : Option SecureChannelState → List ℕ → Type 0
 OpensBy None bytes = Unit {0}
 OpensBy (Some channel) bytes = IsOpeningReply bytes
 
 -- one unit more, by the channel that is opened, if one is
-record SendsOpening (opened : Option ChannelState) (old all : List Action) : Type 0 where
+record SendsOpening (opened : Option SecureChannelState) (old all : List Action) : Type 0 where
   bytes : List ℕ
   is : sends_in all ≡ sends_in old ++ bytes ∷ []
   opens : OpensBy opened bytes
 
-sends_opening : (opened : Option ChannelState) (old : List Action) (link : ℕ) (bytes : List ℕ) → OpensBy opened bytes → SendsOpening opened old (old ++ action.Send link bytes ∷ [])
+sends_opening : (opened : Option SecureChannelState) (old : List Action) (link : ℕ) (bytes : List ℕ) → OpensBy opened bytes → SendsOpening opened old (old ++ action.Send link bytes ∷ [])
 sends_opening opened old link bytes opens = record { bytes = bytes; is = one_more old link bytes; opens = opens }
 
-opened_one : (right : Bool) (channel : ChannelState) (line : Line) (c : AuthCall) (work : Work) →
+opened_one : (right : Bool) (channel : SecureChannelState) (line : Line) (c : AuthCall) (work : Work) →
     SendsOpening (opened_if right channel) work.actions (open_channel right channel line c work).actions
 opened_one false channel line c work = sends_opening None work.actions line.link _ tt
 opened_one true channel line c work =
@@ -128,17 +128,17 @@ opened_one true channel line c work =
       frames = refl;
     })
 
-pair_one : (pair : Option Pending) (account : Account) (line : Line) (c : AuthCall) (work : Work) →
+pair_one : (pair : Option ChallengePair) (account : Account) (line : Line) (c : AuthCall) (work : Work) →
     SendsOpening (opened_pair pair account c) work.actions (judge_pair pair account line c work).actions
 pair_one None account line c work = sends_opening None work.actions line.link _ tt
 pair_one (Some pair) account line c work = opened_one (bytes_eq c.credential (cred_of (key_of_channel (channel_for account pair c)) pair.client)) (channel_for account pair c) line c work
 
-offer_one : (offers : Bool) (pair : Option Pending) (account : Account) (line : Line) (c : AuthCall) (work : Work) →
+offer_one : (offers : Bool) (pair : Option ChallengePair) (account : Account) (line : Line) (c : AuthCall) (work : Work) →
     SendsOpening (opened_offer offers pair account c) work.actions (judge_offer offers pair account line c work).actions
 offer_one false pair account line c work = sends_opening None work.actions line.link _ tt
 offer_one true pair account line c work = pair_one pair account line c work
 
-account_one : (account : Option Account) (pair : Option Pending) (line : Line) (c : AuthCall) (work : Work) →
+account_one : (account : Option Account) (pair : Option ChallengePair) (line : Line) (c : AuthCall) (work : Work) →
     SendsOpening (opened_account account pair c) work.actions (judge_account account pair line c work).actions
 account_one None pair line c work = sends_opening None work.actions line.link _ tt
 account_one (Some account) pair line c work = offer_one (has_flag c.flags rc4_flag) pair account line c work
@@ -149,10 +149,10 @@ opened_carries : (unit : Option ℕ) (channel : Channel) (number : ℕ) (bytes :
 opened_carries None channel number bytes opens = tt
 opened_carries (Some unit) channel number bytes opens = opens
 
-opening_sent : (opened : Option ChannelState) (w : Where) (computer : List ℕ) (number : ℕ) (bytes : List ℕ) → OpensBy opened bytes →
+opening_sent : (opened : Option SecureChannelState) (w : Where) (computer : List ℕ) (number : ℕ) (bytes : List ℕ) → OpensBy opened bytes →
     AreSentFor (opening (channel_by w.controller computer opened) w number ∷ []) (bytes ∷ [])
 opening_sent None w computer number bytes opens = (tt, tt)
-opening_sent (Some channel) w computer number bytes opens = (opened_carries w.unit (channel_with w.controller computer channel) number bytes opens, tt)
+opening_sent (Some channel) w computer number bytes opens = (opened_carries w.unit (channel_of w.controller computer channel) number bytes opens, tt)
 
 -- ---- a Logon call
 
@@ -207,7 +207,7 @@ heard_sent (heard.Answer bytes talk) w link d left = record { new = bytes ∷ []
 heard_sent (heard.Waits talk) w link d left = nothing_new d.work.actions _ _ refl tt
 heard_sent (heard.Asked line (call.Challenge c) talk) w link d left = drawn_one left line c talk d
 heard_sent (heard.Asked line (call.Authenticate c) talk) w link d left =
-    let opened : Option ChannelState = opened_account (account_for d.table c) (lookup same_name c.computer d.work.computers.pending) c in
+    let opened : Option SecureChannelState = opened_account (account_for d.table c) (lookup same_name c.computer d.work.computers.pending) c in
     let one : SendsOpening opened d.work.actions (judge_account (account_for d.table c) (lookup same_name c.computer d.work.computers.pending) line c (take_pair c.computer d.work)).actions =
     account_one (account_for d.table c) (lookup same_name c.computer d.work.computers.pending) line c (take_pair c.computer d.work) in
     record { new = one.bytes ∷ []; is = one.is; each = opening_sent opened w c.computer line.call one.bytes one.opens }

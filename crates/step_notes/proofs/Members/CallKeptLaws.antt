@@ -14,6 +14,7 @@ use Rattle.outside.specs.declared.event.Event.{Event}
 use Rattle.outside.specs.declared.event.Event.TheVariants as event
 use Rattle.outside.specs.Machine.{Part, step_by, then_part}
 use Rattle.ntlm_flags.specs.Flags.{agreed_flags}
+use Rattle.authenticators.specs.SecureChannels.{SecureChannelState}
 use Rattle.ntlm_messages.specs.declared.messages.Authenticate.{Authenticate}
 use Rattle.ntlm_messages.specs.declared.refused.MessageRefused.{MessageRefused}
 use Rattle.ntlm_messages.specs.Authenticate.{authenticate_of}
@@ -45,7 +46,6 @@ use Rattle.channel_client.specs.declared.state.Step.TheVariants as step
 use Rattle.channel_client.specs.declared.state.Waiting.{Waiting}
 use Rattle.channel_client.specs.Effects.{ArePlacesApart, IsCoherent, IsForFirst}
 use Rattle.channel_client.specs.Machine.{act, ask_by as ask_channel, ask_of, begin_with, can_start, hear, judge, later_logons, lose_of, needs_challenge, place_of, remove_first, settle, start_by, start_of, waiting_limit}
-use Rattle.channel_client.specs.Opened.{OpenState}
 use Rattle.channel_client.specs.State.{Requester}
 use Rattle.channel_client.proofs.EffectLaws.{steps_have_effects}
 use Rattle.channel_client.proofs.TurnLaws.{one_turn}
@@ -115,9 +115,9 @@ started_waits None (logon ∷ logons) s timestamp challenge = refl
 
 settled_own : (j : Judgement) (s : Requester) → Fits j s.standing s.caller.secret → IsOfCaller s → IsOfCaller (settle j s).state
 settled_own (judgement.Half client server) s fit own = record { secret = tt; stamped = tt }
-settled_own (judgement.Opened o) s fit own = record { secret = ap (λ (x : OpenState). x.secret) fit.3; stamped = tt }
+settled_own (judgement.Opened o) s fit own = record { secret = ap (λ (x : SecureChannelState). x.secret) fit.3; stamped = tt }
 settled_own (judgement.Answer o v) s fit own =
-    record { secret = ap (λ (x : OpenState). x.secret) fit.2 ∙ subst (λ (how : Standing). HasSecret s.caller.secret how) fit.1 own.secret; stamped = tt }
+    record { secret = ap (λ (x : SecureChannelState). x.secret) fit.2 ∙ subst (λ (how : Standing). HasSecret s.caller.secret how) fit.1 own.secret; stamped = tt }
 settled_own (judgement.Drop cause) s fit own = record { secret = tt; stamped = tt }
 
 -- ---- what is kept, by the places

@@ -4,6 +4,7 @@ use Rattle.std.proofs.Common.{◌≡◌, ℕ, ◌==◌, Bool, true, false, List,
 use Rattle.std.specs.List.{AllByRecursion}
 use Rattle.authenticators.specs.Channels.{Channel, channel_key}
 use Rattle.authenticators.specs.Sequences.{authenticator_of, next_seed}
+use Rattle.authenticators.specs.SecureChannels.{channel_of, SecureChannelState, after_call, key_of_channel}
 use Rattle.outside.specs.declared.action.Action.{Action}
 use Rattle.outside.specs.declared.action.StepRefused.{StepRefused}
 use Rattle.outside.specs.declared.event.Event.TheVariants as event
@@ -32,9 +33,8 @@ use Rattle.channel_client.specs.declared.state.Standing.{Standing}
 use Rattle.channel_client.specs.declared.state.Standing.TheVariants as standing
 use Rattle.channel_client.specs.declared.state.Step.TheVariants as step
 use Rattle.channel_client.specs.declared.state.Waiting.{Waiting}
-use Rattle.channel_client.specs.Effects.{IsForFirst, MatchesStep, channel_of, seed_in, step_in}
+use Rattle.channel_client.specs.Effects.{IsForFirst, MatchesStep, seed_in, step_in}
 use Rattle.channel_client.specs.Machine.{act, hear, judge, logon_call, place_of, question_of, settle, wait_for}
-use Rattle.channel_client.specs.Opened.{OpenState, after_call, open_key}
 use Rattle.channel_client.specs.State.{Requester}
 use Rattle.member_server.specs.declared.plan.MemberPlan.{MemberPlan}
 use Rattle.member_server.specs.declared.state.AtTurn.{AtTurn}
@@ -56,12 +56,12 @@ use Rattle.step_notes.proofs.Members.CallKeptLaws.{TurnAsksBy, at_channel, fresh
 
 -- ---- a request that goes out
 
-open_is : (one other : OpenState) → standing.Open one ≡ standing.Open other → one ≡ other
+open_is : (one other : SecureChannelState) → standing.Open one ≡ standing.Open other → one ≡ other
 open_is one other is = cc
 
 module _ (controller : ℕ) (at : AtTurn) (joiner : Option RpcUnit) (kept : AsksForKept true at.work.logons) (frames : List (List ℕ)) (number place : ℕ) where
   -- a Logon call on the channel that stands
-  logon_goes : (c : LogonCall) (o : OpenState) → at.work.logons.channel.standing ≡ standing.Open o → at.work.logons.channel.turn ≡ bound_at number place (call.Logon c) →
+  logon_goes : (c : LogonCall) (o : SecureChannelState) → at.work.logons.channel.standing ≡ standing.Open o → at.work.logons.channel.turn ≡ bound_at number place (call.Logon c) →
       AreFramesOf at.work.logons.channel.next_call (call.Logon c) frames →
       IsForItsLogon controller at (asked_after at joiner question.Logon frames) (Some (place_of at.work.logons.channel.turn))
       (channel_of controller at.work.logons.channel.caller.computer o) at.work.logons.channel.next_call (timestamp_bound (step_in at.work.logons.channel.turn))
@@ -73,9 +73,9 @@ module _ (controller : ℕ) (at : AtTurn) (joiner : Option RpcUnit) (kept : Asks
       (subst (λ (waiting : List Waiting). IsForFirst (bound_at number place (call.Logon c)) waiting) kept.waits
       (subst (λ (t : Option Pending). IsForFirst t s.waiting) turn kept.coherent.first)) in
       let stamped : IsStamped s.caller s.standing c = subst (λ (t : Option Pending). IsStampedStep s.caller s.standing (step_in t)) turn kept.own.stamped in
-      let earlier : OpenState = stamped.earlier in
+      let earlier : SecureChannelState = stamped.earlier in
       let moved : o ≡ after_call earlier stamped.timestamp = open_is o (after_call earlier stamped.timestamp) (sym stands ∙ stamped.stands) in
-      let key : open_key earlier ≡ channel_key channel = ap open_key (sym moved) in
+      let key : key_of_channel earlier ≡ channel_key channel = ap key_of_channel (sym moved) in
       let one : call.Logon c ≡ logon_call (caller_of plan) earlier stamped.timestamp (info_at place first.0) =
       stamped.is ∙ ap₂ (λ (caller : Caller) (info : NetworkInfo). logon_call caller earlier stamped.timestamp info) kept.caller first.2 in
       let two : logon_call (caller_of plan) earlier stamped.timestamp (info_at place first.0) ≡ call_for plan (authenticator_of (channel_key channel) earlier.seed stamped.timestamp) place first.0 =

@@ -6,6 +6,7 @@ use Rattle.std.specs.List.{AllByRecursion}
 use Rattle.std.proofs.lemmas.Bool.Decides.{Decides-eqb}
 use Rattle.wire_base.specs.Maps.{has_key, lookup, same_number, take_out}
 use Rattle.wire_base.specs.declared.authenticator.Authenticator.{Authenticator}
+use Rattle.authenticators.specs.SecureChannels.{SecureChannelState}
 use Rattle.outside.specs.Machine.{Part, then_part}
 use Rattle.outside.specs.declared.action.Action.{Action}
 use Rattle.outside.specs.declared.action.Action.TheVariants as action
@@ -31,7 +32,6 @@ use Rattle.end_links.specs.Links.{LinkState}
 use Rattle.end_links.specs.Serving.{ServedPart}
 use Rattle.channel_client.specs.Effects.{ArePlacesApart}
 use Rattle.channel_client.specs.Machine.{Starting, Taking, act, can_start, hear, hear_ack, hear_body, hear_by, hear_reply, hear_stub, is_accepting, judge, judge_auth, judge_challenge, judge_credential, judge_flags, judge_logon, needs_challenge, opnum_asked, settle, start_of, take_of}
-use Rattle.channel_client.specs.Opened.{OpenState}
 use Rattle.channel_client.specs.State.{Requester}
 use Rattle.channel_client.specs.declared.answers.Taken.{Taken}
 use Rattle.channel_client.specs.declared.answers.Taken.TheVariants as taken
@@ -83,20 +83,20 @@ pub record IsAnswerOf (c : Requester) (unit : RpcUnit) (place : ℕ) (verdict : 
   pub same_place : place ≡ pending.place
   pub asked : pending.step ≡ step.Reply question.Logon
   pub number : unit.call ≡ pending.number
-  pub stood : OpenState
+  pub stood : SecureChannelState
   pub stands : c.standing ≡ standing.Open stood
   pub read : LogonReply
   pub reads : reply_of 2 (stub_of unit.body) ≡ Ok (reply.Logon read)
   pub given : Authenticator
   pub returned : read.returned ≡ Some given
-  pub later : OpenState
+  pub later : SecureChannelState
   pub judged : judge_logon (read.status == access_denied) (standing.Open stood) read.returned read.status read.level read.info ≡ judgement.Answer later verdict
 
 -- a reply that answers
 abbrev IsReplyTo : Judgement → Standing → Question → Reply → Verdict → Type 0
 IsReplyTo j how q r verdict =
-    (q ≡ question.Logon) × (read : LogonReply) × (r ≡ reply.Logon read) × (given : Authenticator) × (read.returned ≡ Some given) × (stood : OpenState) × (how ≡ standing.Open stood)
-    × (later : OpenState) × (judge_logon (read.status == access_denied) (standing.Open stood) read.returned read.status read.level read.info ≡ judgement.Answer later verdict)
+    (q ≡ question.Logon) × (read : LogonReply) × (r ≡ reply.Logon read) × (given : Authenticator) × (read.returned ≡ Some given) × (stood : SecureChannelState) × (how ≡ standing.Open stood)
+    × (later : SecureChannelState) × (judge_logon (read.status == access_denied) (standing.Open stood) read.returned read.status read.level read.info ≡ judgement.Answer later verdict)
 
 abbrev IfAnswer : Judgement → (Verdict → Type 0) → Type 0
 IfAnswer (judgement.Half client server) Is = Unit {0}
@@ -122,7 +122,7 @@ auth_no true standing.Nothing secret credential flags Is = tt
 auth_no true (standing.Half client server) secret credential flags Is = credential_no _ secret client server flags Is
 auth_no true (standing.Open o) secret credential flags Is = tt
 
-answer_if : (j : Judgement) (Is : Verdict → Type 0) → ((later : OpenState) (verdict : Verdict) → j ≡ judgement.Answer later verdict → Is verdict) → IfAnswer j Is
+answer_if : (j : Judgement) (Is : Verdict → Type 0) → ((later : SecureChannelState) (verdict : Verdict) → j ≡ judgement.Answer later verdict → Is verdict) → IfAnswer j Is
 answer_if (judgement.Half client server) Is so = tt
 answer_if (judgement.Opened o) Is so = tt
 answer_if (judgement.Answer o verdict) Is so = so o verdict refl

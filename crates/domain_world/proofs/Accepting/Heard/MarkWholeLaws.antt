@@ -7,6 +7,7 @@ use Rattle.wire_base.specs.Numbers.{AreBytes}
 use Rattle.authenticators.specs.Channels.{Channel}
 use Rattle.outside.specs.declared.event.Event.TheVariants as event
 use Rattle.channel_keys.specs.Credentials.{cred_of}
+use Rattle.authenticators.proofs.BlockLaws.{cred_block}
 use Rattle.rpc_units.specs.declared.unit.Unit.{Unit as RpcUnit}
 use Rattle.rpc_units.specs.Calls.{IsHeard}
 use Rattle.rpc_units.specs.Joining.{stub_of}
@@ -17,7 +18,6 @@ use Rattle.logon_stubs.specs.declared.calls.LogonCall.{LogonCall}
 use Rattle.logon_stubs.specs.declared.calls.Reply.TheVariants as reply
 use Rattle.logon_stubs.proofs.AnswerLaws.{answers_are_long}
 use Rattle.end_links.specs.Whole.{IsWholeSend}
-use Rattle.channel_client.proofs.WholeLaws.{cred_block}
 use Rattle.domain_controller.specs.ReadBack.{IsReadBack, heard_reply, opened_reply}
 use Rattle.domain_controller.specs.State.{State as ControllerState}
 use Rattle.domain_controller.proofs.AloneLaws.{number_fits, reply_alone}

@@ -3,7 +3,9 @@
 use Rattle.std.proofs.Common.{◌≡◌, ℕ, ◌==◌, Bool, true, false, List, Option, Some, None, Result, Ok, slice_get, refl, sym, ap, ◌∙◌, subst}
 use Rattle.std.specs.List.{AllByRecursion}
 use Rattle.std.proofs.lemmas.Bool.Decides.{Decides-eqb}
+use Rattle.channel_keys.specs.Hidden.{crypt_key}
 use Rattle.authenticators.specs.Channels.{Channel, channel_key}
+use Rattle.authenticators.specs.SecureChannels.{SecureChannelState, after_return, is_awaited, key_of_channel, channel_of}
 use Rattle.authenticators.proofs.ChannelLaws.{channel_key-same}
 use Rattle.outside.specs.declared.action.Outcome.{Outcome}
 use Rattle.rpc_units.specs.Joining.{stub_of}
@@ -18,18 +20,15 @@ use Rattle.logon_stubs.specs.declared.info.Verdict.{Verdict}
 use Rattle.logon_stubs.specs.declared.info.Verdict.TheVariants.{Granted, Status}
 use Rattle.logon_stubs.specs.declared.refused.StubRefused.{StubRefused}
 use Rattle.sam_logon.specs.Granted.{at_level, with_extra_if}
-use Rattle.channel_client.specs.Hidden.{crypt_key}
 use Rattle.channel_client.specs.Machine.{judge_awaited, judge_level, judge_logon, judge_status, level_asked}
-use Rattle.channel_client.specs.Opened.{OpenState, after_return, is_awaited, open_key}
 use Rattle.channel_client.specs.declared.judging.Judgement.TheVariants as judgement
 use Rattle.channel_client.specs.declared.state.Standing.TheVariants as standing
-use Rattle.domain_controller.specs.Channels.{ChannelState, key_of_channel}
 use Rattle.domain_controller.specs.Laws.{IsNext}
 use Rattle.domain_controller.specs.Machine.{info_of, reply_info, status_of}
 use Rattle.member_server.specs.Outcomes.{outcome_of}
 use Rattle.member_server.specs.Turns.{ending_of}
 use Rattle.channel_events.specs.Marks.{OneOf, ReplyTo}
-use Rattle.step_notes.specs.ControllerNotes.{channel_by, channel_in, channel_with, has_passed}
+use Rattle.step_notes.specs.ControllerNotes.{channel_by, channel_in, has_passed}
 use Rattle.step_notes.specs.Judged.{channel_if, passed_channel}
 use Rattle.step_notes.specs.Marking.{mark_channel}
 use Rattle.step_notes.specs.Records.{Judging, MessageTaken, OutcomeTold, Sent}
@@ -43,34 +42,34 @@ use Rattle.channel_events.proofs.ListLaws.{all_weaker, one_weaker, some_is}
 
 -- ---- a reply that a member takes as an answer
 
-given_level : (right : Bool) (info : SamInfo) (o later : OpenState) (w : Verdict) → judge_level right (Some info) o ≡ judgement.Answer later w →
-    w ≡ Granted (record info { key = crypt_key (open_key o) info.key })
+given_level : (right : Bool) (info : SamInfo) (o later : SecureChannelState) (w : Verdict) → judge_level right (Some info) o ≡ judgement.Answer later w →
+    w ≡ Granted (record info { key = crypt_key (key_of_channel o) info.key })
 given_level false info o later w is = absurd (let x = is in cc)
 given_level true info o later w is = cc
 
-level_given : (right : Bool) (level : ℕ) (info : SamInfo) (o later : OpenState) (w : Verdict) → (level == level_asked) ≡ right → judge_level right (Some info) o ≡ judgement.Answer later w → level ≡ 3
+level_given : (right : Bool) (level : ℕ) (info : SamInfo) (o later : SecureChannelState) (w : Verdict) → (level == level_asked) ≡ right → judge_level right (Some info) o ≡ judgement.Answer later w → level ≡ 3
 level_given false level info o later w asked is = absurd (let x = is in cc)
 level_given true level info o later w asked is = (Decides-eqb level 3).0 asked
 
-no_info : (right : Bool) (o later : OpenState) (w : Verdict) → judge_level right None o ≡ judgement.Answer later w → ⊥
+no_info : (right : Bool) (o later : SecureChannelState) (w : Verdict) → judge_level right None o ≡ judgement.Answer later w → ⊥
 no_info false o later w is = let x = is in cc
 no_info true o later w is = let x = is in cc
 
-given_granted : (awaited : Bool) (level : ℕ) (info : SamInfo) (o later : OpenState) (w : Verdict) → judge_awaited awaited 0 level (Some info) o ≡ judgement.Answer later w →
-    w ≡ Granted (record info { key = crypt_key (open_key o) info.key })
+given_granted : (awaited : Bool) (level : ℕ) (info : SamInfo) (o later : SecureChannelState) (w : Verdict) → judge_awaited awaited 0 level (Some info) o ≡ judgement.Answer later w →
+    w ≡ Granted (record info { key = crypt_key (key_of_channel o) info.key })
 given_granted false level info o later w is = absurd (let x = is in cc)
 given_granted true level info o later w is = given_level (level == level_asked) info (after_return true o) later w is
 
-status_by : (zero : Bool) (status level : ℕ) (o later : OpenState) (w : Verdict) → judge_status zero status level None o ≡ judgement.Answer later w → w ≡ Status status
+status_by : (zero : Bool) (status level : ℕ) (o later : SecureChannelState) (w : Verdict) → judge_status zero status level None o ≡ judgement.Answer later w → w ≡ Status status
 status_by false status level o later w is = cc
 status_by true status level o later w is = absurd (no_info (level == level_asked) o later w is)
 
-given_status : (awaited : Bool) (status level : ℕ) (o later : OpenState) (w : Verdict) → judge_awaited awaited status level None o ≡ judgement.Answer later w → w ≡ Status status
+given_status : (awaited : Bool) (status level : ℕ) (o later : SecureChannelState) (w : Verdict) → judge_awaited awaited status level None o ≡ judgement.Answer later w → w ≡ Status status
 given_status false status level o later w is = absurd (let x = is in cc)
 given_status true status level o later w is = status_by (status == 0) status level (after_return true o) later w is
 
 -- it is one at the level that is asked for, which carries all that is granted
-given_asked : (awaited : Bool) (level : ℕ) (info : SamInfo) (o later : OpenState) (w : Verdict) → judge_awaited awaited 0 level (Some info) o ≡ judgement.Answer later w → level ≡ 3
+given_asked : (awaited : Bool) (level : ℕ) (info : SamInfo) (o later : SecureChannelState) (w : Verdict) → judge_awaited awaited 0 level (Some info) o ≡ judgement.Answer later w → level ≡ 3
 given_asked false level info o later w is = absurd (let x = is in cc)
 given_asked true level info o later w is = level_given (level == level_asked) level info (after_return true o) later w refl is
 
@@ -78,7 +77,7 @@ all_at : (level : ℕ) (info : SamInfo) → level ≡ 3 → at_level level info 
 unfolding at_level
 all_at level info three = ap (λ (has : Bool). with_extra_if has info) (ap has_extra three)
 
-read_as : (denied : Bool) (v : Verdict) (key credential : List ℕ) (level : ℕ) (o later : OpenState) (w : Verdict) → open_key o ≡ key →
+read_as : (denied : Bool) (v : Verdict) (key credential : List ℕ) (level : ℕ) (o later : SecureChannelState) (w : Verdict) → key_of_channel o ≡ key →
     judge_logon denied (standing.Open o) (Some (record { credential = credential; timestamp = 0 })) (status_of v) level (info_of level key v) ≡ judgement.Answer later w →
     w ≡ verdict_read key v
 read_as true v key credential level o later w same is = absurd (let x = is in cc)
@@ -86,7 +85,7 @@ read_as false (Granted info) key credential level o later w same is =
     let carried : SamInfo = reply_info level key info in
     let three : level ≡ 3 = given_asked (is_awaited o.awaited credential) level carried o later w is in
     given_granted (is_awaited o.awaited credential) level carried o later w is
-    ∙ ap (λ (all : SamInfo). Granted (record all { key = crypt_key (open_key o) (crypt_key key info.key) })) (all_at level info three)
+    ∙ ap (λ (all : SamInfo). Granted (record all { key = crypt_key (key_of_channel o) (crypt_key key info.key) })) (all_at level info three)
     ∙ ap (λ (k : List ℕ). Granted (record info { key = crypt_key k (crypt_key key info.key) })) same
 read_as false (Status status) key credential level o later w same is = given_status (is_awaited o.awaited credential) status level o later w is
 
@@ -101,13 +100,13 @@ module _ (past : Past) (back : RepliesAreReadBack past) where
       slice_get past.book.judged place ≡ Some j → read.sent.mark ≡ ReplyTo channel number request → IsReplyOfCall channel number request j read.carrier.bytes → result ≡ outcome_read channel j message
   read_of message u result read channel number request place j judged mark reply =
       let next : IsNext j.computers j.logon = reply.carries.next in
-      let found : passed_channel j ≡ Some (channel_with j.controller next.computer next.channel) =
+      let found : passed_channel j ≡ Some (channel_of j.controller next.computer next.channel) =
       ap (λ (how : _). channel_if (has_passed how) j) reply.carries.how ∙ ap (λ (name : Option (List ℕ)). channel_in j.controller name j.computers) next.named
-      ∙ ap (λ (c : Option ChannelState). channel_by j.controller next.computer c) next.stands in
-      let its : channel_with j.controller next.computer next.channel ≡ channel = some_is (channel_with j.controller next.computer next.channel) channel (sym found ∙ reply.passed) in
+      ∙ ap (λ (c : Option SecureChannelState). channel_by j.controller next.computer c) next.stands in
+      let its : channel_of j.controller next.computer next.channel ≡ channel = some_is (channel_of j.controller next.computer next.channel) channel (sym found ∙ reply.passed) in
       let key : key_of_channel next.channel ≡ channel_key channel = ap channel_key its in
       let named : read.named ≡ channel = some_is read.named channel (sym read.made ∙ ap mark_channel mark) in
-      let stood : open_key read.stood ≡ key_of_channel next.channel =
+      let stood : key_of_channel read.stood ≡ key_of_channel next.channel =
       read.key ∙ sym (channel_key-same read.named read.channel read.same) ∙ ap channel_key named ∙ sym key in
       let same = reply_is (reply_of 2 (stub_of read.whole.unit.body)) read.read _ read.reads (back u read.carrier read.sent read.there read.noted channel number request place j judged mark reply read.whole) in
       let verdict : read.verdict ≡ verdict_read (key_of_channel next.channel) (verdict_passed j) =

@@ -2,7 +2,6 @@
 -- each move, over the frame of whole steps. It serves `runs_stand_so`.
 use Rattle.std.proofs.lemmas.List.Elements.{All-head, All-tail}
 use Rattle.std.proofs.lemmas.List.{drop_all, take_all}
-use Rattle.channel_client.proofs.WholeLaws.{bytes_from_all}
 use Rattle.channel_events.specs.Marks.{OneOf}
 use Rattle.domain_controller.specs.declared.state.Running.{Running as ControllerRunning}
 use Rattle.logon_client.specs.declared.state.Running.{Running as ClientRunning}
@@ -24,6 +23,7 @@ use Rattle.std.specs.Prelude.{All}
 use Rattle.std.specs.List.{AllByRecursion}
 use Rattle.wire_base.specs.Names.{IsName}
 use Rattle.wire_base.specs.Numbers.{AreBytes}
+use Rattle.authenticators.proofs.BlockLaws.{bytes_from_all}
 use Rattle.outside.specs.declared.action.Action.{Action}
 use Rattle.outside.specs.declared.action.Action.TheVariants.{Keep, Send, Dial, Close, Told, Judged}
 use Rattle.outside.specs.declared.event.Event.{Event}

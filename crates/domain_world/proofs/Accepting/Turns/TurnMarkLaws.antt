@@ -4,10 +4,10 @@ use Rattle.std.proofs.Common.{◌≡◌, ℕ, zero, suc, ◌<◌, Bool, true, fa
 use Rattle.std.specs.List.{AllByRecursion}
 use Rattle.std.proofs.lemmas.List.{length-set}
 use Rattle.authenticators.specs.Channels.{Channel}
+use Rattle.authenticators.specs.SecureChannels.{SecureChannelState}
 use Rattle.logon_stubs.specs.declared.calls.Call.{Call}
 use Rattle.logon_stubs.specs.declared.calls.Call.TheVariants as call
 use Rattle.end_links.specs.Serving.{ServedUnit}
-use Rattle.domain_controller.specs.Channels.{ChannelState}
 use Rattle.domain_controller.specs.Hearing.{hear}
 use Rattle.domain_controller.specs.Machine.{Desk}
 use Rattle.domain_controller.specs.declared.hearing.Heard.{Heard}
@@ -56,7 +56,7 @@ module _ (count : ℕ) where
   IsKnownMark (Calling channel number timestamp) = Unit {0}
   IsKnownMark (ReplyTo channel number request) = channel.controller < count
 
-  by_known : (controller : ℕ) (computer : List ℕ) (found : Option ChannelState) → controller < count → IfChannel (channel_by controller computer found)
+  by_known : (controller : ℕ) (computer : List ℕ) (found : Option SecureChannelState) → controller < count → IfChannel (channel_by controller computer found)
   by_known controller computer None few = tt
   by_known controller computer (Some c) few = few
 

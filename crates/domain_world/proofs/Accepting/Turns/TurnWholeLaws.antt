@@ -4,6 +4,7 @@ use Rattle.std.proofs.Common.{◌≡◌, ◌≢◌, ◌<◌, ◌⊎◌, ℕ, tru
 use Rattle.std.specs.List.{AllByRecursion}
 use Rattle.wire_base.specs.Maps.{lookup, same_number}
 use Rattle.authenticators.specs.Channels.{Channel, channel_key}
+use Rattle.authenticators.specs.SecureChannels.{channel_of, SecureChannelState}
 use Rattle.outside.specs.Machine.{Part}
 use Rattle.outside.specs.declared.action.Action.{Action}
 use Rattle.outside.specs.declared.action.Action.TheVariants as action
@@ -14,9 +15,8 @@ use Rattle.rpc_units.specs.declared.unit.Unit.{Unit as RpcUnit}
 use Rattle.logon_stubs.specs.declared.info.SamInfo.{SamInfo}
 use Rattle.logon_stubs.specs.declared.info.Verdict.{Verdict}
 use Rattle.logon_stubs.specs.declared.info.Verdict.TheVariants as verdict
-use Rattle.channel_client.specs.Effects.{ArePlacesApart, channel_of, stands_in}
+use Rattle.channel_client.specs.Effects.{ArePlacesApart, stands_in}
 use Rattle.channel_client.specs.Machine.{take_of}
-use Rattle.channel_client.specs.Opened.{OpenState}
 use Rattle.channel_client.specs.State.{Requester}
 use Rattle.channel_client.specs.declared.answers.Taken.{Taken}
 use Rattle.channel_client.specs.declared.answers.Taken.TheVariants as taken
@@ -121,7 +121,7 @@ pub record CarriesUnit (s : State) (u : ℕ) (bytes : List ℕ) : Type 0 where
   pub back : carrier.back ≡ true
   pub same : bytes ≡ carrier.bytes
 
-named_with : (controller : ℕ) (computer : List ℕ) (how : Standing) (stood : OpenState) (channel : Channel) → how ≡ standing.Open stood → stands_in controller computer how ≡ Some channel →
+named_with : (controller : ℕ) (computer : List ℕ) (how : Standing) (stood : SecureChannelState) (channel : Channel) → how ≡ standing.Open stood → stands_in controller computer how ≡ Some channel →
     channel_of controller computer stood ≡ channel
 named_with controller computer how stood channel stands is = some_is _ channel (sym (ap (λ (h : Standing). stands_in controller computer h) stands) ∙ is)
 

@@ -11,12 +11,12 @@ use Rattle.outside.specs.declared.action.Action.TheVariants.{Keep, Send, Dial, C
 use Rattle.outside.specs.declared.event.Event.TheVariants as event
 use Rattle.authenticators.specs.Channels.{Channel}
 use Rattle.wire_base.specs.declared.authenticator.Authenticator.{Authenticator}
+use Rattle.authenticators.specs.SecureChannels.{SecureChannelState}
 use Rattle.domain_controller.specs.State.{State as ControllerState}
 use Rattle.domain_controller.specs.Step.{first_state}
 use Rattle.logon_client.specs.Machine.{begin_of, fresh_client}
 use Rattle.logon_client.specs.declared.plan.ClientPlan.{ClientPlan}
 use Rattle.channel_client.specs.Effects.{seed_in, stands_in, step_in, view_of}
-use Rattle.channel_client.specs.Opened.{OpenState}
 use Rattle.channel_client.specs.declared.state.Standing.{Standing}
 use Rattle.channel_client.specs.declared.state.Step.{Step}
 use Rattle.channel_client.specs.declared.state.Step.TheVariants as step
@@ -368,7 +368,7 @@ and_filter one other (turn ∷ turns) = and_one (one turn) turn (filter one turn
 pub own_stamps : (k : ℕ) (channel : Channel) (turns : List LogonTurn) → stamps_on channel (mine k turns) ≡ timestamps_on k channel turns
 own_stamps k channel turns = ap (λ (l : List LogonTurn). map (λ (turn : LogonTurn). turn.timestamp) l) (sym (and_filter (λ (turn : LogonTurn). turn.member == k) (on_channel channel) turns))
 
-own_seed : (s : State) (k : ℕ) (channel : Channel) (o : OpenState) (turns : List LogonTurn) → TurnsHold None [] s.member_plans s.ends s.dials s.chances.drawn [] turns →
+own_seed : (s : State) (k : ℕ) (channel : Channel) (o : SecureChannelState) (turns : List LogonTurn) → TurnsHold None [] s.member_plans s.ends s.dials s.chances.drawn [] turns →
     Stands s k channel o → o.seed ≡ channel_seed channel (timestamps_on k channel turns)
 own_seed s k channel o turns holds stands =
     let c : ℕ = controller_of k s in

@@ -5,9 +5,10 @@ use Rattle.std.specs.List.{AllByRecursion}
 use Rattle.wire_base.specs.Maps.{lookup, same_number}
 use Rattle.wire_base.proofs.NameLaws.{IsSameness-same_number}
 use Rattle.authenticators.specs.Channels.{Channel}
+use Rattle.authenticators.specs.SecureChannels.{channel_of}
 use Rattle.outside.specs.Machine.{Part}
 use Rattle.rpc_units.specs.declared.unit.Unit.{Unit as RpcUnit}
-use Rattle.channel_client.specs.Effects.{IsForFirst, asking_in, channel_of, number_in, stands_in, step_in, view_of}
+use Rattle.channel_client.specs.Effects.{IsForFirst, asking_in, number_in, stands_in, step_in, view_of}
 use Rattle.channel_client.specs.Machine.{act, hear, judge, settle, take_of}
 use Rattle.channel_client.specs.State.{Requester}
 use Rattle.channel_client.specs.declared.answers.Taken.{Taken}

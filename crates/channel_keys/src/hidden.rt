@@ -1,7 +1,7 @@
 //! The key of a logon, hidden in a reply.
 
 ghost use Rattle.std.specs.Prelude.{◌≡◌, ◌==◌};
-ghost use Rattle.channel_client.specs.Hidden.{is_zero, crypt_key};
+ghost use Rattle.channel_keys.specs.Hidden.{is_zero, crypt_key};
 
 use rc4_stream::Rc4;
 
