@@ -5,14 +5,14 @@ use Rattle.std.proofs.lemmas.Bool.Decides.{Decides-and, Decides-eqb, Decides-lik
 use Rattle.std.proofs.lemmas.Slice.Eq.{bytes_eq-Decides}
 use Rattle.wire_base.proofs.NameLaws.{same_name-Decides}
 use Rattle.channel_keys.specs.SessionKeys.{key_of}
-use Rattle.authenticators.specs.Channels.{Channel, SameChannel, same_channel, channel_key}
+use Rattle.authenticators.specs.Channels.{ChannelIdentity, SameChannel, same_channel, channel_key}
 
-pub channel_key-same : (one other : Channel) → SameChannel one other → channel_key one ≡ channel_key other
+pub channel_key-same : (one other : ChannelIdentity) → SameChannel one other → channel_key one ≡ channel_key other
 channel_key-same one other same =
     ap₂ (λ secret client. key_of secret client one.server one.flags) same.secret same.client
     ∙ ap₂ (λ server flags. key_of other.secret other.client server flags) same.server same.flags
 
-pub same_channel-Decides : (one other : Channel) → Decides (same_channel one other) (SameChannel one other)
+pub same_channel-Decides : (one other : ChannelIdentity) → Decides (same_channel one other) (SameChannel one other)
 same_channel-Decides one other =
     Decides-like _
     (λ parts. record {

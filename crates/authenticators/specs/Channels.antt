@@ -5,8 +5,8 @@ use Rattle.std.specs.Prelude.{◌≡◌, ℕ, ◌==◌, ◌&&◌, Bool, List, by
 use Rattle.wire_base.specs.Names.{SameName, same_name}
 use Rattle.channel_keys.specs.SessionKeys.{key_of}
 
--- a secure channel (MS-NRPC 3.1.4.1): its ends, the secret that they share, and what was negotiated
-pub record Channel : Type 0 where
+-- which secure channel it is (MS-NRPC 3.1.4.1): its ends, the secret that they share, and what was negotiated
+pub record ChannelIdentity : Type 0 where
   -- the domain controller, by a number that tells controllers apart
   pub controller : ℕ
   -- the name of the computer at the other end
@@ -20,7 +20,7 @@ pub record Channel : Type 0 where
   pub flags : ℕ
 
 -- one channel is another: names are compared without case, all else as it is
-pub record SameChannel (one other : Channel) : Type 0 where
+pub record SameChannel (one other : ChannelIdentity) : Type 0 where
   pub controller : one.controller ≡ other.controller
   pub computer : SameName one.computer other.computer
   pub secret : one.secret ≡ other.secret
@@ -29,7 +29,7 @@ pub record SameChannel (one other : Channel) : Type 0 where
   pub flags : one.flags ≡ other.flags
 
 -- the test of it
-abbrev pub same_channel : Channel → Channel → Bool
+abbrev pub same_channel : ChannelIdentity → ChannelIdentity → Bool
 same_channel one other =
     (one.controller == other.controller)
     && same_name one.computer other.computer
@@ -39,5 +39,5 @@ same_channel one other =
     && (one.flags == other.flags)
 
 -- the session key of a channel
-abbrev pub channel_key : Channel → List ℕ
+abbrev pub channel_key : ChannelIdentity → List ℕ
 channel_key channel = key_of channel.secret channel.client channel.server channel.flags

@@ -5,7 +5,7 @@ use Rattle.std.specs.Prelude.{ℕ, Bool, true, false, List, Option, Some, None, 
 use Rattle.wire_base.specs.declared.authenticator.Authenticator.{Authenticator}
 use Rattle.channel_keys.specs.Credentials.{cred_of}
 use Rattle.channel_keys.specs.SessionKeys.{key_of}
-use Rattle.authenticators.specs.Channels.{Channel}
+use Rattle.authenticators.specs.Channels.{ChannelIdentity}
 use Rattle.authenticators.specs.Sequences.{next_seed, passes, return_of}
 
 pub record SecureChannelState : Type 0 where
@@ -37,7 +37,7 @@ fresh_channel secret client server flags = record {
 }
 
 -- the channel between both ends, by the number of its controller and the name of its computer
-abbrev pub channel_of : ℕ → List ℕ → SecureChannelState → Channel
+abbrev pub channel_of : ℕ → List ℕ → SecureChannelState → ChannelIdentity
 channel_of controller computer c = record {
   controller = controller;
   computer = computer;

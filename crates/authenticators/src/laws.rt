@@ -4,7 +4,7 @@
 ghost use Rattle.std.specs.Prelude.{◌≡◌, ◌%◌, ◌^◌, ◌↔◌, ◌∷◌, ℕ, true, List, Ok, Some};
 ghost use Rattle.wire_base.specs.declared.authenticator.Authenticator.{Authenticator};
 ghost use Rattle.channel_keys.specs.Des.{IsBlock};
-ghost use Rattle.authenticators.specs.Channels.{Channel, SameChannel, same_channel, channel_key};
+ghost use Rattle.authenticators.specs.Channels.{ChannelIdentity, SameChannel, same_channel, channel_key};
 ghost use Rattle.authenticators.specs.Sequences.{SequenceState, InStep, Passes, authenticator_of, add_to, seed_after, moved_by, sequence_after, judge_of};
 
 /// A seed of 8 bytes stays one as it moves, and timestamps move it by the sum of each plus one, modulo 2^32 in its
@@ -43,7 +43,8 @@ pub fn what_is_made_is_judged()
 
 /// Channels that are one have one session key; the test of it finds exactly these.
 pub fn one_channel_has_one_key()
-    ensures key { (one other : Channel) → SameChannel one other
+    ensures key { (one other : ChannelIdentity) → SameChannel one other
         → channel_key one ≡ channel_key other }
-    ensures test { (one other : Channel) → (same_channel one other ≡ true) ↔ SameChannel one other }
+    ensures test { (one other : ChannelIdentity) →
+        (same_channel one other ≡ true) ↔ SameChannel one other }
 {}

@@ -3,7 +3,7 @@
 use Rattle.std.specs.Prelude.{ℕ, ◌≡◌, ◌≢◌, ◌≤◌, List, [], ◌∷◌, length, Option, Some, None}
 use Rattle.std.specs.List.{AllByRecursion}
 use Rattle.channel_keys.specs.Credentials.{cred_of}
-use Rattle.authenticators.specs.Channels.{Channel, channel_key}
+use Rattle.authenticators.specs.Channels.{ChannelIdentity, channel_key}
 use Rattle.authenticators.specs.Sequences.{next_seed}
 use Rattle.authenticators.specs.SecureChannels.{channel_of}
 use Rattle.rpc_units.specs.declared.unit.Unit.{Unit as RpcUnit}
@@ -30,7 +30,7 @@ use Rattle.channel_client.specs.declared.judging.Judgement.TheVariants as judgem
 
 pub record View : Type 0 where
   -- the channel that stands, and its seed
-  pub stands : Option Channel
+  pub stands : Option ChannelIdentity
   pub seed : Option (List ℕ)
   -- the client's challenge of an opening that is under way
   pub opening : Option (List ℕ)
@@ -39,7 +39,7 @@ pub record View : Type 0 where
   -- the number of the next bind or request
   pub call : ℕ
 
-abbrev pub stands_in : ℕ → List ℕ → Standing → Option Channel
+abbrev pub stands_in : ℕ → List ℕ → Standing → Option ChannelIdentity
 stands_in controller computer standing.Nothing = None
 stands_in controller computer (standing.Half client server) = None
 stands_in controller computer (standing.Open o) = Some (channel_of controller computer o)
@@ -170,13 +170,13 @@ pub data Effect : Type 0 where
   -- an opening begins, with this challenge
   Begins : (client : List ℕ) → Effect
   -- the channel stands
-  Opens : (c : Channel) → Effect
+  Opens : (c : ChannelIdentity) → Effect
   -- a turn on the channel starts, with this timestamp
-  Moves : (c : Channel) (timestamp : ℕ) → Effect
+  Moves : (c : ChannelIdentity) (timestamp : ℕ) → Effect
   -- a call on the channel goes out, with this number
-  Calls : (c : Channel) (number : ℕ) → Effect
+  Calls : (c : ChannelIdentity) (number : ℕ) → Effect
   -- the answer to it is taken
-  Answers : (c : Channel) (number : ℕ) → Effect
+  Answers : (c : ChannelIdentity) (number : ℕ) → Effect
   -- the channel is given up
   Drops : Effect
 

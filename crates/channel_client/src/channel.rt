@@ -76,6 +76,7 @@ impl Channel {
         ensures { IfOk result (λ channel. channel ≡ fresh_requester
             (record { secret = secret; computer = computer; account = account; kind = kind })) }
     {
+        // so that it is known that the name has at most 64 bytes
         let _short = computer.bytes();
         let computer = computer.units(alloc)?;
         let caller = Caller {

@@ -1,7 +1,7 @@
 -- The calls that were made on secure channels stay apart through each event.
 -- It serves `calls_stay_apart`.
 use Rattle.std.proofs.Common.{◌≡◌, ℕ, ◌+◌, ◌<◌, ◌≤◌, ◌^◌, List, [], ◌∷◌, ◌++◌, inl, inr, Option, Some, None, slice_get, refl, sym, ap, subst, ◌∙◌, arith}
-use Rattle.authenticators.specs.Channels.{Channel}
+use Rattle.authenticators.specs.Channels.{ChannelIdentity}
 use Rattle.channel_client.specs.Effects.{Changes, Effect, Stays, Counts, Begins, Opens, Moves, Calls, Answers, Drops, View}
 use Rattle.channel_client.specs.Machine.{after}
 use Rattle.channel_events.specs.Marks.{Mark, Calling}
@@ -47,7 +47,7 @@ calmer (Opens c) u v calm change room =
     (record {
       holds = λ challenge holds. elim holds.how [
         | inl under ↦ absurd (no_some challenge under)
-        | inr there ↦ record { how = inl (change.0 ∙ ap Some (ap (λ (x : Channel). x.client) (some_is c there.0 there.1) ∙ there.2)) }
+        | inr there ↦ record { how = inl (change.0 ∙ ap Some (ap (λ (x : ChannelIdentity). x.client) (some_is c there.0 there.1) ∙ there.2)) }
       ];
       opening = λ challenge is. absurd (no_some challenge is);
       onward = omega arith;
@@ -81,13 +81,13 @@ few_used Drops u v calm change room = omega (arith, ap (λ (x : View). x.call) c
 pub room_for : (call uses : ℕ) → call ≤ uses + 1 → uses + 2 < 2 ^ 32 → call + 1 < 2 ^ 32
 room_for call uses few room = omega (arith, few, room)
 
-calling_is : (c d : Channel) (number more timestamp later : ℕ) → Calling c number timestamp ≡ Calling d more later → (c ≡ d) × (number ≡ more)
+calling_is : (c d : ChannelIdentity) (number more timestamp later : ℕ) → Calling c number timestamp ≡ Calling d more later → (c ≡ d) × (number ≡ more)
 calling_is c d number more timestamp later is = (let x = is in cc, let x = is in cc)
 
 pub fresh_holds : (challenge : List ℕ) → Holds fresh_view challenge → ⊥
 fresh_holds challenge holds = elim holds.how [ inl under ↦ no_some challenge under | inr there ↦ no_some there.0 there.1 ]
 
-was_made : (marks : List Mark) (mark : Mark) (unit number timestamp : ℕ) (c : Channel) → IsNoCall mark → slice_get (marks ++ mark ∷ []) unit ≡ Some (Calling c number timestamp) →
+was_made : (marks : List Mark) (mark : Mark) (unit number timestamp : ℕ) (c : ChannelIdentity) → IsNoCall mark → slice_get (marks ++ mark ∷ []) unit ≡ Some (Calling c number timestamp) →
     slice_get marks unit ≡ Some (Calling c number timestamp)
 was_made marks mark unit number timestamp c none made = elim (at_end marks mark (Calling c number timestamp) unit made) [
   | inl old ↦ old
@@ -169,7 +169,7 @@ module _ {Who : Type 0} where
       let held : (v : View) (challenge : List ℕ) → v ≡ e.after → Holds v challenge → challenge ≡ client =
       λ v challenge same holds. begun_holds client (after e.before.call) challenge (subst (λ (x : View). Holds x challenge) (same ∙ is) holds) in
       let old : (j : Who) (v : View) → r.views j ≡ Some v → Holds v client → ⊥ = λ j v at holds. fresh (a.held_before j v client at holds) in
-      let unmade : (unit number timestamp : ℕ) (c : Channel) → c.client ≡ client → slice_get r.marks unit ≡ Some (Calling c number timestamp) → ⊥ =
+      let unmade : (unit number timestamp : ℕ) (c : ChannelIdentity) → c.client ≡ client → slice_get r.marks unit ≡ Some (Calling c number timestamp) → ⊥ =
       λ unit number timestamp c same made. fresh (subst (λ (x : List ℕ). IsDrawn x r.drawn) same (a.made_before unit number timestamp c made)) in
       record {
         made_before = λ unit number timestamp c made. one_more (λ (one : List ℕ). one ≡ c.client) r.drawn client (a.made_before unit number timestamp c made);
@@ -204,7 +204,7 @@ module _ {Who : Type 0} where
 
   -- ---- a call goes out
 
-  calls_keep : (r : Requests Who) (c : Channel) (number timestamp : ℕ) (e : Steps r (Calls c number)) → CallsAreApart r →
+  calls_keep : (r : Requests Who) (c : ChannelIdentity) (number timestamp : ℕ) (e : Steps r (Calls c number)) → CallsAreApart r →
       CallsAreApart (after_step (record r { marks = r.marks ++ Calling c number timestamp ∷ [] }) (Calls c number) e.views)
   calls_keep r c number timestamp e a =
       let few : e.before.call ≤ r.uses + 1 = a.calls e.who e.before e.at in
@@ -221,14 +221,14 @@ module _ {Who : Type 0} where
       -- whoever holds the challenge of the channel is the one that calls
       let its : (j : Who) (w : View) → e.views j ≡ Some w → Holds w c.client → j ≡ e.who =
       λ j w there holds. let x = before j w there in a.apart j e.who x.view e.before c.client x.at e.at (x.calm.holds c.client holds) mine in
-      let above : (unit more later : ℕ) (d : Channel) → d.client ≡ c.client → number ≡ more → slice_get r.marks unit ≡ Some (Calling d more later) → ⊥ =
+      let above : (unit more later : ℕ) (d : ChannelIdentity) → d.client ≡ c.client → number ≡ more → slice_get r.marks unit ≡ Some (Calling d more later) → ⊥ =
       λ unit more later d same is_more old.
       let below : more < e.before.call = a.numbers e.who e.before unit more later d e.at (subst (λ (x : List ℕ). Holds e.before x) (sym same) mine) old in
       omega (arith, below, is_next, is_more) in
       record {
         made_before = λ unit more later d made. elim (at_end r.marks mark (Calling d more later) unit made) [
           | inl old ↦ a.made_before unit more later d old
-          | inr new ↦ subst (λ (x : Channel). IsDrawn x.client r.drawn) (calling_is c d number more timestamp later new.1).0 (a.held_before e.who e.before c.client e.at mine)
+          | inr new ↦ subst (λ (x : ChannelIdentity). IsDrawn x.client r.drawn) (calling_is c d number more timestamp later new.1).0 (a.held_before e.who e.before c.client e.at mine)
         ];
         held_before = λ i v challenge at holds. let x = before i v at in a.held_before i x.view challenge x.at (x.calm.holds challenge holds);
         apart = λ i j u v challenge at also holds too.
@@ -238,7 +238,7 @@ module _ {Who : Type 0} where
         opening = λ i v unit more later d at under made. elim (at_end r.marks mark (Calling d more later) unit made) [
           | inl old ↦ let x = before i v at in a.opening i x.view unit more later d x.at (x.calm.opening d.client under) old
           | inr new ↦ let same : c ≡ d = (calling_is c d number more timestamp later new.1).0 in
-              let holds : Holds v c.client = record { how = inl (under ∙ ap (λ (x : Channel). Some x.client) (sym same)) } in
+              let holds : Holds v c.client = record { how = inl (under ∙ ap (λ (x : ChannelIdentity). Some x.client) (sym same)) } in
               elim (e.others i v at) [
                 | inl here ↦ absurd (no_some d.client (sym unopened ∙ ap (λ (x : View). x.opening) (sym (here.1 ∙ is)) ∙ under))
                 | inr old ↦ let who : i ≡ e.who = its i v at holds in
@@ -253,7 +253,7 @@ module _ {Who : Type 0} where
           | inr new ↦ let same = calling_is c d number more timestamp later new.1 in
               elim (e.others i v at) [
                 | inl here ↦ omega (arith, count, is_next, same.1, ap (λ (x : View). x.call) (here.1 ∙ is))
-                | inr old ↦ let mine_too : Holds v c.client = subst (λ (x : Channel). Holds v x.client) (sym same.0) holds in
+                | inr old ↦ let mine_too : Holds v c.client = subst (λ (x : ChannelIdentity). Holds v x.client) (sym same.0) holds in
                     let who : i ≡ e.who = its i v at mine_too in
                     let one : v ≡ e.after = some_is v e.after (sym at ∙ ap e.views who ∙ e.now) in
                     omega (arith, count, is_next, same.1, ap (λ (x : View). x.call) (one ∙ is))
@@ -263,11 +263,11 @@ module _ {Who : Type 0} where
           | inl old ↦ elim (at_end r.marks mark (Calling f more last) other also) [
             | inl too ↦ a.distinct unit other more later last d f old too same
             | inr new ↦ let is_new = calling_is c f number more timestamp last new.1 in
-                absurd (above unit more later d (same ∙ ap (λ (x : Channel). x.client) (sym is_new.0)) is_new.1 old)
+                absurd (above unit more later d (same ∙ ap (λ (x : ChannelIdentity). x.client) (sym is_new.0)) is_new.1 old)
           ]
           | inr new ↦ let is_new = calling_is c d number more timestamp later new.1 in
               elim (at_end r.marks mark (Calling f more last) other also) [
-                | inl old ↦ absurd (above other more last f (sym same ∙ ap (λ (x : Channel). x.client) (sym is_new.0)) is_new.1 old)
+                | inl old ↦ absurd (above other more last f (sym same ∙ ap (λ (x : ChannelIdentity). x.client) (sym is_new.0)) is_new.1 old)
                 | inr too ↦ new.0 ∙ sym too.0
               ]
         ];

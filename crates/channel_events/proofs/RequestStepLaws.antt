@@ -2,7 +2,7 @@
 -- It serves `requesters_keep_calls_apart`.
 use Rattle.std.proofs.Common.{◌≡◌, ◌⊎◌, ℕ, ◌+◌, ◌≤◌, ◌==◌, Bool, true, false, List, [], ◌∷◌, ◌++◌, inl, inr, Option, Some, None, refl, sym, ap, arith}
 use Rattle.std.proofs.lemmas.Bool.Decides.{Decides-eqb}
-use Rattle.authenticators.specs.Channels.{Channel}
+use Rattle.authenticators.specs.Channels.{ChannelIdentity}
 use Rattle.channel_client.specs.Effects.{Answers, Begins, Calls, Changes, Counts, Drops, Effect, HasEffect, Moves, Opens, Stays, View, effect_begun, effect_heard, effect_judged, effect_next, effect_start, view_of}
 use Rattle.channel_client.specs.Machine.{ask_of, can_start, hear, judge, lose_of, needs_challenge, start_of, take_of}
 use Rattle.channel_client.specs.State.{Requester}
@@ -59,7 +59,7 @@ calm_seen r who controller used effect s t seen calm few has = record {
 -- ---- a unit is taken
 
 module _ (r : Requests ℕ) (who controller : ℕ) (s t : Requester) (seen : IsSeen r who controller s) where
-  call_seen : (c : Channel) (number timestamp : ℕ) → HasEffect controller (Calls c number) s t →
+  call_seen : (c : ChannelIdentity) (number timestamp : ℕ) → HasEffect controller (Calls c number) s t →
       IsSeenAfter (with_seen who (view_of controller t) 1 (record r { marks = r.marks ++ Calling c number timestamp ∷ [] })) who controller t
   unfolding step_of
   call_seen c number timestamp has = record {

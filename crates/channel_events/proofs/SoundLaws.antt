@@ -2,7 +2,7 @@
 -- It serves `channels_stay_sound`.
 use Rattle.std.proofs.Common.{◌≡◌, ℕ, List, [], ◌∷◌, ◌++◌, inl, inr, Option, Some, None, slice_get, refl, sym, ap, subst, ◌∙◌, arith}
 use Rattle.std.specs.List.{AllByRecursion}
-use Rattle.authenticators.specs.Channels.{Channel, SameChannel}
+use Rattle.authenticators.specs.Channels.{ChannelIdentity, SameChannel}
 use Rattle.channel_client.specs.Effects.{View}
 use Rattle.channel_events.specs.Marks.{Mark, Plain, Opening, Opened, Calling, ReplyTo, OneOf}
 use Rattle.channel_events.specs.Requests.{Holds, IsDrawn, IsNoCall}
@@ -94,7 +94,7 @@ waiting_keeps {Who} h e s =
 -- ---- an opening is accepted
 
 -- channels whose names are alike in the computer's letters too are one
-named_is : (one other : Channel) → IsNamedAlike one other → one ≡ other
+named_is : (one other : ChannelIdentity) → IsNamedAlike one other → one ≡ other
 named_is one other alike =
     ap (λ (controller : ℕ). record one { controller = controller }) alike.same.controller
     ∙ ap (λ (computer : List ℕ). record one { controller = other.controller; computer = computer }) alike.computer
@@ -103,19 +103,19 @@ named_is one other alike =
     ∙ ap (λ (server : List ℕ). record other { server = server; flags = one.flags }) alike.same.server
     ∙ ap (λ (flags : ℕ). record other { flags = flags }) alike.same.flags
 
-opening_at : (marks : List Mark) (from : Option ℕ) (number : ℕ) (channel : Channel) (unit : ℕ) → CarriesOpening marks from number channel → from ≡ Some unit →
+opening_at : (marks : List Mark) (from : Option ℕ) (number : ℕ) (channel : ChannelIdentity) (unit : ℕ) → CarriesOpening marks from number channel → from ≡ Some unit →
     slice_get marks unit ≡ Some (Opening channel number)
 opening_at marks None number channel unit carried is = absurd (no_some unit is)
 opening_at marks (Some at) number channel unit carried is =
     subst (λ (k : ℕ). slice_get marks k ≡ Some (Opening channel number)) (some_is at unit is)
-    (carried.1 ∙ ap (λ (c : Channel). Some (Opening c number)) (named_is carried.0 channel carried.2))
+    (carried.1 ∙ ap (λ (c : ChannelIdentity). Some (Opening c number)) (named_is carried.0 channel carried.2))
 
-call_at : (marks : List Mark) (from : Option ℕ) (number timestamp : ℕ) (channel : Channel) (unit : ℕ) → CarriesCall marks from number timestamp channel → from ≡ Some unit →
+call_at : (marks : List Mark) (from : Option ℕ) (number timestamp : ℕ) (channel : ChannelIdentity) (unit : ℕ) → CarriesCall marks from number timestamp channel → from ≡ Some unit →
     slice_get marks unit ≡ Some (Calling channel number timestamp)
 call_at marks None number timestamp channel unit carried is = absurd (no_some unit is)
 call_at marks (Some at) number timestamp channel unit carried is =
     subst (λ (k : ℕ). slice_get marks k ≡ Some (Calling channel number timestamp)) (some_is at unit is)
-    (carried.1 ∙ ap (λ (c : Channel). Some (Calling c number timestamp)) (named_is carried.0 channel carried.2))
+    (carried.1 ∙ ap (λ (c : ChannelIdentity). Some (Calling c number timestamp)) (named_is carried.0 channel carried.2))
 
 -- none was accepted with that server's challenge
 others_accepted : (accepted : List Accepted) (new : Accepted) → (OneOf (λ (one : Accepted). one.channel.server ≡ new.channel.server) accepted → ⊥) → AllByRecursion (AreOther new) accepted
@@ -264,7 +264,7 @@ first_sound : {Who : Type 0} (n : Notes Who) → AreFresh n → Sound (first_his
 first_sound {Who} n fresh =
     let holds_none : (i : Who) (v : View) (challenge : List ℕ) → n.views i ≡ Some v → Holds v challenge → ⊥ =
     λ i v challenge at holds. fresh_holds challenge (subst (λ (x : View). Holds x challenge) (fresh i v at) holds) in
-    let stands_none : (i : Who) (v : View) (c : Channel) → n.views i ≡ Some v → v.stands ≡ Some c → ⊥ =
+    let stands_none : (i : Who) (v : View) (c : ChannelIdentity) → n.views i ≡ Some v → v.stands ≡ Some c → ⊥ =
     λ i v c at stands. no_some c (sym (ap View.stands (fresh i v at)) ∙ stands) in
     record {
       draws = λ i j d before within. absurd (omega arith);

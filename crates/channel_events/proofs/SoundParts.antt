@@ -7,7 +7,7 @@ use Rattle.std.specs.List.{AllByRecursion}
 use Rattle.std.proofs.lemmas.List.Elements.{All-from_recursion}
 use Rattle.std.proofs.lemmas.List.Quantifiers.{all_pairs_push}
 use Rattle.wire_base.specs.Names.{SameName}
-use Rattle.authenticators.specs.Channels.{Channel, SameChannel}
+use Rattle.authenticators.specs.Channels.{ChannelIdentity, SameChannel}
 use Rattle.channel_client.specs.Effects.{View}
 use Rattle.channel_events.specs.Marks.{Mark, Plain, Opening, Opened, Calling, ReplyTo, OneOf}
 use Rattle.channel_events.specs.Requests.{AreSeenBut, CallsAreApart, Holds, IsDrawn}
@@ -20,8 +20,8 @@ use Rattle.channel_events.proofs.ListLaws.{all_none, all_weaker, at_end, got_app
 
 -- openings
 pub record AreOpeningsSound (marks : List Mark) (drawn : List (List ℕ)) : Type 0 where
-  pub opened_before : (unit number : ℕ) (c : Channel) → slice_get marks unit ≡ Some (Opening c number) → IsDrawn c.client drawn
-  pub opening_distinct : (unit other number more : ℕ) (c d : Channel) → slice_get marks unit ≡ Some (Opening c number) →
+  pub opened_before : (unit number : ℕ) (c : ChannelIdentity) → slice_get marks unit ≡ Some (Opening c number) → IsDrawn c.client drawn
+  pub opening_distinct : (unit other number more : ℕ) (c d : ChannelIdentity) → slice_get marks unit ≡ Some (Opening c number) →
       slice_get marks other ≡ Some (Opening d more) → c.client ≡ d.client → unit ≡ other
 
 -- the unit was made for an opening of that channel; or for a call on it, with that timestamp
@@ -34,21 +34,21 @@ IsCallOf marks pass =
     (unit : ℕ) → pass.unit ≡ Some unit → (number : ℕ) × (slice_get marks unit ≡ Some (Calling pass.channel number pass.timestamp))
 
 -- an accepted channel is that one
-abbrev pub IsAcceptedOn : List Accepted → Channel → Type 0
+abbrev pub IsAcceptedOn : List Accepted → ChannelIdentity → Type 0
 IsAcceptedOn accepted c = OneOf (λ (one : Accepted). SameChannel one.channel c) accepted
 
 abbrev pub AreOther : Accepted → Accepted → Type 0
 AreOther one other = SameChannel one.channel other.channel → ⊥
 
 -- a call that was made
-abbrev pub IsMade : List Mark → ℕ → Channel → ℕ → Type 0
+abbrev pub IsMade : List Mark → ℕ → ChannelIdentity → ℕ → Type 0
 IsMade marks unit c number = (timestamp : ℕ) × (slice_get marks unit ≡ Some (Calling c number timestamp))
 
 -- replies, and what was accepted and passed
 pub record AreRepliesSound (marks : List Mark) (accepted : List Accepted) (passed : List Passing) : Type 0 where
-  pub openings : (unit number request : ℕ) (c : Channel) → slice_get marks unit ≡ Some (Opened c number request) →
+  pub openings : (unit number request : ℕ) (c : ChannelIdentity) → slice_get marks unit ≡ Some (Opened c number request) →
       (slice_get marks request ≡ Some (Opening c number)) × IsAcceptedOpening accepted request
-  pub replies : (unit number request : ℕ) (c : Channel) → slice_get marks unit ≡ Some (ReplyTo c number request) →
+  pub replies : (unit number request : ℕ) (c : ChannelIdentity) → slice_get marks unit ≡ Some (ReplyTo c number request) →
       IsMade marks request c number × IsPassedCall passed request
   pub once : AllPairs (λ (one other : Accepted). SameChannel one.channel other.channel → ⊥) accepted
   pub on_accepted : AllByRecursion (λ (pass : Passing). IsAcceptedOn accepted pass.channel) passed
@@ -72,17 +72,17 @@ AreSeedsKept passed keeps =
 
 -- one requester that is seen so: the openings with a challenge that it holds, by whether its own is out
 pub record IsUnderWay (marks : List Mark) (out : Bool) (v : View) : Type 0 where
-  pub unopened : (unit number : ℕ) (c : Channel) → v.opening ≡ Some c.client → out ≡ false → slice_get marks unit ≡ Some (Opening c number) → ⊥
-  pub opening_numbers : (unit number : ℕ) (c : Channel) → Holds v c.client → slice_get marks unit ≡ Some (Opening c number) → number < v.call
+  pub unopened : (unit number : ℕ) (c : ChannelIdentity) → v.opening ≡ Some c.client → out ≡ false → slice_get marks unit ≡ Some (Opening c number) → ⊥
+  pub opening_numbers : (unit number : ℕ) (c : ChannelIdentity) → Holds v c.client → slice_get marks unit ≡ Some (Opening c number) → number < v.call
 
 -- the calls of the turns that ended were made for that channel and passed
-abbrev pub AreEndedOn : List Mark → List Passing → Channel → List ℕ → Type 0
+abbrev pub AreEndedOn : List Mark → List Passing → ChannelIdentity → List ℕ → Type 0
 AreEndedOn marks passed c ended =
     (unit : ℕ) → OneOf (λ (other : ℕ). other ≡ unit) ended →
     ((number : ℕ) × (timestamp : ℕ) × (slice_get marks unit ≡ Some (Calling c number timestamp))) × IsPassedCall passed unit
 
 -- one requester on the channel that stands, by the unit of its last call, the units of ended turns and its timestamps
-pub record IsOnChannel (marks : List Mark) (accepted : List Accepted) (passed : List Passing) (asked : ℕ) (ended turned : List ℕ) (asking : Option ℕ) (seed : Option (List ℕ)) (c : Channel) : Type 0 where
+pub record IsOnChannel (marks : List Mark) (accepted : List Accepted) (passed : List Passing) (asked : ℕ) (ended turned : List ℕ) (asking : Option ℕ) (seed : Option (List ℕ)) (c : ChannelIdentity) : Type 0 where
   pub stands : IsAcceptedOn accepted c
   pub turns : (number : ℕ) → asking ≡ Some number → IsMade marks asked c number
   pub ends : AreEndedOn marks passed c ended
@@ -95,7 +95,7 @@ pub record Parts {Who : Type 0} (h : History Who) : Type 0 where
   pub kept : AreKeptSound h.accepted h.drawn h.waits h.keeps
   pub kept_seeds : AreSeedsKept h.passed h.keeps
   pub under_way : (i : Who) (v : View) → h.views i ≡ Some v → IsUnderWay h.marks (h.opening_out i) v
-  pub standing : (i : Who) (v : View) (c : Channel) → h.views i ≡ Some v → v.stands ≡ Some c →
+  pub standing : (i : Who) (v : View) (c : ChannelIdentity) → h.views i ≡ Some v → v.stands ≡ Some c →
       IsOnChannel h.marks h.accepted h.passed (h.asked i) (h.ended i) (h.turned i) v.asking v.seed c
 
 pub parts_of : {Who : Type 0} (h : History Who) → Sound h → Parts h
@@ -203,9 +203,9 @@ counts_more h moves p = record {
 -- ---- a unit is sent
 
 -- an opening with a challenge with which none was made, and which belongs to no requester that could make another
-pub record IsNewOpening {Who : Type 0} (h : History Who) (c : Channel) (number : ℕ) : Type 0 where
+pub record IsNewOpening {Who : Type 0} (h : History Who) (c : ChannelIdentity) (number : ℕ) : Type 0 where
   pub is_drawn : IsDrawn c.client h.drawn
-  pub none : (unit more : ℕ) (d : Channel) → slice_get h.marks unit ≡ Some (Opening d more) → c.client ≡ d.client → ⊥
+  pub none : (unit more : ℕ) (d : ChannelIdentity) → slice_get h.marks unit ≡ Some (Opening d more) → c.client ≡ d.client → ⊥
   pub out : (i : Who) (v : View) → h.views i ≡ Some v → v.opening ≡ Some c.client → h.opening_out i ≡ false → ⊥
   pub below : (i : Who) (v : View) → h.views i ≡ Some v → Holds v c.client → number < v.call
 
@@ -219,7 +219,7 @@ IsUnitSo h (ReplyTo c number request) = IsMade h.marks request c number × IsPas
 
 openings_more : {Who : Type 0} (h : History Who) (mark : Mark) → IsUnitSo h mark → AreOpeningsSound h.marks h.drawn → AreOpeningsSound (h.marks ++ mark ∷ []) h.drawn
 openings_more {Who} h mark so o =
-    let new_one : (c : Channel) (number : ℕ) → mark ≡ Opening c number → IsNewOpening h c number =
+    let new_one : (c : ChannelIdentity) (number : ℕ) → mark ≡ Opening c number → IsNewOpening h c number =
     λ c number is. subst (λ (x : Mark). IsUnitSo h x) is so in
     record {
       opened_before = λ unit number c is. elim (at_end h.marks mark (Opening c number) unit is) [
@@ -238,7 +238,7 @@ openings_more {Who} h mark so o =
       ];
     }
 
-call_stays : (marks : List Mark) (mark : Mark) (unit number : ℕ) (c : Channel) → IsMade marks unit c number → IsMade (marks ++ mark ∷ []) unit c number
+call_stays : (marks : List Mark) (mark : Mark) (unit number : ℕ) (c : ChannelIdentity) → IsMade marks unit c number → IsMade (marks ++ mark ∷ []) unit c number
 call_stays marks mark unit number c so = (so.0, got_append marks (mark ∷ []) unit (Calling c number so.0) so.1)
 
 replies_more : {Who : Type 0} (h : History Who) (mark : Mark) → IsUnitSo h mark → AreRepliesSound h.marks h.accepted h.passed → AreRepliesSound (h.marks ++ mark ∷ []) h.accepted h.passed
@@ -268,7 +268,7 @@ replies_more h mark so r = record {
 
 pub sends_one : {Who : Type 0} (h : History Who) (mark : Mark) → IsUnitSo h mark → Parts h → Parts (record h { marks = h.marks ++ mark ∷ [] })
 sends_one {Who} h mark so p =
-    let new_one : (c : Channel) (number : ℕ) → mark ≡ Opening c number → IsNewOpening h c number =
+    let new_one : (c : ChannelIdentity) (number : ℕ) → mark ≡ Opening c number → IsNewOpening h c number =
     λ c number is. subst (λ (x : Mark). IsUnitSo h x) is so in
     record {
       draws = p.draws;
@@ -304,7 +304,7 @@ pub seen_but : {Who : Type 0} (old n : Notes Who) (who : Who) (view : View) → 
 seen_but old n who view others j v at = elim (others j v at) [ inl here ↦ inl here | inr before ↦ inr before.view ]
 
 -- what is written down of the channel is as before, and the requester is seen so on it
-pub on_as_before : (marks : List Mark) (accepted : List Accepted) (passed : List Passing) (asked more : ℕ) (ended ends turned turns : List ℕ) (asking calls : Option ℕ) (seed other : Option (List ℕ)) (c : Channel) →
+pub on_as_before : (marks : List Mark) (accepted : List Accepted) (passed : List Passing) (asked more : ℕ) (ended ends turned turns : List ℕ) (asking calls : Option ℕ) (seed other : Option (List ℕ)) (c : ChannelIdentity) →
     more ≡ asked → ends ≡ ended → turns ≡ turned → calls ≡ asking → other ≡ seed → IsOnChannel marks accepted passed asked ended turned asking seed c →
     IsOnChannel marks accepted passed more ends turns calls other c
 on_as_before marks accepted passed asked more ended ends turned turns asking calls seed other c same_asked same_ended same_turned same_asking same_seed o = record {
@@ -317,7 +317,7 @@ on_as_before marks accepted passed asked more ended ends turned turns asking cal
 }
 
 pub notes_one : {Who : Type 0} (h : History Who) (n : Notes Who) (who : Who) (view : View) → AreAsBeforeBut (notes_of h) n who view → IsUnderWay h.marks (n.opening_out who) view →
-    ((c : Channel) → view.stands ≡ Some c → IsOnChannel h.marks h.accepted h.passed (n.asked who) (n.ended who) (n.turned who) view.asking view.seed c) → Parts h →
+    ((c : ChannelIdentity) → view.stands ≡ Some c → IsOnChannel h.marks h.accepted h.passed (n.asked who) (n.ended who) (n.turned who) view.asking view.seed c) → Parts h →
     Parts (with_notes n h)
 notes_one {Who} h n who view others under standing p = record {
   draws = p.draws;

@@ -1,7 +1,7 @@
 -- Each step of a requester keeps the facts about secure channels.
 -- It serves `channels_stay_sound`.
 use Rattle.std.proofs.Common.{◌≡◌, ℕ, ◌+◌, ◌<◌, ◌≤◌, ◌^◌, List, [], ◌∷◌, ◌++◌, length, inl, inr, Some, None, slice_get, sym, ap, subst, ◌∙◌, arith}
-use Rattle.authenticators.specs.Channels.{Channel, SameChannel}
+use Rattle.authenticators.specs.Channels.{ChannelIdentity, SameChannel}
 use Rattle.authenticators.specs.Sequences.{moved_by, next_seed}
 use Rattle.channel_client.specs.Effects.{Changes, Effect, Stays, Counts, Begins, Opens, Moves, Calls, Answers, Drops, View}
 use Rattle.channel_client.specs.Machine.{after}
@@ -61,9 +61,9 @@ calm_under_way h effect s calm same p =
 -- a channel that stands stood before, with the seed and the call that is out
 record IsQuieter (effect : Effect) (u v : View) : Type 0 where
   calm : IsCalm effect
-  stands : (c : Channel) → v.stands ≡ Some c → u.stands ≡ Some c
-  asking : (c : Channel) → v.stands ≡ Some c → v.asking ≡ u.asking
-  seed : (c : Channel) → v.stands ≡ Some c → v.seed ≡ u.seed
+  stands : (c : ChannelIdentity) → v.stands ≡ Some c → u.stands ≡ Some c
+  asking : (c : ChannelIdentity) → v.stands ≡ Some c → v.asking ≡ u.asking
+  seed : (c : ChannelIdentity) → v.stands ≡ Some c → v.seed ≡ u.seed
 
 quieter : (effect : Effect) (u v : View) → IsQuiet effect → Changes effect u v → IsQuieter effect u v
 quieter Stays u v quiet change =
@@ -76,7 +76,7 @@ quieter (Moves c timestamp) u v quiet change = absurd quiet
 quieter (Calls c number) u v quiet change = absurd quiet
 quieter (Answers c number) u v quiet change = absurd quiet
 quieter Drops u v quiet change =
-    let none : (c : Channel) → v.stands ≡ Some c → ⊥ = λ c is. no_some c (sym (ap View.stands change) ∙ is) in
+    let none : (c : ChannelIdentity) → v.stands ≡ Some c → ⊥ = λ c is. no_some c (sym (ap View.stands change) ∙ is) in
     record { calm = tt; stands = λ c is. absurd (none c is); asking = λ c is. absurd (none c is); seed = λ c is. absurd (none c is) }
 
 pub quiet_keeps : {Who : Type 0} (h : History Who) (e : QuietStep h) → Sound h → Sound (after_quiet h e)
@@ -115,7 +115,7 @@ beginning_keeps {Who} h e sound =
     let call : ℕ = after s.before.call in
     let now : View = record { stands = None; seed = None; opening = Some e.client; asking = None; call = call } in
     let is : s.after ≡ now = s.change.1 in
-    let never : (unit number : ℕ) (c : Channel) → Holds now c.client → slice_get h.marks unit ≡ Some (Opening c number) → ⊥ =
+    let never : (unit number : ℕ) (c : ChannelIdentity) → Holds now c.client → slice_get h.marks unit ≡ Some (Opening c number) → ⊥ =
     λ unit number c holds at. e.fresh (subst (λ (x : List ℕ). IsDrawn x h.drawn) (begun_holds e.client call c.client holds) (p.openings.opened_before unit number c at)) in
     whole_of (after_beginning h e) (calls_stay_apart.begins (requests_of h) e.client (step_of h (Begins e.client) s) e.fresh sound.requests)
     (notes_one (record drawn { moves = h.moves + 1 }) s.notes s.who s.after s.others
@@ -163,7 +163,7 @@ opening_keeps {Who} h e sound =
 
 -- ---- the channel stands
 
-opener_is : (c d : Channel) (number more : ℕ) → Some (Opening c number) ≡ Some (Opening d more) → c ≡ d
+opener_is : (c d : ChannelIdentity) (number more : ℕ) → Some (Opening c number) ≡ Some (Opening d more) → c ≡ d
 opener_is c d number more is = cc
 
 pub standing_keeps : {Who : Type 0} (h : History Who) (e : ChannelOpens h) → Sound h → Sound (after_standing h e)
@@ -177,7 +177,7 @@ standing_keeps h e sound =
     one_with (IsOpenerOf h.marks) (λ (one : Accepted). one.unit ≡ Some e.request) (λ (one : Accepted). SameChannel one.channel e.channel) h.accepted
     (λ one opener carried.
     let it = opener e.request carried in
-    subst (λ (x : Channel). SameChannel x e.channel) (sym (opener_is one.channel e.named it.0 e.number (sym it.1 ∙ reply.0))) e.same) p.replies.openers reply.1 in
+    subst (λ (x : ChannelIdentity). SameChannel x e.channel) (sym (opener_is one.channel e.named it.0 e.number (sym it.1 ∙ reply.0))) e.same) p.replies.openers reply.1 in
     let on : IsOnChannel h.marks h.accepted h.passed (s.notes.asked s.who) (s.notes.ended s.who) (s.notes.turned s.who) None now.seed e.channel =
     record {
       stands = accepted;
@@ -220,13 +220,13 @@ turn_keeps h e sound =
 -- ---- a call goes out
 
 -- the unit at the end is that call
-call_is_last : (marks : List Mark) (unit number more timestamp : ℕ) (c d : Channel) → unit ≡ length marks → c ≡ d → number ≡ more →
+call_is_last : (marks : List Mark) (unit number more timestamp : ℕ) (c d : ChannelIdentity) → unit ≡ length marks → c ≡ d → number ≡ more →
     IsMade (marks ++ Calling c number timestamp ∷ []) unit d more
 call_is_last marks unit number more timestamp c d at same_channel same_number = (
   timestamp,
   ap (slice_get (marks ++ Calling c number timestamp ∷ [])) at
       ∙ got_last marks (Calling c number timestamp)
-      ∙ ap (λ (x : Channel). Some (Calling x number timestamp)) same_channel
+      ∙ ap (λ (x : ChannelIdentity). Some (Calling x number timestamp)) same_channel
       ∙ ap (λ (n : ℕ). Some (Calling d n timestamp)) same_number,
 )
 

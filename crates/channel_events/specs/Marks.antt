@@ -1,7 +1,7 @@
 -- What a unit is made for, of one secure channel, and that a fact holds of one item of a list (this project's own
 -- choice).
 use Rattle.std.specs.Prelude.{ℕ, List, [], ◌∷◌, ◌⊎◌}
-use Rattle.authenticators.specs.Channels.{Channel}
+use Rattle.authenticators.specs.Channels.{ChannelIdentity}
 
 -- the fact holds of one of them
 abbrev pub OneOf : {T : Type 0} → (T → Type 0) → List T → Type 0
@@ -13,10 +13,10 @@ pub data Mark : Type 0 where
   -- a bind, its answer, a NetrServerReqChallenge, a refusal, or anything between a client and a member
   Plain : Mark
   -- the NetrServerAuthenticate2 that opens the channel, with its call number (C706 12.6.3.1)
-  Opening : (channel : Channel) (number : ℕ) → Mark
+  Opening : (channel : ChannelIdentity) (number : ℕ) → Mark
   -- the reply that accepts the call of that number, which came in the unit `request`
-  Opened : (channel : Channel) (number request : ℕ) → Mark
+  Opened : (channel : ChannelIdentity) (number request : ℕ) → Mark
   -- a NetrLogonSamLogon on the channel, with its call number, and the timestamp of its authenticator
-  Calling : (channel : Channel) (number timestamp : ℕ) → Mark
+  Calling : (channel : ChannelIdentity) (number timestamp : ℕ) → Mark
   -- the reply to the call of that number on the channel, which came in the unit `request` and passed
-  ReplyTo : (channel : Channel) (number request : ℕ) → Mark
+  ReplyTo : (channel : ChannelIdentity) (number request : ℕ) → Mark

@@ -2,7 +2,7 @@
 -- one in which a credential passed on a unit made for another channel (MS-NRPC 3.1.4.1, 3.1.4.5). It names no machine
 -- and no controller. So no two calls on a channel have one number, and an answer is to one call.
 use Rattle.std.specs.Prelude.{ℕ, ◌≡◌, ◌+◌, ◌<◌, ◌≤◌, ◌^◌, ◌⊎◌, List, [], ◌∷◌, ◌++◌, Option, Some, None, slice_get}
-use Rattle.authenticators.specs.Channels.{Channel}
+use Rattle.authenticators.specs.Channels.{ChannelIdentity}
 use Rattle.channel_client.specs.Effects.{Changes, Effect, Stays, Counts, Begins, Opens, Moves, Calls, Answers, Drops, View}
 use Rattle.channel_events.specs.Marks.{Mark, Calling, OneOf}
 
@@ -12,7 +12,7 @@ fresh_view = record { stands = None; seed = None; opening = None; asking = None;
 
 -- a requester holds that challenge: of an opening that is under way, or of the channel that stands
 pub record Holds (v : View) (challenge : List ℕ) : Type 0 where
-  pub how : (v.opening ≡ Some challenge) ⊎ ((c : Channel) × (v.stands ≡ Some c) × (c.client ≡ challenge))
+  pub how : (v.opening ≡ Some challenge) ⊎ ((c : ChannelIdentity) × (v.stands ≡ Some c) × (c.client ≡ challenge))
 
 pub record Requests (Who : Type 0) : Type 0 where
   -- each requester, as it is seen; None where there is none of that name
@@ -30,18 +30,18 @@ IsDrawn challenge drawn = OneOf (λ (one : List ℕ). one ≡ challenge) drawn
 
 pub record CallsAreApart {Who : Type 0} (r : Requests Who) : Type 0 where
   -- a call was made on a channel whose client's challenge was drawn, and so was each challenge that a requester holds
-  pub made_before : (unit number timestamp : ℕ) (c : Channel) → slice_get r.marks unit ≡ Some (Calling c number timestamp) → IsDrawn c.client r.drawn
+  pub made_before : (unit number timestamp : ℕ) (c : ChannelIdentity) → slice_get r.marks unit ≡ Some (Calling c number timestamp) → IsDrawn c.client r.drawn
   pub held_before : (i : Who) (v : View) (challenge : List ℕ) → r.views i ≡ Some v → Holds v challenge → IsDrawn challenge r.drawn
   -- no two requesters hold one
   pub apart : (i j : Who) (u v : View) (challenge : List ℕ) → r.views i ≡ Some u → r.views j ≡ Some v → Holds u challenge → Holds v challenge → i ≡ j
   -- for a channel that is only being opened no call was made yet
-  pub opening : (i : Who) (v : View) (unit number timestamp : ℕ) (c : Channel) → r.views i ≡ Some v → v.opening ≡ Some c.client →
+  pub opening : (i : Who) (v : View) (unit number timestamp : ℕ) (c : ChannelIdentity) → r.views i ≡ Some v → v.opening ≡ Some c.client →
       slice_get r.marks unit ≡ Some (Calling c number timestamp) → ⊥
   -- a call made with a challenge that a requester holds has a number below its next one
-  pub numbers : (i : Who) (v : View) (unit number timestamp : ℕ) (c : Channel) → r.views i ≡ Some v → Holds v c.client →
+  pub numbers : (i : Who) (v : View) (unit number timestamp : ℕ) (c : ChannelIdentity) → r.views i ≡ Some v → Holds v c.client →
       slice_get r.marks unit ≡ Some (Calling c number timestamp) → number < v.call
   -- the calls made with a client's challenge have different numbers
-  pub distinct : (unit other number timestamp later : ℕ) (c d : Channel) → slice_get r.marks unit ≡ Some (Calling c number timestamp) →
+  pub distinct : (unit other number timestamp later : ℕ) (c d : ChannelIdentity) → slice_get r.marks unit ≡ Some (Calling c number timestamp) →
       slice_get r.marks other ≡ Some (Calling d number later) → c.client ≡ d.client → unit ≡ other
   -- a requester's next number is at most one above the count of uses: so no number comes round within a run
   pub calls : (i : Who) (v : View) → r.views i ≡ Some v → v.call ≤ r.uses + 1
@@ -101,7 +101,7 @@ pub record CallsStayApart (Who : Type 0) : Type 0 where
   pub calm : (r : Requests Who) (effect : Effect) (e : Steps r effect) → IsCalm effect → CallsAreApart r → CallsAreApart (after_step r effect e.views)
   pub begins : (r : Requests Who) (client : List ℕ) (e : Steps r (Begins client)) → (IsDrawn client r.drawn → ⊥) → CallsAreApart r →
       CallsAreApart (after_step (record r { drawn = r.drawn ++ client ∷ [] }) (Begins client) e.views)
-  pub calls : (r : Requests Who) (c : Channel) (number timestamp : ℕ) (e : Steps r (Calls c number)) → CallsAreApart r →
+  pub calls : (r : Requests Who) (c : ChannelIdentity) (number timestamp : ℕ) (e : Steps r (Calls c number)) → CallsAreApart r →
       CallsAreApart (after_step (record r { marks = r.marks ++ Calling c number timestamp ∷ [] }) (Calls c number) e.views)
   pub renewed : (r : Requests Who) (who : Who) (views : Who → Option View) → AreSeenBut r.views views who fresh_view → CallsAreApart r →
       CallsAreApart (record r { views = views })

@@ -7,7 +7,7 @@
 use Rattle.std.specs.Prelude.{ℕ, ◌≡◌, ◌≢◌, ◌<◌, ◌⊎◌, Bool, true, false, List, [], ◌∷◌, ◌++◌, map, Option, Some, None, slice_get, AllPairs}
 use Rattle.std.specs.List.{AllByRecursion}
 use Rattle.wire_base.specs.Names.{SameName}
-use Rattle.authenticators.specs.Channels.{Channel, SameChannel, same_channel}
+use Rattle.authenticators.specs.Channels.{ChannelIdentity, SameChannel, same_channel}
 use Rattle.channel_client.specs.Effects.{View}
 use Rattle.channel_events.specs.Marks.{Mark, Opening, Opened, Calling, ReplyTo, OneOf}
 use Rattle.channel_events.specs.Requests.{CallsAreApart, Holds, IsDrawn, Requests}
@@ -18,17 +18,17 @@ use Rattle.channel_events.specs.Seeds.{channel_seed}
 -- an opening that a controller accepted: the unit that carried it, where it was a unit of the bag, and the channel
 pub record Accepted : Type 0 where
   pub unit : Option ℕ
-  pub channel : Channel
+  pub channel : ChannelIdentity
 
 -- a call that passed: likewise, and the timestamp of its authenticator
 pub record Passing : Type 0 where
   pub unit : Option ℕ
-  pub channel : Channel
+  pub channel : ChannelIdentity
   pub timestamp : ℕ
 
 -- a channel that a controller keeps, and its seed
 pub record Kept : Type 0 where
-  pub channel : Channel
+  pub channel : ChannelIdentity
   pub seed : List ℕ
 
 pub record History (Who : Type 0) : Type 0 where
@@ -76,7 +76,7 @@ abbrev pub timestamp_if : Bool → ℕ → List ℕ → List ℕ
 timestamp_if false timestamp earlier = earlier
 timestamp_if true timestamp earlier = timestamp ∷ earlier
 
-abbrev pub passed_timestamps : Channel → List Passing → List ℕ
+abbrev pub passed_timestamps : ChannelIdentity → List Passing → List ℕ
 passed_timestamps c [] = []
 passed_timestamps c (pass ∷ passed) =
     timestamp_if (same_channel pass.channel c) pass.timestamp (passed_timestamps c passed)
@@ -88,24 +88,24 @@ pub record Sound {Who : Type 0} (h : History Who) : Type 0 where
   -- comes round
   pub requests : CallsAreApart (requests_of h)
   -- an opening was made for a channel whose client's challenge was drawn: no later draw gives it
-  pub opened_before : (unit number : ℕ) (c : Channel) → slice_get h.marks unit ≡ Some (Opening c number) → IsDrawn c.client h.drawn
+  pub opened_before : (unit number : ℕ) (c : ChannelIdentity) → slice_get h.marks unit ≡ Some (Opening c number) → IsDrawn c.client h.drawn
   -- no opening was made with the challenge of an opening that is under way and isn't out
-  pub unopened : (i : Who) (v : View) (unit number : ℕ) (c : Channel) → h.views i ≡ Some v → v.opening ≡ Some c.client →
+  pub unopened : (i : Who) (v : View) (unit number : ℕ) (c : ChannelIdentity) → h.views i ≡ Some v → v.opening ≡ Some c.client →
       h.opening_out i ≡ false → slice_get h.marks unit ≡ Some (Opening c number) → ⊥
   -- an opening made with a challenge that a requester holds has a number below its next one
-  pub opening_numbers : (i : Who) (v : View) (unit number : ℕ) (c : Channel) → h.views i ≡ Some v → Holds v c.client →
+  pub opening_numbers : (i : Who) (v : View) (unit number : ℕ) (c : ChannelIdentity) → h.views i ≡ Some v → Holds v c.client →
       slice_get h.marks unit ≡ Some (Opening c number) → number < v.call
   -- one opening is made with a client's challenge
-  pub opening_distinct : (unit other number more : ℕ) (c d : Channel) → slice_get h.marks unit ≡ Some (Opening c number) →
+  pub opening_distinct : (unit other number more : ℕ) (c d : ChannelIdentity) → slice_get h.marks unit ≡ Some (Opening c number) →
       slice_get h.marks other ≡ Some (Opening d more) → c.client ≡ d.client → unit ≡ other
   -- each reply that accepts an opening answers one made for that channel, of that number, which was accepted
-  pub openings : (unit number request : ℕ) (c : Channel) → slice_get h.marks unit ≡ Some (Opened c number request) →
+  pub openings : (unit number request : ℕ) (c : ChannelIdentity) → slice_get h.marks unit ≡ Some (Opened c number request) →
       (slice_get h.marks request ≡ Some (Opening c number)) × IsAcceptedOpening h.accepted request
   -- each reply made for a channel answers a call made for that channel, of that number, which passed
-  pub replies : (unit number request : ℕ) (c : Channel) → slice_get h.marks unit ≡ Some (ReplyTo c number request) →
+  pub replies : (unit number request : ℕ) (c : ChannelIdentity) → slice_get h.marks unit ≡ Some (ReplyTo c number request) →
       ((timestamp : ℕ) × (slice_get h.marks request ≡ Some (Calling c number timestamp))) × IsPassedCall h.passed request
   -- the channel that stands was accepted; no channel was accepted twice, and each call passed on one that was
-  pub stands : (i : Who) (v : View) (c : Channel) → h.views i ≡ Some v → v.stands ≡ Some c →
+  pub stands : (i : Who) (v : View) (c : ChannelIdentity) → h.views i ≡ Some v → v.stands ≡ Some c →
       OneOf (λ (one : Accepted). SameChannel one.channel c) h.accepted
   pub once : AllPairs (λ (one other : Accepted). SameChannel one.channel other.channel → ⊥) h.accepted
   pub on_accepted : AllByRecursion (λ (pass : Passing). OneOf (λ (one : Accepted). SameChannel one.channel pass.channel) h.accepted) h.passed
@@ -131,14 +131,14 @@ pub record Sound {Who : Type 0} (h : History Who) : Type 0 where
   pub kept_seeds : (controller : ℕ) (computer : List ℕ) (k : Kept) → h.keeps controller computer ≡ Some k →
       k.seed ≡ channel_seed k.channel (passed_timestamps k.channel h.passed)
   -- the call that is out on the channel that stands is the last one that the requester made
-  pub turns : (i : Who) (v : View) (number : ℕ) (c : Channel) → h.views i ≡ Some v → v.stands ≡ Some c → v.asking ≡ Some number →
+  pub turns : (i : Who) (v : View) (number : ℕ) (c : ChannelIdentity) → h.views i ≡ Some v → v.stands ≡ Some c → v.asking ≡ Some number →
       (timestamp : ℕ) × (slice_get h.marks (h.asked i) ≡ Some (Calling c number timestamp))
   -- the call of each turn that ended with an answer, on the channel that stands, was made for it and passed
-  pub ends : (i : Who) (v : View) (c : Channel) → h.views i ≡ Some v → v.stands ≡ Some c → (unit : ℕ) →
+  pub ends : (i : Who) (v : View) (c : ChannelIdentity) → h.views i ≡ Some v → v.stands ≡ Some c → (unit : ℕ) →
       OneOf (λ (other : ℕ). other ≡ unit) (h.ended i) →
       ((number : ℕ) × (timestamp : ℕ) × (slice_get h.marks unit ≡ Some (Calling c number timestamp))) × IsPassedCall h.passed unit
   -- the requester's seed is the client's credential moved by the timestamps of its turns on the channel that stands
-  pub seeds : (i : Who) (v : View) (c : Channel) → h.views i ≡ Some v → v.stands ≡ Some c →
+  pub seeds : (i : Who) (v : View) (c : ChannelIdentity) → h.views i ≡ Some v → v.stands ≡ Some c →
       v.seed ≡ Some (channel_seed c (h.turned i))
 
 -- ---- both ends in step
@@ -150,12 +150,12 @@ unit_if true None = []
 unit_if true (Some unit) = unit ∷ []
 
 -- the units that passed on a channel, the newest first
-abbrev pub passed_units : Channel → List Passing → List ℕ
+abbrev pub passed_units : ChannelIdentity → List Passing → List ℕ
 passed_units c [] = []
 passed_units c (pass ∷ passed) = unit_if (same_channel pass.channel c) pass.unit ++ passed_units c passed
 
 -- nothing from outside passed on the channel
-abbrev pub IsOwn : Channel → List Passing → Type 0
+abbrev pub IsOwn : ChannelIdentity → List Passing → Type 0
 IsOwn c passed = AllByRecursion (λ (pass : Passing). same_channel pass.channel c ≡ true → pass.unit ≢ None) passed
 
 -- the timestamp of a call that was made
@@ -175,11 +175,11 @@ pub record HasBindOut (made turned : List ℕ) : Type 0 where
 -- passed, what passed at its controller are the calls that its requester made, in their order; or all of them but the
 -- last, which is out.
 pub record AreInStep {Who : Type 0} (h : History Who) : Type 0 where
-  pub passed : (i : Who) (v : View) (c : Channel) → h.views i ≡ Some v → v.stands ≡ Some c → IsOwn c h.passed →
+  pub passed : (i : Who) (v : View) (c : ChannelIdentity) → h.views i ≡ Some v → v.stands ≡ Some c → IsOwn c h.passed →
       (passed_units c h.passed ≡ h.made i) ⊎ (h.made i ≡ h.asked i ∷ passed_units c h.passed)
   -- each call made for the channel that stands is among those that the requester made on it
-  pub each : (i : Who) (v : View) (unit number timestamp : ℕ) (c : Channel) → h.views i ≡ Some v → v.stands ≡ Some c →
+  pub each : (i : Who) (v : View) (unit number timestamp : ℕ) (c : ChannelIdentity) → h.views i ≡ Some v → v.stands ≡ Some c →
       slice_get h.marks unit ≡ Some (Calling c number timestamp) → OneOf (λ (other : ℕ). other ≡ unit) (h.made i)
   -- the timestamps of its turns are those of these calls, but for a turn that waits for its bind
-  pub turns : (i : Who) (v : View) (c : Channel) → h.views i ≡ Some v → v.stands ≡ Some c →
+  pub turns : (i : Who) (v : View) (c : ChannelIdentity) → h.views i ≡ Some v → v.stands ≡ Some c →
       (h.turned i ≡ timestamps_of h.marks (h.made i)) ⊎ HasBindOut (timestamps_of h.marks (h.made i)) (h.turned i)

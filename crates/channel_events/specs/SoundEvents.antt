@@ -5,7 +5,7 @@
 -- change a secret. That a run is made of them isn't proved: what single steps give of them is said above this crate.
 use Rattle.std.specs.Prelude.{ℕ, ◌≡◌, ◌+◌, ◌<◌, ◌≤◌, ◌^◌, ◌⊎◌, Bool, true, false, List, [], ◌∷◌, ◌++◌, length, Option, Some, None, slice_get}
 use Rattle.wire_base.specs.Names.{SameName}
-use Rattle.authenticators.specs.Channels.{Channel, SameChannel}
+use Rattle.authenticators.specs.Channels.{ChannelIdentity, SameChannel}
 use Rattle.authenticators.specs.Sequences.{next_seed}
 use Rattle.channel_client.specs.Effects.{Changes, Effect, Stays, Counts, Begins, Opens, Moves, Calls, Answers, Drops, View}
 use Rattle.channel_events.specs.Marks.{Mark, Plain, Opening, Opened, Calling, ReplyTo}
@@ -148,7 +148,7 @@ pub record QuietStep {Who : Type 0} (h : History Who) : Type 0 where
   pub quiet : IsQuiet effect
   pub step : RequesterStep h effect
   pub opening_out : KeepsOpening (notes_of h) step.notes step.who step.after
-  pub notes : (c : Channel) → step.after.stands ≡ Some c → KeepsNotes (notes_of h) step.notes step.who
+  pub notes : (c : ChannelIdentity) → step.after.stands ≡ Some c → KeepsNotes (notes_of h) step.notes step.who
 
 abbrev pub after_quiet : {Who : Type 0} → (h : History Who) → QuietStep h → History Who
 after_quiet h e = with_notes e.step.notes (record h { moves = h.moves + used_by e.effect })
@@ -174,7 +174,7 @@ after_beginning h e =
 
 -- the NetrServerAuthenticate2 of an opening that is under way goes out, which wasn't out before, with the next number
 pub record OpeningSent {Who : Type 0} (h : History Who) : Type 0 where
-  pub channel : Channel
+  pub channel : ChannelIdentity
   pub step : RequesterStep h Counts
   pub none : step.before.stands ≡ None
   pub under_way : step.before.opening ≡ Some channel.client
@@ -188,11 +188,11 @@ after_opening h e =
 
 -- the channel stands: the reply that opens it came in a unit that was made for it
 pub record ChannelOpens {Who : Type 0} (h : History Who) : Type 0 where
-  pub channel : Channel
+  pub channel : ChannelIdentity
   pub step : RequesterStep h (Opens channel)
   pub notes : HasNoNotes step.notes step.who
   pub unit : ℕ
-  pub named : Channel
+  pub named : ChannelIdentity
   pub number : ℕ
   pub request : ℕ
   pub reply : slice_get h.marks unit ≡ Some (Opened named number request)
@@ -203,7 +203,7 @@ after_standing h e = with_notes e.step.notes h
 
 -- a turn on the channel that stands starts, with this timestamp (MS-NRPC 3.1.4.5)
 pub record TurnStarts {Who : Type 0} (h : History Who) : Type 0 where
-  pub channel : Channel
+  pub channel : ChannelIdentity
   pub timestamp : ℕ
   pub step : RequesterStep h (Moves channel timestamp)
   pub opening_out : KeepsOpening (notes_of h) step.notes step.who step.after
@@ -217,7 +217,7 @@ after_turn h e = with_notes e.step.notes (record h { moves = h.moves + 1 })
 
 -- the NetrLogonSamLogon of a turn goes out, as the next unit
 pub record CallSent {Who : Type 0} (h : History Who) : Type 0 where
-  pub channel : Channel
+  pub channel : ChannelIdentity
   pub number : ℕ
   pub timestamp : ℕ
   pub step : RequesterStep h (Calls channel number)
@@ -233,7 +233,7 @@ after_call h e =
 
 -- the answer to the call that is out is taken, in a unit that was made for the channel, with the number of that call
 pub record AnswerTaken {Who : Type 0} (h : History Who) : Type 0 where
-  pub channel : Channel
+  pub channel : ChannelIdentity
   pub number : ℕ
   pub step : RequesterStep h (Answers channel number)
   pub opening_out : KeepsOpening (notes_of h) step.notes step.who step.after
@@ -242,7 +242,7 @@ pub record AnswerTaken {Who : Type 0} (h : History Who) : Type 0 where
   pub made : step.notes.made step.who ≡ h.made step.who
   pub turned : step.notes.turned step.who ≡ h.turned step.who
   pub unit : ℕ
-  pub named : Channel
+  pub named : ChannelIdentity
   pub request : ℕ
   pub reply : slice_get h.marks unit ≡ Some (ReplyTo named number request)
   pub same : SameChannel named channel
@@ -254,21 +254,21 @@ after_answer h e = with_notes e.step.notes h
 
 -- The unit was made for the channel: by the names without case, since there was no clash, and the computer's name
 -- stands in the unit as the controller has it.
-pub record IsNamedAlike (one other : Channel) : Type 0 where
+pub record IsNamedAlike (one other : ChannelIdentity) : Type 0 where
   pub same : SameChannel one other
   pub computer : one.computer ≡ other.computer
 
 -- what came was bytes from outside, or a unit that was made for the opening, or for the call, of that number on the
 -- channel
-abbrev pub CarriesOpening : List Mark → Option ℕ → ℕ → Channel → Type 0
+abbrev pub CarriesOpening : List Mark → Option ℕ → ℕ → ChannelIdentity → Type 0
 CarriesOpening marks None number channel = Unit {0}
 CarriesOpening marks (Some unit) number channel =
-    (named : Channel) × (slice_get marks unit ≡ Some (Opening named number)) × IsNamedAlike named channel
+    (named : ChannelIdentity) × (slice_get marks unit ≡ Some (Opening named number)) × IsNamedAlike named channel
 
-abbrev pub CarriesCall : List Mark → Option ℕ → ℕ → ℕ → Channel → Type 0
+abbrev pub CarriesCall : List Mark → Option ℕ → ℕ → ℕ → ChannelIdentity → Type 0
 CarriesCall marks None number timestamp channel = Unit {0}
 CarriesCall marks (Some unit) number timestamp channel =
-    (named : Channel) × (slice_get marks unit ≡ Some (Calling named number timestamp)) × IsNamedAlike named channel
+    (named : ChannelIdentity) × (slice_get marks unit ≡ Some (Calling named number timestamp)) × IsNamedAlike named channel
 
 -- a server's challenge is drawn, and waits for an opening, in place of an older one
 pub record ServerWaits {Who : Type 0} (h : History Who) : Type 0 where
@@ -288,7 +288,7 @@ after_waiting h e = record h { drawn = h.drawn ++ e.server ∷ []; waits = e.wai
 pub record OpeningAccepted {Who : Type 0} (h : History Who) : Type 0 where
   pub unit : Option ℕ
   pub number : ℕ
-  pub channel : Channel
+  pub channel : ChannelIdentity
   pub waits : ℕ → List ℕ → Option (List ℕ)
   pub keeps : ℕ → List ℕ → Option Kept
   pub carried : CarriesOpening h.marks unit number channel
@@ -311,7 +311,7 @@ pub record CallPasses {Who : Type 0} (h : History Who) : Type 0 where
   pub unit : Option ℕ
   pub number : ℕ
   pub timestamp : ℕ
-  pub channel : Channel
+  pub channel : ChannelIdentity
   pub seed : List ℕ
   pub keeps : ℕ → List ℕ → Option Kept
   pub carried : CarriesCall h.marks unit number timestamp channel

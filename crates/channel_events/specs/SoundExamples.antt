@@ -2,7 +2,7 @@
 -- answer is taken. So what these events ask for can be so, one after another. Binds, other draws and units, requesters
 -- made anew, and what is lost or forgotten are left out.
 use Rattle.std.specs.Prelude.{ℕ, zero, suc, ◌≡◌, Bool, true, false, List, [], ◌∷◌, Option, Some, None}
-use Rattle.authenticators.specs.Channels.{Channel}
+use Rattle.authenticators.specs.Channels.{ChannelIdentity}
 use Rattle.authenticators.specs.Sequences.{next_seed}
 use Rattle.channel_client.specs.Effects.{View}
 use Rattle.channel_events.specs.Marks.{Opening, Opened, Calling, ReplyTo}
@@ -35,7 +35,7 @@ client_challenge = 1 ∷ []
 abbrev pub server_challenge : List ℕ
 server_challenge = 2 ∷ []
 
-abbrev pub the_channel : Channel
+abbrev pub the_channel : ChannelIdentity
 the_channel = record {
   controller = 0;
   computer = [];

@@ -9,7 +9,7 @@ use Rattle.end_links.specs.Bounds.{send_limit}
 use Rattle.end_links.specs.Serving.{ServedUnit}
 use Rattle.wire_base.specs.Names.{same_name}
 use Rattle.wire_base.specs.Names as names
-use Rattle.authenticators.specs.Channels.{Channel}
+use Rattle.authenticators.specs.Channels.{ChannelIdentity}
 use Rattle.authenticators.specs.Sequences.{authenticator_of}
 use Rattle.authenticators.specs.SecureChannels.{SecureChannelState, key_of_channel, channel_of}
 use Rattle.authenticators.proofs.ChannelLaws.{same_channel-Decides}
@@ -29,7 +29,7 @@ use Rattle.world_moves.specs.declared.plan.Plan.{Plan}
 use Rattle.world_moves.specs.declared.bag.BagUnit.{BagUnit}
 use Rattle.world_moves.specs.Bag.{AreShortUnits, HaveBytes}
 use Rattle.world_moves.specs.World.{first_world}
-use Rattle.domain_world.specs.Claims.{IsAccepted, PassesTheNextCredential, Wraps, moved_if, moved_on, passed_on, timestamp_of}
+use Rattle.domain_world.specs.Claims.{IsAccepted, PassesTheNextCredential, Wraps, moved_if, moved_on, passed_on, judged_timestamp}
 use Rattle.domain_world.specs.Headline.{IsClaimed, Proved}
 use Rattle.domain_world.specs.Past.{past}
 use Rattle.claim_examples.specs.ClaimExamples.{OfAll, OfClashes, OfCredentials, OfReplays, OfTakenAnswers, OfWraps, call_with, elsewhere, judged_as, judged_once, last_timestamp, message, next_call, no_computers, on_channel, passed_in, second_timestamp, seed_after_one, small_challenge, small_channel, small_computers, small_name, small_seed, taken_in, third_timestamp, told_as, whole_book, whole_call, whole_run}
@@ -88,20 +88,20 @@ the_three a b c (one ∷ later) second between first earlier is =
     inr (the_two b c later second between first earlier (let rest : b ∷ c ∷ [] ≡ later ++ second ∷ (between ++ first ∷ earlier) = cc in rest))
 
 -- a call that passed alone moved the seed by its timestamp and one
-pub moved_by_one : (channel : Channel) (between : List Judging) (first j : Judging) → between ≡ [] → first ≡ j → passed_on channel first ≡ true → moved_on channel (between ++ first ∷ []) ≡ timestamp_of j + 1 + 0
+pub moved_by_one : (channel : ChannelIdentity) (between : List Judging) (first j : Judging) → between ≡ [] → first ≡ j → passed_on channel first ≡ true → moved_on channel (between ++ first ∷ []) ≡ judged_timestamp j + 1 + 0
 moved_by_one channel between first j none is passed =
     ap (λ (all : List Judging). moved_on channel (all ++ first ∷ [])) none
     ∙ ap (λ (one : Judging). moved_on channel (one ∷ [])) is
-    ∙ ap (λ (here : Bool). moved_if here (timestamp_of j) 0) (sym (ap (λ (one : Judging). passed_on channel one) is) ∙ passed)
+    ∙ ap (λ (here : Bool). moved_if here (judged_timestamp j) 0) (sym (ap (λ (one : Judging). passed_on channel one) is) ∙ passed)
 
 -- with one call between
-moved_by_two : (channel : Channel) (between : List Judging) (first b f : Judging) → between ≡ b ∷ [] → first ≡ f → passed_on channel b ≡ true → passed_on channel f ≡ true →
-    moved_on channel (between ++ first ∷ []) ≡ timestamp_of b + 1 + (timestamp_of f + 1 + 0)
+moved_by_two : (channel : ChannelIdentity) (between : List Judging) (first b f : Judging) → between ≡ b ∷ [] → first ≡ f → passed_on channel b ≡ true → passed_on channel f ≡ true →
+    moved_on channel (between ++ first ∷ []) ≡ judged_timestamp b + 1 + (judged_timestamp f + 1 + 0)
 moved_by_two channel between first b f is same passed also =
     ap (λ (all : List Judging). moved_on channel (all ++ first ∷ [])) is
     ∙ ap (λ (one : Judging). moved_on channel (b ∷ one ∷ [])) same
-    ∙ ap (λ (here : Bool). moved_if here (timestamp_of b) (moved_if (passed_on channel f) (timestamp_of f) 0)) passed
-    ∙ ap (λ (here : Bool). timestamp_of b + 1 + moved_if here (timestamp_of f) 0) also
+    ∙ ap (λ (here : Bool). moved_if here (judged_timestamp b) (moved_if (passed_on channel f) (judged_timestamp f) 0)) passed
+    ∙ ap (λ (here : Bool). judged_timestamp b + 1 + moved_if here (judged_timestamp f) 0) also
 
 -- ---- seeds that come round, and replays
 
@@ -126,7 +126,7 @@ round_later =
     ∙ ap (λ (n : ℕ). 0 + 1 + n) (moved_by_two small_name (on_channel third_timestamp ∷ []) (on_channel 0) (on_channel third_timestamp) (on_channel 0) refl refl (passed_small third_timestamp) (passed_small 0)))
 
 -- a timestamp of 0 moved the seed by 1
-not_round : (channel : Channel) (between : List Judging) (first : Judging) → between ≡ [] → first ≡ on_channel 0 → passed_on channel first ≡ true → moved_on channel (between ++ first ∷ []) % 2 ^ 32 ≡ 0 → ⊥
+not_round : (channel : ChannelIdentity) (between : List Judging) (first : Judging) → between ≡ [] → first ≡ on_channel 0 → passed_on channel first ≡ true → moved_on channel (between ++ first ∷ []) % 2 ^ 32 ≡ 0 → ⊥
 not_round channel between first none is passed around =
     let one : moved_on channel (between ++ first ∷ []) ≡ 1 = moved_by_one channel between first (on_channel 0) none is passed in
     absurd (omega (arith, one, around))
@@ -137,19 +137,19 @@ wraps_not wraps =
     not_round wraps.channel wraps.between wraps.first parts.1 parts.2 wraps.first_passed wraps.around
 
 -- a call that passed on a channel passed at its controller
-of_state : (controller : ℕ) (computer : List ℕ) (found : Option SecureChannelState) (channel : Channel) → is_channel (channel_by controller computer found) channel ≡ true → controller ≡ channel.controller
+of_state : (controller : ℕ) (computer : List ℕ) (found : Option SecureChannelState) (channel : ChannelIdentity) → is_channel (channel_by controller computer found) channel ≡ true → controller ≡ channel.controller
 of_state controller computer None channel is = absurd cc
 of_state controller computer (Some c) channel is = ((same_channel-Decides (channel_of controller computer c) channel).0 is).controller
 
-of_computer : (controller : ℕ) (computer : Option (List ℕ)) (computers : Computers) (channel : Channel) → is_channel (channel_in controller computer computers) channel ≡ true → controller ≡ channel.controller
+of_computer : (controller : ℕ) (computer : Option (List ℕ)) (computers : Computers) (channel : ChannelIdentity) → is_channel (channel_in controller computer computers) channel ≡ true → controller ≡ channel.controller
 of_computer controller None computers channel is = absurd cc
 of_computer controller (Some computer) computers channel is = of_state controller computer (lookup same_name computer computers.channels) channel is
 
-of_call : (passes : Bool) (j : Judging) (channel : Channel) → is_channel (channel_if passes j) channel ≡ true → j.controller ≡ channel.controller
+of_call : (passes : Bool) (j : Judging) (channel : ChannelIdentity) → is_channel (channel_if passes j) channel ≡ true → j.controller ≡ channel.controller
 of_call false j channel is = absurd cc
 of_call true j channel is = of_computer j.controller j.logon.computer j.computers channel is
 
-pub its_controller : (channel : Channel) (j : Judging) → passed_on channel j ≡ true → j.controller ≡ channel.controller
+pub its_controller : (channel : ChannelIdentity) (j : Judging) → passed_on channel j ≡ true → j.controller ≡ channel.controller
 its_controller channel j is = of_call (has_passed j.how) j channel is
 
 wraps_apart : Wraps (elsewhere (on_channel last_timestamp) ∷ on_channel last_timestamp ∷ []) → ⊥
@@ -216,8 +216,8 @@ of_clashes = record {
 of_answers : OfTakenAnswers
 of_answers = record { meets = refl; other_link = refl; other_reply = refl; other_call = refl; barred = refl }
 
-stamps_apart : (second first j other : Judging) → second ≡ j → first ≡ other → second.logon.authenticator ≡ first.logon.authenticator → timestamp_of j ≡ timestamp_of other
-stamps_apart second first j other is also same = sym (ap timestamp_of is) ∙ ap timestamp_in same ∙ ap timestamp_of also
+stamps_apart : (second first j other : Judging) → second ≡ j → first ≡ other → second.logon.authenticator ≡ first.logon.authenticator → judged_timestamp j ≡ judged_timestamp other
+stamps_apart second first j other is also same = sym (ap judged_timestamp is) ∙ ap timestamp_in same ∙ ap judged_timestamp also
 
 of_replays : OfReplays
 of_replays = record {

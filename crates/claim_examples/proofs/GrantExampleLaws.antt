@@ -26,7 +26,7 @@ use Rattle.logon_stubs.specs.Writing.{CanWriteReply, written_reply}
 use Rattle.logon_stubs.proofs.WrittenLaws.{reply_of-written_reply, written_reply-joins}
 use Rattle.end_links.specs.Sending.{response_of}
 use Rattle.ntlm_responses.specs.Verification.{verifies}
-use Rattle.sam_logon.specs.Granted.{at_level as carried_at, sam_info_of}
+use Rattle.sam_logon.specs.Granting.{at_level as carried_at, sam_info_of}
 use Rattle.sam_logon.specs.Verdict.{judgement_of, table_after}
 use Rattle.account_table.specs.declared.account.Account.{Account}
 use Rattle.wire_base.specs.Names as names

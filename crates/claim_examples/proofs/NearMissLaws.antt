@@ -25,7 +25,7 @@ use Rattle.std.proofs.lemmas.List.Elements.{All-from_recursion}
 use Rattle.wire_base.specs.Names.{same_name}
 use Rattle.wire_base.specs.Names as names
 use Rattle.wire_base.specs.Units.{units_of}
-use Rattle.authenticators.specs.Channels.{Channel}
+use Rattle.authenticators.specs.Channels.{ChannelIdentity}
 use Rattle.outside.specs.declared.action.Judged.TheVariants as judged
 use Rattle.ntlm_responses.specs.Responses.{is_ess_pair}
 use Rattle.ntlm_responses.specs.Verification.{verifies}
@@ -48,7 +48,7 @@ use Rattle.world_moves.specs.declared.links.Route.TheVariants.{ToMember}
 use Rattle.world_moves.specs.Forms.{HasMoveForm, IsByte}
 use Rattle.world_moves.specs.World.{IsMove}
 use Rattle.domain_world.specs.Accepting.Answered.{IsItsWay, MarksHaveTheirWay, PassesAreUnclashed}
-use Rattle.domain_world.specs.Claims.{IsAccepted, IsClear, IsGrantedBy, IsItsControllersAnswer, IsPlainlyAccepted, passed_on, timestamp_of}
+use Rattle.domain_world.specs.Claims.{IsAccepted, IsClear, IsGrantedBy, IsItsControllersAnswer, IsPlainlyAccepted, passed_on, judged_timestamp}
 use Rattle.domain_world.specs.Claims.Counts.{RaisesCount}
 use Rattle.domain_world.specs.Past.{Past, sent_at}
 use Rattle.claim_examples.specs.ClaimExamples.{challenge_on, elsewhere, extended_flags, judged_as, judging, last_timestamp, message, message_of_link, on_channel, one_logon, open_running, small_account, small_challenge, small_hash, small_logon, small_member, small_name, small_plan, small_run, small_table, small_world}
@@ -63,7 +63,7 @@ use Rattle.claim_examples.proofs.SequenceLaws.{one_apart}
 
 -- two calls wrap by what the first one moved
 clear_by : (second first : Judging) →
-    ((channel : Channel) → passed_on channel second ≡ true → passed_on channel first ≡ true → (timestamp_of first + 1 + 0) % 2 ^ 32 ≡ 0 → ⊥) →
+    ((channel : ChannelIdentity) → passed_on channel second ≡ true → passed_on channel first ≡ true → (judged_timestamp first + 1 + 0) % 2 ^ 32 ≡ 0 → ⊥) →
     IsClear (judged_two second first)
 clear_by second first never = record {
   apart = refl;
@@ -298,7 +298,7 @@ of_units = record {
 -- ---- what members ask
 
 -- a Logon call that goes out asks what some message does
-some_message : (member : ℕ) (messages : List MessageTaken) (controller : ℕ) (unit : ServedUnit AtTurn TurnTalk) (mark : Mark) (channel : Channel) (call timestamp : ℕ) →
+some_message : (member : ℕ) (messages : List MessageTaken) (controller : ℕ) (unit : ServedUnit AtTurn TurnTalk) (mark : Mark) (channel : ChannelIdentity) (call timestamp : ℕ) →
     messages ≡ [] → mark ≡ Calling channel call timestamp →
     IfCalling (IsForItsMessage member messages controller unit.work (work_after unit.part) (turn_note controller unit).called) mark → ⊥
 some_message member messages controller unit mark channel call timestamp none is asks =

@@ -4,7 +4,7 @@ use Rattle.std.proofs.Common.{◌≡◌, ℕ, zero, suc, Bool, true, false, List
 use Rattle.std.specs.Prelude.{codes, flat_map, nat_le, if◌then◌else◌}
 use Rattle.wire_base.specs.Maps.{lookup}
 use Rattle.wire_base.specs.Names.{same_name}
-use Rattle.authenticators.specs.Channels.{Channel}
+use Rattle.authenticators.specs.Channels.{ChannelIdentity}
 use Rattle.outside.specs.declared.action.Judged.TheVariants as judged
 use Rattle.rpc_units.specs.declared.unit.Unit.{Unit as RpcUnit}
 use Rattle.rpc_units.specs.Calls.{bytes_of_call}
@@ -57,7 +57,7 @@ of_one bytes mark j is zero unit sent there marked =
     subst (λ (b : List ℕ). IsReplyOfOne (j ∷ []) 0 b sent.mark) same (subst (λ (m : Mark). IsReplyOfOne (j ∷ []) 0 bytes m) also is)
 of_one bytes mark j is (suc number) unit sent there marked = absurd (got_nothing number unit there)
 
-the_reply : (bytes : List ℕ) (channel : Channel) (call request : ℕ) (j : Judging) → RepliesCarryTheirJudgement (replied bytes (ReplyTo channel call request) j) →
+the_reply : (bytes : List ℕ) (channel : ChannelIdentity) (call request : ℕ) (j : Judging) → RepliesCarryTheirJudgement (replied bytes (ReplyTo channel call request) j) →
     (j.reply ≡ Some 0) × IsReplyOfCall channel call request j bytes
 the_reply bytes channel call request j claim = elim (claim 0 _ (sent_at 6 (ReplyTo channel call request)) refl refl) [ inl here ↦ here | inr never ↦ absurd never ]
 
@@ -79,8 +79,8 @@ status_small : status_of (verdict_passed next_call) ≡ 0
 status_small =
     granted_status small_table next_call.name next_call.moment next_call.logon.info next_call.logon.validation (inr refl) (may_small next_call.moment) granted_small.verifies
 
-other_controller : (one other : Channel) → one.controller ≡ 0 → other.controller ≡ 1 → one ≡ other → ⊥
-other_controller one other is also same = absurd (let never : 0 ≡ 1 = sym is ∙ ap Channel.controller same ∙ also in cc)
+other_controller : (one other : ChannelIdentity) → one.controller ≡ 0 → other.controller ≡ 1 → one ≡ other → ⊥
+other_controller one other is also same = absurd (let never : 0 ≡ 1 = sym is ∙ ap ChannelIdentity.controller same ∙ also in cc)
 
 pub of_replies : OfReplies
 unfolding next_small
@@ -107,7 +107,7 @@ of_replies = record {
   fails_number = λ claim. let never : 3 ≡ 4 = (the_reply small_reply small_name 4 7 replied_call claim).1.call in absurd cc;
   fails_unit = λ claim. let never : Some 7 ≡ Some 6 = (the_reply small_reply small_name 3 6 replied_call claim).1.came in absurd cc;
   fails_channel = λ claim.
-      let other : Channel = channel_of 1 (codes "FILE1") (small_channel []) in
+      let other : ChannelIdentity = channel_of 1 (codes "FILE1") (small_channel []) in
       other_controller small_name other refl refl
       (some_is small_name other (sym passed_small ∙ (the_reply small_reply other 3 7 replied_call claim).1.passed));
   fails_reply = λ claim. let never : Some 8 ≡ Some 0 = (the_reply small_reply small_name 3 7 next_call claim).0 in absurd cc;

@@ -5,7 +5,7 @@ use Rattle.std.specs.Prelude.{◌%◌, ◌^◌, AllPairs, codes, ◌⊎◌}
 use Rattle.wire_base.specs.Maps.{lookup}
 use Rattle.wire_base.specs.Names.{same_name}
 use Rattle.wire_base.specs.Names as names
-use Rattle.authenticators.specs.Channels.{Channel, SameChannel}
+use Rattle.authenticators.specs.Channels.{ChannelIdentity, SameChannel}
 use Rattle.authenticators.specs.Sequences.{moved_by}
 use Rattle.authenticators.proofs.SeedLaws.{IsBlock-add_to, add_to-same}
 use Rattle.channel_keys.proofs.CredLaws.{IsBlock-cred_of}
@@ -47,7 +47,7 @@ one_member turn seed other zero state at = (refl, cc)
 one_member turn seed other (suc member) state at = absurd cc
 
 -- the channel that stands at the member is this one
-the_channel : (turn : Option Pending) (seed other : List ℕ) (member : ℕ) (channel : Channel) (o : SecureChannelState) → (stands : Stands (world_open turn seed other).state member channel o) →
+the_channel : (turn : Option Pending) (seed other : List ℕ) (member : ℕ) (channel : ChannelIdentity) (o : SecureChannelState) → (stands : Stands (world_open turn seed other).state member channel o) →
     (member ≡ 0) × (channel ≡ small_name) × (o.seed ≡ seed) × (stands.turn ≡ turn)
 the_channel turn seed other member channel o stands =
     let one = one_member turn seed other member stands.state stands.at in
@@ -64,10 +64,10 @@ the_channel turn seed other member channel o stands =
       sym (ap (λ (r : MemberRunning). r.logons.channel.turn) running ∙ stands.is_turn),
     )
 
-the_kept : (turn : Option Pending) (seed other : List ℕ) (channel : Channel) (c : SecureChannelState) → channel ≡ small_name → Keeps (world_open turn seed other).state channel.controller channel.computer c → c.seed ≡ other
+the_kept : (turn : Option Pending) (seed other : List ℕ) (channel : ChannelIdentity) (c : SecureChannelState) → channel ≡ small_name → Keeps (world_open turn seed other).state channel.controller channel.computer c → c.seed ≡ other
 the_kept turn seed other channel c is keeps =
     let kept : Keeps (world_open turn seed other).state 0 (codes "FILE1") c =
-    subst (λ (one : Channel). Keeps (world_open turn seed other).state one.controller one.computer c) is keeps in
+    subst (λ (one : ChannelIdentity). Keeps (world_open turn seed other).state one.controller one.computer c) is keeps in
     let at : Some (keeping_controller other) ≡ Some kept.state = kept.at in
     let state : keeping_controller other ≡ kept.state = cc in
     let runs : Some (keeping_running other) ≡ Some kept.running = ap ControllerState.running state ∙ kept.runs in
@@ -96,20 +96,20 @@ shares_by book turn seed other timestamps are own each member = record {
       it.2
       ∙ own
       ∙ ap (λ (all : List ℕ). channel_seed small_name all) (sym are)
-      ∙ ap (λ (one : Channel). channel_seed one (timestamps_on 0 one book.turns)) (sym it.1)
+      ∙ ap (λ (one : ChannelIdentity). channel_seed one (timestamps_on 0 one book.turns)) (sym it.1)
       ∙ ap (λ (m : ℕ). channel_seed channel (timestamps_on m channel book.turns)) (sym it.0);
   other = λ channel o c stands keeps same none.
       let it = the_channel turn seed other member channel o stands in
       let kept : c.seed ≡ other = the_kept turn seed other channel c it.1 keeps in
-      elim (each (ap (λ (one : Channel). any_foreign one book.judged) (sym it.1) ∙ none)) [
+      elim (each (ap (λ (one : ChannelIdentity). any_foreign one book.judged) (sym it.1) ∙ none)) [
         | inl is ↦ inl (kept ∙ is ∙ sym it.2)
         | inr before ↦ inr (record {
           pending = before.pending;
           is_out = it.3 ∙ before.is_out;
           earlier = before.earlier;
           last = before.last;
-          all = ap (λ (m : ℕ). timestamps_on m channel book.turns) it.0 ∙ ap (λ (one : Channel). timestamps_on 0 one book.turns) it.1 ∙ are ∙ before.all;
-          seed_before = kept ∙ before.seed_before ∙ ap (λ (one : Channel). channel_seed one before.earlier) (sym it.1);
+          all = ap (λ (m : ℕ). timestamps_on m channel book.turns) it.0 ∙ ap (λ (one : ChannelIdentity). timestamps_on 0 one book.turns) it.1 ∙ are ∙ before.all;
+          seed_before = kept ∙ before.seed_before ∙ ap (λ (one : ChannelIdentity). channel_seed one before.earlier) (sym it.1);
         })
       ];
 }
@@ -191,28 +191,28 @@ no_view : (view : View) → None ≡ Some view → ⊥
 no_view view is = absurd cc
 
 -- which unit was made for what
-opening_whole : (unit number : ℕ) (c : Channel) → slice_get whole_history.marks unit ≡ Some (Opening c number) → (unit ≡ 0) × (1 ≡ number) × (small_name ≡ c)
+opening_whole : (unit number : ℕ) (c : ChannelIdentity) → slice_get whole_history.marks unit ≡ Some (Opening c number) → (unit ≡ 0) × (1 ≡ number) × (small_name ≡ c)
 opening_whole zero number c is = (refl, cc, cc)
 opening_whole (suc zero) number c is = absurd cc
 opening_whole (suc (suc zero)) number c is = absurd cc
 opening_whole (suc (suc (suc zero))) number c is = absurd cc
 opening_whole (suc (suc (suc (suc unit)))) number c is = absurd (got_nothing unit (Opening c number) is)
 
-opened_whole : (unit number request : ℕ) (c : Channel) → slice_get whole_history.marks unit ≡ Some (Opened c number request) → (1 ≡ number) × (0 ≡ request) × (small_name ≡ c)
+opened_whole : (unit number request : ℕ) (c : ChannelIdentity) → slice_get whole_history.marks unit ≡ Some (Opened c number request) → (1 ≡ number) × (0 ≡ request) × (small_name ≡ c)
 opened_whole zero number request c is = absurd cc
 opened_whole (suc zero) number request c is = (cc, cc, cc)
 opened_whole (suc (suc zero)) number request c is = absurd cc
 opened_whole (suc (suc (suc zero))) number request c is = absurd cc
 opened_whole (suc (suc (suc (suc unit)))) number request c is = absurd (got_nothing unit (Opened c number request) is)
 
-calling_whole : (unit number timestamp : ℕ) (c : Channel) → slice_get whole_history.marks unit ≡ Some (Calling c number timestamp) → (unit ≡ 2) × (2 ≡ number) × (small_name ≡ c)
+calling_whole : (unit number timestamp : ℕ) (c : ChannelIdentity) → slice_get whole_history.marks unit ≡ Some (Calling c number timestamp) → (unit ≡ 2) × (2 ≡ number) × (small_name ≡ c)
 calling_whole zero number timestamp c is = absurd cc
 calling_whole (suc zero) number timestamp c is = absurd cc
 calling_whole (suc (suc zero)) number timestamp c is = (refl, cc, cc)
 calling_whole (suc (suc (suc zero))) number timestamp c is = absurd cc
 calling_whole (suc (suc (suc (suc unit)))) number timestamp c is = absurd (got_nothing unit (Calling c number timestamp) is)
 
-reply_whole : (unit number request : ℕ) (c : Channel) → slice_get whole_history.marks unit ≡ Some (ReplyTo c number request) → (2 ≡ number) × (2 ≡ request) × (small_name ≡ c)
+reply_whole : (unit number request : ℕ) (c : ChannelIdentity) → slice_get whole_history.marks unit ≡ Some (ReplyTo c number request) → (2 ≡ number) × (2 ≡ request) × (small_name ≡ c)
 reply_whole zero number request c is = absurd cc
 reply_whole (suc zero) number request c is = absurd cc
 reply_whole (suc (suc zero)) number request c is = absurd cc
@@ -224,7 +224,7 @@ view_whole : (i : ℕ) (v : View) → whole_history.views i ≡ Some v → (i �
 view_whole zero v at = (refl, cc)
 view_whole (suc i) v at = absurd cc
 
-stands_whole : (v : View) (c : Channel) → whole_view ≡ v → v.stands ≡ Some c → small_name ≡ c
+stands_whole : (v : View) (c : ChannelIdentity) → whole_view ≡ v → v.stands ≡ Some c → small_name ≡ c
 stands_whole v c is stands = let one : Some small_name ≡ Some c = ap View.stands is ∙ stands in cc
 
 opens_whole : (v : View) (challenge : List ℕ) → whole_view ≡ v → v.opening ≡ Some challenge → ⊥
@@ -233,14 +233,14 @@ opens_whole v challenge is opening = absurd (let none : None ≡ Some challenge 
 holds_whole : (v : View) (challenge : List ℕ) → whole_view ≡ v → Holds v challenge → [] ≡ challenge
 holds_whole v challenge is holds = elim holds.how [
   | inl opening ↦ absurd (opens_whole v challenge is opening)
-  | inr stands ↦ ap Channel.client (stands_whole v stands.0 is stands.1) ∙ stands.2
+  | inr stands ↦ ap ChannelIdentity.client (stands_whole v stands.0 is stands.1) ∙ stands.2
 ]
 
 whole_sound : Sound whole_history
 whole_sound = record {
   draws = one_apart (λ one other. one ≢ other) [];
   requests = record {
-    made_before = λ unit number timestamp c is. inl (ap Channel.client (calling_whole unit number timestamp c is).2);
+    made_before = λ unit number timestamp c is. inl (ap ChannelIdentity.client (calling_whole unit number timestamp c is).2);
     held_before = λ i v challenge at holds. inl (holds_whole v challenge (view_whole i v at).1 holds);
     apart = λ i j u v challenge at also holds too. (view_whole i u at).0 ∙ sym (view_whole j v also).0;
     opening = λ i v unit number timestamp c at opens is. opens_whole v c.client (view_whole i v at).1 opens;
@@ -248,21 +248,21 @@ whole_sound = record {
     distinct = λ unit other number timestamp later c d is also same. (calling_whole unit number timestamp c is).0 ∙ sym (calling_whole other number later d also).0;
     calls = λ i v at. omega (arith, ap View.call (view_whole i v at).1);
   };
-  opened_before = λ unit number c is. inl (ap Channel.client (opening_whole unit number c is).2);
+  opened_before = λ unit number c is. inl (ap ChannelIdentity.client (opening_whole unit number c is).2);
   unopened = λ i v unit number c at opens out is. opens_whole v c.client (view_whole i v at).1 opens;
   opening_numbers = λ i v unit number c at holds is. omega (arith, (opening_whole unit number c is).1, ap View.call (view_whole i v at).1);
   opening_distinct = λ unit other number more c d is also same. (opening_whole unit number c is).0 ∙ sym (opening_whole other more d also).0;
   openings = λ unit number request c is.
       let it = opened_whole unit number request c is in (
-        subst (λ (r : ℕ). slice_get whole_history.marks r ≡ Some (Opening c number)) it.1 (ap (λ (n : ℕ). Some (Opening small_name n)) it.0 ∙ ap (λ (one : Channel). Some (Opening one number)) it.2),
+        subst (λ (r : ℕ). slice_get whole_history.marks r ≡ Some (Opening c number)) it.1 (ap (λ (n : ℕ). Some (Opening small_name n)) it.0 ∙ ap (λ (one : ChannelIdentity). Some (Opening one number)) it.2),
         inl (ap Some it.1),
       );
   replies = λ unit number request c is.
       let it = reply_whole unit number request c is in (
-        (0, subst (λ (r : ℕ). slice_get whole_history.marks r ≡ Some (Calling c number 0)) it.1 (ap (λ (n : ℕ). Some (Calling small_name n 0)) it.0 ∙ ap (λ (one : Channel). Some (Calling one number 0)) it.2)),
+        (0, subst (λ (r : ℕ). slice_get whole_history.marks r ≡ Some (Calling c number 0)) it.1 (ap (λ (n : ℕ). Some (Calling small_name n 0)) it.0 ∙ ap (λ (one : ChannelIdentity). Some (Calling one number 0)) it.2)),
         inl (ap Some it.1),
       );
-  stands = λ i v c at stands. inl (subst (λ (one : Channel). SameChannel small_name one) (stands_whole v c (view_whole i v at).1 stands) same_small);
+  stands = λ i v c at stands. inl (subst (λ (one : ChannelIdentity). SameChannel small_name one) (stands_whole v c (view_whole i v at).1 stands) same_small);
   once = one_apart (λ (one other : Accepted). SameChannel one.channel other.channel → ⊥) (record { unit = Some 0; channel = small_name });
   on_accepted = (inl same_small, tt);
   openers = (λ unit is. (1, (let zero_is : 0 ≡ unit = cc in subst (λ (u : ℕ). slice_get whole_history.marks u ≡ Some (Opening small_name 1)) zero_is refl)), tt);
@@ -278,13 +278,13 @@ whole_sound = record {
       let is : small_name ≡ c = stands_whole v c (view_whole i v at).1 stands in
       elim ended [
         | inl two ↦ (
-          (2, 0, subst (λ (u : ℕ). slice_get whole_history.marks u ≡ Some (Calling c 2 0)) two (ap (λ (one : Channel). Some (Calling one 2 0)) is)),
+          (2, 0, subst (λ (u : ℕ). slice_get whole_history.marks u ≡ Some (Calling c 2 0)) two (ap (λ (one : ChannelIdentity). Some (Calling one 2 0)) is)),
           inl (ap Some two),
         )
         | inr none ↦ absurd none
       ];
   seeds = λ i v c at stands.
-      sym (ap View.seed (view_whole i v at).1) ∙ ap (λ (one : Channel). Some (channel_seed one (0 ∷ []))) (stands_whole v c (view_whole i v at).1 stands);
+      sym (ap View.seed (view_whole i v at).1) ∙ ap (λ (one : ChannelIdentity). Some (channel_seed one (0 ∷ []))) (stands_whole v c (view_whole i v at).1 stands);
 }
 
 pub of_soundness : OfSoundness
@@ -294,7 +294,7 @@ of_soundness = record {
   fails_ended = λ sound. absurd (let call = (sound.ends 0 whole_view small_name refl refl 1 (inl refl)).0.2 in cc);
 }
 
-the_view : (i : ℕ) (v : View) (c : Channel) → small_views i ≡ Some v → v.stands ≡ Some c → small_name ≡ c
+the_view : (i : ℕ) (v : View) (c : ChannelIdentity) → small_views i ≡ Some v → v.stands ≡ Some c → small_name ≡ c
 the_view zero v c at stands =
     let view : small_view ≡ v = cc in
     let one : Some small_name ≡ Some c = ap View.stands view ∙ stands in
@@ -312,7 +312,7 @@ each_small (suc unit) mark is = absurd cc
 pub of_in_step : OfInStep
 of_in_step = record {
   meets = record {
-    passed = λ i v c at stands own. inl (ap (λ (one : Channel). passed_units one (one_call (0 ∷ [])).passed) (sym (the_view i v c at stands)) ∙ units_small);
+    passed = λ i v c at stands own. inl (ap (λ (one : ChannelIdentity). passed_units one (one_call (0 ∷ [])).passed) (sym (the_view i v c at stands)) ∙ units_small);
     each = λ i v unit number timestamp c at stands is. inl (each_small unit (Calling c number timestamp) is);
     turns = λ i v c at stands. inl refl;
   };

@@ -7,7 +7,7 @@ use Rattle.wire_base.specs.Maps.{lookup}
 use Rattle.wire_base.specs.Names.{same_name}
 use Rattle.wire_base.specs.Names as names
 use Rattle.outside.specs.declared.action.Judged.TheVariants as judged
-use Rattle.authenticators.specs.Channels.{Channel, SameChannel}
+use Rattle.authenticators.specs.Channels.{ChannelIdentity, SameChannel}
 use Rattle.authenticators.specs.Sequences.{moved_by}
 use Rattle.authenticators.specs.SecureChannels.{channel_of, SecureChannelState}
 use Rattle.authenticators.proofs.SeedLaws.{add_to-same}
@@ -44,10 +44,10 @@ one_member turn o (suc member) state at = absurd cc
 
 module _ (book : Book) (turn : Option Pending) (o : SecureChannelState) (name : List ℕ) (c : SecureChannelState) where
   -- the channel that stands at the member is this one
-  abbrev its_name : Channel
+  abbrev its_name : ChannelIdentity
   its_name = channel_of 0 (codes "FILE1") o
 
-  the_channel : (member : ℕ) (channel : Channel) (p : SecureChannelState) → (stands : Stands (run_by book turn o name c).world.state member channel p) →
+  the_channel : (member : ℕ) (channel : ChannelIdentity) (p : SecureChannelState) → (stands : Stands (run_by book turn o name c).world.state member channel p) →
       (member ≡ 0) × (channel ≡ its_name) × (o ≡ p) × (stands.turn ≡ turn)
   the_channel member channel p stands =
       let one = one_member turn o member stands.state stands.at in
@@ -72,15 +72,15 @@ module _ (book : Book) (turn : Option Pending) (o : SecureChannelState) (name : 
       let it = the_channel member channel p stands in
       ap SecureChannelState.seed (sym it.2)
       ∙ own
-      ∙ ap (λ (one : Channel). channel_seed one (timestamps_on 0 one book.turns)) (sym it.1)
+      ∙ ap (λ (one : ChannelIdentity). channel_seed one (timestamps_on 0 one book.turns)) (sym it.1)
       ∙ ap (λ (m : ℕ). channel_seed channel (timestamps_on m channel book.turns)) (sym it.0)
 
   -- what is kept of it at the controller
-  the_kept : (channel : Channel) (d : SecureChannelState) → channel ≡ its_name → Keeps (run_by book turn o name c).world.state channel.controller channel.computer d →
+  the_kept : (channel : ChannelIdentity) (d : SecureChannelState) → channel ≡ its_name → Keeps (run_by book turn o name c).world.state channel.controller channel.computer d →
       lookup same_name (codes "FILE1") ((name, c) ∷ []) ≡ Some d
   the_kept channel d is keeps =
       let kept : Keeps (run_by book turn o name c).world.state 0 (codes "FILE1") d =
-      subst (λ (one : Channel). Keeps (run_by book turn o name c).world.state one.controller one.computer d) is keeps in
+      subst (λ (one : ChannelIdentity). Keeps (run_by book turn o name c).world.state one.controller one.computer d) is keeps in
       let at : Some (controller_on name c) ≡ Some kept.state = kept.at in
       let state : controller_on name c ≡ kept.state = cc in
       let runs : (controller_on name c).running ≡ Some kept.running = ap ControllerState.running state ∙ kept.runs in
@@ -95,16 +95,16 @@ module _ (book : Book) (turn : Option Pending) (o : SecureChannelState) (name : 
     own = λ channel p stands. own_by (own ∙ ap (λ (all : List ℕ). channel_seed its_name all) (sym are)) member channel p stands;
     other = λ channel p d stands keeps same none.
         let it = the_channel member channel p stands in
-        let same_its : SameChannel (channel_of 0 (codes "FILE1") d) its_name = subst (λ (one : Channel). SameChannel (channel_of one.controller one.computer d) one) it.1 same in
-        elim (each d (the_kept channel d it.1 keeps) same_its (ap (λ (one : Channel). any_foreign one book.judged) (sym it.1) ∙ none)) [
+        let same_its : SameChannel (channel_of 0 (codes "FILE1") d) its_name = subst (λ (one : ChannelIdentity). SameChannel (channel_of one.controller one.computer d) one) it.1 same in
+        elim (each d (the_kept channel d it.1 keeps) same_its (ap (λ (one : ChannelIdentity). any_foreign one book.judged) (sym it.1) ∙ none)) [
           | inl is ↦ inl (is ∙ ap SecureChannelState.seed it.2)
           | inr before ↦ inr (record {
             pending = before.pending;
             is_out = it.3 ∙ before.is_out;
             earlier = before.earlier;
             last = before.last;
-            all = ap (λ (m : ℕ). timestamps_on m channel book.turns) it.0 ∙ ap (λ (one : Channel). timestamps_on 0 one book.turns) it.1 ∙ are ∙ before.all;
-            seed_before = before.seed_before ∙ ap (λ (one : Channel). channel_seed one before.earlier) (sym it.1);
+            all = ap (λ (m : ℕ). timestamps_on m channel book.turns) it.0 ∙ ap (λ (one : ChannelIdentity). timestamps_on 0 one book.turns) it.1 ∙ are ∙ before.all;
+            seed_before = before.seed_before ∙ ap (λ (one : ChannelIdentity). channel_seed one before.earlier) (sym it.1);
           })
         ];
   }
@@ -198,7 +198,7 @@ none_here : any_foreign small_name (judged_outside (elsewhere (on_channel 0))).j
 unfolding same_name names.upper_of
 none_here = refl
 
-abbrev second_name : Channel
+abbrev second_name : ChannelIdentity
 second_name = record small_name { controller = 1 }
 
 of_sequence_misses : OfSequenceMisses
@@ -290,11 +290,11 @@ calls_by : (book : Book) (turn : Option Pending) → CallsOfTurns (run_small boo
 calls_by book turn calls member channel o stands =
     let it = the_channel book turn o_small (codes "FILE1") (small_channel seed_after_one) member channel o stands in
     subst (λ (k : ℕ). CallsOfTurns (run_small book turn) channel stands.turn (timestamps_on k channel book.turns)) (sym it.0)
-    (subst (λ (one : Channel). CallsOfTurns (run_small book turn) one stands.turn (timestamps_on 0 one book.turns)) (sym it.1)
+    (subst (λ (one : ChannelIdentity). CallsOfTurns (run_small book turn) one stands.turn (timestamps_on 0 one book.turns)) (sym it.1)
     (subst (λ (t : Option Pending). CallsOfTurns (run_small book turn) small_name t (timestamps_on 0 small_name book.turns)) (sym it.3) calls))
 
 -- the one call is that of unit 0
-only_call : (n number timestamp : ℕ) (sent : Sent) (other : Channel) → slice_get (sent_at 0 (Calling small_name 3 0) ∷ []) n ≡ Some sent → sent.mark ≡ Calling other number timestamp → OneOf (λ (one : ℕ × ℕ). one.0 ≡ n) ((0, 0) ∷ [])
+only_call : (n number timestamp : ℕ) (sent : Sent) (other : ChannelIdentity) → slice_get (sent_at 0 (Calling small_name 3 0) ∷ []) n ≡ Some sent → sent.mark ≡ Calling other number timestamp → OneOf (λ (one : ℕ × ℕ). one.0 ≡ n) ((0, 0) ∷ [])
 only_call zero number timestamp sent other there mark = inl refl
 only_call (suc n) number timestamp sent other there mark = absurd (let none : None ≡ Some sent = there in cc)
 
@@ -357,7 +357,7 @@ the_call book turns claim =
       every = λ n number stamp sent there mark. elim (every n number stamp sent there mark) [ inl here ↦ here | inr none ↦ absurd none ];
     }
 
-stamps_alike : (one other : Channel) (number more timestamp later : ℕ) → Calling one number timestamp ≡ Calling other more later → timestamp ≡ later
+stamps_alike : (one other : ChannelIdentity) (number more timestamp later : ℕ) → Calling one number timestamp ≡ Calling other more later → timestamp ≡ later
 stamps_alike one other number more timestamp later is = cc
 
 stamp_of : (at : ℕ) (sent : Sent) (number timestamp : ℕ) → slice_get (sent_as (Calling small_name 3 5 ∷ [])).sent at ≡ Some sent → sent.mark ≡ Calling small_name number timestamp → 5 ≡ timestamp
@@ -389,7 +389,7 @@ of_calls = record {
 
 -- ---- replies to calls
 
-the_reply : (n : ℕ) (one : Sent) (channel : Channel) (number request : ℕ) → slice_get (replied 3 (passed_then ∷ [])).book.sent n ≡ Some one → one.mark ≡ ReplyTo channel number request →
+the_reply : (n : ℕ) (one : Sent) (channel : ChannelIdentity) (number request : ℕ) → slice_get (replied 3 (passed_then ∷ [])).book.sent n ≡ Some one → one.mark ≡ ReplyTo channel number request →
     (1 ≡ n) × (small_name ≡ channel) × (3 ≡ number) × (0 ≡ request)
 the_reply zero one channel number request there mark =
     let is : Some (sent_at 0 (Calling small_name 3 0)) ≡ Some one = there in
@@ -402,10 +402,10 @@ the_reply (suc (suc n)) one channel number request there mark = absurd (got_noth
 answers_small : AnswersCall (replied 3 (passed_then ∷ [])) small_name 3 0 1
 answers_small = record { sent = sent_at 0 (Calling small_name 3 0); there = refl; named = small_name; timestamp = 0; mark = refl; same = same_small; passed = inl ((refl, refl), refl) }
 
-numbers_alike : (one other : Channel) (number more timestamp later : ℕ) → Calling one number timestamp ≡ Calling other more later → number ≡ more
+numbers_alike : (one other : ChannelIdentity) (number more timestamp later : ℕ) → Calling one number timestamp ≡ Calling other more later → number ≡ more
 numbers_alike one other number more timestamp later is = cc
 
-named_alike : (one other : Channel) (number more timestamp later : ℕ) → Calling one number timestamp ≡ Calling other more later → one ≡ other
+named_alike : (one other : ChannelIdentity) (number more timestamp later : ℕ) → Calling one number timestamp ≡ Calling other more later → one ≡ other
 named_alike one other number more timestamp later is = cc
 
 not_three : ◌≡◌ {A = ℕ} 3 4 → ⊥
@@ -417,7 +417,7 @@ of_reply_calls = record {
       let it = the_reply n one channel number request there mark in
       subst (λ (r : ℕ). AnswersCall (replied 3 (passed_then ∷ [])) channel number r n) it.3
       (subst (λ (k : ℕ). AnswersCall (replied 3 (passed_then ∷ [])) channel k 0 n) it.2
-      (subst (λ (c : Channel). AnswersCall (replied 3 (passed_then ∷ [])) c 3 0 n) it.1 (subst (λ (m : ℕ). AnswersCall (replied 3 (passed_then ∷ [])) small_name 3 0 m) it.0 answers_small)));
+      (subst (λ (c : ChannelIdentity). AnswersCall (replied 3 (passed_then ∷ [])) c 3 0 n) it.1 (subst (λ (m : ℕ). AnswersCall (replied 3 (passed_then ∷ [])) small_name 3 0 m) it.0 answers_small)));
   fails_number = λ claim.
       let it : AnswersCall (replied 4 (passed_then ∷ [])) small_name 4 0 1 = claim 1 empty_unit (sent_at 0 (ReplyTo small_name 4 0)) small_name 4 0 refl refl refl in
       let is : Calling small_name 3 0 ≡ Calling it.named 4 it.timestamp = ap Sent.mark (some_is (sent_at 0 (Calling small_name 3 0)) it.sent it.there) ∙ it.mark in
@@ -436,7 +436,7 @@ of_reply_calls = record {
   fails_channel = λ claim.
       let it : AnswersCall (replied_for (Calling second_name 3 0) 3 (passed_then ∷ [])) small_name 3 0 1 = claim 1 empty_unit (sent_at 0 (ReplyTo small_name 3 0)) small_name 3 0 refl refl refl in
       let is : second_name ≡ it.named = named_alike second_name it.named 3 3 0 it.timestamp (ap Sent.mark (some_is (sent_at 0 (Calling second_name 3 0)) it.sent it.there) ∙ it.mark) in
-      absurd (omega (arith, ap Channel.controller is, it.same.controller));
+      absurd (omega (arith, ap ChannelIdentity.controller is, it.same.controller));
 }
 
 pub sequences_apart : SequencesTellApart

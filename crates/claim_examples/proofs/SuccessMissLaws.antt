@@ -21,7 +21,7 @@ use Rattle.world_moves.specs.declared.moves.Move.TheVariants as move
 use Rattle.world_moves.specs.Forms.{HasMoveForm, IsClientPlan, IsSchedule}
 use Rattle.world_moves.specs.World.{IsMove, World, run}
 use Rattle.logon_runs.specs.First.ExampleLogon as example
-use Rattle.logon_runs.specs.Seen.Waiting.{waiting}
+use Rattle.logon_runs.specs.Seen.WaitingUnits.{waiting}
 use Rattle.logon_runs.proofs.First.ExampleLogonLaws.{an_example_logs_on}
 use Rattle.logon_runs.proofs.Seen.WaitingLaws.{waiting_comes}
 use Rattle.domain_world.specs.Claims.{TravelsAsZeros}

@@ -9,7 +9,7 @@
 use Rattle.std.specs.Prelude.{ℕ, zero, suc, ◌≡◌, ◌≢◌, ◌+◌, ◌-◌, ◌^◌, true, false, List, [], ◌∷◌, ◌++◌, replicate, Option, Some, None, codes}
 use Rattle.wire_base.specs.declared.authenticator.Authenticator.{Authenticator}
 use Rattle.ntlm_flags.specs.Flags.{negotiate_extended_sessionsecurity, negotiate_unicode}
-use Rattle.authenticators.specs.Channels.{Channel}
+use Rattle.authenticators.specs.Channels.{ChannelIdentity}
 use Rattle.authenticators.specs.Sequences.{authenticator_of}
 use Rattle.authenticators.specs.SecureChannels.{SecureChannelState, key_of_channel, channel_of}
 use Rattle.outside.specs.declared.action.Judged.{Judged}
@@ -229,7 +229,7 @@ abbrev pub small_channel : List ℕ → SecureChannelState
 small_channel seed = record { secret = []; client = []; server = []; flags = 0; seed = seed; awaited = None }
 
 -- which channel it is
-abbrev pub small_name : Channel
+abbrev pub small_name : ChannelIdentity
 small_name = channel_of 0 (codes "FILE1") (small_channel [])
 
 abbrev pub small_computers : List ℕ → Computers
@@ -530,7 +530,7 @@ whole_history = record {
 -- answer was taken that no reply is
 pub record OfSoundness : Type 0 where
   pub meets : Sound whole_history
-  pub fails : (c : Channel) → Sound (record no_history { marks = Calling c 5 0 ∷ Calling c 5 0 ∷ [] }) → ⊥
+  pub fails : (c : ChannelIdentity) → Sound (record no_history { marks = Calling c 5 0 ∷ Calling c 5 0 ∷ [] }) → ⊥
   pub fails_ended : Sound (record whole_history { ended = λ i. 1 ∷ [] }) → ⊥
 
 -- ---- logons

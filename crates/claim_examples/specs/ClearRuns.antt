@@ -2,7 +2,7 @@
 -- is let in, so that the claims on such runs speak of them (this project's own choice).
 use Rattle.std.specs.Prelude.{ℕ, ◌≡◌, ◌≢◌, ◌==◌, true, length, Some, AllPairs}
 use Rattle.std.specs.List.{AllByRecursion}
-use Rattle.authenticators.specs.Channels.{Channel, SameChannel}
+use Rattle.authenticators.specs.Channels.{ChannelIdentity, SameChannel}
 use Rattle.authenticators.specs.SecureChannels.{SecureChannelState, channel_of}
 use Rattle.channel_events.specs.Marks.{OneOf}
 use Rattle.step_notes.specs.Records.{OutcomeTold}
@@ -38,7 +38,7 @@ pub record LetsInClearly (run : Past) : Type 0 where
 -- from outside passed on it isn't said.
 pub record HasSharedChannel (run : Past) : Type 0 where
   pub member : ℕ
-  pub channel : Channel
+  pub channel : ChannelIdentity
   pub o : SecureChannelState
   pub c : SecureChannelState
   pub stands : Stands run.world.state member channel o

@@ -12,7 +12,7 @@ use Rattle.logon_stubs.specs.declared.calls.Reply.{Reply}
 use Rattle.logon_stubs.specs.Ranges.{InRangeReply}
 use Rattle.logon_stubs.specs.Status.{account_disabled, wrong_password}
 use Rattle.account_table.specs.AccountTable.{AccountTable}
-use Rattle.sam_logon.specs.Granted.{granting_reply}
+use Rattle.sam_logon.specs.Granting.{granting_reply}
 use Rattle.domain_controller.specs.Machine.{Desk, answer_logon}
 use Rattle.domain_controller.specs.declared.line.Line.{Line}
 use Rattle.step_notes.specs.ControllerNotes.{Where, judging_of, new_actions}

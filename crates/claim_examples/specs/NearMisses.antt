@@ -10,7 +10,7 @@ use Rattle.account_table.specs.AccountTable.{AccountTable}
 use Rattle.account_table.specs.declared.account.Account.{Account}
 use Rattle.domain_controller.specs.Step.{first_state}
 use Rattle.logon_client.specs.declared.plan.AuthKind.TheVariants as auth
-use Rattle.authenticators.specs.Channels.{Channel}
+use Rattle.authenticators.specs.Channels.{ChannelIdentity}
 use Rattle.end_links.specs.Binding.{binding_of}
 use Rattle.memo_stubs.specs.Interface.{memo_syntax}
 use Rattle.end_links.specs.Serving.{ServedUnit}
@@ -221,7 +221,7 @@ pub record OfAsking : Type 0 where
   pub meets : MembersAskForKept (small_run blank)
   pub fails : MembersAskForKept (keeping ((0, small_logon 3) ∷ [])) → ⊥
   pub fails_messages : (run : Past) (member : ℕ) (m : MemberState) (controller number : ℕ) (piece : List ℕ) (now : ℕ) (left : List (List ℕ))
-      (unit : ServedUnit AtTurn TurnTalk) (more : List (ServedUnit AtTurn TurnTalk)) (channel : Channel) (call timestamp : ℕ) →
+      (unit : ServedUnit AtTurn TurnTalk) (more : List (ServedUnit AtTurn TurnTalk)) (channel : ChannelIdentity) (call timestamp : ℕ) →
       slice_get run.world.state.ends.members member ≡ Some m → run.book.messages ≡ [] → turn_units m number piece now left ≡ unit ∷ more →
       (turn_note controller unit).mark ≡ Calling channel call timestamp → MembersAskForMessages run → ⊥
 

@@ -5,7 +5,7 @@ use Rattle.std.specs.Prelude.{ℕ, true, List, [], ◌∷◌, map, replicate, Op
 use Rattle.outside.specs.declared.action.Judged.TheVariants as judged
 use Rattle.channel_keys.specs.Credentials.{cred_of}
 use Rattle.channel_keys.specs.SessionKeys.{key_of}
-use Rattle.authenticators.specs.Channels.{Channel}
+use Rattle.authenticators.specs.Channels.{ChannelIdentity}
 use Rattle.authenticators.specs.Sequences.{add_to}
 use Rattle.authenticators.specs.SecureChannels.{SecureChannelState, channel_of}
 use Rattle.channel_client.specs.declared.state.Pending.{Pending}
@@ -38,7 +38,7 @@ abbrev pub kept_whole : List ℕ → SecureChannelState
 kept_whole seed =
     record { secret = channel_secret; client = small_challenge; server = server_challenge; flags = 3; seed = seed; awaited = None }
 
-abbrev pub whole_name : Channel
+abbrev pub whole_name : ChannelIdentity
 whole_name = channel_of 0 (codes "FILE1") (kept_whole [])
 
 -- the client's credential, moved so far
@@ -85,7 +85,7 @@ run_by book turn o name c =
 abbrev pub run_whole : Book → Option Pending → List ℕ → List ℕ → Past
 run_whole book turn seed other = run_by book turn (kept_whole seed) (codes "FILE1") (kept_whole other)
 
-abbrev pub turn_at : ℕ → Channel → ℕ → LogonTurn
+abbrev pub turn_at : ℕ → ChannelIdentity → ℕ → LogonTurn
 turn_at member channel timestamp = record { member = member; channel = channel; timestamp = timestamp }
 
 -- the member had turns on the channel with the timestamps 5 and 7; between them are one of another member, and one on

@@ -3,7 +3,7 @@ use Rattle.std.proofs.Common.{inl, inr, ℕ, List, Some, None}
 use Rattle.logon_stubs.specs.declared.info.SamInfo.{SamInfo}
 use Rattle.logon_stubs.specs.Ranges.{HasShortTexts}
 use Rattle.logon_stubs.specs.Writing.{CanWriteArm, CanWriteSamInfo}
-use Rattle.sam_logon.specs.Granted.{at_level}
+use Rattle.sam_logon.specs.Granting.{at_level}
 use Rattle.sam_logon.proofs.GrantedLaws.{granting-CanWrite}
 use Rattle.domain_controller.specs.Machine.{IsServedLevel, reply_info}
 

@@ -42,7 +42,7 @@ use Rattle.account_table.specs.declared.account.Account.{Account}
 use Rattle.account_table.specs.declared.account.Policy.{Policy}
 use Rattle.account_table.specs.declared.table.Route.{Route}
 use Rattle.account_table.specs.declared.table.Route.TheVariants.{Own, Trust, Elsewhere}
-use Rattle.sam_logon.specs.Granted.{granting_reply, sam_info_of}
+use Rattle.sam_logon.specs.Granting.{granting_reply, sam_info_of}
 use Rattle.sam_logon.specs.Rules.{Shown, count_after, first_refusal, rules_for, shown_by_response}
 use Rattle.sam_logon.specs.Verdict.{IfGranted, judged_account, judgement_of, table_after, table_routed, table_shown, verdict_by, verdict_of, verdict_routed, verdict_shown}
 use Rattle.sam_logon.proofs.GrantedLaws.{granting-CanWrite, granting-InRange, in_range-counted, sam_info-CanWrite, sam_info-InRange, sam_info-IsShort}

@@ -82,6 +82,8 @@ abbrev pub hear_context : Bool → ℕ → List ℕ → Line → Talk → Heard
 hear_context false opnum stub line talk = hear_fault line nca_proto_error talk
 hear_context true opnum stub line talk = hear_opnum (is_served opnum) opnum stub line talk
 
+-- A call whose fragments all came. What is joined is a request here, since `hear_bound` joins requests alone: the last
+-- line says nothing.
 abbrev pub hear_whole : Body → ℕ → ℕ → Agreed → Talk → Heard
 hear_whole (Request hint context opnum stub) call link agreed talk =
     hear_context (accepts agreed context) opnum stub (record { link = link; call = call; context = context; limit = agreed.limit }) talk
@@ -89,7 +91,8 @@ hear_whole _ call link agreed talk = heard.Waits talk
 
 -- ---- on a bound link
 
--- which cause closes a link for a fragment that is refused; `Memory` is none of a definition
+-- which cause closes a link for a fragment that is refused. `Memory` is no answer of `answer_of`, and its line says
+-- nothing
 abbrev pub close_for : JoinRefused → CloseCause
 close_for join.OutOfPlace = close.OutOfPlace
 close_for join.CallTooLong = close.TooMuchHeld

@@ -34,7 +34,7 @@ use Rattle.logon_stubs.specs.Writing.{written_reply}
 use Rattle.account_table.specs.declared.account.Account.{Account}
 use Rattle.account_table.specs.AccountTable.{AccountTable}
 use Rattle.account_table.specs.LookUps.{knows_in, machine_in}
-use Rattle.sam_logon.specs.Granted.{at_level}
+use Rattle.sam_logon.specs.Granting.{at_level}
 use Rattle.sam_logon.specs.Verdict.{Judgement, judgement_of}
 use Rattle.end_links.specs.Sending.{fault_of, response_of}
 use Rattle.end_links.specs.Serving.{Server, ServedPart}

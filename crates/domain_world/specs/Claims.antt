@@ -21,7 +21,7 @@ pub mod WrittenDown
 use Rattle.std.specs.Prelude.{ℕ, ◌≡◌, ◌≢◌, ◌+◌, ◌%◌, ◌^◌, ◌==◌, ◌&&◌, ◌↔◌, Bool, true, false, List, [], ◌∷◌, ◌++◌, length, replicate, count_by, filter, find, Option, Some, None, slice_get, AllPairs}
 use Rattle.std.specs.List.{AllByRecursion}
 use Rattle.rc4_stream.specs.Rc4.{applied}
-use Rattle.authenticators.specs.Channels.{Channel, channel_key}
+use Rattle.authenticators.specs.Channels.{ChannelIdentity, channel_key}
 use Rattle.outside.specs.declared.action.Judged.TheVariants as judged
 use Rattle.outside.specs.declared.action.Outcome.{Outcome}
 use Rattle.outside.specs.declared.action.Outcome.TheVariants as outcome
@@ -47,25 +47,25 @@ use Rattle.domain_world.specs.Past.{Past}
 
 -- ---- authenticators that pass
 
-abbrev pub passed_on : Channel → Judging → Bool
+abbrev pub passed_on : ChannelIdentity → Judging → Bool
 passed_on channel j = is_channel (passed_channel j) channel
 
-abbrev pub timestamp_of : Judging → ℕ
-timestamp_of j = timestamp_in j.logon.authenticator
+abbrev pub judged_timestamp : Judging → ℕ
+judged_timestamp j = timestamp_in j.logon.authenticator
 
 -- how far the timestamps that passed on a channel moved its seed: the sum of each plus one
 abbrev pub moved_if : Bool → ℕ → ℕ → ℕ
 moved_if false timestamp moved = moved
 moved_if true timestamp moved = timestamp + 1 + moved
 
-abbrev pub moved_on : Channel → List Judging → ℕ
+abbrev pub moved_on : ChannelIdentity → List Judging → ℕ
 moved_on channel [] = 0
-moved_on channel (j ∷ js) = moved_if (passed_on channel j) (timestamp_of j) (moved_on channel js)
+moved_on channel (j ∷ js) = moved_if (passed_on channel j) (judged_timestamp j) (moved_on channel js)
 
 -- Wrap: two authenticators passed on one channel at its controller, and the timestamps from the first up to but without
 -- the second move the seed by a multiple of 2^32, so that the second met the seed that the first had met.
 pub record Wraps (judgings : List Judging) : Type 0 where
-  pub channel : Channel
+  pub channel : ChannelIdentity
   pub later : List Judging
   pub second : Judging
   pub between : List Judging
@@ -190,7 +190,7 @@ AcceptsAllGranted past =
     OneOf (IsToldIn message) past.book.told) past.book.messages
 
 -- the first 16 key bytes of RC4 under the session key of the channel: a key that is these travels as zeros
-abbrev pub key_bytes : Option Channel → List ℕ
+abbrev pub key_bytes : Option ChannelIdentity → List ℕ
 key_bytes None = []
 key_bytes (Some channel) = applied (channel_key channel) 0 (replicate 16 0)
 
@@ -255,7 +255,7 @@ TellsOfCallsAlone past = AllByRecursion (λ (one : JudgementTold). judges_call o
 -- where the timestamps that passed since, the first one's included, move the seed by a multiple of 2^32.
 abbrev pub ReplaysBySum : Past → Type 0
 ReplaysBySum past =
-    (channel : Channel) (later between earlier : List Judging) (second first : Judging) →
+    (channel : ChannelIdentity) (later between earlier : List Judging) (second first : Judging) →
     past.book.judged ≡ later ++ second ∷ (between ++ first ∷ earlier) →
     passed_on channel first ≡ true →
     is_channel (channel_in second.controller second.logon.computer second.computers) channel ≡ true →

@@ -85,6 +85,7 @@ pub fn drive(alloc: Global, world: &mut World, moves: &Moves) -> Result<Report, 
             Err(why) => return Err(why),
         }
     }
+    // so that it is known what holds of units and of every run: these calls do nothing at run time
     world.units_are_short();
     world.units_have_bytes();
     claims_hold_of_runs();

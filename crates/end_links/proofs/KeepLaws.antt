@@ -1,7 +1,7 @@
 -- What holds while an end serves the units of a stream, said once for every end: whatever holds through each unit, and
 -- through the close where the rest is refused, holds through all of them. It serves the laws of each end that speak of
 -- bytes (`counts_change_by_verdicts`, `what_is_sent_is_whole`), and those of what is written down of them.
-use Rattle.std.proofs.Common.{ℕ, List, [], ◌∷◌, ◌++◌, Option, Some, None, Result, Ok, Err, sym, subst, append_assoc, append-nil}
+use Rattle.std.proofs.Common.{ℕ, List, [], ◌∷◌, ◌++◌, Option, Some, None, Ok, Err, sym, subst, append_assoc, append-nil}
 use Rattle.std.specs.List.{AllByRecursion}
 use Rattle.outside.specs.declared.action.StepRefused.{StepRefused}
 use Rattle.rpc_units.specs.declared.refused.UnitRefused.{UnitRefused}

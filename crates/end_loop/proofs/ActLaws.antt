@@ -20,7 +20,7 @@ use Rattle.outside.specs.Machine.{Machine}
 use Rattle.outside.specs.declared.action.CloseCause.{CloseCause}
 use Rattle.outside.specs.declared.action.Action.{Action}
 use Rattle.outside.specs.declared.action.Action.TheVariants.{Keep, Send, Dial, Close, Told, Judged}
-use Rattle.end_loop.specs.Acts.{Did, puts, dial_event, Does, SendsOn, Performs, Desk, Performed, CutShort, failed_link, made_event, made_events, has_link, most_made, most_made_by, is_made, are_made, next_line}
+use Rattle.end_loop.specs.Acts.{Did, puts, dial_event, Does, SendsOn, Performs, LoopState, Performed, CutShort, failed_link, made_event, made_events, has_link, most_made, most_made_by, is_made, are_made, next_line}
 
 -- ---- failures at links
 
@@ -70,7 +70,7 @@ Performs-append failed (x ∷ xs) ys hs ks p q =
       Performs-append (failed ++ flat_map failed_link now) xs ys later ks p.4 (subst (λ (l : List ℕ). Performs l ys ks) links q),
     )
 
-pub Performed-trans : (line : Action → List ℕ) (xs ys : List Action) (a b c : Desk) → Performed line xs a b → Performed line ys b c → Performed line (xs ++ ys) a c
+pub Performed-trans : (line : Action → List ℕ) (xs ys : List Action) (a b c : LoopState) → Performed line xs a b → Performed line ys b c → Performed line (xs ++ ys) a c
 Performed-trans line xs ys a b c p q = record {
   happened = p.happened ++ q.happened;
   performs = Performs-append a.failed xs ys p.happened q.happened p.performs (subst (λ (l : List ℕ). Performs l ys q.happened) p.failed q.performs);
@@ -83,7 +83,7 @@ Performed-trans line xs ys a b c p q = record {
 }
 
 -- nothing was to be done
-pub Performed-none : (line : Action → List ℕ) (a : Desk) → Performed line [] a a
+pub Performed-none : (line : Action → List ℕ) (a : LoopState) → Performed line [] a a
 Performed-none line a = record {
   happened = [];
   performs = refl;
@@ -94,7 +94,7 @@ Performed-none line a = record {
   taken = Appends-nothing a.taken;
 }
 
-pub CutShort-after : (line : Action → List ℕ) (xs ys : List Action) (a b c : Desk) → Performed line xs a b → CutShort line ys b c → CutShort line (xs ++ ys) a c
+pub CutShort-after : (line : Action → List ℕ) (xs ys : List Action) (a b c : LoopState) → Performed line xs a b → CutShort line ys b c → CutShort line (xs ++ ys) a c
 CutShort-after line xs ys a b c p q = record {
   done = xs ++ q.done;
   rest = q.rest;
@@ -118,7 +118,7 @@ next_front line [] ys (x ∷ part) more e = absurd (cc)
 next_front line (r ∷ rest) ys part more e = (more, e)
 
 -- actions after those that were cut short weren't begun
-pub CutShort-more : (line : Action → List ℕ) (xs ys : List Action) (a b : Desk) → CutShort line xs a b → CutShort line (xs ++ ys) a b
+pub CutShort-more : (line : Action → List ℕ) (xs ys : List Action) (a b : LoopState) → CutShort line xs a b → CutShort line (xs ++ ys) a b
 CutShort-more line xs ys a b q = let next = next_front line q.rest ys q.part q.more q.front in record {
   done = q.done;
   rest = q.rest ++ ys;
@@ -184,7 +184,7 @@ all_made queue hs p = both_made queue (made_events hs) p (events_made hs)
 
 -- ---- one action
 
-Performed-one : (line : Action → List ℕ) (x : Action) (a b : Desk) (hs : List Happening) → Does a.failed x hs → Appends a.story b.story hs → RisesWhere (fails_at_links hs) a.link_faults b.link_faults →
+Performed-one : (line : Action → List ℕ) (x : Action) (a b : LoopState) (hs : List Happening) → Does a.failed x hs → Appends a.story b.story hs → RisesWhere (fails_at_links hs) a.link_faults b.link_faults →
     b.failed ≡ a.failed ++ flat_map failed_link hs → b.queue ≡ a.queue ++ made_events hs → Appends a.taken b.taken (line x) → Performed line (x ∷ []) a b
 Performed-one line x a b hs does told rises links events taken = record {
   happened = hs;
@@ -298,18 +298,18 @@ always_err (Err v) p = p
 front_and : (xs : List Action) (i : ℕ) (x : Action) → i < length xs → x ≡ get_or xs i x → take i xs ++ x ∷ [] ≡ take (i + 1) xs
 front_and xs i x below is = ap (λ (a : Action). take i xs ++ a ∷ []) is ∙ sym (take_more xs i x below)
 
-pub more_performed : (line : Action → List ℕ) (xs : List Action) (i : ℕ) (x : Action) (a b c : Desk) → i < length xs → x ≡ get_or xs i x →
+pub more_performed : (line : Action → List ℕ) (xs : List Action) (i : ℕ) (x : Action) (a b c : LoopState) → i < length xs → x ≡ get_or xs i x →
     Performed line (take i xs) a b → Performed line (x ∷ []) b c → Performed line (take (i + 1) xs) a c
 more_performed line xs i x a b c below is p q =
     subst (λ (l : List Action). Performed line l a c) (front_and xs i x below is) (Performed-trans line (take i xs) (x ∷ []) a b c p q)
 
-pub cut_performed : (line : Action → List ℕ) (xs : List Action) (i : ℕ) (x : Action) (a b c : Desk) → i < length xs → x ≡ get_or xs i x →
+pub cut_performed : (line : Action → List ℕ) (xs : List Action) (i : ℕ) (x : Action) (a b c : LoopState) → i < length xs → x ≡ get_or xs i x →
     Performed line (take i xs) a b → CutShort line (x ∷ []) b c → CutShort line xs a c
 cut_performed line xs i x a b c below is p q =
     let cut = CutShort-more line (take i xs ++ x ∷ []) (drop (i + 1) xs) a c (CutShort-after line (take i xs) (x ∷ []) a b c p q) in
     subst (λ (l : List Action). CutShort line l a c) (ap (λ (l : List Action). l ++ drop (i + 1) xs) (front_and xs i x below is) ∙ take-append-drop (i + 1) xs) cut
 
-pub some_cut : {T E : Type 0} (line : Action → List ℕ) (xs : List Action) (a : Desk) (failed : List ℕ) (queue : List Event) (story : Option (List Happening)) (faults : ℕ) (taken : Option (List ℕ)) (r : Result T E) →
+pub some_cut : {T E : Type 0} (line : Action → List ℕ) (xs : List Action) (a : LoopState) (failed : List ℕ) (queue : List Event) (story : Option (List Happening)) (faults : ℕ) (taken : Option (List ℕ)) (r : Result T E) →
     CutShort line xs a (record { failed = failed; queue = queue; story = story; link_faults = faults; taken = taken }) →
     IfErr r (λ _. (links : List ℕ) × CutShort line xs a (record { failed = links; queue = queue; story = story; link_faults = faults; taken = taken }))
 some_cut line xs a failed queue story faults taken (Ok v) cut = tt

@@ -11,7 +11,7 @@ use Rattle.outside.specs.declared.action.Action.TheVariants.{Keep, Send, Dial, C
 use Rattle.outside.specs.Machine.{Machine}
 use Rattle.outside.specs.Stories.{dial_of, dials_in, close_of}
 use Rattle.end_loop.specs.Acts.{Does, SendsOn, Performs, failed_link, has_link}
-use Rattle.end_loop.specs.Runs.{Standing, Step, IsStep, AreSteps, Chooses, story_of, step_story, actions_in}
+use Rattle.end_loop.specs.Runs.{RunState, Step, IsStep, AreSteps, Chooses, story_of, step_story, actions_in}
 use Rattle.end_loop.specs.Doing.{peers_of, peer_one, close_one, DialsAndCloses}
 
 -- ---- a view of what happens, which shows of each action what is asked of it, and nothing of an event that is given
@@ -38,7 +38,7 @@ asked_views {X} view none machine state [] step waiting chooses =
 asked_views view none machine state (first ∷ later) step waiting chooses = ap (flat_map view) chooses.0
 
 steps_view : {X S : Type 0} (view : Happening → List X) (asked : Action → List X) → Views view asked → PassesOver view →
-    (machine : Machine S) (start last : Standing S) (steps : List Step) → AreSteps machine start steps last →
+    (machine : Machine S) (start last : RunState S) (steps : List Step) → AreSteps machine start steps last →
     flat_map view (story_of steps) ≡ flat_map asked (actions_in steps)
 steps_view view asked is none machine start last [] are = refl
 steps_view {X} view asked is none machine start last (step ∷ steps) are =

@@ -6,7 +6,7 @@ use Rattle.outside.proofs.TellingLaws.{Appends-trans}
 use Rattle.end_loop.specs.declared.halt.Halt.{Halt}
 use Rattle.end_loop.specs.declared.halt.Halt.TheVariants.{PortFault, SinkFault, NoMemory, Spent}
 use Rattle.end_loop.specs.Seen.{Sight, Shows}
-use Rattle.end_loop.specs.Runs.{Standing, RanInto, RanOut, Halts}
+use Rattle.end_loop.specs.Runs.{RunState, RanInto, RanOut, Halts}
 use Rattle.end_loop.specs.Faults.{CountsFaults, RunsCountFaults}
 use Rattle.end_loop.proofs.ActLaws.{Rises-append}
 
@@ -20,14 +20,14 @@ counts_both before middle after one other = record {
   links = Rises-append one.happened other.happened before.link_faults middle.link_faults after.link_faults one.links other.links;
 }
 
-into_counts : {S : Type 0} (machine : Machine S) (start : Standing S) (most : ℕ) (before after : Sight) (halt : Halt) → RanInto machine start most before after halt → CountsFaults before after
+into_counts : {S : Type 0} (machine : Machine S) (start : RunState S) (most : ℕ) (before after : Sight) (halt : Halt) → RanInto machine start most before after halt → CountsFaults before after
 into_counts machine start most before after halt into =
     counts_both before into.middle after (shown _ _ _ _ _ _ into.ran.shows) (shown _ _ _ _ _ _ into.shows)
 
-out_counts : {S : Type 0} (machine : Machine S) (start : Standing S) (last : S) (most : ℕ) (before after : Sight) → RanOut machine start last most before after → CountsFaults before after
+out_counts : {S : Type 0} (machine : Machine S) (start : RunState S) (last : S) (most : ℕ) (before after : Sight) → RanOut machine start last most before after → CountsFaults before after
 out_counts machine start last most before after out = counts_both before out.middle after (shown _ _ _ _ _ _ out.ran.shows) (shown _ _ _ _ _ _ out.shows)
 
-halts_count : {S : Type 0} (machine : Machine S) (start : Standing S) (most : ℕ) (before after : Sight) (halt : Halt) → Halts machine start most before after halt → CountsFaults before after
+halts_count : {S : Type 0} (machine : Machine S) (start : RunState S) (most : ℕ) (before after : Sight) (halt : Halt) → Halts machine start most before after halt → CountsFaults before after
 halts_count machine start most before after PortFault h = shown _ _ _ _ _ _ h.ran.shows
 halts_count machine start most before after SinkFault h = into_counts machine start most before after SinkFault h
 halts_count machine start most before after NoMemory (inl h) = shown _ _ _ _ _ _ h.ran.shows

@@ -23,7 +23,7 @@ use Rattle.outside.specs.Machine.{Machine, Stepped, Takes, GivesUp, Spends}
 use Rattle.end_loop.specs.Acts.{puts, Performs, Performed, CutShort, IsOfActs, made_events, most_made_by, next_line, is_made, are_made}
 use Rattle.end_loop.proofs.ActLaws.{performs_makes, all_made, Rises-append}
 use Rattle.end_loop.specs.Seen.{Sight, Shows}
-use Rattle.end_loop.specs.Runs.{actions_of, Standing, Step, IsStep, AreSteps, Chooses, Ran, RanInto, RanToAsk, RanOut, Halts, Closes, Begins, Breaks, Turns, IsOfAsk, IsOfSteps, is_stop, standing_at, idle_at, Made, MadePart, step_story, step_line, story_of, moments_of, drawn_of, lines_of, asked_by}
+use Rattle.end_loop.specs.Runs.{actions_of, RunState, Step, IsStep, AreSteps, Chooses, Ran, RanInto, RanToAsk, RanOut, Halts, Closes, Begins, Breaks, Turns, IsOfAsk, IsOfSteps, is_stop, run_state_at, idle_at, Made, MadePart, step_story, step_line, story_of, moments_of, drawn_of, lines_of, asked_by}
 
 -- ---- what the outside shows
 
@@ -61,14 +61,14 @@ Shows-as a b hs hs2 ms ms2 ds ds2 ls ls2 e f g h p = record {
 
 -- ---- runs
 
-pub AreSteps-append : {S : Type 0} (machine : Machine S) (a b c : Standing S) (xs ys : List Step) → AreSteps machine a xs b → AreSteps machine b ys c → AreSteps machine a (xs ++ ys) c
-AreSteps-append machine a b c [] ys p q = subst (λ (s : Standing _). AreSteps machine s ys c) p q
+pub AreSteps-append : {S : Type 0} (machine : Machine S) (a b c : RunState S) (xs ys : List Step) → AreSteps machine a xs b → AreSteps machine b ys c → AreSteps machine a (xs ++ ys) c
+AreSteps-append machine a b c [] ys p q = subst (λ (s : RunState _). AreSteps machine s ys c) p q
 AreSteps-append machine a b c (x ∷ xs) ys p q = (p.0, p.1, AreSteps-append machine p.0 b c xs ys p.2 q)
 
-pub Ran-none : {S : Type 0} (machine : Machine S) (a : Standing S) (s : Sight) → Ran machine a a 0 s s
+pub Ran-none : {S : Type 0} (machine : Machine S) (a : RunState S) (s : Sight) → Ran machine a a 0 s s
 Ran-none machine a s = record { steps = []; are = refl; count = refl; shows = Shows-none s }
 
-pub Ran-trans : {S : Type 0} (machine : Machine S) (a b c : Standing S) (m n : ℕ) (s t u : Sight) → Ran machine a b m s t → Ran machine b c n t u → Ran machine a c (m + n) s u
+pub Ran-trans : {S : Type 0} (machine : Machine S) (a b c : RunState S) (m n : ℕ) (s t u : Sight) → Ran machine a b m s t → Ran machine b c n t u → Ran machine a c (m + n) s u
 Ran-trans machine a b c m n s t u p q = record {
   steps = p.steps ++ q.steps;
   are = AreSteps-append machine a b c p.steps q.steps p.are q.are;
@@ -84,7 +84,7 @@ Ran-trans machine a b c m n s t u p q = record {
 }
 
 -- one step of an event that was chosen
-Ran-one : {S : Type 0} (machine : Machine S) (start last : Standing S) (step : Step) (s t : Sight) → IsStep machine start step last →
+Ran-one : {S : Type 0} (machine : Machine S) (start last : RunState S) (step : Step) (s t : Sight) → IsStep machine start step last →
     Shows s t (step_story step) (step.moment ∷ []) step.drawn (step_line (puts machine) step) → Ran machine start last (length step.asked) s t
 Ran-one machine start last step s t is shows = record {
   steps = step ∷ [];
@@ -157,7 +157,7 @@ Into-given machine old what s t u halt goes_on other given made = record {
   shows = Shows-trans s t u _ _ _ _ _ _ _ _ given made.shows;
 }
 
-pub Into-after : {S : Type 0} (machine : Machine S) (a b : Standing S) (n m most : ℕ) (s t u : Sight) (halt : Halt) → Ran machine a b n s t → n + m ≤ most →
+pub Into-after : {S : Type 0} (machine : Machine S) (a b : RunState S) (n m most : ℕ) (s t u : Sight) (halt : Halt) → Ran machine a b n s t → n + m ≤ most →
     RanInto machine b m t u halt → RanInto machine a most s u halt
 Into-after machine a b n m most s t u halt ran bound into = record {
   last = into.last;
@@ -171,7 +171,7 @@ Into-after machine a b n m most s t u halt ran bound into = record {
   shows = into.shows;
 }
 
-Ask-after : {S : Type 0} (machine : Machine S) (a b : Standing S) (n m most : ℕ) (s t u : Sight) → Ran machine a b n s t → n + m ≤ most →
+Ask-after : {S : Type 0} (machine : Machine S) (a b : RunState S) (n m most : ℕ) (s t u : Sight) → Ran machine a b n s t → n + m ≤ most →
     RanToAsk machine b m t u → RanToAsk machine a most s u
 Ask-after machine a b n m most s t u ran bound h = record {
   last = h.last;
@@ -182,7 +182,7 @@ Ask-after machine a b n m most s t u ran bound h = record {
   open_still = h.open_still;
 }
 
-pub Halts-after : {S : Type 0} (machine : Machine S) (a b : Standing S) (n m most : ℕ) (s t u : Sight) (halt : Halt) → Ran machine a b n s t → n + m ≤ most →
+pub Halts-after : {S : Type 0} (machine : Machine S) (a b : RunState S) (n m most : ℕ) (s t u : Sight) (halt : Halt) → Ran machine a b n s t → n + m ≤ most →
     Halts machine b m t u halt → Halts machine a most s u halt
 Halts-after machine a b n m most s t u PortFault ran bound h = Ask-after machine a b n m most s t u ran bound h
 Halts-after machine a b n m most s t u SinkFault ran bound h = Into-after machine a b n m most s t u SinkFault ran bound h
@@ -191,7 +191,7 @@ Halts-after machine a b n m most s t u NoMemory ran bound (inr h) = inr (Into-af
 Halts-after machine a b n m most s t u Spent ran bound h = Into-after machine a b n m most s t u Spent ran bound h
 
 -- a halt within a step, as a halt of the run
-pub Into-halts : {S : Type 0} (machine : Machine S) (a : Standing S) (most : ℕ) (s t : Sight) (halt : Halt) → RanInto machine a most s t halt → Halts machine a most s t halt
+pub Into-halts : {S : Type 0} (machine : Machine S) (a : RunState S) (most : ℕ) (s t : Sight) (halt : Halt) → RanInto machine a most s t halt → Halts machine a most s t halt
 Into-halts machine a most s t PortFault h = absurd h.begins.breaks
 Into-halts machine a most s t SinkFault h = h
 Into-halts machine a most s t NoMemory h = inr h
@@ -334,21 +334,21 @@ both_true false c e = absurd (cc)
 pub first_made : (queue behind : List Event) (what : Event) → queue ≡ what ∷ behind → are_made queue ≡ true → (is_made what ≡ true) × (are_made behind ≡ true)
 first_made queue behind what e made = both_true (is_made what) (are_made behind) (subst (λ (l : List Event). are_made l ≡ true) e made)
 
-pub drain_step : {S : Type 0} (machine : Machine S) (a : Standing S) (end new : S) (what : Event) (queue behind later : List Event) (s t u : Sight) →
+pub drain_step : {S : Type 0} (machine : Machine S) (a : RunState S) (end new : S) (what : Event) (queue behind later : List Event) (s t u : Sight) →
     Ran machine a (record { state = end; queue = queue; left = t.drawing.left }) 0 s t → queue ≡ what ∷ behind → Made machine end new what behind later t u →
     Ran machine a (record { state = new; queue = later; left = u.drawing.left }) 0 s u
 drain_step machine a end new what queue behind later s t u ran is made =
     Ran-trans machine a _ _ 0 0 s t u ran
     (subst (λ (l : List Event). Ran machine (record { state = end; queue = l; left = t.drawing.left }) (record { state = new; queue = later; left = u.drawing.left }) 0 t u) (sym is) (Ran-waiting machine end new what behind later t u made))
 
-pub drain_cut : {S : Type 0} (machine : Machine S) (a : Standing S) (end : S) (what : Event) (queue behind : List Event) (s t u : Sight) (halt : Halt) →
+pub drain_cut : {S : Type 0} (machine : Machine S) (a : RunState S) (end : S) (what : Event) (queue behind : List Event) (s t u : Sight) (halt : Halt) →
     Ran machine a (record { state = end; queue = queue; left = t.drawing.left }) 0 s t → queue ≡ what ∷ behind → MadePart machine end what t u halt →
     RanInto machine a 0 s u halt
 drain_cut machine a end what queue behind s t u halt ran is made =
     Into-after machine a _ 0 0 0 s t u halt ran (omega arith)
     (subst (λ (l : List Event). RanInto machine (record { state = end; queue = l; left = t.drawing.left }) 0 t u halt) (sym is) (Into-waiting machine end what behind t u halt made))
 
-pub drain_end : {S : Type 0} (machine : Machine S) (a : Standing S) (end : S) (queue : List Event) (left : List (List ℕ)) (n : ℕ) (s t : Sight) →
+pub drain_end : {S : Type 0} (machine : Machine S) (a : RunState S) (end : S) (queue : List Event) (left : List (List ℕ)) (n : ℕ) (s t : Sight) →
     Ran machine a (record { state = end; queue = queue; left = left }) n s t → queue ≡ [] → Ran machine a (record { state = end; queue = []; left = left }) n s t
 drain_end machine a end queue left n s t ran is = subst (λ (l : List Event). Ran machine a (record { state = end; queue = l; left = left }) n s t) is ran
 
@@ -360,10 +360,10 @@ err_exit P (Err v) e is p = subst P (sym is) p
 -- ---- one answer of `next`
 
 pub answered : {S : Type 0} (machine : Machine S) (old mid new : S) (what : Event) (queue behind : List Event) (t u v : Sight) → behind ≡ [] → machine.is_over old ≡ false → is_stop what ≡ false →
-    Made machine old mid what behind queue t u → Ran machine (standing_at mid queue u) (idle_at new v) 0 u v →
+    Made machine old mid what behind queue t u → Ran machine (run_state_at mid queue u) (idle_at new v) 0 u v →
     (s : Sight) → Shows s t (happening.Given what (machine.want old) ∷ []) [] [] [] → Ran machine (idle_at old s) (idle_at new v) 1 s v
 answered machine old mid new what queue behind t u v none goes_on other made rest s given =
-    Ran-trans machine (idle_at old s) (standing_at mid queue u) (idle_at new v) 1 0 s u v
+    Ran-trans machine (idle_at old s) (run_state_at mid queue u) (idle_at new v) 1 0 s u v
     (Ran-given machine old mid what queue s t u goes_on other given (subst (λ (l : List Event). Made machine old mid what l queue t u) none made))
     rest
 
@@ -372,10 +372,10 @@ pub answer_cut : {S : Type 0} (machine : Machine S) (old : S) (what : Event) (t 
 answer_cut machine old what t u halt goes_on other made s given = Into-given machine old what s t u halt goes_on other given made
 
 pub answer_drain_cut : {S : Type 0} (machine : Machine S) (old mid : S) (what : Event) (queue behind : List Event) (t u v : Sight) (halt : Halt) → behind ≡ [] → machine.is_over old ≡ false → is_stop what ≡ false →
-    Made machine old mid what behind queue t u → RanInto machine (standing_at mid queue u) 0 u v halt →
+    Made machine old mid what behind queue t u → RanInto machine (run_state_at mid queue u) 0 u v halt →
     (s : Sight) → Shows s t (happening.Given what (machine.want old) ∷ []) [] [] [] → RanInto machine (idle_at old s) 1 s v halt
 answer_drain_cut machine old mid what queue behind t u v halt none goes_on other made into s given =
-    Into-after machine (idle_at old s) (standing_at mid queue u) 1 0 1 s u v halt
+    Into-after machine (idle_at old s) (run_state_at mid queue u) 1 0 1 s u v halt
     (Ran-given machine old mid what queue s t u goes_on other given (subst (λ (l : List Event). Made machine old mid what l queue t u) none made))
     (omega arith) into
 
@@ -432,20 +432,20 @@ never_port r kind e = let K : Result _ Halt → Type 0 = λ x. IfErr x IsOfSteps
 
 -- ---- the whole run
 
-pub begin_cut : {S : Type 0} (machine : Machine S) (a : Standing S) (most : ℕ) (s u : Sight) (halt : Halt) → RanInto machine a 0 s u halt → Halts machine a most s u halt
+pub begin_cut : {S : Type 0} (machine : Machine S) (a : RunState S) (most : ℕ) (s u : Sight) (halt : Halt) → RanInto machine a 0 s u halt → Halts machine a most s u halt
 begin_cut machine a most s u halt into =
     Into-halts machine a most s u halt (Into-after machine a a 0 0 most s s u halt (Ran-none machine a s) (omega arith) into)
 
-pub turned_more : {S : Type 0} (machine : Machine S) (a : Standing S) (old new : S) (n : ℕ) (s t u : Sight) (stop : Bool) → Ran machine a (idle_at old t) n s t → stop ≡ false → Turns machine old new t u stop →
+pub turned_more : {S : Type 0} (machine : Machine S) (a : RunState S) (old new : S) (n : ℕ) (s t u : Sight) (stop : Bool) → Ran machine a (idle_at old t) n s t → stop ≡ false → Turns machine old new t u stop →
     Ran machine a (idle_at new u) (n + 1) s u
 turned_more machine a old new n s t u stop ran is turns =
     Ran-trans machine a (idle_at old t) (idle_at new u) n 1 s t u ran (subst (λ (b : Bool). Turns machine old new t u b) is turns)
 
-pub turned_cut : {S : Type 0} (machine : Machine S) (a : Standing S) (old : S) (n most : ℕ) (s t u : Sight) (halt : Halt) → Ran machine a (idle_at old t) n s t → n < most → Halts machine (idle_at old t) 1 t u halt →
+pub turned_cut : {S : Type 0} (machine : Machine S) (a : RunState S) (old : S) (n most : ℕ) (s t u : Sight) (halt : Halt) → Ran machine a (idle_at old t) n s t → n < most → Halts machine (idle_at old t) 1 t u halt →
     Halts machine a most s u halt
 turned_cut machine a old n most s t u halt ran below halts = Halts-after machine a (idle_at old t) n 1 most s t u halt ran (omega arith) halts
 
-pub turned_stop : {S : Type 0} (machine : Machine S) (a : Standing S) (old new : S) (n most : ℕ) (s t u : Sight) (stop : Bool) → Ran machine a (idle_at old t) n s t → n < most → machine.is_over old ≡ false → stop ≡ true →
+pub turned_stop : {S : Type 0} (machine : Machine S) (a : RunState S) (old new : S) (n most : ℕ) (s t u : Sight) (stop : Bool) → Ran machine a (idle_at old t) n s t → n < most → machine.is_over old ≡ false → stop ≡ true →
     Turns machine old new t u stop → RanOut machine a new most s u
 turned_stop {S} machine a old new n most s t u stop ran below goes_on is turns =
     let last = subst (λ (b : Bool). Turns machine old new t u b) is turns in
@@ -461,7 +461,7 @@ turned_stop {S} machine a old new n most s t u stop ran below goes_on is turns =
       shows = given;
     })
 
-pub ended : {S : Type 0} (machine : Machine S) (a : Standing S) (last : S) (n most : ℕ) (s t : Sight) → Ran machine a (idle_at last t) n s t → n ≤ most → (machine.is_over last ≡ true) ⊎ (n ≡ most) → RanOut machine a last most s t
+pub ended : {S : Type 0} (machine : Machine S) (a : RunState S) (last : S) (n most : ℕ) (s t : Sight) → Ran machine a (idle_at last t) n s t → n ≤ most → (machine.is_over last ≡ true) ⊎ (n ≡ most) → RanOut machine a last most s t
 ended machine a last n most s t ran within (inl over) = record {
   left = t.drawing.left;
   asked = n;

@@ -13,7 +13,7 @@ use Rattle.outside.specs.declared.action.Action.TheVariants.{Keep, Send, Dial, C
 use Rattle.outside.specs.Machine.{Machine}
 use Rattle.outside.specs.Stories.{send_on, sends_on, before_failure, strings_on, fails_on, has_failed}
 use Rattle.end_loop.specs.Acts.{Does, SendsOn, Performs, failed_link, has_link}
-use Rattle.end_loop.specs.Runs.{Standing, Step, IsStep, AreSteps, Chooses, story_of, step_story}
+use Rattle.end_loop.specs.Runs.{RunState, Step, IsStep, AreSteps, Chooses, story_of, step_story}
 use Rattle.end_loop.specs.Sending.{asked_one, asked_on, IsFront, SendsFront}
 
 -- ---- sends before a failure
@@ -157,7 +157,7 @@ asked_silent : {S : Type 0} (machine : Machine S) (state : S) (queue : List Even
 asked_silent machine state [] step waiting link chooses = ap (sends_on link) chooses.1
 asked_silent machine state (first ∷ later) step waiting link chooses = ap (sends_on link) chooses.0
 
-step_front : {S : Type 0} (machine : Machine S) (old new : Standing S) (step : Step) (link : ℕ) → IsStep machine old step new →
+step_front : {S : Type 0} (machine : Machine S) (old new : RunState S) (step : Step) (link : ℕ) → IsStep machine old step new →
     IsFront (fails_on link (step_story step)) (strings_on link (step_story step)) (asked_on link step.actions)
 step_front machine old new step link is =
     let none = asked_silent machine old.state old.queue step is.waiting link is.chooses in

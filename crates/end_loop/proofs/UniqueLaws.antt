@@ -8,7 +8,7 @@ use Rattle.outside.specs.declared.action.Action.{Action}
 use Rattle.outside.specs.declared.action.Action.TheVariants.{Keep, Send, Dial, Close, Told, Judged}
 use Rattle.outside.specs.Machine.{Machine, Stepped}
 use Rattle.end_loop.specs.Acts.{Does, SendsOn, Performs, failed_link, has_link, made_events}
-use Rattle.end_loop.specs.Runs.{actions_of, Standing, Step, IsStep, AreSteps, Chooses, story_of, moments_of, drawn_of, step_story, actions_in}
+use Rattle.end_loop.specs.Runs.{actions_of, RunState, Step, IsStep, AreSteps, Chooses, story_of, moments_of, drawn_of, step_story, actions_in}
 use Rattle.end_loop.specs.Unique.{Agrees, IsDetermined}
 
 none_same : {X : Type 0} (n m l k : List X) → n ≡ [] → m ≡ [] → n ++ l ≡ m ++ k → (n ≡ m) × (l ≡ k)
@@ -44,12 +44,12 @@ performs_same failed (x ∷ xs) hs ks l k p q e =
     let later = performs_same (failed ++ flat_map failed_link p.0) xs p.1 q.1 l k p.4 rest now.1 in
     (p.3 ∙ ap (λ (h : List Happening). h ++ p.1) now.0 ∙ ap (λ (h : List Happening). q.0 ++ h) later.0 ∙ sym q.3, later.1)
 
-standing_is : {S : Type 0} (a b : Standing S) → a.state ≡ b.state → a.queue ≡ b.queue → a.left ≡ b.left → a ≡ b
-standing_is {S} a b p q r =
+run_state_is : {S : Type 0} (a b : RunState S) → a.state ≡ b.state → a.queue ≡ b.queue → a.left ≡ b.left → a ≡ b
+run_state_is {S} a b p q r =
     ap (λ (s : S). record a { state = s }) p ∙ ap (λ (l : List Event). record a { state = b.state; queue = l }) q ∙ ap (λ (l : List (List ℕ)). record b { left = l }) r
 
 -- one step
-pub record SameStep {S : Type 0} (step other : Step) (new new2 : Standing S) (l k : List Happening) : Type 0 where
+pub record SameStep {S : Type 0} (step other : Step) (new new2 : RunState S) (l k : List Happening) : Type 0 where
   pub new_is : new ≡ new2
   pub drawn : step.drawn ≡ other.drawn
   pub actions : step.actions ≡ other.actions
@@ -68,7 +68,7 @@ chosen machine state (first ∷ later) step other w v l k a b e =
     let both = none_same step.asked other.asked _ _ a.0 b.0 joined in
     (a.1 ∙ sym b.1, a.2 ∙ sym b.2, both.1)
 
-pub step_same : {S : Type 0} (machine : Machine S) (old new new2 : Standing S) (step other : Step) (l k : List Happening) → IsStep machine old step new → IsStep machine old other new2 → step.moment ≡ other.moment →
+pub step_same : {S : Type 0} (machine : Machine S) (old new new2 : RunState S) (step other : Step) (l k : List Happening) → IsStep machine old step new → IsStep machine old other new2 → step.moment ≡ other.moment →
     step_story step ++ l ≡ step_story other ++ k → SameStep step other new new2 l k
 step_same {S} machine old new new2 step other l k p q moment e =
     let which = chosen machine old.state old.queue step other p.waiting q.waiting l k p.chooses q.chooses e in
@@ -82,7 +82,7 @@ step_same {S} machine old new new2 step other l k p q moment e =
     let happened = performs_same [] step.actions step.happened other.happened l k p.performs performs which.2 in
     let queue : new.queue ≡ new2.queue = p.queue ∙ ap (λ (w : List Event). w ++ made_events step.happened) which.1 ∙ ap (λ (h : List Happening). q.waiting ++ made_events h) happened.0 ∙ sym q.queue in
     let left : new.left ≡ new2.left = ap (λ (s : Stepped S). s.left) stepped in
-    record { new_is = standing_is new new2 state queue left; drawn = drawn; actions = actions; later = happened.1 }
+    record { new_is = run_state_is new new2 state queue left; drawn = drawn; actions = actions; later = happened.1 }
 
 pub determined : {S : Type 0} (machine : Machine S) → IsDetermined machine
 determined machine start last other [] [] p q story moments = record { last_is = p ∙ sym q; drawn = refl; actions = refl }
@@ -91,7 +91,7 @@ determined machine start last other [] (step ∷ others) p q story moments = abs
 determined machine start last other (step ∷ steps) (step2 ∷ others) p q story moments =
     let times = heads step.moment step2.moment (moments_of steps) (moments_of others) moments in
     let same = step_same machine start p.0 q.0 step step2 (story_of steps) (story_of others) p.1 q.1 times.0 story in
-    let rest = subst (λ (s : Standing _). AreSteps machine s others other) (sym same.new_is) q.2 in
+    let rest = subst (λ (s : RunState _). AreSteps machine s others other) (sym same.new_is) q.2 in
     let more = determined machine p.0 last other steps others p.2 rest same.later times.1 in
     record {
       last_is = more.last_is;

@@ -98,7 +98,7 @@ abbrev pub are_made : List Event → Bool
 are_made queue = list_all is_made queue
 
 -- What the loop and the outside have while actions are performed.
-pub record Desk : Type 0 where
+pub record LoopState : Type 0 where
   -- the links on which a send failed among these actions
   pub failed : List ℕ
   -- the events that wait
@@ -110,13 +110,13 @@ pub record Desk : Type 0 where
   pub taken : Option (List ℕ)
 
 -- what the loop has, and what they tell, by the meanings of their traits
-abbrev pub desk_of : {P S : Type 0} → (P → Option (List Happening)) → (P → ℕ) → (S → Option (List ℕ)) → P → S →
-    List ℕ → List Event → Desk
-desk_of story link_faults taken port out failed queue =
+abbrev pub loop_of : {P S : Type 0} → (P → Option (List Happening)) → (P → ℕ) → (S → Option (List ℕ)) → P → S →
+    List ℕ → List Event → LoopState
+loop_of story link_faults taken port out failed queue =
     record { failed = failed; queue = queue; story = story port; link_faults = link_faults port; taken = taken out }
 
 -- These actions were performed, in order, and their lines put.
-pub record Performed (line : Action → List ℕ) (actions : List Action) (before after : Desk) : Type 0 where
+pub record Performed (line : Action → List ℕ) (actions : List Action) (before after : LoopState) : Type 0 where
   pub happened : List Happening
   pub performs : Performs before.failed actions happened
   pub story : Appends before.story after.story happened
@@ -131,7 +131,7 @@ next_line line [] = []
 next_line line (action ∷ actions) = line action
 
 -- A front of these actions was performed, and their lines put; of the next action's line a front was.
-pub record CutShort (line : Action → List ℕ) (actions : List Action) (before after : Desk) : Type 0 where
+pub record CutShort (line : Action → List ℕ) (actions : List Action) (before after : LoopState) : Type 0 where
   pub done : List Action
   pub rest : List Action
   pub all : done ++ rest ≡ actions

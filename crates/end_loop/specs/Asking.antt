@@ -4,7 +4,7 @@ use Rattle.std.specs.List.{flat_map, list_any}
 use Rattle.outside.specs.declared.event.Event.{Event}
 use Rattle.outside.specs.Machine.{Machine}
 use Rattle.outside.specs.Stories.{events_in}
-use Rattle.end_loop.specs.Runs.{Standing, Step, AreSteps, story_of, asked_by, is_stop}
+use Rattle.end_loop.specs.Runs.{RunState, Step, AreSteps, story_of, asked_by, is_stop}
 
 -- whether an event that the port gave is `Stop`
 abbrev pub gives_stop : Event × Option ℕ → Bool
@@ -19,4 +19,4 @@ pub record Asks (steps : List Step) : Type 0 where
 
 -- Each run of the machine asks so.
 abbrev pub AsksFor : {S : Type 0} → Machine S → Type 0
-AsksFor {S} machine = (start last : Standing S) (steps : List Step) → AreSteps machine start steps last → Asks steps
+AsksFor {S} machine = (start last : RunState S) (steps : List Step) → AreSteps machine start steps last → Asks steps

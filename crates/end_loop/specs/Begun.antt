@@ -7,7 +7,7 @@ use Rattle.outside.specs.Machine.{Machine}
 use Rattle.end_loop.specs.declared.halt.Halt.{Halt}
 use Rattle.end_loop.specs.Acts.{puts, Performs, made_events, next_line, IsOfActs}
 use Rattle.end_loop.specs.Seen.{Sight, Shows}
-use Rattle.end_loop.specs.Runs.{RanOut, Halts, standing_at}
+use Rattle.end_loop.specs.Runs.{RanOut, Halts, run_state_at}
 
 -- The first actions were performed, and the machine ran from there to its end; what they made waited at its start.
 pub record Begun {S : Type 0} (machine : Machine S) (first : List Action) (old new : S) (most : ℕ) (before after : Sight) : Type 0 where
@@ -15,7 +15,7 @@ pub record Begun {S : Type 0} (machine : Machine S) (first : List Action) (old n
   pub performs : Performs [] first happened
   pub middle : Sight
   pub shows : Shows before middle happened [] [] (flat_map (puts machine) first)
-  pub run : RanOut machine (standing_at old (made_events happened) middle) new most middle after
+  pub run : RanOut machine (run_state_at old (made_events happened) middle) new most middle after
 
 -- A front of the first actions was performed; of the next one's line a front was put.
 pub record BegunShort {S : Type 0} (machine : Machine S) (first : List Action) (before after : Sight) : Type 0 where
@@ -35,7 +35,7 @@ pub record BegunHalf {S : Type 0} (machine : Machine S) (first : List Action) (o
   pub performs : Performs [] first happened
   pub middle : Sight
   pub shows : Shows before middle happened [] [] (flat_map (puts machine) first)
-  pub run : Halts machine (standing_at old (made_events happened) middle) most middle after halt
+  pub run : Halts machine (run_state_at old (made_events happened) middle) most middle after halt
 
 -- The first actions were cut short, or the run after them halted.
 abbrev pub BegunUntil : {S : Type 0} → Machine S → List Action → S → ℕ → Sight → Sight → Halt → Type 0

@@ -6,7 +6,7 @@ use Rattle.outside.specs.declared.action.Action.{Action}
 use Rattle.outside.specs.declared.action.Action.TheVariants.{Dial, Close}
 use Rattle.outside.specs.Machine.{Machine}
 use Rattle.outside.specs.Stories.{dials_in, closes_in}
-use Rattle.end_loop.specs.Runs.{Standing, Step, AreSteps, story_of, actions_in}
+use Rattle.end_loop.specs.Runs.{RunState, Step, AreSteps, story_of, actions_in}
 
 -- the peers of dials
 abbrev pub peers_of : List (List ℕ × Option ℕ) → List (List ℕ)
@@ -24,7 +24,7 @@ close_one _ = []
 
 -- The peers dialled in a run and the links closed in it are those of the machine's actions, in their order.
 pub record DialsAndCloses {S : Type 0} (machine : Machine S) : Type 0 where
-  pub dials : (start last : Standing S) (steps : List Step) → AreSteps machine start steps last →
+  pub dials : (start last : RunState S) (steps : List Step) → AreSteps machine start steps last →
       peers_of (dials_in (story_of steps)) ≡ flat_map peer_one (actions_in steps)
-  pub closes : (start last : Standing S) (steps : List Step) → AreSteps machine start steps last →
+  pub closes : (start last : RunState S) (steps : List Step) → AreSteps machine start steps last →
       closes_in (story_of steps) ≡ flat_map close_one (actions_in steps)

@@ -7,7 +7,7 @@ use Rattle.outside.specs.declared.event.Happening.{Happening}
 use Rattle.outside.specs.Machine.{Machine}
 use Rattle.end_loop.specs.declared.halt.Halt.{Halt}
 use Rattle.end_loop.specs.Seen.{Sight}
-use Rattle.end_loop.specs.Runs.{Standing, RanOut, Halts}
+use Rattle.end_loop.specs.Runs.{RunState, RanOut, Halts}
 
 -- What happened between two moments, and that the count of link faults rose where a dial or a send in it failed.
 pub record CountsFaults (before after : Sight) : Type 0 where
@@ -17,7 +17,7 @@ pub record CountsFaults (before after : Sight) : Type 0 where
 
 -- Over a run, to its end or to a halt, the count rose where a dial or a send failed.
 pub record RunsCountFaults {S : Type 0} (machine : Machine S) : Type 0 where
-  pub ends : (start : Standing S) (last : S) (most : ℕ) (before after : Sight) →
+  pub ends : (start : RunState S) (last : S) (most : ℕ) (before after : Sight) →
       RanOut machine start last most before after → CountsFaults before after
-  pub halts : (start : Standing S) (most : ℕ) (before after : Sight) (halt : Halt) →
+  pub halts : (start : RunState S) (most : ℕ) (before after : Sight) (halt : Halt) →
       Halts machine start most before after halt → CountsFaults before after

@@ -7,5 +7,5 @@ pub mod Keeping
 pub mod Runs
 pub mod Seen
 pub mod Sending
-pub mod Served
+pub mod Serving
 pub mod Unique

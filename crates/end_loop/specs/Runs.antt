@@ -24,18 +24,18 @@ abbrev pub actions_of : {S : Type 0} → Stepped S → List Action
 actions_of stepped = taken_actions stepped.answer
 
 -- Where a run stands: the end, the events that wait, and the challenges that are left.
-pub record Standing (S : Type 0) : Type 0 where
+pub record RunState (S : Type 0) : Type 0 where
   pub state : S
   pub queue : List Event
   pub left : List (List ℕ)
 
--- a standing of the end at a moment, while these events wait
-abbrev pub standing_at : {S : Type 0} → S → List Event → Sight → Standing S
-standing_at state queue sight = record { state = state; queue = queue; left = sight.drawing.left }
+-- where a run of the end stands at a moment, while these events wait
+abbrev pub run_state_at : {S : Type 0} → S → List Event → Sight → RunState S
+run_state_at state queue sight = record { state = state; queue = queue; left = sight.drawing.left }
 
 -- the same where no event waits
-abbrev pub idle_at : {S : Type 0} → S → Sight → Standing S
-idle_at state sight = standing_at state [] sight
+abbrev pub idle_at : {S : Type 0} → S → Sight → RunState S
+idle_at state sight = run_state_at state [] sight
 
 -- One step of a run.
 pub record Step : Type 0 where
@@ -73,7 +73,7 @@ Chooses machine state [] step waiting =
 Chooses machine state (first ∷ later) step waiting = (step.asked ≡ []) × (step.event ≡ first) × (waiting ≡ later)
 
 -- One whole step: all its actions were performed.
-pub record IsStep {S : Type 0} (machine : Machine S) (old : Standing S) (step : Step) (new : Standing S) : Type 0 where
+pub record IsStep {S : Type 0} (machine : Machine S) (old : RunState S) (step : Step) (new : RunState S) : Type 0 where
   pub waiting : List Event
   pub chooses : Chooses machine old.state old.queue step waiting
   pub is : machine.step old.state step.event step.moment old.left
@@ -83,9 +83,9 @@ pub record IsStep {S : Type 0} (machine : Machine S) (old : Standing S) (step : 
   pub queue : new.queue ≡ waiting ++ made_events step.happened
 
 -- Steps in a row lead from the one standing to the other.
-abbrev pub AreSteps : {S : Type 0} → Machine S → Standing S → List Step → Standing S → Type 0
+abbrev pub AreSteps : {S : Type 0} → Machine S → RunState S → List Step → RunState S → Type 0
 AreSteps machine old [] new = new ≡ old
-AreSteps machine old (step ∷ steps) new = (middle : Standing _) × IsStep machine old step middle × AreSteps machine middle steps new
+AreSteps machine old (step ∷ steps) new = (middle : RunState _) × IsStep machine old step middle × AreSteps machine middle steps new
 
 -- ---- what a run does
 
@@ -122,7 +122,7 @@ abbrev pub asked_by : List Step → ℕ
 asked_by steps = length (flat_map (λ (step : Step). step.asked) steps)
 
 -- The machine ran from the one standing to the other, and that is what the outside saw.
-pub record Ran {S : Type 0} (machine : Machine S) (start last : Standing S) (asked : ℕ) (before after : Sight) : Type 0 where
+pub record Ran {S : Type 0} (machine : Machine S) (start last : RunState S) (asked : ℕ) (before after : Sight) : Type 0 where
   pub steps : List Step
   pub are : AreSteps machine start steps last
   pub count : asked ≡ asked_by steps
@@ -138,7 +138,7 @@ Breaks PortFault stepped undrawn = ⊥
 
 -- A step that was begun and not finished: what it drew is a front of what the machine draws, and the actions performed
 -- are a front of the machine's; of the line of the next action a front was put.
-pub record Begins {S : Type 0} (machine : Machine S) (old : Standing S) (step : Step) (part : List ℕ) (halt : Halt) : Type 0 where
+pub record Begins {S : Type 0} (machine : Machine S) (old : RunState S) (step : Step) (part : List ℕ) (halt : Halt) : Type 0 where
   pub waiting : List Event
   pub chooses : Chooses machine old.state old.queue step waiting
   pub undrawn : List (List ℕ)
@@ -151,8 +151,8 @@ pub record Begins {S : Type 0} (machine : Machine S) (old : Standing S) (step : 
   pub breaks : Breaks halt (machine.step old.state step.event step.moment old.left) undrawn
 
 -- The machine ran, and then began a step that it didn't finish.
-pub record RanInto {S : Type 0} (machine : Machine S) (start : Standing S) (most : ℕ) (before after : Sight) (halt : Halt) : Type 0 where
-  pub last : Standing S
+pub record RanInto {S : Type 0} (machine : Machine S) (start : RunState S) (most : ℕ) (before after : Sight) (halt : Halt) : Type 0 where
+  pub last : RunState S
   pub asked : ℕ
   pub middle : Sight
   pub ran : Ran machine start last asked before middle
@@ -163,8 +163,8 @@ pub record RanInto {S : Type 0} (machine : Machine S) (start : Standing S) (most
   pub shows : Shows middle after (step_story step) (step.moment ∷ []) step.drawn (step_line (puts machine) step ++ part)
 
 -- The machine ran until it would ask for one more event, of those that the command takes.
-pub record RanToAsk {S : Type 0} (machine : Machine S) (start : Standing S) (most : ℕ) (before after : Sight) : Type 0 where
-  pub last : Standing S
+pub record RanToAsk {S : Type 0} (machine : Machine S) (start : RunState S) (most : ℕ) (before after : Sight) : Type 0 where
+  pub last : RunState S
   pub asked : ℕ
   pub ran : Ran machine start last asked before after
   pub idle : last.queue ≡ []
@@ -172,14 +172,14 @@ pub record RanToAsk {S : Type 0} (machine : Machine S) (start : Standing S) (mos
   pub open_still : machine.is_over last.state ≡ false
 
 -- How a run comes to its end: the end has its outcome, as many events as the command takes were given, or `Stop` was.
-abbrev pub Closes : {S : Type 0} → Machine S → Standing S → ℕ → ℕ → List Happening → Type 0
+abbrev pub Closes : {S : Type 0} → Machine S → RunState S → ℕ → ℕ → List Happening → Type 0
 Closes machine last asked most stop =
     ((machine.is_over last.state ≡ true) × (stop ≡ []))
     ⊎ (((asked ≡ most) × (stop ≡ []))
     ⊎ ((machine.is_over last.state ≡ false) × (asked < most) × (stop ≡ happening.Given event.Stop (machine.want last.state) ∷ [])))
 
 -- The machine ran to its end, and no event waits.
-pub record RanOut {S : Type 0} (machine : Machine S) (start : Standing S) (last : S) (most : ℕ) (before after : Sight) : Type 0 where
+pub record RanOut {S : Type 0} (machine : Machine S) (start : RunState S) (last : S) (most : ℕ) (before after : Sight) : Type 0 where
   pub left : List (List ℕ)
   pub asked : ℕ
   pub middle : Sight
@@ -190,7 +190,7 @@ pub record RanOut {S : Type 0} (machine : Machine S) (start : Standing S) (last 
   pub shows : Shows middle after stop [] [] []
 
 -- How far a run came that halted.
-abbrev pub Halts : {S : Type 0} → Machine S → Standing S → ℕ → Sight → Sight → Halt → Type 0
+abbrev pub Halts : {S : Type 0} → Machine S → RunState S → ℕ → Sight → Sight → Halt → Type 0
 Halts machine start most before after PortFault = RanToAsk machine start most before after
 Halts machine start most before after SinkFault = RanInto machine start most before after SinkFault
 Halts machine start most before after NoMemory = RanToAsk machine start most before after ⊎ RanInto machine start most before after NoMemory

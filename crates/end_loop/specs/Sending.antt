@@ -6,7 +6,7 @@ use Rattle.outside.specs.declared.action.Action.{Action}
 use Rattle.outside.specs.declared.action.Action.TheVariants.{Send}
 use Rattle.outside.specs.Machine.{Machine}
 use Rattle.outside.specs.Stories.{strings_on, fails_on}
-use Rattle.end_loop.specs.Runs.{Standing, Step, AreSteps, story_of, actions_in}
+use Rattle.end_loop.specs.Runs.{RunState, Step, AreSteps, story_of, actions_in}
 
 -- the byte string that an action sends on the link, if it does
 abbrev pub asked_one : ℕ → Action → List (List ℕ)
@@ -26,5 +26,5 @@ pub record IsFront (failed : Bool) (sent asked : List (List ℕ)) : Type 0 where
 -- What was sent on a link up to the first send on it that failed is a front of what the machine's actions send on it,
 -- in order; where no send on it failed, it is all of it.
 abbrev pub SendsFront : {S : Type 0} → Machine S → Type 0
-SendsFront {S} machine = (start last : Standing S) (steps : List Step) (link : ℕ) → AreSteps machine start steps last →
+SendsFront {S} machine = (start last : RunState S) (steps : List Step) (link : ℕ) → AreSteps machine start steps last →
     IsFront (fails_on link (story_of steps)) (strings_on link (story_of steps)) (asked_on link (actions_in steps))

@@ -4,7 +4,7 @@ ghost use Rattle.std.specs.Prelude.{◌≡◌, ◌≤◌, ℕ, List, [], ◌∷�
 ghost use Rattle.std.specs.Result.{result_ok};
 ghost use Rattle.outside.specs.Causes.{Rose};
 ghost use Rattle.outside.specs.Telling.{Appends, AppendsFront};
-ghost use Rattle.end_loop.specs.Acts.{Did, puts, dial_event, Desk, desk_of, Performed, CutShort, has_link, IsOfActs};
+ghost use Rattle.end_loop.specs.Acts.{Did, puts, dial_event, LoopState, loop_of, Performed, CutShort, has_link, IsOfActs};
 
 use crate::end::End;
 use crate::halt::Halt;
@@ -26,11 +26,11 @@ pub(crate) fn act<E: End, P: Port, S: Sink>(
     out: &mut S,
 ) -> Result<(), Halt>
     ensures ok { OnOk result (Performed (puts E.machine) (action.now ∷ [])
-        (desk_of P.story P.link_faults S.taken port.old out.old failed.old.items queue.old.items)
-        (desk_of P.story P.link_faults S.taken port.new out.new failed.new.items queue.new.items)) }
+        (loop_of P.story P.link_faults S.taken port.old out.old failed.old.items queue.old.items)
+        (loop_of P.story P.link_faults S.taken port.new out.new failed.new.items queue.new.items)) }
     ensures err { IfErr result (λ halt. CutShort (puts E.machine) (action.now ∷ [])
-        (desk_of P.story P.link_faults S.taken port.old out.old failed.old.items queue.old.items)
-        (desk_of P.story P.link_faults S.taken port.new out.new failed.new.items queue.new.items)) }
+        (loop_of P.story P.link_faults S.taken port.old out.old failed.old.items queue.old.items)
+        (loop_of P.story P.link_faults S.taken port.new out.new failed.new.items queue.new.items)) }
     ensures kinds { IfErr result IsOfActs }
     ensures cause { result ≡ Err Halt.SinkFault → Rose (S.faults out.old) (S.faults out.new) }
     ensures sink { S.faults out.old ≤ S.faults out.new }
@@ -154,11 +154,11 @@ pub(crate) fn perform<E: End, P: Port, S: Sink>(
     out: &mut S,
 ) -> Result<(), Halt>
     ensures ok { OnOk result ((failed : List ℕ) × Performed (puts E.machine) actions.now
-        (desk_of P.story P.link_faults S.taken port.old out.old [] queue.old.items)
-        (desk_of P.story P.link_faults S.taken port.new out.new failed queue.new.items)) }
+        (loop_of P.story P.link_faults S.taken port.old out.old [] queue.old.items)
+        (loop_of P.story P.link_faults S.taken port.new out.new failed queue.new.items)) }
     ensures err { IfErr result (λ halt. (failed : List ℕ) × CutShort (puts E.machine) actions.now
-        (desk_of P.story P.link_faults S.taken port.old out.old [] queue.old.items)
-        (desk_of P.story P.link_faults S.taken port.new out.new failed queue.new.items)) }
+        (loop_of P.story P.link_faults S.taken port.old out.old [] queue.old.items)
+        (loop_of P.story P.link_faults S.taken port.new out.new failed queue.new.items)) }
     ensures kinds { IfErr result IsOfActs }
     ensures cause { result ≡ Err Halt.SinkFault → Rose (S.faults out.old) (S.faults out.new) }
     ensures sink { S.faults out.old ≤ S.faults out.new }

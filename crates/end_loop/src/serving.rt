@@ -6,7 +6,7 @@ ghost use Rattle.outside.specs.declared.event.Happening.{Happening};
 ghost use Rattle.outside.specs.Causes.{Rose};
 ghost use Rattle.end_loop.specs.Acts.{are_made};
 ghost use Rattle.end_loop.specs.Seen.{Between};
-ghost use Rattle.end_loop.specs.Runs.{Ran, RanInto, RanOut, Halts, Turns, SinceAsked, IsOfAsk, IsOfSteps, is_stop, standing_at, idle_at};
+ghost use Rattle.end_loop.specs.Runs.{Ran, RanInto, RanOut, Halts, Turns, SinceAsked, IsOfAsk, IsOfSteps, is_stop, run_state_at, idle_at};
 
 use crate::end::End;
 use crate::halt::Halt;
@@ -36,12 +36,12 @@ pub fn serve<E: End, P: Port, S: Sink, C: Clock, Q: Chances>(
     ensures ends { OnOk result (Between
         P.story P.link_faults C.moments Q.drawing S.taken
         port.old clock.old chances.old out.old port.new clock.new chances.new out.new
-        (λ before after. RanOut E.machine (standing_at end.old queue.old.items before)
+        (λ before after. RanOut E.machine (run_state_at end.old queue.old.items before)
         end.new most before after)) }
     ensures halts { IfErr result (λ halt. Between
         P.story P.link_faults C.moments Q.drawing S.taken
         port.old clock.old chances.old out.old port.new clock.new chances.new out.new
-        (λ before after. Halts E.machine (standing_at end.old queue.old.items before)
+        (λ before after. Halts E.machine (run_state_at end.old queue.old.items before)
         most before after halt)) }
     ensures idle { OnOk result (queue.new.items ≡ []) }
     ensures goes_on { OnOk result (E.is_stopped end.new ≡ false) }

@@ -4,7 +4,7 @@ ghost use Rattle.std.specs.Prelude.{◌≡◌, ◌≤◌, ◌+◌, ℕ, List, []
 ghost use Rattle.outside.specs.Causes.{Rose};
 ghost use Rattle.end_loop.specs.Acts.{is_made, are_made};
 ghost use Rattle.end_loop.specs.Seen.{Between};
-ghost use Rattle.end_loop.specs.Runs.{IsOfSteps, Made, MadePart, Ran, RanInto, standing_at, idle_at};
+ghost use Rattle.end_loop.specs.Runs.{IsOfSteps, Made, MadePart, Ran, RanInto, run_state_at, idle_at};
 
 use crate::act::perform;
 use crate::end::End;
@@ -71,12 +71,12 @@ pub(crate) fn drain<E: End, P: Port, S: Sink, C: Clock, Q: Chances>(
     ensures ran { OnOk result (Between
         P.story P.link_faults C.moments Q.drawing S.taken
         port.old clock.old chances.old out.old port.new clock.new chances.new out.new
-        (λ before after. Ran E.machine (standing_at end.old queue.old.items before)
+        (λ before after. Ran E.machine (run_state_at end.old queue.old.items before)
         (idle_at end.new after) 0 before after)) }
     ensures part { IfErr result (λ halt. Between
         P.story P.link_faults C.moments Q.drawing S.taken
         port.old clock.old chances.old out.old port.new clock.new chances.new out.new
-        (λ before after. RanInto E.machine (standing_at end.old queue.old.items before)
+        (λ before after. RanInto E.machine (run_state_at end.old queue.old.items before)
         0 before after halt)) }
     ensures idle { OnOk result (queue.new.items ≡ []) }
     ensures goes_on { OnOk result (E.is_stopped end.new ≡ false) }

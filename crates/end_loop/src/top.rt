@@ -3,7 +3,7 @@
 ghost use Rattle.std.specs.Prelude.{◌≡◌, ◌≤◌, [], false, true, OnOk, IfErr, Err};
 ghost use Rattle.outside.specs.Causes.{Rose};
 ghost use Rattle.end_loop.specs.Seen.{Between};
-ghost use Rattle.end_loop.specs.Served.{Served, ServedUntil};
+ghost use Rattle.end_loop.specs.Serving.{Served, ServedUntil};
 
 use crate::end::End;
 use crate::halt::Halt;

@@ -41,8 +41,8 @@ use Rattle.logon_client.specs.declared.state.Phase.TheVariants.{Bound, Asked}
 use Rattle.logon_client.specs.declared.state.Question.{Question}
 use Rattle.logon_client.specs.declared.state.Question.TheVariants.{Who, Echo}
 use Rattle.logon_client.specs.declared.state.Running.{Running}
-use Rattle.logon_client.specs.declared.state.Standing.{Standing}
-use Rattle.logon_client.specs.declared.state.Standing.TheVariants.{Idle, Dialling, On}
+use Rattle.logon_client.specs.declared.state.ClientLink.{ClientLink}
+use Rattle.logon_client.specs.declared.state.ClientLink.TheVariants.{Idle, Dialling, On}
 use Rattle.logon_client.specs.declared.state.Talk.{Talk}
 use Rattle.logon_client.specs.declared.state.Terms.{Terms}
 use Rattle.logon_client.specs.declared.state.Work.{Work}
@@ -239,12 +239,12 @@ not_closed (Some (NoAnswer NoController)) e = refl
 not_closed (Some (BadPeer fault)) e = refl
 
 -- what an event brings, where the client stood so
-record Brings (what : Event) (standing later : Standing) (outcome : Option ClientOutcome) : Type 0 where
+record Brings (what : Event) (standing later : ClientLink) (outcome : Option ClientOutcome) : Type 0 where
   failed : is_dial_failed outcome ≡ true → (what ≡ event.DialFailed) × (is_waiting standing ≡ true)
   closed : is_link_closed outcome ≡ true → LinkGoes what (link_of standing)
   still : is_waiting standing ≡ false → is_waiting later ≡ false
 
-abbrev PartBrings : Event → Standing → Result (Part After) StepRefused → Type 0
+abbrev PartBrings : Event → ClientLink → Result (Part After) StepRefused → Type 0
 PartBrings what standing (Err why) = Unit {0}
 PartBrings what standing (Ok part) = Brings what standing part.value.standing part.value.work.outcome
 
@@ -254,7 +254,7 @@ never_failed outcome P was comes = absurd (let e : false ≡ true = sym was ∙ 
 never_closed : (outcome : Option ClientOutcome) (P : Type 0) → is_link_closed outcome ≡ false → is_link_closed outcome ≡ true → P
 never_closed outcome P was comes = absurd (let e : false ≡ true = sym was ∙ comes in cc)
 
-keeps : (what : Event) (standing later : Standing) (outcome : Option ClientOutcome) → is_lost outcome ≡ false → (is_waiting standing ≡ false → is_waiting later ≡ false) → Brings what standing later outcome
+keeps : (what : Event) (standing later : ClientLink) (outcome : Option ClientOutcome) → is_lost outcome ≡ false → (is_waiting standing ≡ false → is_waiting later ≡ false) → Brings what standing later outcome
 keeps what standing later outcome fine still = record {
   failed = never_failed outcome _ (not_failed outcome fine);
   closed = never_closed outcome _ (not_closed outcome fine);
@@ -265,7 +265,7 @@ talk_waits : (talk : Option Talk) (rest : List ℕ) → is_waiting (standing_by 
 talk_waits None rest = refl
 talk_waits (Some talk) rest = refl
 
-stream_brings : (what : Event) (standing : Standing) (rest : List ℕ) (part : ServedPart Work Talk) → PartFine part → PartBrings what standing (then_part part (after_stream rest))
+stream_brings : (what : Event) (standing : ClientLink) (rest : List ℕ) (part : ServedPart Work Talk) → PartFine part → PartBrings what standing (then_part part (after_stream rest))
 stream_brings what standing rest (Err why) fine = tt
 stream_brings what standing rest (Ok part) fine = keeps what standing (standing_by part.value.1 rest) part.value.0.outcome fine (λ still. talk_waits part.value.1 rest)
 
@@ -282,7 +282,7 @@ shut_brings what true state work left goes fine = record { failed = λ e. absurd
 same_link : (link own : ℕ) → (link == own) ≡ true → Some own ≡ Some link
 same_link link own is = ap (λ (n : ℕ). Some n) (sym (eqb-true link own is))
 
-event_brings : (what : Event) (standing : Standing) (work : Work) (left : List (List ℕ)) → Fine work → PartBrings what standing (by_event what standing work left)
+event_brings : (what : Event) (standing : ClientLink) (work : Work) (left : List (List ℕ)) → Fine work → PartBrings what standing (by_event what standing work left)
 event_brings (event.Opened link) Idle work left fine = keeps _ Idle Idle work.outcome fine (λ still. still)
 event_brings (event.Opened link) Dialling work left fine = keeps _ Dialling Dialling work.outcome fine (λ still. still)
 event_brings (event.Opened link) (On own) work left fine = shut_brings (event.Opened link) (link == own.talk.link) own work left (same_link link own.talk.link) fine

@@ -39,8 +39,8 @@ use Rattle.logon_client.specs.declared.state.Phase.TheVariants.{Bound, Asked}
 use Rattle.logon_client.specs.declared.state.Question.{Question}
 use Rattle.logon_client.specs.declared.state.Question.TheVariants.{Who, Echo}
 use Rattle.logon_client.specs.declared.state.Running.{Running}
-use Rattle.logon_client.specs.declared.state.Standing.{Standing}
-use Rattle.logon_client.specs.declared.state.Standing.TheVariants.{Idle, Dialling, On}
+use Rattle.logon_client.specs.declared.state.ClientLink.{ClientLink}
+use Rattle.logon_client.specs.declared.state.ClientLink.TheVariants.{Idle, Dialling, On}
 use Rattle.logon_client.specs.declared.state.Talk.{Talk}
 use Rattle.logon_client.specs.declared.state.Terms.{Terms}
 use Rattle.logon_client.specs.declared.state.Work.{Work}
@@ -220,7 +220,7 @@ closed_kept : (own : Bool) (what : Event) (state : LinkState Talk) (work : Work)
 closed_kept false what state work left none open_ = due_none what work open_
 closed_kept true what state work left none open_ = open_.closes ∙ sym (none (NoAnswer LinkClosed))
 
-event_kept : (what : Event) (standing : Standing) (work : Work) (left : List (List ℕ)) → IsOpen work → AfterKept what (by_event what standing work left)
+event_kept : (what : Event) (standing : ClientLink) (work : Work) (left : List (List ℕ)) → IsOpen work → AfterKept what (by_event what standing work left)
 event_kept (event.Opened link) Idle work left open_ = due_none _ work open_
 event_kept (event.Opened link) Dialling work left open_ = due_none _ work open_
 event_kept (event.Opened link) (On own) work left open_ = closed_kept (link == own.talk.link) (event.Opened link) own work left (λ o. refl) open_

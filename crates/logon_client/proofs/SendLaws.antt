@@ -46,8 +46,8 @@ use Rattle.logon_client.specs.declared.state.Phase.TheVariants.{Bound, Asked}
 use Rattle.logon_client.specs.declared.state.Question.{Question}
 use Rattle.logon_client.specs.declared.state.Question.TheVariants.{Who, Echo}
 use Rattle.logon_client.specs.declared.state.Running.{Running}
-use Rattle.logon_client.specs.declared.state.Standing.{Standing}
-use Rattle.logon_client.specs.declared.state.Standing.TheVariants.{Idle, Dialling, On}
+use Rattle.logon_client.specs.declared.state.ClientLink.{ClientLink}
+use Rattle.logon_client.specs.declared.state.ClientLink.TheVariants.{Idle, Dialling, On}
 use Rattle.logon_client.specs.declared.state.Talk.{Talk}
 use Rattle.logon_client.specs.declared.state.Terms.{Terms}
 use Rattle.logon_client.specs.declared.state.Work.{Work}
@@ -58,7 +58,7 @@ use Rattle.logon_client.specs.Securing.{Secured, has_level, open_unit}
 use Rattle.logon_client.specs.Sends.{IsOwnLink, IsSentAt, SendsOnItsLink}
 use Rattle.logon_client.specs.State.{State}
 
-abbrev StandsAt : (ℕ → Type 0) → Standing → Type 0
+abbrev StandsAt : (ℕ → Type 0) → ClientLink → Type 0
 StandsAt Own Idle = Unit {0}
 StandsAt Own Dialling = Unit {0}
 StandsAt Own (On state) = Own state.talk.link
@@ -271,7 +271,7 @@ module _ (Own : ℕ → Type 0) where
   shut_fine false state work left own fine = (fine, own)
   shut_fine true state work left own fine = (fine, tt)
 
-  event_fine : (what : Event) (standing : Standing) (work : Work) (left : List (List ℕ)) → DialledAt Own what → StandsAt Own standing → Fine work → AfterFine (by_event what standing work left)
+  event_fine : (what : Event) (standing : ClientLink) (work : Work) (left : List (List ℕ)) → DialledAt Own what → StandsAt Own standing → Fine work → AfterFine (by_event what standing work left)
   event_fine (event.Opened link) Idle work left dialled stands fine = (fine, tt)
   event_fine (event.Opened link) Dialling work left dialled stands fine = (fine, tt)
   event_fine (event.Opened link) (On own) work left dialled stands fine = shut_fine (link == own.talk.link) own work left stands fine
@@ -320,7 +320,7 @@ module _ (Own : ℕ → Type 0) where
 abbrev Stood : Running → Event → ℕ → Type 0
 Stood running what link = IsOwnLink running what link
 
-stood : (standing : Standing) (running : Running) (what : Event) → running.standing ≡ standing → StandsAt (Stood running what) standing
+stood : (standing : ClientLink) (running : Running) (what : Event) → running.standing ≡ standing → StandsAt (Stood running what) standing
 stood Idle running what is = tt
 stood Dialling running what is = tt
 stood (On state) running what is = inl (ap link_of is)

@@ -7,7 +7,7 @@ use Rattle.ntlm_flags.specs.Flags.{has_flag, negotiate_unicode, negotiate_ntlm, 
 use Rattle.ntlm_messages.specs.Authenticate.{authenticate_fields, written_authenticate}
 use Rattle.ntlm_messages.specs.Fields.{form_of}
 use Rattle.ntlm_messages.specs.Negotiate.{written_negotiate}
-use Rattle.ntlm_messages.specs.Pairs.{pair_bytes, pairs_of, timestamp_of}
+use Rattle.ntlm_messages.specs.Pairs.{pair_bytes, pairs_of, timestamp_pair_of}
 use Rattle.ntlm_messages.specs.declared.messages.Authenticate.{Authenticate}
 use Rattle.ntlm_messages.specs.declared.messages.Negotiate.{Negotiate}
 use Rattle.ntlm_messages.specs.declared.pairs.PairsRefused.{PairsRefused}
@@ -59,7 +59,7 @@ is_enough level auth flags =
 
 -- the time of an NTLMv2 response: the server's where it tells it, else this moment
 abbrev pub time_by : List (ℕ × List ℕ) → ℕ → ℕ
-time_by pairs now = unwrap_or (timestamp_of pairs) now
+time_by pairs now = unwrap_or (timestamp_pair_of pairs) now
 
 -- ---- the challenges that are drawn: the client's, and where keys are exchanged two more, which joined are the
 -- exported key

@@ -6,8 +6,8 @@ use Rattle.logon_client.specs.declared.outcome.ClientOutcome.{ClientOutcome}
 use Rattle.logon_client.specs.declared.outcome.ClientOutcome.TheVariants.{NoAnswer}
 use Rattle.logon_client.specs.declared.outcome.NoAnswerCause.TheVariants.{DialFailed, LinkClosed}
 use Rattle.logon_client.specs.declared.state.Running.{Running}
-use Rattle.logon_client.specs.declared.state.Standing.{Standing}
-use Rattle.logon_client.specs.declared.state.Standing.TheVariants.{Idle, Dialling, On}
+use Rattle.logon_client.specs.declared.state.ClientLink.{ClientLink}
+use Rattle.logon_client.specs.declared.state.ClientLink.TheVariants.{Idle, Dialling, On}
 use Rattle.logon_client.specs.Machine.{step_of, want_by}
 use Rattle.logon_client.specs.State.{State}
 
@@ -19,7 +19,7 @@ abbrev pub is_link_closed : Option ClientOutcome → Bool
 is_link_closed (Some (NoAnswer LinkClosed)) = true
 is_link_closed _ = false
 
-abbrev pub is_waiting : Standing → Bool
+abbrev pub is_waiting : ClientLink → Bool
 is_waiting Idle = false
 is_waiting Dialling = true
 is_waiting (On link) = false

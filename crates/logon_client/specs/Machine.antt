@@ -52,8 +52,8 @@ use Rattle.logon_client.specs.declared.state.Phase.TheVariants.{Bound, Asked}
 use Rattle.logon_client.specs.declared.state.Question.{Question}
 use Rattle.logon_client.specs.declared.state.Question.TheVariants.{Who, Echo}
 use Rattle.logon_client.specs.declared.state.Running.{Running}
-use Rattle.logon_client.specs.declared.state.Standing.{Standing}
-use Rattle.logon_client.specs.declared.state.Standing.TheVariants.{Idle, Dialling, On}
+use Rattle.logon_client.specs.declared.state.ClientLink.{ClientLink}
+use Rattle.logon_client.specs.declared.state.ClientLink.TheVariants.{Idle, Dialling, On}
 use Rattle.logon_client.specs.declared.state.Talk.{Talk}
 use Rattle.logon_client.specs.declared.state.Terms.{Terms}
 use Rattle.logon_client.specs.declared.state.Work.{Work}
@@ -326,7 +326,7 @@ client_server = record { unit = serve_unit; refusal = serve_refusal }
 
 -- ---- events
 
-abbrev pub stays : Standing → Work → List (List ℕ) → Result (Part After) StepRefused
+abbrev pub stays : ClientLink → Work → List (List ℕ) → Result (Part After) StepRefused
 stays standing work left = Ok (record { value = record { standing = standing; work = work }; left = left })
 
 -- the link on which the bind is sent
@@ -336,7 +336,7 @@ fresh_link link = record { rest = []; talk = record { link = link; joiner = None
 abbrev pub binds : ℕ → Work → Work
 binds link work = told work (action.Send link (written (bind_for work.task.level work.task.auth)))
 
-abbrev pub standing_by : Option Talk → List ℕ → Standing
+abbrev pub standing_by : Option Talk → List ℕ → ClientLink
 standing_by None rest = Idle
 standing_by (Some talk) rest = On (record { rest = rest; talk = talk })
 
@@ -357,7 +357,7 @@ by_close true link work left = stays Idle (concluded (NoAnswer no_answer.LinkClo
 
 -- A link that is opened under the number of the client's own shows that the client's was closed. The client accepts no
 -- links.
-abbrev pub by_event : Event → Standing → Work → List (List ℕ) → Result (Part After) StepRefused
+abbrev pub by_event : Event → ClientLink → Work → List (List ℕ) → Result (Part After) StepRefused
 by_event (event.Dialled link) Dialling work left = stays (On (fresh_link link)) (binds link work) left
 by_event event.DialFailed Dialling work left = stays Idle (concluded (NoAnswer no_answer.DialFailed) work) left
 by_event (event.Bytes link piece) (On own) work left = by_piece (link == own.talk.link) piece own work left
@@ -418,7 +418,7 @@ step_of s what now left = step_by_running s.running s what now left
 -- ---- the machine
 
 -- the link that is waited for: the client's own, while it is open
-abbrev pub link_of : Standing → Option ℕ
+abbrev pub link_of : ClientLink → Option ℕ
 link_of Idle = None
 link_of Dialling = None
 link_of (On link) = Some link.talk.link
@@ -446,7 +446,7 @@ client_machine = record {
 
 -- how many more events the client's steps for links closed and dialled may make: its bind may fail to be sent, while
 -- its dial waits
-abbrev pub pending_on : Standing → ℕ
+abbrev pub pending_on : ClientLink → ℕ
 pending_on Idle = 0
 pending_on Dialling = 1
 pending_on (On link) = 0

@@ -11,7 +11,7 @@ use crate::answering::bind_bytes;
 use crate::hearing::{conclude, tell};
 use crate::outcome::{ClientOutcome, NoAnswerCause};
 use crate::plan::{ClientPlan, Task};
-use crate::state::{After, Phase, Running, Standing, Talk, Work};
+use crate::state::{After, ClientLink, Phase, Running, Talk, Work};
 use end_links::{Link, ShortActions, serve_piece};
 use outside::{Action, Actions, Chances, Event, StepRefused};
 use rpc_units::Joiner;
@@ -54,7 +54,7 @@ impl Client {
         Client {
             running: Some(Running {
                 task: Task::new(plan),
-                standing: Standing::Idle,
+                standing: ClientLink::Idle,
             }),
             outcome: None,
         }
@@ -78,7 +78,7 @@ impl Client {
         actions.push(Action::Dial(server))?;
         self.running = Some(Running {
             task,
-            standing: Standing::Dialling,
+            standing: ClientLink::Dialling,
         });
         Ok(actions.into_actions())
     }
@@ -151,8 +151,8 @@ impl Client {
     {
         match &self.running {
             Some(running) => match &running.standing {
-                Standing::On(link) => Some(link.talk().link),
-                Standing::Idle | Standing::Dialling => None,
+                ClientLink::On(link) => Some(link.talk().link),
+                ClientLink::Idle | ClientLink::Dialling => None,
             },
             None => None,
         }
@@ -163,7 +163,7 @@ impl Client {
 fn on_event<Q: Chances>(
     alloc: Global,
     event: &Event,
-    standing: Standing,
+    standing: ClientLink,
     work: Work,
     chances: &mut Q,
 ) -> Result<After, StepRefused>
@@ -175,19 +175,19 @@ fn on_event<Q: Chances>(
         ≤ length (Q.drawing chances.new).left + units_at event.now + 3 }
 {
     match (event, standing) {
-        (Event::Dialled(link), Standing::Dialling) => Ok(bind_on(alloc, *link, work)?),
-        (Event::DialFailed, Standing::Dialling) => {
+        (Event::Dialled(link), ClientLink::Dialling) => Ok(bind_on(alloc, *link, work)?),
+        (Event::DialFailed, ClientLink::Dialling) => {
             let outcome = ClientOutcome::NoAnswer(NoAnswerCause::DialFailed);
             Ok(After {
-                standing: Standing::Idle,
+                standing: ClientLink::Idle,
                 work: conclude(outcome, work),
             })
         }
-        (Event::Bytes(number, piece), Standing::On(link)) => {
+        (Event::Bytes(number, piece), ClientLink::On(link)) => {
             on_piece(alloc, *number, piece.bytes(), link, work, chances)
         }
-        (Event::Closed(number), Standing::On(link)) => Ok(on_close(*number, link, work)),
-        (Event::Opened(number), Standing::On(link)) => Ok(on_close(*number, link, work)),
+        (Event::Closed(number), ClientLink::On(link)) => Ok(on_close(*number, link, work)),
+        (Event::Opened(number), ClientLink::On(link)) => Ok(on_close(*number, link, work)),
         (_, standing) => Ok(After { standing, work }),
     }
 }
@@ -195,7 +195,7 @@ fn on_event<Q: Chances>(
 /// The bind is sent on the link that was dialled.
 fn bind_on(alloc: Global, number: u32, work: Work) -> Result<After, NoMemory>
     ensures { IfOk result (λ after. (left : List (List ℕ)) →
-        stays (Standing.On (fresh_link number)) (binds number work) left
+        stays (ClientLink.On (fresh_link number)) (binds number work) left
         ≡ Ok (record { value = after; left = left })) }
 {
     let plan = work.task.plan();
@@ -207,7 +207,7 @@ fn bind_on(alloc: Global, number: u32, work: Work) -> Result<After, NoMemory>
     };
     let link = Link::new(alloc, talk)?;
     Ok(After {
-        standing: Standing::On(link),
+        standing: ClientLink::On(link),
         work: tell(work, Action::Send(number, bytes))?,
     })
 }
@@ -219,13 +219,13 @@ fn on_close(number: u32, link: Link<Talk>, work: Work) -> After
 {
     if number != link.talk().link {
         return After {
-            standing: Standing::On(link),
+            standing: ClientLink::On(link),
             work,
         };
     }
     let outcome = ClientOutcome::NoAnswer(NoAnswerCause::LinkClosed);
     After {
-        standing: Standing::Idle,
+        standing: ClientLink::Idle,
         work: conclude(outcome, work),
     }
 }
@@ -248,14 +248,14 @@ fn on_piece<Q: Chances>(
 {
     if number != link.talk().link {
         return Ok(After {
-            standing: Standing::On(link),
+            standing: ClientLink::On(link),
             work,
         });
     }
     let (work, open) = serve_piece(alloc, work, link, piece, chances)?;
     let standing = match open {
-        Some(link) => Standing::On(link),
-        None => Standing::Idle,
+        Some(link) => ClientLink::On(link),
+        None => ClientLink::Idle,
     };
     Ok(After { standing, work })
 }

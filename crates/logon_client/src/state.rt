@@ -44,9 +44,9 @@ pub struct Talk {
     pub phase: Phase,
 }
 
-/// How a client stands to its link.
+/// A client's link, as far as it has one.
 #[derive(Drop)]
-pub enum Standing {
+pub enum ClientLink {
     /// It has none: it hasn't begun, or it has its outcome.
     Idle,
     /// Its dial waits.
@@ -59,7 +59,7 @@ pub enum Standing {
 #[derive(Drop)]
 pub struct Running {
     pub task: Task,
-    pub standing: Standing,
+    pub standing: ClientLink,
 }
 
 /// A client at work on an event, at a moment in units of 100 ns since 1601-01-01.
@@ -74,6 +74,6 @@ pub struct Work {
 /// What an event comes to.
 #[derive(Drop)]
 pub struct After {
-    pub standing: Standing,
+    pub standing: ClientLink,
     pub work: Work,
 }

@@ -12,7 +12,7 @@ use Rattle.world_moves.specs.declared.links.Route.TheVariants.{ToController}
 use Rattle.world_moves.specs.declared.moves.Move.{Move}
 use Rattle.world_moves.specs.declared.plan.Plan.{Plan}
 use Rattle.world_moves.specs.declared.state.State.{State}
-use Rattle.world_moves.specs.declared.state.Waiting.{Waiting}
+use Rattle.world_moves.specs.declared.state.WaitingDial.{WaitingDial}
 use Rattle.world_moves.specs.Choosing.{chosen_place}
 use Rattle.world_moves.specs.Links.{accepted, answered}
 use Rattle.world_moves.specs.Moving.{act, route_to, start}
@@ -22,7 +22,7 @@ use Rattle.logon_runs.specs.Seen.Others.{AreAmong, IsDialAmong, IsRoutedAmong, I
 use Rattle.logon_runs.specs.Phases.{Acked, Answers, ArrivesAt, Binds, BindsBefore, BindsHeld, Calls, Challenged, ComesTo, Coming, Dials, DialsBefore, DialsHeld, Echoed, Echoes, Granted, Halved, IsOver, IsReached, IsUnderWay, HasUser, IsKnown, LogonPhase, Named, Proved, TurnAt, key_at, own, scene_of, told_of}
 use Rattle.logon_runs.specs.Rests.{AreFine, AtRest, CanBeGranted, HasBegun, IsFine, IsLoggedOnSince, LogonsComeIn, coming_of, moved_by, three_in}
 use Rattle.logon_runs.specs.Seen.Staying.{HasSameEnds}
-use Rattle.logon_runs.specs.Seen.Waiting.{waiting}
+use Rattle.logon_runs.specs.Seen.WaitingUnits.{waiting}
 use Rattle.logon_runs.proofs.Seen.OtherLaws.{more_so, others_are_left, put_so}
 use Rattle.logon_runs.proofs.Phases.PhaseLaws.{phases_go_on}
 use Rattle.logon_runs.proofs.RestLaws.{logons_come_to_rest}
@@ -92,7 +92,7 @@ dials_among p s (Echoed a e talk one other back) left moment reached = tt
 pub alone_so : (p : Coming) (s : State) → IsReached p s → IsUnderWay p s → AreAmong (three_in p) s.open_links × IsDialAmong (three_in p) s (slice_get s.dials 0)
 alone_so p s reached at = (
   subst (AreAmong (three_in p)) (sym at.shows.opened) (links_among p at.phase at.left at.moment),
-  subst (λ (dials : List Waiting). IsDialAmong (three_in p) s (slice_get dials 0)) (sym at.shows.dials) (dials_among p s at.phase at.left at.moment reached),
+  subst (λ (dials : List WaitingDial). IsDialAmong (three_in p) s (slice_get dials 0)) (sym at.shows.dials) (dials_among p s at.phase at.left at.moment reached),
 )
 
 -- ---- the moves, one after the other
@@ -122,7 +122,7 @@ going_on p s now what known user reached steps fine arrives others same (inl at)
 going_on p s now what known user reached steps fine arrives others same (inr over) = record {
   others = others_are_left.both (three_in p) s now (act now what).state others
       (others_are_left.steps (three_in p) now what steps (subst (AreAmong (three_in p)) (sym over.shows.opened) tt)
-      (subst (λ (dials : List Waiting). IsDialAmong (three_in p) now (slice_get dials 0)) (sym over.shows.dials) tt));
+      (subst (λ (dials : List WaitingDial). IsDialAmong (three_in p) now (slice_get dials 0)) (sym over.shows.dials) tt));
   same = both_same s now (act now what).state same (ends_stay.acts now what);
   at = inr (phases_go_on.rests p now what steps over);
 }

@@ -40,7 +40,7 @@ use Rattle.outside.specs.declared.action.Outcome.TheVariants as outcome
 use Rattle.outside.specs.declared.event.Event.TheVariants as event
 use Rattle.outside.specs.Machine.{whole_step}
 use Rattle.account_table.specs.declared.account.Account.{Account}
-use Rattle.sam_logon.specs.Granted.{sam_info_of}
+use Rattle.sam_logon.specs.Granting.{sam_info_of}
 use Rattle.member_server.specs.Machine.{step_of as member_step_of}
 use Rattle.member_server.specs.Outcomes.{key_in}
 use Rattle.member_server.specs.State.{State as MemberState}
@@ -55,7 +55,7 @@ use Rattle.logon_steps.specs.Calling.{TravelsAsZeros}
 use Rattle.logon_steps.proofs.MemberAnswerLaws.{logons_end}
 use Rattle.logon_steps.proofs.TurningLaws.{response_comes}
 use Rattle.logon_runs.specs.GrantsTold.{GrantsTell, TellsIn}
-use Rattle.logon_runs.specs.Seen.Waiting.{Comes}
+use Rattle.logon_runs.specs.Seen.WaitingUnits.{Comes}
 use Rattle.logon_runs.proofs.Phases.PhaseEndLaws.{granted_scene, reply_then, sent_same, told_then}
 use Rattle.logon_runs.proofs.Seen.SceneLaws.{first_comes}
 use Rattle.logon_runs.proofs.Seen.TurnSceneLaws.{heard_back}

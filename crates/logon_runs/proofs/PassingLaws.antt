@@ -12,7 +12,7 @@ use Rattle.world_moves.specs.declared.moves.Move.{Move}
 use Rattle.world_moves.specs.declared.moves.Move.TheVariants as move
 use Rattle.world_moves.specs.declared.plan.Plan.{Plan}
 use Rattle.world_moves.specs.declared.state.State.{State}
-use Rattle.world_moves.specs.declared.state.Waiting.{Waiting}
+use Rattle.world_moves.specs.declared.state.WaitingDial.{WaitingDial}
 use Rattle.world_moves.specs.Choosing.{chosen_place}
 use Rattle.world_moves.specs.Moving.{act, start}
 use Rattle.world_moves.specs.World.{first_world}
@@ -24,7 +24,7 @@ use Rattle.logon_runs.specs.Runs.{Asked, info_asked}
 use Rattle.logon_runs.specs.Scenes.{Shows}
 use Rattle.logon_runs.specs.Seen.Staying.{HasSameEnds}
 use Rattle.logon_runs.specs.Failing.TurnedAway.{AwayPhase, Faulted, HasEnded, IsAway, Refused, Unheard, away_scene}
-use Rattle.logon_runs.specs.Seen.Waiting.{waiting}
+use Rattle.logon_runs.specs.Seen.WaitingUnits.{waiting}
 use Rattle.logon_runs.proofs.ComeInLaws.{alone_so, own_among, reached_so, turn_among}
 use Rattle.logon_runs.proofs.Seen.OtherLaws.{others_are_left}
 use Rattle.logon_runs.proofs.Phases.PhaseLaws.{phases_go_on}
@@ -199,7 +199,7 @@ away_goes p s at = inr at
 
 -- no dial waits, so none is answered
 pub no_dial_among : (p : Coming) (s : State) → s.dials ≡ [] → IsDialAmong (three_in p) s (slice_get s.dials 0)
-no_dial_among p s none = subst (λ (dials : List Waiting). IsDialAmong (three_in p) s (slice_get dials 0)) (sym none) tt
+no_dial_among p s none = subst (λ (dials : List WaitingDial). IsDialAmong (three_in p) s (slice_get dials 0)) (sym none) tt
 
 going_on : (p : Coming) (s now : State) (what : Move) → IsKnown p → IsReached p s → IsStepOn what → HasThree now.chances.left → now.moment < 2 ^ 64 →
     ((at : IsUnderWay p now) → IsJudgedAt p now at.phase what) → OthersStay (three_in p) s now → HasSameEnds s now → GoesBy p now → IsGoingBy p s now (act now what).state

@@ -9,13 +9,13 @@ use Rattle.world_moves.specs.declared.moves.Move.{Move}
 use Rattle.world_moves.specs.declared.moves.Move.TheVariants as move
 use Rattle.world_moves.specs.declared.plan.Plan.{Plan}
 use Rattle.world_moves.specs.declared.state.State.{State}
-use Rattle.world_moves.specs.declared.state.Waiting.{Waiting}
+use Rattle.world_moves.specs.declared.state.WaitingDial.{WaitingDial}
 use Rattle.world_moves.specs.Acting.{Acted}
 use Rattle.world_moves.specs.Ends.{EndStates}
 use Rattle.world_moves.specs.Moving.{act, connect_first, tick, without_first}
 use Rattle.logon_runs.specs.Seen.Others.{IsStepOn}
 use Rattle.logon_runs.specs.Rests.{AtRest, ClientRests, ControllerRests, IsInStepAt, MemberRests, RestsStay, StandsWell}
-use Rattle.logon_runs.specs.Seen.Waiting.{waiting}
+use Rattle.logon_runs.specs.Seen.WaitingUnits.{waiting}
 use Rattle.logon_runs.proofs.Seen.WaitingLaws.{waiting_comes}
 
 well_still : (plan : Plan) (s after : State) (at : ℕ) (member : MemberPlan) (how : Standing) → ((k : ℕ) → slice_get after.ends.controllers k ≡ slice_get s.ends.controllers k) →
@@ -80,7 +80,7 @@ rest_still plan s after same opened dials bag plans rest =
 
 -- no dial is answered
 connects_none : (plan : Plan) (s : State) → AtRest plan s → (act s move.Connect).state ≡ without_first s
-connects_none plan s rest = ap (λ (first : Option Waiting). (connect_first first (without_first s)).state) (ap (λ (dials : List Waiting). slice_get dials 0) rest.dials)
+connects_none plan s rest = ap (λ (first : Option WaitingDial). (connect_first first (without_first s)).state) (ap (λ (dials : List WaitingDial). slice_get dials 0) rest.dials)
 
 -- no unit comes
 onward_none : (plan : Plan) (s : State) → AtRest plan s → (act s move.Onward).state ≡ s
@@ -88,7 +88,7 @@ onward_none plan s rest = ap (λ (a : Acted). a.state) (waiting_comes.idle s res
 
 stays_so : (plan : Plan) (s : State) (what : Move) → IsStepOn what → AtRest plan s → AtRest plan (act s what).state
 stays_so plan s move.Connect steps rest =
-    subst (AtRest plan) (sym (connects_none plan s rest)) (rest_still plan s (without_first s) refl refl (ap (λ (dials : List Waiting). drop 1 dials) rest.dials) refl refl rest)
+    subst (AtRest plan) (sym (connects_none plan s rest)) (rest_still plan s (without_first s) refl refl (ap (λ (dials : List WaitingDial). drop 1 dials) rest.dials) refl refl rest)
 stays_so plan s move.Onward steps rest = subst (AtRest plan) (sym (onward_none plan s rest)) rest
 stays_so plan s (move.Tick more) steps rest = rest_still plan s (tick more s) refl refl rest.dials refl refl rest
 stays_so plan s (move.Start number) steps rest = absurd steps

@@ -18,7 +18,7 @@ use Rattle.logon_runs.specs.Seen.Others.{IsStepOn}
 use Rattle.logon_runs.specs.Passing.{HasEnough}
 use Rattle.logon_runs.specs.Rests.{AtRest, moved_by}
 use Rattle.logon_runs.specs.Seen.Staying.{HasSameEnds}
-use Rattle.logon_runs.specs.Seen.Waiting.{waiting}
+use Rattle.logon_runs.specs.Seen.WaitingUnits.{waiting}
 
 -- there is a controller and a member: where there is none, nobody is let in
 pub record HasServers (plan : Plan) : Type 0 where

@@ -22,7 +22,7 @@ use Rattle.logon_runs.specs.Rests.{AtRest, CanCome, HasCome, coming_at, moved_by
 use Rattle.logon_runs.specs.Runs.{info_asked}
 use Rattle.logon_runs.specs.Seen.Staying.{HasSameEnds}
 use Rattle.logon_runs.specs.Failing.TurnedAway.{IsAway}
-use Rattle.logon_runs.specs.Seen.Waiting.{waiting}
+use Rattle.logon_runs.specs.Seen.WaitingUnits.{waiting}
 
 -- where the logon is judged at the move, the controller has the user's hash, he may log on, and the key arrives; or the
 -- controller refuses him

@@ -33,7 +33,7 @@ use Rattle.logon_client.specs.declared.outcome.ClientOutcome.TheVariants.{In}
 use Rattle.logon_client.specs.declared.state.Phase.{Phase as ClientPhase}
 use Rattle.logon_client.specs.declared.state.Phase.TheVariants as client_phase
 use Rattle.logon_client.specs.declared.state.Question.TheVariants as client_question
-use Rattle.logon_client.specs.declared.state.Standing.TheVariants as client_standing
+use Rattle.logon_client.specs.declared.state.ClientLink.TheVariants as client_standing
 use Rattle.logon_client.specs.declared.state.Terms.{Terms}
 use Rattle.logon_client.specs.Answering.{bind_for}
 use Rattle.logon_client.specs.Machine as client
@@ -69,7 +69,7 @@ use Rattle.logon_runs.specs.Seen.LinkScenes.{Meeting, its_link, joined, meeting_
 use Rattle.logon_runs.specs.Seen.Others.{IsStepOn}
 use Rattle.logon_runs.specs.Runs.{Asked, StandsInStep, hidden, info_asked, message_for, sam_for}
 use Rattle.logon_runs.specs.Scenes.{Scene, Shows}
-use Rattle.logon_runs.specs.Seen.Waiting.{waiting}
+use Rattle.logon_runs.specs.Seen.WaitingUnits.{waiting}
 use Rattle.logon_runs.specs.Seen.TurnScenes.{Turn, dial_scene, next_turn, turn_scene, unit_back, unit_there, with_accounts}
 
 -- ---- what stays

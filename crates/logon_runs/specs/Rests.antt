@@ -40,7 +40,7 @@ use Rattle.logon_runs.specs.Seen.Others.{AreAmong, IsDialAmong, IsStepOn, Others
 use Rattle.logon_runs.specs.Seen.Staying.{HasSameEnds}
 use Rattle.logon_runs.specs.Phases.{ArrivesAt, HasThree, IsReached, MayLogOnAt, Coming, HasUser, IsUnderWay, IsKnown}
 use Rattle.logon_runs.specs.Failing.TurnedAway.{HasEnded}
-use Rattle.logon_runs.specs.Seen.Waiting.{waiting}
+use Rattle.logon_runs.specs.Seen.WaitingUnits.{waiting}
 
 -- ---- the plan
 

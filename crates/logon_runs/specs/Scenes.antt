@@ -21,10 +21,10 @@ use Rattle.world_moves.specs.declared.links.OpenLink.{OpenLink}
 use Rattle.world_moves.specs.declared.links.Route.{Route}
 use Rattle.world_moves.specs.declared.links.Route.TheVariants.{ToMember, ToController, Stranger}
 use Rattle.world_moves.specs.declared.state.State.{State}
-use Rattle.world_moves.specs.declared.state.Waiting.{Waiting}
+use Rattle.world_moves.specs.declared.state.WaitingDial.{WaitingDial}
 use Rattle.world_moves.specs.Links.{OpenMap, hearer_on}
 use Rattle.world_moves.specs.Moving.{onward}
-use Rattle.logon_runs.specs.Seen.Waiting.{unit_on, waiting}
+use Rattle.logon_runs.specs.Seen.WaitingUnits.{unit_on, waiting}
 
 -- a scene: one client, one member and one controller, and what is under way between them
 pub record Scene : Type 0 where
@@ -39,7 +39,7 @@ pub record Scene : Type 0 where
   pub links : List Route
   pub opened : OpenMap
   pub units : List BagUnit
-  pub dials : List Waiting
+  pub dials : List WaitingDial
   -- the challenges that are left, and the moment
   pub left : List (List ℕ)
   pub moment : ℕ
@@ -80,7 +80,7 @@ units_sent links end [] = []
 units_sent links end (what ∷ actions) = units_of_action links end what ++ units_sent links end actions
 
 -- the dials that an action makes
-abbrev pub dials_of_action : EndId → Action → List Waiting
+abbrev pub dials_of_action : EndId → Action → List WaitingDial
 dials_of_action end (action.Dial peer) = record { end = end; peer = peer } ∷ []
 dials_of_action end (action.Keep bytes) = []
 dials_of_action end (action.Send link bytes) = []
@@ -89,7 +89,7 @@ dials_of_action end (action.Told link what) = []
 dials_of_action end (action.Judged how) = []
 
 -- the dials that actions make, in order
-abbrev pub dials_made : EndId → List Action → List Waiting
+abbrev pub dials_made : EndId → List Action → List WaitingDial
 dials_made end [] = []
 dials_made end (what ∷ actions) = dials_of_action end what ++ dials_made end actions
 

@@ -7,4 +7,4 @@ pub mod Staying
 pub mod TurnScenes
 pub mod Turnings
 pub mod TwoLinks
-pub mod Waiting
+pub mod WaitingUnits

@@ -32,7 +32,7 @@ ghost use Rattle.logon_runs.specs.Seen.TurnScenes.{TurnsAreSeen};
 ghost use Rattle.logon_runs.specs.Failing.TurnedAway.{LogonsAreTurnedAway};
 ghost use Rattle.logon_runs.specs.Seen.Turnings.{ScenesTurn};
 ghost use Rattle.logon_runs.specs.Seen.TwoLinks.{TurnsHaveLinks};
-ghost use Rattle.logon_runs.specs.Seen.Waiting.{WaitingComes};
+ghost use Rattle.logon_runs.specs.Seen.WaitingUnits.{WaitingComes};
 
 /// The oldest unit that waits comes at the end that hears it on its own link, and those behind it
 /// wait on. What an end makes of what it hears changes that end alone, until its actions are done.

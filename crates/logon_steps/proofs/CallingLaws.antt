@@ -18,7 +18,7 @@ use Rattle.channel_keys.proofs.CredLaws.{IsBlock-cred_of}
 use Rattle.authenticators.specs.SecureChannels.{SecureChannelState, key_of_channel}
 use Rattle.account_table.specs.AccountTable.{AccountTable}
 use Rattle.account_table.specs.declared.account.Account.{Account}
-use Rattle.sam_logon.specs.Granted.{sam_info_of}
+use Rattle.sam_logon.specs.Granting.{sam_info_of}
 use Rattle.sam_logon.proofs.GrantedLaws.{sam_info-CanWrite, sam_info-InRange, sam_info-IsShort}
 use Rattle.logon_stubs.specs.declared.calls.Reply.{Reply}
 use Rattle.logon_stubs.specs.declared.calls.Reply.TheVariants as reply

@@ -24,7 +24,7 @@ use Rattle.logon_stubs.specs.declared.info.NetworkInfo.{NetworkInfo}
 use Rattle.logon_stubs.specs.declared.info.SamInfo.{SamInfo}
 use Rattle.logon_stubs.specs.declared.info.Verdict.{Verdict}
 use Rattle.logon_stubs.specs.declared.info.Verdict.TheVariants.{Granted}
-use Rattle.sam_logon.specs.Granted.{at_level, sam_info_of}
+use Rattle.sam_logon.specs.Granting.{at_level, sam_info_of}
 use Rattle.sam_logon.specs.MayLogOn.{IsTakenResponse, MayLogOn, MayLogOnAt}
 use Rattle.sam_logon.specs.Rules.{count_after, first_refusal, rules_of, shown_by_response}
 use Rattle.sam_logon.specs.Verdict.{Judgement, is_granted, judged_account, judgement_of, table_after, table_at, table_on, verdict_at, verdict_by, verdict_of, verdict_on}

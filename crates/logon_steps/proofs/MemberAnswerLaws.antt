@@ -36,7 +36,7 @@ use Rattle.member_server.specs.declared.state.Work.{Work}
 use Rattle.member_server.specs.Machine.{actions_in, at_turn, halted_state, keep_turn, state_in}
 use Rattle.member_server.specs.Levels.{is_plain}
 use Rattle.member_server.specs.Memo.{call_answer, echo_answer, who_answer}
-use Rattle.member_server.specs.Outcomes.{after_served, at_link, end_found, end_logon, turn_link, key_in, name_in, reach_link, turn_waiting, waiting_if}
+use Rattle.member_server.specs.Outcomes.{after_served, at_link, end_found, end_logon, reach_in_map, key_in, name_in, reach_link, reach_waiting, waiting_if}
 use Rattle.member_server.specs.Requests.{reply, send_reply, talk_in, unit_in}
 use Rattle.member_server.specs.Turns.{next_turn, take_by}
 use Rattle.member_server.specs.Units.{serve_held, then_held}
@@ -105,8 +105,8 @@ granted_work plan channel task sam logon place turn most one short who back =
     let alone : Work = waiting_work plan channel [] [] told in
     ap (λ (f : Bool). end_found (if f then Some logon else None) place (ending.Granted sam) (waiting_work plan channel (if f then [] else (place, logon) ∷ []) links closed)) (same place)
     ∙ ap (λ (f : Bool). reach_link (if f then Some here else None) place (ending.Granted sam) logon (waiting_work plan channel [] links told)) (same logon.link)
-    ∙ ap (λ (f : Bool). turn_link (waiting_if f (bound_for task) held) here (ending.Granted sam) logon (waiting_work plan channel [] links told)) (same place)
-    ∙ ap (λ (f : Bool). turn_waiting (bound_for task, held) here (ending.Granted sam) logon (waiting_work plan channel [] (if f then [] else links) told)) (same logon.link)
+    ∙ ap (λ (f : Bool). reach_in_map (waiting_if f (bound_for task) held) here (ending.Granted sam) logon (waiting_work plan channel [] links told)) (same place)
+    ∙ ap (λ (f : Bool). reach_waiting (bound_for task, held) here (ending.Granted sam) logon (waiting_work plan channel [] (if f then [] else links) told)) (same logon.link)
     ∙ ap (λ (served : Served). after_served (then_held served (λ next said. serve_held [] next said)) [] logon.link alone)
     (who_answered task on (at_link logon.link alone) most one refl short who back)
 

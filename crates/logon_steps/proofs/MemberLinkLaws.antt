@@ -31,7 +31,7 @@ use Rattle.member_server.specs.Machine.{actions_in, after_units, serve_alone, by
 use Rattle.member_server.specs.Messages.{info_of, wait_for}
 use Rattle.member_server.specs.Requests.{body_asked, hold_by, unit_asked}
 use Rattle.member_server.specs.State.{State}
-use Rattle.member_server.specs.Turns.{Desk, next_turn}
+use Rattle.member_server.specs.Turns.{DialWork, next_turn}
 use Rattle.member_server.specs.Units.{link_server}
 use Rattle.member_server.specs.Work.{Served, drawless, send_unit, stay}
 use Rattle.logon_steps.specs.Answers.{AreDraws, answer_for, auth3_for, drawn_of, logon_for}
@@ -47,7 +47,7 @@ use Rattle.logon_steps.proofs.StreamLaws.{one_read, read_again, same, served_one
 abbrev pub work_with : Logons → List (ℕ × LinkState Talk) → Work
 work_with logons links = record { logons = logons; links = links; actions = [] }
 
-abbrev pub stepped : List (List ℕ) → ℕ → Result (Part Desk) StepRefused → Stepped State
+abbrev pub stepped : List (List ℕ) → ℕ → Result (Part DialWork) StepRefused → Stepped State
 stepped left now part = step_by actions_in state_in halted_state left (then_part part (next_turn now))
 
 elsewhere : (link : ℕ) (how : Dialling) (piece : List ℕ) (work : Work) (left : List (List ℕ)) → IsElsewhere link how →

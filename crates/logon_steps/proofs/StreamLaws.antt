@@ -1,5 +1,5 @@
 -- One unit, and the units of a call, on a link on which nothing else came.
--- All laws of turns and of meetings use it.
+-- Of `turns_go_through`, `turns_step`, `controllers_step`, `clients_and_members_meet`, `links_step`, `clients_step`.
 use Rattle.std.proofs.Common.{◌≡◌, ℕ, eqb, Bool, true, false, List, [], ◌∷◌, Option, Some, None, Result, Ok, Err, refl, sym, ap, ◌∙◌, append-nil}
 use Rattle.std.proofs.lemmas.Bool.{eq-eqb}
 use Rattle.rpc_units.specs.declared.refused.JoinRefused.{JoinRefused}

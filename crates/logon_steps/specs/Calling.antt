@@ -5,7 +5,7 @@ use Rattle.rc4_stream.specs.Rc4.{applied}
 use Rattle.account_table.specs.AccountTable.{AccountTable}
 use Rattle.account_table.specs.Ranges.{InRangeAccount, InRangeSid}
 use Rattle.account_table.specs.declared.account.Account.{Account}
-use Rattle.sam_logon.specs.Granted.{sam_info_of}
+use Rattle.sam_logon.specs.Granting.{sam_info_of}
 use Rattle.wire_base.specs.Names.{IsName}
 use Rattle.wire_base.specs.Units.{AreUnits}
 use Rattle.channel_keys.specs.Hidden.{crypt_key}

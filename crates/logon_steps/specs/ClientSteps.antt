@@ -20,8 +20,8 @@ use Rattle.logon_client.specs.declared.securing.Sending.{Sending}
 use Rattle.logon_client.specs.declared.state.Phase.{Phase}
 use Rattle.logon_client.specs.declared.state.Phase.TheVariants as client_phase
 use Rattle.logon_client.specs.declared.state.Question.TheVariants as client_question
-use Rattle.logon_client.specs.declared.state.Standing.{Standing}
-use Rattle.logon_client.specs.declared.state.Standing.TheVariants as client_standing
+use Rattle.logon_client.specs.declared.state.ClientLink.{ClientLink}
+use Rattle.logon_client.specs.declared.state.ClientLink.TheVariants as client_standing
 use Rattle.logon_client.specs.declared.state.Terms.{Terms}
 use Rattle.logon_client.specs.Answering.{bind_for}
 use Rattle.logon_client.specs.Machine as client
@@ -33,11 +33,11 @@ use Rattle.logon_steps.specs.Answers.{AreDraws, answer_for, auth3_for, drawn_of,
 use Rattle.logon_steps.specs.Meeting.{HasShortNames, ack_for}
 use Rattle.logon_steps.specs.MemoCalls.{ReplyGoes, with_session}
 
-abbrev pub client_at : ClientPlan → Standing → State
+abbrev pub client_at : ClientPlan → ClientLink → State
 client_at task how = record { running = Some (record { task = task; standing = how }); outcome = None }
 
 -- on its link, where nothing is left of what came
-abbrev pub on_link : ℕ → Phase → Standing
+abbrev pub on_link : ℕ → Phase → ClientLink
 on_link link how = client_standing.On (record { rest = []; talk = client.talk_on link None how })
 
 abbrev pub client_ended : ClientPlan → ClientOutcome → State

@@ -11,7 +11,7 @@ use Rattle.ntlm_responses.specs.Verification.{base_key_of}
 use Rattle.logon_stubs.specs.declared.info.NetworkInfo.{NetworkInfo}
 use Rattle.logon_stubs.specs.declared.info.SamInfo.{SamInfo}
 use Rattle.logon_stubs.specs.declared.info.Verdict.TheVariants.{Granted}
-use Rattle.sam_logon.specs.Granted.{at_level, sam_info_of}
+use Rattle.sam_logon.specs.Granting.{at_level, sam_info_of}
 use Rattle.sam_logon.specs.MayLogOn.{MayLogOn}
 use Rattle.sam_logon.specs.Verdict.{table_after, verdict_of}
 use Rattle.authenticators.specs.Sequences.{return_of}

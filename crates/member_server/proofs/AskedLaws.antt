@@ -30,9 +30,9 @@ use Rattle.member_server.specs.declared.state.Running.{Running}
 use Rattle.member_server.specs.Laws.{AreAsked, AsksWhatWaits, HoldRequests, InOrderUnlessStopped, IsInOrder}
 use Rattle.member_server.specs.Machine.{actions_in, caller_of, event_part, halted_state, state_in, step_on}
 use Rattle.member_server.specs.Messages.{with_channel, with_logon}
-use Rattle.member_server.specs.Turns.{Desk}
+use Rattle.member_server.specs.Turns.{DialWork}
 use Rattle.member_server.proofs.StepRules.{AfterStart, AfterTaken, LinkRules, StepRules, TurnRules, drop_logon}
-use Rattle.member_server.proofs.EventSteps.{DeskPart, step_fine}
+use Rattle.member_server.proofs.EventSteps.{DialWorkPart, step_fine}
 
 -- ---- places
 
@@ -203,7 +203,7 @@ order_step = record {
 
 -- ---- a step
 
-step_orders : (P : Type 0) (part : Result (Part Desk) StepRefused) (left : List (List ℕ)) → DeskPart P InOrder part →
+step_orders : (P : Type 0) (part : Result (Part DialWork) StepRefused) (left : List (List ℕ)) → DialWorkPart P InOrder part →
     InOrderUnlessStopped (step_by actions_in state_in halted_state left part).state.running
 step_orders P (Err why) left fine = tt
 step_orders P (Ok part) left fine = fine.good

@@ -1,8 +1,9 @@
 -- The CHALLENGE that answers a bind.
-use Rattle.std.proofs.Common.{◌≡◌, ℕ, ◌+◌, ◌%◌, ◌≤◌, ◌<◌, List, [], ◌∷◌, ◌++◌, length, replicate, Some, None, Result, Ok, Err, sym, ap, subst, arith}
+use Rattle.std.proofs.Common.{◌≡◌, ℕ, ◌+◌, ◌*◌, ◌%◌, ◌≤◌, ◌<◌, nat_le, Bool, true, false, List, [], ◌∷◌, ◌++◌, length, replicate, map, refl, Some, None, Result, Ok, Err, sym, ap, subst, arith}
 use Rattle.std.proofs.lemmas.Bool.{leb-true}
-use Rattle.std.proofs.lemmas.List.{length-append}
+use Rattle.std.proofs.lemmas.List.{length-append, length-replicate}
 use Rattle.std.specs.Prelude.{IsTrue}
+use Rattle.std.specs.List.{flat_map}
 use Rattle.std.specs.Int.{w32, w64, to_le_bytes}
 use Rattle.outside.specs.declared.action.CloseCause.{CloseCause}
 use Rattle.outside.specs.declared.action.StepRefused.{StepRefused}
@@ -17,11 +18,13 @@ use Rattle.ntlm_messages.specs.Places.{challenge_size}
 use Rattle.ntlm_messages.specs.declared.messages.Challenge.{Challenge}
 use Rattle.rpc_units.specs.declared.unit.Syntax.{Syntax}
 use Rattle.rpc_units.specs.declared.unit.Trailer.{Trailer}
-use Rattle.rpc_units.specs.Writing.{zeros, pad_for, written, written_body, written_tail}
+use Rattle.rpc_units.specs.Writing.{zeros, pad_for, written, written_address, written_answer, written_body, written_tail}
 use Rattle.rpc_units.proofs.WritingLaws.{length_written}
+use Rattle.end_links.specs.Binding.{ack_of, answer_by, answer_to, offers_ndr, same_syntax}
+use Rattle.memo_stubs.specs.Interface.{memo_syntax}
 use Rattle.member_server.specs.declared.binds.Offer.{Offer}
 use Rattle.member_server.specs.declared.plan.MemberPlan.{MemberPlan}
-use Rattle.member_server.specs.Binds.{challenge_message, challenge_trailer, challenge_ack, ack_fits, ClosesBy}
+use Rattle.member_server.specs.Binds.{challenge_message, challenge_trailer, challenge_ack, ack_fits, FitsEach, ClosesBy}
 use Rattle.member_server.specs.declared.state.AtLink.{AtLink}
 use Rattle.member_server.specs.Work.{Served, drawless, shut}
 use Rattle.member_server.specs.Rests.{all_left, rest_left, answer_rest, bind_rest}
@@ -104,6 +107,92 @@ pub ack_short : (offer : Offer) (plan : MemberPlan) (call receive : ℕ) (contex
 ack_short offer plan call receive contexts challenge eight fits =
     let blank = challenge_ack offer plan call receive contexts (replicate 8 0) in
     omega (arith, leb-true (length (written blank)) 5840 fits, ack_len offer plan call receive contexts challenge (replicate 8 0) eight)
+
+-- ---- its length
+
+answer_len : (same ndr : Bool) → length (written_answer (answer_by same ndr)) ≡ 24
+answer_len false ndr = refl
+answer_len true false = refl
+answer_len true true = refl
+
+answers_len : (served : Syntax) (contexts : List (ℕ × Syntax × List Syntax)) → length (flat_map written_answer (map (answer_to served) contexts)) ≡ 24 * length contexts
+answers_len served [] = refl
+answers_len served (context ∷ contexts) =
+    omega (
+      arith,
+      length-append (written_answer (answer_to served context)) (flat_map written_answer (map (answer_to served) contexts)),
+      answer_len (same_syntax context.1 served) (offers_ndr context.2),
+      answers_len served contexts,
+    )
+
+body_len : (call receive : ℕ) (contexts : List (ℕ × Syntax × List Syntax)) → length (written_body (ack_of memo_syntax call receive contexts).body) ≡ 16 + 24 * length contexts
+unfolding zeros written_address
+body_len call receive contexts = omega (arith, answers_len memo_syntax contexts)
+
+pairs_len : (domain computer : List ℕ) → length (written_pairs ((2, domain) ∷ (1, computer) ∷ [])) ≡ 12 + length domain + length computer
+unfolding written_pairs
+pairs_len domain computer =
+    omega (arith, length-append (domain ++ (pair_bytes (1, computer) ++ [])) (pair_bytes (0, [])), length-append domain (pair_bytes (1, computer) ++ []), length-append computer [])
+
+message_len : (m : Challenge) → length (written_challenge (record m { version = None })) ≡ 40 + length m.challenge + length m.target + length m.info
+unfolding written_challenge
+message_len m =
+    let field = field_bytes m.info (challenge_size + length (bytes_of None) + length m.target) in
+    let a = m.challenge ++ to_le_bytes w64 0 in
+    let b = a ++ field in
+    let c = b ++ [] in
+    let d = c ++ m.target in
+    omega (
+      arith,
+      length-append m.challenge (to_le_bytes w64 0),
+      length-append a field,
+      length-append b [],
+      length-append c m.target,
+      length-append d m.info,
+    )
+
+value_of_len : (plan : MemberPlan) (flags : ℕ) (challenge : List ℕ) → length challenge ≡ 8 →
+    length (written_challenge (challenge_message flags plan challenge)) ≡ 60 + 4 * length plan.domain + 2 * length plan.computer
+value_of_len plan flags challenge eight =
+    omega (
+      arith,
+      eight,
+      message_len (challenge_message flags plan challenge),
+      pairs_len (utf16_of plan.domain) (utf16_of plan.computer),
+      length-utf16_of plan.domain,
+      length-utf16_of plan.computer,
+    )
+
+-- behind as many bytes no padding stands
+tail_of_len : (count contexts : ℕ) (t : Trailer) → count ≡ 16 + 24 * contexts → length (written_tail count (Some t)) ≡ 8 + length t.value
+unfolding zeros
+tail_of_len count contexts t is =
+    let none : pad_for count ≡ 0 = omega (arith, is) in
+    omega (
+      arith,
+      none,
+      length-replicate {A = ℕ} (pad_for count) 0,
+      length-append (zeros (pad_for count)) ((t.kind ∷ t.level ∷ pad_for count ∷ 0 ∷ []) ++ (to_le_bytes w32 t.context ++ t.value)),
+    )
+
+size_of_ack : (offer : Offer) (plan : MemberPlan) (call receive : ℕ) (contexts : List (ℕ × Syntax × List Syntax)) →
+    length (written (challenge_ack offer plan call receive contexts (replicate 8 0))) ≡ 100 + 24 * length contexts + (4 * length plan.domain + 2 * length plan.computer)
+size_of_ack offer plan call receive contexts =
+    let a = challenge_ack offer plan call receive contexts (replicate 8 0) in
+    let body = written_body a.body in
+    let trailer = challenge_trailer offer plan (replicate 8 0) in
+    omega (
+      arith,
+      length_written a,
+      length-append body (written_tail (length body) a.trailer),
+      body_len call receive contexts,
+      tail_of_len (length body) (length contexts) trailer (body_len call receive contexts),
+      value_of_len plan offer.flags (replicate 8 0) refl,
+    )
+
+pub each_fits : (plan : MemberPlan) (contexts : List (ℕ × Syntax × List Syntax)) →
+    FitsEach (nat_le (100 + 24 * length contexts + (4 * length plan.domain + 2 * length plan.computer)) 5840) plan contexts
+each_fits plan contexts offer call receive = ap (λ n. nat_le n 5840) (sym (size_of_ack offer plan call receive contexts))
 
 -- ---- what is drawn
 

@@ -29,14 +29,14 @@ use Rattle.member_server.specs.Machine.{after_units, by_event, bytes_on_link, ev
 use Rattle.member_server.specs.Outcomes.{at_link, without_link}
 use Rattle.member_server.specs.Units.{link_server}
 use Rattle.member_server.specs.declared.state.AtLink.{AtLink}
-use Rattle.member_server.specs.Turns.{Desk, dial_for, next_turn, timestamp_of, turn_by, with_requester}
+use Rattle.member_server.specs.Turns.{DialWork, dial_for, next_turn, timestamp_of, turn_by, with_requester}
 use Rattle.member_server.specs.declared.state.Dialling.{Dialling}
 use Rattle.member_server.specs.declared.state.Dialling.TheVariants as dialling
 use Rattle.member_server.specs.declared.state.Logons.{Logons}
 use Rattle.member_server.specs.declared.state.Running.{Running}
 use Rattle.member_server.specs.declared.state.Talk.{Talk}
 use Rattle.member_server.specs.declared.state.Work.{Work}
-use Rattle.member_server.proofs.EventSteps.{DeskPart, event_fine}
+use Rattle.member_server.proofs.EventSteps.{DialWorkPart, event_fine}
 use Rattle.member_server.proofs.StepRules.{AfterTaken, EventRules, Holds, IsPlainAction, LinkRules, TurnRules}
 
 -- ---- counts
@@ -122,7 +122,7 @@ module _ (now : ℕ) (w : Work) (how : Dialling) (none : dials_in w.actions ≡ 
   dial_channel None c = refl
   dial_channel (Some start) c = refl
 
-  abbrev NextIfTaken : Bool → Bool → List (List ℕ) → Result (Part Desk) StepRefused → Type 0
+  abbrev NextIfTaken : Bool → Bool → List (List ℕ) → Result (Part DialWork) StepRefused → Type 0
   NextIfTaken starts needs before (Err why) = Unit {0}
   NextIfTaken starts needs before (Ok part) =
       IsNextTurn starts needs now w.logons.channel before part.value.0.logons.channel part.left × IsDialledBy starts how part.value
@@ -142,14 +142,14 @@ module _ (now : ℕ) (w : Work) (how : Dialling) (none : dials_in w.actions ≡ 
 
 -- ---- a step
 
-with_next : (old : Requester) (first : Result (Part Desk) StepRefused) (now : ℕ) (part : Part Desk) (next : Result (Part Desk) StepRefused) → first ≡ Ok part →
+with_next : (old : Requester) (first : Result (Part DialWork) StepRefused) (now : ℕ) (part : Part DialWork) (next : Result (Part DialWork) StepRefused) → first ≡ Ok part →
     ComesUnstarted old part.value.0.logons.channel → (none : dials_in part.value.0.actions ≡ 0) →
     NextIfTaken now part.value.0 part.value.1 none (can_start part.value.0.logons.channel.turn part.value.0.logons.channel.waiting) (needs_challenge part.value.0.logons.channel.standing) part.left next →
     TurnStepsIfTaken old first now next
 with_next old first now part (Err why) is comes none so = tt
 with_next old first now part (Ok after) is comes none so = record { part = part; is = is; comes = comes; next = so.0; dials = so.1 }
 
-steps_by : (old : Requester) (first found : Result (Part Desk) StepRefused) (now : ℕ) → first ≡ found → DeskPart ⊥ (λ dialled. Unstarted old) found →
+steps_by : (old : Requester) (first found : Result (Part DialWork) StepRefused) (now : ℕ) → first ≡ found → DialWorkPart ⊥ (λ dialled. Unstarted old) found →
     TurnStepsIfTaken old first now (then_part found (next_turn now))
 steps_by old first (Err why) now is fine = tt
 steps_by old first (Ok part) now is fine =
@@ -157,7 +157,7 @@ steps_by old first (Ok part) now is fine =
     with_next old first now part (next_turn now part.value part.left) is fine.good.0 fine.good.1
     (next_is now part.value.0 part.value.1 fine.good.1 (can_start c.turn c.waiting) (needs_challenge c.standing) part.left refl)
 
-event_unstarted : (running : Running) (what : Event) (left : List (List ℕ)) → DeskPart ⊥ (λ dialled. Unstarted running.logons.channel) (by_event what running.dialling (work_of running) left)
+event_unstarted : (running : Running) (what : Event) (left : List (List ℕ)) → DialWorkPart ⊥ (λ dialled. Unstarted running.logons.channel) (by_event what running.dialling (work_of running) left)
 event_unstarted running what left =
     let old : Requester = running.logons.channel in
     let now : ComesUnstarted old old = record { doings = []; none = tt; is = refl } in
@@ -166,7 +166,7 @@ event_unstarted running what left =
 starts_so : (running : Running) (what : Event) (now : ℕ) (left : List (List ℕ)) →
     TurnStepsIfTaken running.logons.channel (by_event what running.dialling (work_of running) left) now (event_part running what now left)
 starts_so running what now left =
-    let first : Result (Part Desk) StepRefused = by_event what running.dialling (work_of running) left in
+    let first : Result (Part DialWork) StepRefused = by_event what running.dialling (work_of running) left in
     steps_by running.logons.channel first first now refl (event_unstarted running what left)
 
 -- ---- a dial that waits
@@ -213,7 +213,7 @@ module _ (old : Requester) where
   kept_event = record { link = kept_link; turn = kept_turn; returns = λ units l a so. so.1 }
 
 -- the dial waits still
-abbrev HowIfTaken : Dialling → Result (Part Desk) StepRefused → Type 0
+abbrev HowIfTaken : Dialling → Result (Part DialWork) StepRefused → Type 0
 HowIfTaken how (Err why) = Unit {0}
 HowIfTaken how (Ok part) = part.value.1 ≡ how
 
@@ -263,7 +263,7 @@ next_waits true needs now old how w at left not same kept = absurd (let x = not 
 next_waits false needs now old how w at left not same kept =
     record { none = kept.1; dialling = same; caller = kept.0.caller; standing = kept.0.standing; turn = kept.0.turn }
 
-stays_by : (old : Requester) (how : Dialling) (found : Result (Part Desk) StepRefused) (now : ℕ) → is_out old ≡ true → IsWaiting how → HowIfTaken how found → DeskPart ⊥ (KeptIf old) found →
+stays_by : (old : Requester) (how : Dialling) (found : Result (Part DialWork) StepRefused) (now : ℕ) → is_out old ≡ true → IsWaiting how → HowIfTaken how found → DialWorkPart ⊥ (KeptIf old) found →
     StaysOutIfTaken old how (then_part found (next_turn now))
 stays_by old how (Err why) now out waits same fine = tt
 stays_by old how (Ok part) now out waits same fine =

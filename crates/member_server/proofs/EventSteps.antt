@@ -49,8 +49,8 @@ use Rattle.member_server.specs.declared.state.Work.{Work}
 use Rattle.member_server.specs.Binds.{ack_fits, answer_bind, bind_by, bound_by, challenge_ack, fresh_unit, offer_in}
 use Rattle.member_server.specs.Laws.{HoldRequests, HoldsAfter, HoldsRequests, heard_from, heard_if, heard_in, is_dialled, then_whole, whole_by, whole_units}
 use Rattle.member_server.specs.Machine.{after_turn, after_units, answer_dial, at_turn, by_event, bytes_by, bytes_on, bytes_on_link, close_link, close_turn, event_part, fail_dial, fresh_link, keep_turn, open_by, serve_alone, serve_dialled, work_of}
-use Rattle.member_server.specs.Outcomes.{after_link, at_link, end_found, end_logon, keep_link, phase_after, reach_link, tell_outcome, turn_link, turn_waiting, waiting_at, without_link, without_logon}
-use Rattle.member_server.specs.Turns.{Desk, break_turn, dial_by, dial_for, do_taken, ending_of, lose_turn, next_turn, tell_turn_closed, timestamp_of, turn_by, turn_by_join, turn_server, turn_unit, with_requester, with_work}
+use Rattle.member_server.specs.Outcomes.{after_link, at_link, end_found, end_logon, keep_link, phase_after, reach_link, tell_outcome, reach_in_map, reach_waiting, waiting_at, without_link, without_logon}
+use Rattle.member_server.specs.Turns.{DialWork, break_turn, dial_by, dial_for, do_taken, ending_of, lose_turn, next_turn, tell_turn_closed, timestamp_of, turn_by, turn_by_join, turn_server, turn_unit, with_requester, with_work}
 use Rattle.member_server.specs.Units.{first_unit, is_fresh, link_server, serve_held, unit_by}
 use Rattle.member_server.specs.Work.{Served}
 use Rattle.member_server.proofs.QuietLaws.{there}
@@ -89,8 +89,8 @@ pub record WorkFine (P : Type 0) (K : Holds) (w : Work) : Type 0 where
   pub holds : P → HoldRequests w.links
 
 -- besides, by whether a turn is dialled then
-abbrev pub DeskFine : Type 0 → (Bool → Holds) → Desk → Type 0
-DeskFine P G desk = WorkFine P (G (is_dialled desk.1)) desk.0
+abbrev pub DialWorkFine : Type 0 → (Bool → Holds) → DialWork → Type 0
+DialWorkFine P G dial_work = WorkFine P (G (is_dialled dial_work.1)) dial_work.0
 
 abbrev pub LinkPart : Type 0 → Holds → ServedPart AtLink Talk → Type 0
 LinkPart P K (Err why) = Unit {0}
@@ -110,9 +110,9 @@ abbrev pub TurnPart : Type 0 → (List RpcUnit → Holds) → Holds → ServedPa
 TurnPart P T K (Err why) = Unit {0}
 TurnPart P T K (Ok part) = TurnFine P (T []) K part.value.0 part.value.1
 
-abbrev pub DeskPart : Type 0 → (Bool → Holds) → Result (Part Desk) StepRefused → Type 0
-DeskPart P G (Err why) = Unit {0}
-DeskPart P G (Ok part) = DeskFine P G part.value
+abbrev pub DialWorkPart : Type 0 → (Bool → Holds) → Result (Part DialWork) StepRefused → Type 0
+DialWorkPart P G (Err why) = Unit {0}
+DialWorkPart P G (Ok part) = DialWorkFine P G part.value
 
 abbrev pub LaterTurn : Type 0 → (List RpcUnit → Holds) → Holds → List (List ℕ) → Option UnitRefused → Type 0
 LaterTurn P T K units why =
@@ -131,7 +131,7 @@ module _ (P : Type 0) (K : Holds) (rules : LinkRules K) where
   -- ---- an outcome
 
   waiting_fine : (x : Bound × List (List ℕ)) (link : LinkState Talk) (how : Ending) (logon : Logon) (w : Work) → K w.logons w.actions → (P → HoldRequests w.links) →
-      WorkFine P K (turn_waiting x link how logon w)
+      WorkFine P K (reach_waiting x link how logon w)
   waiting_fine x link how logon w good all =
       let at : AtLink = at_link logon.link w in
       let talk : Talk = record { joiner = link.talk.joiner; phase = phase_after how logon x.0 } in
@@ -140,7 +140,7 @@ module _ (P : Type 0) (K : Holds) (rules : LinkRules K) where
       kept_fine served.1 link.rest logon.link served.0 w fine.good fine.holds all
 
   link_fine : (x : Option (Bound × List (List ℕ))) (link : LinkState Talk) (how : Ending) (logon : Logon) (w : Work) → K w.logons w.actions → (P → HoldRequests w.links) →
-      WorkFine P K (turn_link x link how logon w)
+      WorkFine P K (reach_in_map x link how logon w)
   link_fine None link how logon w good all = record { good = good; holds = all }
   link_fine (Some x) link how logon w good all = waiting_fine x link how logon (without_link logon.link w) good (λ p. taken_holds logon.link w.links (all p))
 
@@ -285,47 +285,47 @@ module _ (P : Type 0) (T : List RpcUnit → Holds) (G : Bool → Holds) (rules :
   -- ---- bytes
 
   after_fine : (part : ServedPart AtLink Talk) (rest : List ℕ) (number : ℕ) (how : Dialling) (w : Work) → LinkPart P (G (is_dialled how)) part →
-      (P → HoldRequests w.links) → DeskPart P G (after_units part rest number how w)
+      (P → HoldRequests w.links) → DialWorkPart P G (after_units part rest number how w)
   after_fine (Err why) rest number how w fine all = tt
   after_fine (Ok part) rest number how w fine all =
       kept_fine P (G (is_dialled how)) (rules.link (is_dialled how)) part.value.1 rest number part.value.0 w fine.good fine.holds all
 
   alone_fine : (cut : Cut) (number : ℕ) (talk : Talk) (how : Dialling) (w : Work) (left : List (List ℕ)) → G (is_dialled how) w.logons w.actions →
-      (P → HoldsRequests talk.phase) → (P → HoldRequests w.links) → DeskPart P G (serve_alone cut number talk how w left)
+      (P → HoldsRequests talk.phase) → (P → HoldRequests w.links) → DialWorkPart P G (serve_alone cut number talk how w left)
   alone_fine cut number talk how w left good holds all =
       after_fine (served_by link_server cut.units cut.refused (at_link number w) talk left) cut.rest number how w
       (served_stays link_server (LinkPart P (G (is_dialled how))) (units_stay P (G (is_dialled how)) (rules.link (is_dialled how))) cut (at_link number w) talk left
       (record { good = good; holds = holds })) all
 
   on_link_fine : (found : Option (LinkState Talk)) (number : ℕ) (piece : List ℕ) (how : Dialling) (w : Work) (left : List (List ℕ)) → lookup same_number number w.links ≡ found →
-      G (is_dialled how) w.logons w.actions → (P → HoldRequests w.links) → DeskPart P G (bytes_on_link found number piece how w left)
+      G (is_dialled how) w.logons w.actions → (P → HoldRequests w.links) → DialWorkPart P G (bytes_on_link found number piece how w left)
   on_link_fine None number piece how w left e good all = record { good = good; holds = all }
   on_link_fine (Some link) number piece how w left e good all =
       alone_fine (cut_stream (link.rest ++ piece)) number link.talk how (without_link number w) left good
       (λ p. there number w.links link (all p) e) (λ p. taken_holds number w.links (all p))
 
-  turn_kept : (at : AtTurn) (said : Option TurnTalk) (rest : List ℕ) (number : ℕ) → TurnFine P (T []) (G false) at said → DeskFine P G (at.work, keep_turn said rest number)
+  turn_kept : (at : AtTurn) (said : Option TurnTalk) (rest : List ℕ) (number : ℕ) → TurnFine P (T []) (G false) at said → DialWorkFine P G (at.work, keep_turn said rest number)
   turn_kept at None rest number fine = fine
   turn_kept at (Some talk) rest number fine = record { good = rules.returns [] at.work.logons at.work.actions fine.good; holds = fine.holds }
 
-  turn_done : (part : ServedPart AtTurn TurnTalk) (rest : List ℕ) (number : ℕ) → TurnPart P T (G false) part → DeskPart P G (after_turn part rest number)
+  turn_done : (part : ServedPart AtTurn TurnTalk) (rest : List ℕ) (number : ℕ) → TurnPart P T (G false) part → DialWorkPart P G (after_turn part rest number)
   turn_done (Err why) rest number fine = tt
   turn_done (Ok part) rest number fine = turn_kept part.value.0 part.value.1 rest number fine
 
   dialled_fine : (cut : Cut) (number : ℕ) (talk : TurnTalk) (w : Work) (left : List (List ℕ)) → T (whole_units cut.units talk.joiner) w.logons w.actions →
-      (P → HoldRequests w.links) → DeskPart P G (serve_dialled cut number talk w left)
+      (P → HoldRequests w.links) → DialWorkPart P G (serve_dialled cut number talk w left)
   dialled_fine cut number talk w left good all =
       turn_done (served_by turn_server cut.units cut.refused (at_turn number w) talk left) cut.rest number
       (turn_part P T (G false) (rules.link false) rules.turn cut.units cut.refused (at_turn number w) talk left good all)
 
   bytes_if : (b : Bool) (said other : LinkState TurnTalk) (on number : ℕ) (piece : List ℕ) (w : Work) (left : List (List ℕ)) → G true w.logons w.actions →
-      T (heard_if b said piece) w.logons w.actions → (P → HoldRequests w.links) → DeskPart P G (bytes_by b said number piece (dialling.On on other) w left)
+      T (heard_if b said piece) w.logons w.actions → (P → HoldRequests w.links) → DialWorkPart P G (bytes_by b said number piece (dialling.On on other) w left)
   bytes_if true said other on number piece w left good out all = dialled_fine (cut_stream (said.rest ++ piece)) number said.talk w left out all
   bytes_if false said other on number piece w left good out all =
       on_link_fine (lookup same_number number w.links) number piece (dialling.On on other) w left refl good all
 
   bytes_fine : (how : Dialling) (number : ℕ) (piece : List ℕ) (w : Work) (left : List (List ℕ)) → G (is_dialled how) w.logons w.actions →
-      TurnOut T (heard_from number piece how) how w → (P → HoldRequests w.links) → DeskPart P G (bytes_on how number piece w left)
+      TurnOut T (heard_from number piece how) how w → (P → HoldRequests w.links) → DialWorkPart P G (bytes_on how number piece w left)
   bytes_fine dialling.Nothing number piece w left good out all = on_link_fine (lookup same_number number w.links) number piece dialling.Nothing w left refl good all
   bytes_fine (dialling.Waits turn frames) number piece w left good out all =
       on_link_fine (lookup same_number number w.links) number piece (dialling.Waits turn frames) w left refl good all
@@ -337,12 +337,12 @@ module _ (P : Type 0) (T : List RpcUnit → Holds) (G : Bool → Holds) (rules :
   lost_fine cause w out all = lose_fine P T (G false) (rules.link false) rules.turn cause w out all
 
   close_if : (b : Bool) (link on : ℕ) (said : LinkState TurnTalk) (w : Work) → G true w.logons w.actions → T [] w.logons w.actions → (P → HoldRequests w.links) →
-      DeskFine P G (close_turn b link (dialling.On on said) w)
+      DialWorkFine P G (close_turn b link (dialling.On on said) w)
   close_if false link on said w good out all = record { good = good; holds = λ p. taken_holds link w.links (all p) }
   close_if true link on said w good out all = lost_fine drop_cause.LinkClosed w out all
 
   close_fine : (how : Dialling) (link : ℕ) (w : Work) → G (is_dialled how) w.logons w.actions → TurnOut T [] how w → (P → HoldRequests w.links) →
-      DeskFine P G (close_link how link w)
+      DialWorkFine P G (close_link how link w)
   close_fine dialling.Nothing link w good out all = record { good = good; holds = λ p. taken_holds link w.links (all p) }
   close_fine (dialling.Waits turn frames) link w good out all = record { good = good; holds = λ p. taken_holds link w.links (all p) }
   close_fine (dialling.On on said) link w good out all = close_if (on == link) link on said w good (out refl) all
@@ -352,7 +352,7 @@ module _ (P : Type 0) (T : List RpcUnit → Holds) (G : Bool → Holds) (rules :
       record { good = (rules.link dialled).tells w.logons w.actions (action.Close link close.TooManyLinks) tt good; holds = all }
   opens_fine dialled false link w good all = record { good = good; holds = λ p. put_holds link fresh_link w.links tt (all p) }
 
-  answer_fine : (how : Dialling) (link : ℕ) (w : Work) → G (is_dialled how) w.logons w.actions → (P → HoldRequests w.links) → DeskFine P G (answer_dial how link w)
+  answer_fine : (how : Dialling) (link : ℕ) (w : Work) → G (is_dialled how) w.logons w.actions → (P → HoldRequests w.links) → DialWorkFine P G (answer_dial how link w)
   answer_fine dialling.Nothing link w good all = record { good = good; holds = all }
   answer_fine (dialling.On number said) link w good all = record { good = good; holds = all }
   answer_fine (dialling.Waits turn frames) link w good all = record {
@@ -360,15 +360,15 @@ module _ (P : Type 0) (T : List RpcUnit → Holds) (G : Bool → Holds) (rules :
     holds = λ p. taken_holds link w.links (all p);
   }
 
-  fail_fine : (how : Dialling) (w : Work) → G (is_dialled how) w.logons w.actions → TurnOut T [] how w → (P → HoldRequests w.links) → DeskFine P G (fail_dial how w)
+  fail_fine : (how : Dialling) (w : Work) → G (is_dialled how) w.logons w.actions → TurnOut T [] how w → (P → HoldRequests w.links) → DialWorkFine P G (fail_dial how w)
   fail_fine dialling.Nothing w good out all = record { good = good; holds = all }
   fail_fine (dialling.On number said) w good out all = record { good = good; holds = all }
   fail_fine (dialling.Waits turn frames) w good out all = lost_fine drop_cause.DialFailed w (out refl) all
 
   pub event_fine : (what : Event) (how : Dialling) (w : Work) (left : List (List ℕ)) → G (is_dialled how) w.logons w.actions → TurnOut T (heard_in what how) how w →
-      (P → HoldRequests w.links) → DeskPart P G (by_event what how w left)
+      (P → HoldRequests w.links) → DialWorkPart P G (by_event what how w left)
   event_fine (event.Opened link) how w left good out all =
-      let closed : Desk = close_link how link w in
+      let closed : DialWork = close_link how link w in
       let fine = close_fine how link w good out all in
       opens_fine (is_dialled closed.1) (nat_le 256 (length closed.0.links)) link closed.0 fine.good fine.holds
   event_fine (event.Bytes link piece) how w left good out all = bytes_fine how link piece w left good out all
@@ -381,31 +381,31 @@ module _ (P : Type 0) (T : List RpcUnit → Holds) (G : Bool → Holds) (rules :
 
 module _ (P : Type 0) (T : List RpcUnit → Holds) (G : Bool → Holds) (rules : StepRules T G) where
   dial_fine : (start : Option (Unit {0} × List (List ℕ))) (w : Work) (how : Dialling) → AfterStart G (is_dialled how) start w.logons w.actions → (P → HoldRequests w.links) →
-      DeskFine P G (dial_for start w how)
+      DialWorkFine P G (dial_for start w how)
   dial_fine None w how good all = record { good = good; holds = all }
   dial_fine (Some start) w how good all =
       record { good = rules.dials w.logons w.actions w.logons.plan.controller good; holds = all }
 
   start_fine : (timestamp : ℕ) (challenge : List ℕ) (w : Work) (how : Dialling) → G (is_dialled how) w.logons w.actions → (P → HoldRequests w.links) →
-      DeskFine P G (dial_by (start_of w.logons.channel timestamp challenge) w how)
+      DialWorkFine P G (dial_by (start_of w.logons.channel timestamp challenge) w how)
   start_fine timestamp challenge w how good all =
       let starting = start_of w.logons.channel timestamp challenge in
       dial_fine starting.answer (with_requester w starting.state) how (rules.starts (is_dialled how) w.logons w.actions timestamp challenge good) all
 
   turn_if : (b needs : Bool) (now : ℕ) (w : Work) (how : Dialling) (left : List (List ℕ)) → G (is_dialled how) w.logons w.actions → (P → HoldRequests w.links) →
-      DeskPart P G (turn_by b needs now w how left)
+      DialWorkPart P G (turn_by b needs now w how left)
   turn_if false needs now w how left good all = record { good = good; holds = all }
   turn_if true false now w how left good all = start_fine (timestamp_of now) (replicate 8 0) w how good all
   turn_if true true now w how [] good all = tt
   turn_if true true now w how (challenge ∷ left) good all = start_fine (timestamp_of now) challenge w how good all
 
-  next_fine : (part : Result (Part Desk) StepRefused) (now : ℕ) → DeskPart P G part → DeskPart P G (then_part part (next_turn now))
+  next_fine : (part : Result (Part DialWork) StepRefused) (now : ℕ) → DialWorkPart P G part → DialWorkPart P G (then_part part (next_turn now))
   next_fine (Err why) now fine = tt
   next_fine (Ok part) now fine =
       let w : Work = part.value.0 in
       turn_if (can_start w.logons.channel.turn w.logons.channel.waiting) (needs_challenge w.logons.channel.standing) now w part.value.1 part.left fine.good fine.holds
 
   pub step_fine : (running : Running) (what : Event) (now : ℕ) (left : List (List ℕ)) → G (is_dialled running.dialling) running.logons [] →
-      TurnOut T (heard_in what running.dialling) running.dialling (work_of running) → (P → HoldRequests running.links) → DeskPart P G (event_part running what now left)
+      TurnOut T (heard_in what running.dialling) running.dialling (work_of running) → (P → HoldRequests running.links) → DialWorkPart P G (event_part running what now left)
   step_fine running what now left good out all =
       next_fine (by_event what running.dialling (work_of running) left) now (event_fine P T G (events_of T G rules) what running.dialling (work_of running) left good out all)

@@ -25,9 +25,9 @@ use Rattle.member_server.specs.Laws.{Asks, Comes, ComesUnlessStopped, Doing, Hol
 use Rattle.member_server.specs.Machine.{actions_in, event_part, halted_state, state_in, step_on}
 use Rattle.member_server.specs.Messages.{with_channel}
 use Rattle.member_server.specs.Outcomes.{outcome_of}
-use Rattle.member_server.specs.Turns.{Desk, ending_of}
+use Rattle.member_server.specs.Turns.{DialWork, ending_of}
 use Rattle.member_server.proofs.StepRules.{AfterStart, AfterTaken, Ends, Holds, IsPlainAction, LinkRules, StepRules, TurnRules}
-use Rattle.member_server.proofs.EventSteps.{DeskPart, step_fine}
+use Rattle.member_server.proofs.EventSteps.{DialWorkPart, step_fine}
 
 -- ---- what is done to the channel, one after the other
 
@@ -97,12 +97,12 @@ module _ (old : Requester) where
 
 -- ---- a step
 
-step_holds : (P : Type 0) (G : Bool → Holds) (part : Result (Part Desk) StepRefused) (left : List (List ℕ)) → DeskPart P G part → P →
+step_holds : (P : Type 0) (G : Bool → Holds) (part : Result (Part DialWork) StepRefused) (left : List (List ℕ)) → DialWorkPart P G part → P →
     HoldUnlessStopped (step_by actions_in state_in halted_state left part).state.running
 step_holds P G (Err why) left fine p = tt
 step_holds P G (Ok part) left fine p = fine.holds p
 
-step_comes : (P : Type 0) (old : Requester) (part : Result (Part Desk) StepRefused) (left : List (List ℕ)) → DeskPart P (λ b. Since old) part →
+step_comes : (P : Type 0) (old : Requester) (part : Result (Part DialWork) StepRefused) (left : List (List ℕ)) → DialWorkPart P (λ b. Since old) part →
     ComesUnlessStopped old (step_by actions_in state_in halted_state left part).state.running
 step_comes P old (Err why) left fine = tt
 step_comes P old (Ok part) left fine = fine.good
@@ -250,7 +250,7 @@ module _ (running : Running) (what : Event) where
     dials = λ l a peer told. one_told running what a (action.Dial peer) told tt;
   }
 
-step_told : (P : Type 0) (running : Running) (what : Event) (part : Result (Part Desk) StepRefused) (left : List (List ℕ)) → DeskPart P (λ b. AreTold running what) part →
+step_told : (P : Type 0) (running : Running) (what : Event) (part : Result (Part DialWork) StepRefused) (left : List (List ℕ)) → DialWorkPart P (λ b. AreTold running what) part →
     AllByRecursion (IsTold running what) (actions_of (step_by actions_in state_in halted_state left part))
 step_told P running what (Err why) left fine = tt
 step_told P running what (Ok part) left fine = fine.good

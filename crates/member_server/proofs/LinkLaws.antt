@@ -25,7 +25,7 @@ use Rattle.member_server.specs.declared.state.Work.{Work}
 use Rattle.member_server.specs.Laws.{IsPast, ReachesItsLink, ServesOneMessage}
 use Rattle.rpc_units.specs.Numbers.{ntlm_provider}
 use Rattle.member_server.specs.Messages.{ask_by, info_of, is_fit, take_auth3, take_message, take_trailer, wait_by, with_channel}
-use Rattle.member_server.specs.Outcomes.{end_found, reach_link, tell_outcome, turn_link, waiting_on, without_logon}
+use Rattle.member_server.specs.Outcomes.{end_found, reach_link, tell_outcome, reach_in_map, waiting_on, without_logon}
 use Rattle.member_server.specs.Units.{body_challenged, unit_challenged}
 
 -- ---- a unit where a CHALLENGE was sent
@@ -83,7 +83,7 @@ serves_one_message = record {
 none_reached : (link : Option (LinkState Talk)) (place : ℕ) (how : Ending) (logon : Logon) (work : Work) → waiting_on place link ≡ None →
     reach_link link place how logon work ≡ work
 none_reached None place how logon work none = refl
-none_reached (Some link) place how logon work none = ap (λ waits. turn_link waits link how logon work) none
+none_reached (Some link) place how logon work none = ap (λ waits. reach_in_map waits link how logon work) none
 
 pub reaches_its_link : ReachesItsLink
 reaches_its_link = record {
@@ -95,5 +95,5 @@ reaches_its_link = record {
       let told = tell_outcome how logon (without_logon place work) in
       ap (λ found. end_found found place how (without_logon place work)) found
       ∙ ap (λ link. reach_link link place how logon told) there
-      ∙ ap (λ waits. turn_link waits link how logon told) is;
+      ∙ ap (λ waits. reach_in_map waits link how logon told) is;
 }

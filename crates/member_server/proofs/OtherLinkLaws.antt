@@ -20,13 +20,13 @@ use Rattle.member_server.specs.declared.state.Work.{Work}
 use Rattle.member_server.specs.Laws.{LeavesOtherLinks, StaysUnlessStopped, is_on}
 use Rattle.member_server.specs.Machine.{actions_in, after_units, bytes_by, bytes_on, bytes_on_link, event_part, halted_state, state_in, step_on, work_of}
 use Rattle.member_server.specs.Outcomes.{after_link, at_link, keep_link, without_link}
-use Rattle.member_server.specs.Turns.{Desk, dial_for, next_turn, timestamp_of, turn_by, with_requester}
+use Rattle.member_server.specs.Turns.{DialWork, dial_for, next_turn, timestamp_of, turn_by, with_requester}
 use Rattle.member_server.specs.Units.{link_server}
 
 abbrev pub Stays : ℕ → List (ℕ × LinkState Talk) → Work → Type 0
 Stays other links w = lookup same_number other w.links ≡ lookup same_number other links
 
-abbrev pub StaysPart : ℕ → List (ℕ × LinkState Talk) → Result (Part Desk) StepRefused → Type 0
+abbrev pub StaysPart : ℕ → List (ℕ × LinkState Talk) → Result (Part DialWork) StepRefused → Type 0
 StaysPart other links (Err why) = Unit {0}
 StaysPart other links (Ok part) = Stays other links part.value.0
 
@@ -75,14 +75,14 @@ turn_stays other links true true now w how [] stays = tt
 turn_stays other links true true now w how (challenge ∷ left) stays =
     let starting = start_of w.logons.channel (timestamp_of now) challenge in dial_stays other links starting.answer (with_requester w starting.state) how stays
 
-next_stays : (other : ℕ) (links : List (ℕ × LinkState Talk)) (part : Result (Part Desk) StepRefused) (now : ℕ) → StaysPart other links part →
+next_stays : (other : ℕ) (links : List (ℕ × LinkState Talk)) (part : Result (Part DialWork) StepRefused) (now : ℕ) → StaysPart other links part →
     StaysPart other links (then_part part (next_turn now))
 next_stays other links (Err why) now stays = tt
 next_stays other links (Ok part) now stays =
     let w : Work = part.value.0 in
     turn_stays other links (can_start w.logons.channel.turn w.logons.channel.waiting) (needs_challenge w.logons.channel.standing) now w part.value.1 part.left stays
 
-step_stays : (other : ℕ) (links : List (ℕ × LinkState Talk)) (part : Result (Part Desk) StepRefused) (left : List (List ℕ)) → StaysPart other links part →
+step_stays : (other : ℕ) (links : List (ℕ × LinkState Talk)) (part : Result (Part DialWork) StepRefused) (left : List (List ℕ)) → StaysPart other links part →
     StaysUnlessStopped other links (step_by actions_in state_in halted_state left part).state.running
 step_stays other links (Err why) left stays = tt
 step_stays other links (Ok part) left stays = stays

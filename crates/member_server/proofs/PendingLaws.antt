@@ -37,10 +37,10 @@ use Rattle.member_server.specs.declared.state.Phase.TheVariants as phase
 use Rattle.member_server.specs.declared.state.Talk.{Talk}
 use Rattle.member_server.specs.declared.state.Work.{Work}
 use Rattle.member_server.specs.Machine.{answer_dial, close_link, close_turn, fail_dial, work_of}
-use Rattle.member_server.specs.Outcomes.{after_link, at_link, end_found, end_logon, keep_link, reach_link, tell_outcome, turn_link, turn_waiting, waiting_at, waiting_if, without_link, without_logon}
+use Rattle.member_server.specs.Outcomes.{after_link, at_link, end_found, end_logon, keep_link, reach_link, tell_outcome, reach_in_map, reach_waiting, waiting_at, waiting_if, without_link, without_logon}
 use Rattle.member_server.specs.Pending.{channel_weight, held_in, held_on, pending_of, start_weight, total, work_weight, Within, Settles}
 use Rattle.member_server.specs.Requests.{body_out, unit_out}
-use Rattle.member_server.specs.Turns.{Desk, dial_by, lose_turn, next_turn, timestamp_of, turn_by, with_requester}
+use Rattle.member_server.specs.Turns.{DialWork, dial_by, lose_turn, next_turn, timestamp_of, turn_by, with_requester}
 use Rattle.member_server.specs.Units.{serve_held, then_held}
 use Rattle.member_server.specs.Work.{Served, send_unit, shut}
 
@@ -163,7 +163,7 @@ for_size place (phase.Out bound status) x e = absurd (let z = e in cc)
 
 waiting_keeps : (x : Bound × List (List ℕ)) (link : LinkState Talk) (cause : DropCause) (place : ℕ) (logon : Logon) (w : Work) →
     waiting_at place link.talk.phase ≡ Some x → lookup same_number logon.link w.links ≡ Some link →
-    Keeps (turn_waiting x link (ending.NoController cause) logon (without_link logon.link w)) w
+    Keeps (reach_waiting x link (ending.NoController cause) logon (without_link logon.link w)) w
 waiting_keeps x link cause place logon w e f =
     let at : AtLink = at_link logon.link w in
     let served : Served = serve_held x.1 at (out_talk x.0 rpc_s_server_unavailable link.talk.joiner) in
@@ -171,7 +171,7 @@ waiting_keeps x link cause place logon w e f =
     kept_over served.1 served.0 link logon.link (length x.1) w f (for_size place link.talk.phase x e) made.0 made.1 made.2
 
 link_keeps : (x : Option (Bound × List (List ℕ))) (link : LinkState Talk) (cause : DropCause) (place : ℕ) (logon : Logon) (w : Work) →
-    waiting_at place link.talk.phase ≡ x → lookup same_number logon.link w.links ≡ Some link → Keeps (turn_link x link (ending.NoController cause) logon w) w
+    waiting_at place link.talk.phase ≡ x → lookup same_number logon.link w.links ≡ Some link → Keeps (reach_in_map x link (ending.NoController cause) logon w) w
 link_keeps None link cause place logon w e f = (omega arith, refl)
 link_keeps (Some x) link cause place logon w e f = waiting_keeps x link cause place logon w e f
 
@@ -222,14 +222,14 @@ turns_within true false now w how left e = dials_within w.logons.channel.turn w.
 turns_within true true now w how [] e = tt
 turns_within true true now w how (challenge ∷ left) e = dials_within w.logons.channel.turn w.logons.channel.waiting w how (timestamp_of now) challenge e
 
-lighter : (r : Result (Part Desk) StepRefused) (m n : ℕ) → m ≤ n → Within r m → Within r n
+lighter : (r : Result (Part DialWork) StepRefused) (m n : ℕ) → m ≤ n → Within r m → Within r n
 lighter (Err why) m n h k = tt
 lighter (Ok part) m n h k = omega (arith, h, k)
 
-next_within : (now : ℕ) (desk : Desk) (left : List (List ℕ)) (n : ℕ) → total desk ≤ n → Within (next_turn now desk left) n
-next_within now desk left n h =
-    lighter (next_turn now desk left) (total desk) n h
-    (turns_within (can_start desk.0.logons.channel.turn desk.0.logons.channel.waiting) (needs_challenge desk.0.logons.channel.standing) now desk.0 desk.1 left refl)
+next_within : (now : ℕ) (dial_work : DialWork) (left : List (List ℕ)) (n : ℕ) → total dial_work ≤ n → Within (next_turn now dial_work left) n
+next_within now dial_work left n h =
+    lighter (next_turn now dial_work left) (total dial_work) n h
+    (turns_within (can_start dial_work.0.logons.channel.turn dial_work.0.logons.channel.waiting) (needs_challenge dial_work.0.logons.channel.standing) now dial_work.0 dial_work.1 left refl)
 
 -- ---- the events
 

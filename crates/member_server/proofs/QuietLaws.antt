@@ -35,9 +35,9 @@ use Rattle.member_server.specs.declared.state.Talk.{Talk}
 use Rattle.member_server.specs.declared.state.Work.{Work}
 use Rattle.member_server.specs.Laws.{AreQuiet, AreRequests, ClosesNothing, HoldRequests, HoldsRequests, IsQuiet, IsRequestBody, IsRequestUnit}
 use Rattle.member_server.specs.Machine.{actions_in, answer_dial, close_link, close_turn, event_part, fail_dial, halted_state, state_in, step_on, work_of}
-use Rattle.member_server.specs.Outcomes.{after_link, at_link, end_found, keep_link, reach_link, tell_outcome, turn_link, waiting_at, waiting_if, without_link, without_logon}
+use Rattle.member_server.specs.Outcomes.{after_link, at_link, end_found, keep_link, reach_link, tell_outcome, reach_in_map, waiting_at, waiting_if, without_link, without_logon}
 use Rattle.member_server.specs.Requests.{body_out, unit_out}
-use Rattle.member_server.specs.Turns.{Desk, dial_by, dial_for, lose_turn, next_turn, timestamp_of, turn_by, with_requester}
+use Rattle.member_server.specs.Turns.{DialWork, dial_by, dial_for, lose_turn, next_turn, timestamp_of, turn_by, with_requester}
 use Rattle.member_server.specs.Units.{serve_held, then_held}
 use Rattle.member_server.specs.Work.{Served, send_unit}
 use Rattle.member_server.proofs.PendingLaws.{out_talk}
@@ -102,7 +102,7 @@ kept_quiet None rest number at w quiet = quiet
 kept_quiet (Some talk) rest number at w quiet = quiet
 
 link_quiet : (x : Option (Bound × List (List ℕ))) (link : LinkState Talk) (cause : DropCause) (place : ℕ) (logon : Logon) (w : Work) → HoldsRequests link.talk.phase →
-    waiting_at place link.talk.phase ≡ x → AreQuiet w.actions → AreQuiet (turn_link x link (ending.NoController cause) logon w).actions
+    waiting_at place link.talk.phase ≡ x → AreQuiet w.actions → AreQuiet (reach_in_map x link (ending.NoController cause) logon w).actions
 link_quiet None link cause place logon w holds e quiet = quiet
 link_quiet (Some x) link cause place logon w holds e quiet =
     let at : AtLink = at_link logon.link w in
@@ -131,7 +131,7 @@ lost_quiet cause w all quiet =
 
 -- ---- the next turn
 
-abbrev pub QuietPart : Result (Part Desk) StepRefused → Type 0
+abbrev pub QuietPart : Result (Part DialWork) StepRefused → Type 0
 QuietPart (Err why) = Unit {0}
 QuietPart (Ok part) = AreQuiet part.value.0.actions
 
@@ -148,9 +148,9 @@ turn_quiet true false now w how left quiet = start_quiet (start_of w.logons.chan
 turn_quiet true true now w how [] quiet = tt
 turn_quiet true true now w how (challenge ∷ left) quiet = start_quiet (start_of w.logons.channel (timestamp_of now) challenge) w how quiet
 
-next_quiet : (now : ℕ) (desk : Desk) (left : List (List ℕ)) → AreQuiet desk.0.actions → QuietPart (next_turn now desk left)
-next_quiet now desk left quiet =
-    turn_quiet (can_start desk.0.logons.channel.turn desk.0.logons.channel.waiting) (needs_challenge desk.0.logons.channel.standing) now desk.0 desk.1 left quiet
+next_quiet : (now : ℕ) (dial_work : DialWork) (left : List (List ℕ)) → AreQuiet dial_work.0.actions → QuietPart (next_turn now dial_work left)
+next_quiet now dial_work left quiet =
+    turn_quiet (can_start dial_work.0.logons.channel.turn dial_work.0.logons.channel.waiting) (needs_challenge dial_work.0.logons.channel.standing) now dial_work.0 dial_work.1 left quiet
 
 -- ---- the events
 
@@ -184,7 +184,7 @@ event_quiet running (event.Opened link) now left all e = absurd (let z = e in cc
 event_quiet running (event.Bytes link bytes) now left all e = absurd (let z = e in cc)
 event_quiet running event.Stop now left all e = absurd (let z = e in cc)
 
-step_quiet : (part : Result (Part Desk) StepRefused) (left : List (List ℕ)) → QuietPart part → AreQuiet (actions_of (step_by actions_in state_in halted_state left part))
+step_quiet : (part : Result (Part DialWork) StepRefused) (left : List (List ℕ)) → QuietPart part → AreQuiet (actions_of (step_by actions_in state_in halted_state left part))
 step_quiet (Err why) left quiet = tt
 step_quiet (Ok part) left quiet = quiet
 

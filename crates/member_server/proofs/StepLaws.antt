@@ -23,7 +23,7 @@ use Rattle.member_server.specs.State.{State}
 use Rattle.member_server.specs.Outcomes.{after_link, keep_link}
 use Rattle.member_server.specs.Pending.{pending_by, pending_in, pending_of, Within}
 use Rattle.member_server.specs.Rests.{all_left}
-use Rattle.member_server.specs.Turns.{Desk, next_turn}
+use Rattle.member_server.specs.Turns.{DialWork, next_turn}
 use Rattle.end_loop.specs.Acts.{is_made, most_made_by}
 use Rattle.member_server.proofs.PendingLaws.{settles}
 use Rattle.member_server.proofs.TurnLaws.{next_turn_rest}
@@ -94,22 +94,22 @@ event_refused why running what now before left actions none answer =
     AnswersBy-refused why (by_event what running.dialling (work_of running) before) (next_turn now) left (next_turn_rest now)
     (subst (λ a. AnswersBy (Err why) (by_event what running.dialling (record { logons = running.logons; links = running.links; actions = a }) before) left) none answer)
 
-pub event_done : (result : Result Desk StepRefused) (running : Running) (what : Event) (now : ℕ) (before between left : List (List ℕ)) (desk : Desk) →
-    by_event what running.dialling (work_of running) before ≡ Ok (record { value = desk; left = between }) → AnswersBy result (next_turn now desk between) left →
+pub event_done : (result : Result DialWork StepRefused) (running : Running) (what : Event) (now : ℕ) (before between left : List (List ℕ)) (dial_work : DialWork) →
+    by_event what running.dialling (work_of running) before ≡ Ok (record { value = dial_work; left = between }) → AnswersBy result (next_turn now dial_work between) left →
     AnswersBy result (event_part running what now before) left
-event_done result running what now before between left desk is answer =
+event_done result running what now before between left dial_work is answer =
     subst (λ p. AnswersBy result (then_part p (next_turn now)) left) (sym is) answer
 
 pub ruleset running = (event_refused, event_done, DrawsSome-none, DrawsSome-trans)
 
 -- ---- a step
 
-pub step_taken : (running : Running) (s new : State) (what : Event) (now : ℕ) (before after : Drawing) (desk : Desk) (actions : List Action) → actions ≡ actions_in desk →
-    s.running ≡ Some running → new ≡ state_in desk → DrawsSome before after → event_part running what now before.left ≡ Ok (record { value = desk; left = after.left }) →
+pub step_taken : (running : Running) (s new : State) (what : Event) (now : ℕ) (before after : Drawing) (dial_work : DialWork) (actions : List Action) → actions ≡ actions_in dial_work →
+    s.running ≡ Some running → new ≡ state_in dial_work → DrawsSome before after → event_part running what now before.left ≡ Ok (record { value = dial_work; left = after.left }) →
     Takes (step_of s what now before.left) new before after actions
-step_taken running s new what now before after desk actions told runs stays some is =
+step_taken running s new what now before after dial_work actions told runs stays some is =
     subst (λ a. Takes (step_of s what now before.left) new before after a) (sym told)
-    (subst (λ n. Takes (step_of s what now before.left) n before after (actions_in desk)) (sym stays) (record {
+    (subst (λ n. Takes (step_of s what now before.left) n before after (actions_in dial_work)) (sym stays) (record {
       drawn = draws_between before.left after.left;
       is = ap (λ (r : Option Running). step_on r s what now before.left) runs ∙ ap (step_by actions_in state_in halted_state before.left) is;
       draws = DrawsSome-between before after some;
@@ -124,13 +124,13 @@ step_refused why running s new what now before after runs stops some answer =
     (StepsBy-refused why actions_in state_in halted_state (event_part running what now before.left) before after some answer))
 
 -- the events that a step makes come to an end
-pub step_settles : (running : Running) (s new : State) (what : Event) (now : ℕ) (before after : List (List ℕ)) (desk : Desk) (actions : List Action) → actions ≡ actions_in desk →
-    s.running ≡ Some running → new ≡ state_in desk → event_part running what now before ≡ Ok (record { value = desk; left = after }) → IsTrue (is_made what) →
+pub step_settles : (running : Running) (s new : State) (what : Event) (now : ℕ) (before after : List (List ℕ)) (dial_work : DialWork) (actions : List Action) → actions ≡ actions_in dial_work →
+    s.running ≡ Some running → new ≡ state_in dial_work → event_part running what now before ≡ Ok (record { value = dial_work; left = after }) → IsTrue (is_made what) →
     most_made_by actions + pending_in new ≤ pending_in s
-step_settles running s new what now before after desk actions told runs stays is made =
+step_settles running s new what now before after dial_work actions told runs stays is made =
     subst (λ (a : List Action). most_made_by a + pending_in new ≤ pending_in s) (sym told)
-    (subst (λ (n : State). most_made_by (actions_in desk) + pending_in n ≤ pending_in s) (sym stays)
-    (subst (λ (r : Option Running). most_made_by (actions_in desk) + pending_in (state_in desk) ≤ pending_by r) (sym runs)
+    (subst (λ (n : State). most_made_by (actions_in dial_work) + pending_in n ≤ pending_in s) (sym stays)
+    (subst (λ (r : Option Running). most_made_by (actions_in dial_work) + pending_in (state_in dial_work) ≤ pending_by r) (sym runs)
     (subst (λ p. Within p (pending_of running)) is (settles running what now before made))))
 
 pub ruleset stepping = (step_taken, step_refused, step_settles)

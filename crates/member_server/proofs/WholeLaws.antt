@@ -58,8 +58,8 @@ use Rattle.member_server.specs.declared.state.Talk.{Talk}
 use Rattle.member_server.specs.declared.state.TurnTalk.{TurnTalk}
 use Rattle.member_server.specs.declared.state.Work.{Work}
 use Rattle.member_server.specs.Machine.{account_of, actions_in, after_turn, after_units, answer_dial, at_turn, by_event, bytes_by, bytes_on, bytes_on_link, caller_of, close_link, close_turn, event_part, fail_dial, fresh_link, halted_state, keep_turn, open_by, serve_alone, serve_dialled, state_in, step_on, work_of}
-use Rattle.member_server.specs.Outcomes.{after_link, at_link, end_found, end_logon, keep_link, phase_after, reach_link, tell_at, tell_outcome, turn_link, turn_waiting, waiting_at, waiting_if, without_link, without_logon}
-use Rattle.member_server.specs.Turns.{Desk, break_turn, dial_by, dial_for, do_taken, ending_of, lose_turn, next_turn, tell_turn_closed, timestamp_of, turn_by, turn_by_join, turn_server, turn_unit, with_requester, with_work}
+use Rattle.member_server.specs.Outcomes.{after_link, at_link, end_found, end_logon, keep_link, phase_after, reach_link, tell_at, tell_outcome, reach_in_map, reach_waiting, waiting_at, waiting_if, without_link, without_logon}
+use Rattle.member_server.specs.Turns.{DialWork, break_turn, dial_by, dial_for, do_taken, ending_of, lose_turn, next_turn, tell_turn_closed, timestamp_of, turn_by, turn_by_join, turn_server, turn_unit, with_requester, with_work}
 use Rattle.member_server.specs.Units.{link_server, serve_held}
 use Rattle.member_server.specs.Whole.{AcceptedUnlessStopped, AreChallenges, InRangeDialling, InRangeEvent, InRangeLink, InRangeLinks, InRangePhase, InRangeRunning, InRangeUnlessStopped, IsAccepted, IsAcceptedAfter, IsSentOn, IsTurnLink, MembersSendWhole, link_of_turn, opened_link}
 use Rattle.member_server.specs.Work.{Served}
@@ -149,15 +149,15 @@ pub record WorkFits (First Second : ℕ → Type 0) (w : Work) : Type 0 where
   pub sends : AllByRecursion (IsSentOn First Second) w.actions
 
 -- links are of a third kind then, to which also the one belongs that was opened in the step: nothing is sent on it
-pub record DeskFits (First Second Third : ℕ → Type 0) (desk : Desk) : Type 0 where
-  pub channel : InRangeRequester desk.0.logons.channel
-  pub links : LinksAre (LinkFits Third) desk.0.links
-  pub sends : AllByRecursion (IsSentOn First Second) desk.0.actions
-  pub how : InRangeDialling desk.1
+pub record DialWorkFits (First Second Third : ℕ → Type 0) (dial_work : DialWork) : Type 0 where
+  pub channel : InRangeRequester dial_work.0.logons.channel
+  pub links : LinksAre (LinkFits Third) dial_work.0.links
+  pub sends : AllByRecursion (IsSentOn First Second) dial_work.0.actions
+  pub how : InRangeDialling dial_work.1
 
-abbrev pub DeskPartFits : (ℕ → Type 0) → (ℕ → Type 0) → (ℕ → Type 0) → Result (Part Desk) StepRefused → Type 0
-DeskPartFits First Second Third (Err why) = Unit {0}
-DeskPartFits First Second Third (Ok part) = DeskFits First Second Third part.value × AreChallenges part.left
+abbrev pub DialWorkPartFits : (ℕ → Type 0) → (ℕ → Type 0) → (ℕ → Type 0) → Result (Part DialWork) StepRefused → Type 0
+DialWorkPartFits First Second Third (Err why) = Unit {0}
+DialWorkPartFits First Second Third (Ok part) = DialWorkFits First Second Third part.value × AreChallenges part.left
 
 -- the turn: on a link of the second kind
 pub record TurnFits (First Second : ℕ → Type 0) (at : AtTurn) : Type 0 where
@@ -191,8 +191,8 @@ AreUnlessStopped Third None = Unit {0}
 AreUnlessStopped Third (Some running) = LinksAre (λ number link. Third number) running.links
 
 module _ (First Second Third : ℕ → Type 0) (early : (number : ℕ) → First number → Third number) where
-  desk_of : (w : Work) (how : Dialling) → WorkFits First Second w → InRangeDialling how → DeskFits First Second Third (w, how)
-  desk_of w how fits range = record {
+  dial_work_of : (w : Work) (how : Dialling) → WorkFits First Second w → InRangeDialling how → DialWorkFits First Second Third (w, how)
+  dial_work_of w how fits range = record {
     channel = fits.channel;
     links = are_so (LinkFits First) (LinkFits Third) (λ number link is. (early number is.0, is.1)) w.links fits.links;
     sends = fits.sends;
@@ -217,7 +217,7 @@ module _ (First Second Third : ℕ → Type 0) (early : (number : ℕ) → First
   -- ---- an outcome
 
   waiting_fits : (waits : Bound × List (List ℕ)) (link : LinkState Talk) (how : Ending) (logon : Logon) (w : Work) → First logon.link → AreBytes link.rest →
-      AllByRecursion AreBytes waits.1 → WorkFits First Second w → WorkFits First Second (turn_waiting waits link how logon w)
+      AllByRecursion AreBytes waits.1 → WorkFits First Second w → WorkFits First Second (reach_waiting waits link how logon w)
   waiting_fits waits link how logon w own are all fits =
       let at : AtLink = at_link logon.link w in
       let talk : Talk = record { joiner = link.talk.joiner; phase = phase_after how logon waits.0 } in
@@ -226,7 +226,7 @@ module _ (First Second Third : ℕ → Type 0) (early : (number : ℕ) → First
       kept_fits served.1 link.rest logon.link served.0 w own are held.at held.said fits.links
 
   link_fits : (waits : Option (Bound × List (List ℕ))) (place : ℕ) (link : LinkState Talk) (how : Ending) (logon : Logon) (w : Work) →
-      waiting_at place link.talk.phase ≡ waits → LinkFits First logon.link link → WorkFits First Second w → WorkFits First Second (turn_link waits link how logon w)
+      waiting_at place link.talk.phase ≡ waits → LinkFits First logon.link link → WorkFits First Second w → WorkFits First Second (reach_in_map waits link how logon w)
   link_fits None place link how logon w is own fits = fits
   link_fits (Some waits) place link how logon w is own fits =
       waiting_fits waits link how logon (without_link logon.link w) own.0 own.1.rest (waits_bytes place link.talk.phase waits own.1.phase is)
@@ -312,13 +312,13 @@ module _ (First Second Third : ℕ → Type 0) (early : (number : ℕ) → First
   turn_kept None rest number = tt
   turn_kept (Some talk) rest number = tt
 
-  turn_done : (part : ServedPart AtTurn TurnTalk) (rest : List ℕ) (number : ℕ) → TurnPartFits First Second part → DeskPartFits First Second Third (after_turn part rest number)
+  turn_done : (part : ServedPart AtTurn TurnTalk) (rest : List ℕ) (number : ℕ) → TurnPartFits First Second part → DialWorkPartFits First Second Third (after_turn part rest number)
   turn_done (Err why) rest number fits = tt
   turn_done (Ok part) rest number fits =
-      (desk_of part.value.0.work (keep_turn part.value.1 rest number) fits.0.work (turn_kept part.value.1 rest number), fits.1)
+      (dial_work_of part.value.0.work (keep_turn part.value.1 rest number) fits.0.work (turn_kept part.value.1 rest number), fits.1)
 
   dialled_fits : (cut : Cut) (number : ℕ) (talk : TurnTalk) (w : Work) (left : List (List ℕ)) → Second number → WorkFits First Second w → AreChallenges left →
-      DeskPartFits First Second Third (serve_dialled cut number talk w left)
+      DialWorkPartFits First Second Third (serve_dialled cut number talk w left)
   dialled_fits cut number talk w left own fits all =
       turn_done (served_by turn_server cut.units cut.refused (at_turn number w) talk left) cut.rest number
       (served_stays turn_server (TurnPartFits First Second) turns_stay cut (at_turn number w) talk left (record { own = own; work = fits }, all))
@@ -326,16 +326,16 @@ module _ (First Second Third : ℕ → Type 0) (early : (number : ℕ) → First
   -- ---- bytes on an accepted link
 
   after_fits : (part : ServedPart AtLink Talk) (rest : List ℕ) (number : ℕ) (how : Dialling) (w : Work) → First number → AreBytes rest → LinkPartFits First Second part →
-      LinksAre (LinkFits First) w.links → InRangeDialling how → DeskPartFits First Second Third (after_units part rest number how w)
+      LinksAre (LinkFits First) w.links → InRangeDialling how → DialWorkPartFits First Second Third (after_units part rest number how w)
   after_fits (Err why) rest number how w own are fits all range = tt
   after_fits (Ok part) rest number how w own are fits all range = (
-    desk_of (keep_link part.value.1 rest number (after_link part.value.0 w)) how
+    dial_work_of (keep_link part.value.1 rest number (after_link part.value.0 w)) how
         (kept_fits part.value.1 rest number part.value.0 w own are fits.0.at fits.0.said all) range,
     fits.1,
   )
 
   alone_fits : (cut : Cut) (number : ℕ) (talk : Talk) (how : Dialling) (w : Work) (left : List (List ℕ)) → First number → AllByRecursion AreBytes cut.units × AreBytes cut.rest →
-      InRangePhase talk.phase → WorkFits First Second w → InRangeDialling how → AreChallenges left → DeskPartFits First Second Third (serve_alone cut number talk how w left)
+      InRangePhase talk.phase → WorkFits First Second w → InRangeDialling how → AreChallenges left → DialWorkPartFits First Second Third (serve_alone cut number talk how w left)
   alone_fits cut number talk how w left own bytes phase_range fits range all =
       after_fits (served_by link_server cut.units cut.refused (at_link number w) talk left) cut.rest number how w own bytes.1
       (served_among link_server AreBytes (LinkPartFits First Second) (units_stay First Second) cut (at_link number w) talk left bytes.0
@@ -343,15 +343,15 @@ module _ (First Second Third : ℕ → Type 0) (early : (number : ℕ) → First
       fits.links range
 
   on_link_fits : (found : Option (LinkState Talk)) (number : ℕ) (piece : List ℕ) (how : Dialling) (w : Work) (left : List (List ℕ)) → lookup same_number number w.links ≡ found →
-      AreBytes piece → WorkFits First Second w → InRangeDialling how → AreChallenges left → DeskPartFits First Second Third (bytes_on_link found number piece how w left)
-  on_link_fits None number piece how w left is are fits range all = (desk_of w how fits range, all)
+      AreBytes piece → WorkFits First Second w → InRangeDialling how → AreChallenges left → DialWorkPartFits First Second Third (bytes_on_link found number piece how w left)
+  on_link_fits None number piece how w left is are fits range all = (dial_work_of w how fits range, all)
   on_link_fits (Some link) number piece how w left is are fits range all =
       let own : LinkFits First number link = there_are (LinkFits First) number w.links link fits.links is in
       alone_fits (cut_stream (link.rest ++ piece)) number link.talk how (without_link number w) left own.0
       (cut_bytes (link.rest ++ piece) (AreBytes-append link.rest piece own.1.rest are)) own.1.phase (without_fits number w fits) range all
 
   bytes_if : (hit : Bool) (said : LinkState TurnTalk) (number : ℕ) (piece : List ℕ) (how : Dialling) (w : Work) (left : List (List ℕ)) → (hit ≡ true → Second number) →
-      AreBytes piece → WorkFits First Second w → InRangeDialling how → AreChallenges left → DeskPartFits First Second Third (bytes_by hit said number piece how w left)
+      AreBytes piece → WorkFits First Second w → InRangeDialling how → AreChallenges left → DialWorkPartFits First Second Third (bytes_by hit said number piece how w left)
   bytes_if true said number piece how w left own are fits range all = dialled_fits (cut_stream (said.rest ++ piece)) number said.talk w left (own refl) fits all
   bytes_if false said number piece how w left own are fits range all =
       on_link_fits (lookup same_number number w.links) number piece how w left refl are fits range all
@@ -369,8 +369,8 @@ module _ (First Second Third : ℕ → Type 0) (early : (number : ℕ) → First
   close_fits (dialling.Waits turn frames) link w fits range = (without_fits link w fits, range)
   close_fits (dialling.On number said) link w fits range = close_if (number == link) link (dialling.On number said) w fits tt
 
-  open_fits : (full : Bool) (link : ℕ) (w : Work) (how : Dialling) → Third link → WorkFits First Second w → InRangeDialling how → DeskFits First Second Third (open_by full link w, how)
-  open_fits true link w how opened fits range = desk_of (open_by true link w) how (tell_work (action.Close link close.TooManyLinks) w fits tt) range
+  open_fits : (full : Bool) (link : ℕ) (w : Work) (how : Dialling) → Third link → WorkFits First Second w → InRangeDialling how → DialWorkFits First Second Third (open_by full link w, how)
+  open_fits true link w how opened fits range = dial_work_of (open_by true link w) how (tell_work (action.Close link close.TooManyLinks) w fits tt) range
   open_fits false link w how opened fits range = record {
     channel = fits.channel;
     links = put_are (LinkFits Third) link fresh_link w.links (opened, record { rest = AreBytes-nil; phase = tt })
@@ -380,22 +380,22 @@ module _ (First Second Third : ℕ → Type 0) (early : (number : ℕ) → First
   }
 
   answer_fits : (how : Dialling) (link : ℕ) (w : Work) → (link_of_turn how (event.Dialled link) ≡ Some link → Second link) → WorkFits First Second w → InRangeDialling how →
-      DeskFits First Second Third (answer_dial how link w)
-  answer_fits dialling.Nothing link w own fits range = desk_of w dialling.Nothing fits tt
-  answer_fits (dialling.On number said) link w own fits range = desk_of w (dialling.On number said) fits tt
+      DialWorkFits First Second Third (answer_dial how link w)
+  answer_fits dialling.Nothing link w own fits range = dial_work_of w dialling.Nothing fits tt
+  answer_fits (dialling.On number said) link w own fits range = dial_work_of w (dialling.On number said) fits tt
   answer_fits (dialling.Waits turn frames) link w own fits range =
       let away : WorkFits First Second (without_link link w) = without_fits link w fits in
-      desk_of (answer_dial (dialling.Waits turn frames) link w).0 (answer_dial (dialling.Waits turn frames) link w).1
+      dial_work_of (answer_dial (dialling.Waits turn frames) link w).0 (answer_dial (dialling.Waits turn frames) link w).1
       (tell_work (action.Send link (joined_frames frames)) (without_link link w) away (inr (own refl, range))) tt
 
-  fail_fits : (how : Dialling) (w : Work) → WorkFits First Second w → InRangeDialling how → DeskFits First Second Third (fail_dial how w)
-  fail_fits dialling.Nothing w fits range = desk_of w dialling.Nothing fits tt
-  fail_fits (dialling.On number said) w fits range = desk_of w (dialling.On number said) fits tt
-  fail_fits (dialling.Waits turn frames) w fits range = desk_of (lose_turn drop_cause.DialFailed w) dialling.Nothing (lose_fits drop_cause.DialFailed w fits) tt
+  fail_fits : (how : Dialling) (w : Work) → WorkFits First Second w → InRangeDialling how → DialWorkFits First Second Third (fail_dial how w)
+  fail_fits dialling.Nothing w fits range = dial_work_of w dialling.Nothing fits tt
+  fail_fits (dialling.On number said) w fits range = dial_work_of w (dialling.On number said) fits tt
+  fail_fits (dialling.Waits turn frames) w fits range = dial_work_of (lose_turn drop_cause.DialFailed w) dialling.Nothing (lose_fits drop_cause.DialFailed w fits) tt
 
   bytes_fit : (how : Dialling) (number : ℕ) (piece : List ℕ) (w : Work) (left : List (List ℕ)) →
       ((on : ℕ) → link_of_turn how (event.Bytes number piece) ≡ Some on → Second on) → AreBytes piece → WorkFits First Second w → InRangeDialling how → AreChallenges left →
-      DeskPartFits First Second Third (bytes_on how number piece w left)
+      DialWorkPartFits First Second Third (bytes_on how number piece w left)
   bytes_fit dialling.Nothing number piece w left own are fits range all =
       on_link_fits (lookup same_number number w.links) number piece dialling.Nothing w left refl are fits range all
   bytes_fit (dialling.Waits turn frames) number piece w left own are fits range all =
@@ -405,24 +405,24 @@ module _ (First Second Third : ℕ → Type 0) (early : (number : ℕ) → First
       (λ hit. subst Second ((Decides-eqb on number).0 hit) (own on refl)) are fits range all
 
   event_fits : (what : Event) (how : Dialling) (w : Work) (left : List (List ℕ)) → ((on : ℕ) → link_of_turn how what ≡ Some on → Second on) →
-      ((on : ℕ) → opened_link what ≡ Some on → Third on) → InRangeEvent what left → WorkFits First Second w → InRangeDialling how → DeskPartFits First Second Third (by_event what how w left)
+      ((on : ℕ) → opened_link what ≡ Some on → Third on) → InRangeEvent what left → WorkFits First Second w → InRangeDialling how → DialWorkPartFits First Second Third (by_event what how w left)
   event_fits (event.Opened link) how w left own opened comes fits range =
-      let closed : Desk = close_link how link w in
+      let closed : DialWork = close_link how link w in
       let done = close_fits how link w fits range in
       (open_fits (nat_le 256 (length closed.0.links)) link closed.0 closed.1 (opened link refl) done.0 done.1, comes.challenges)
   event_fits (event.Bytes link piece) how w left own opened comes fits range = bytes_fit how link piece w left own comes.bytes fits range comes.challenges
   event_fits (event.Closed link) how w left own opened comes fits range =
-      let closed : Desk = close_link how link w in
+      let closed : DialWork = close_link how link w in
       let done = close_fits how link w fits range in
-      (desk_of closed.0 closed.1 done.0 done.1, comes.challenges)
+      (dial_work_of closed.0 closed.1 done.0 done.1, comes.challenges)
   event_fits (event.Dialled link) how w left own opened comes fits range = (answer_fits how link w (own link) fits range, comes.challenges)
   event_fits event.DialFailed how w left own opened comes fits range = (fail_fits how w fits range, comes.challenges)
-  event_fits event.Stop how w left own opened comes fits range = (desk_of w how fits range, comes.challenges)
+  event_fits event.Stop how w left own opened comes fits range = (dial_work_of w how fits range, comes.challenges)
 
   -- ---- the next turn
 
-  dial_fits : (start : Option (Unit {0} × List (List ℕ))) (c : Requester) (w : Work) (how : Dialling) → DeskFits First Second Third (w, how) → InRangeRequester c → IsWholeStart start →
-      DeskFits First Second Third (dial_for start (with_requester w c) how)
+  dial_fits : (start : Option (Unit {0} × List (List ℕ))) (c : Requester) (w : Work) (how : Dialling) → DialWorkFits First Second Third (w, how) → InRangeRequester c → IsWholeStart start →
+      DialWorkFits First Second Third (dial_for start (with_requester w c) how)
   dial_fits None c w how fits range whole = record { channel = range; links = fits.links; sends = fits.sends; how = fits.how }
   dial_fits (Some start) c w how fits range whole = record {
     channel = range;
@@ -431,8 +431,8 @@ module _ (First Second Third : ℕ → Type 0) (early : (number : ℕ) → First
     how = whole;
   }
 
-  start_fits : (timestamp : ℕ) (challenge : List ℕ) (w : Work) (how : Dialling) → timestamp < 2 ^ 32 → IsBlock 8 challenge → DeskFits First Second Third (w, how) →
-      DeskFits First Second Third (dial_by (start_of w.logons.channel timestamp challenge) w how)
+  start_fits : (timestamp : ℕ) (challenge : List ℕ) (w : Work) (how : Dialling) → timestamp < 2 ^ 32 → IsBlock 8 challenge → DialWorkFits First Second Third (w, how) →
+      DialWorkFits First Second Third (dial_by (start_of w.logons.channel timestamp challenge) w how)
   start_fits timestamp challenge w how below block fits =
       let starting = start_of w.logons.channel timestamp challenge in
       let starts = requesters_send_whole.start w.logons.channel timestamp challenge fits.channel below block in
@@ -441,25 +441,25 @@ module _ (First Second Third : ℕ → Type 0) (early : (number : ℕ) → First
   moment_fits : (now : ℕ) → timestamp_of now < 2 ^ 32
   moment_fits now = mod-lt _ (omega arith)
 
-  turn_if : (starts needs : Bool) (now : ℕ) (w : Work) (how : Dialling) (left : List (List ℕ)) → DeskFits First Second Third (w, how) → AreChallenges left →
-      DeskPartFits First Second Third (turn_by starts needs now w how left)
+  turn_if : (starts needs : Bool) (now : ℕ) (w : Work) (how : Dialling) (left : List (List ℕ)) → DialWorkFits First Second Third (w, how) → AreChallenges left →
+      DialWorkPartFits First Second Third (turn_by starts needs now w how left)
   turn_if false needs now w how left fits all = (fits, all)
   turn_if true false now w how left fits all = (start_fits (timestamp_of now) (replicate 8 0) w how (moment_fits now) zeros_block fits, all)
   turn_if true true now w how [] fits all = tt
   turn_if true true now w how (challenge ∷ left) fits all = (start_fits (timestamp_of now) challenge w how (moment_fits now) all.0 fits, all.1)
 
-  next_fits : (part : Result (Part Desk) StepRefused) (now : ℕ) → DeskPartFits First Second Third part → DeskPartFits First Second Third (then_part part (next_turn now))
+  next_fits : (part : Result (Part DialWork) StepRefused) (now : ℕ) → DialWorkPartFits First Second Third part → DialWorkPartFits First Second Third (then_part part (next_turn now))
   next_fits (Err why) now fits = tt
   next_fits (Ok part) now fits =
       let w : Work = part.value.0 in
       turn_if (can_start w.logons.channel.turn w.logons.channel.waiting) (needs_challenge w.logons.channel.standing) now w part.value.1 part.left fits.0 fits.1
 
-  part_sends : (part : Result (Part Desk) StepRefused) (left : List (List ℕ)) → DeskPartFits First Second Third part →
+  part_sends : (part : Result (Part DialWork) StepRefused) (left : List (List ℕ)) → DialWorkPartFits First Second Third part →
       AllByRecursion (IsSentOn First Second) (actions_of (step_by actions_in state_in halted_state left part))
   part_sends (Err why) left fits = tt
   part_sends (Ok part) left fits = fits.0.sends
 
-  part_keeps : (part : Result (Part Desk) StepRefused) (left : List (List ℕ)) → DeskPartFits First Second Third part →
+  part_keeps : (part : Result (Part DialWork) StepRefused) (left : List (List ℕ)) → DialWorkPartFits First Second Third part →
       InRangeUnlessStopped (step_by actions_in state_in halted_state left part).state.running
   part_keeps (Err why) left fits = tt
   part_keeps (Ok part) left fits = record {
@@ -468,7 +468,7 @@ module _ (First Second Third : ℕ → Type 0) (early : (number : ℕ) → First
     dialling = fits.0.how;
   }
 
-  part_accepts : (part : Result (Part Desk) StepRefused) (left : List (List ℕ)) → DeskPartFits First Second Third part →
+  part_accepts : (part : Result (Part DialWork) StepRefused) (left : List (List ℕ)) → DialWorkPartFits First Second Third part →
       AreUnlessStopped Third (step_by actions_in state_in halted_state left part).state.running
   part_accepts (Err why) left fits = tt
   part_accepts (Ok part) left fits = are_so (LinkFits Third) (λ number link. Third number) (λ number link is. is.0) part.value.0.links fits.0.links
@@ -476,14 +476,14 @@ module _ (First Second Third : ℕ → Type 0) (early : (number : ℕ) → First
 -- ---- a step
 
 step_fits : (running : Running) (what : Event) (now : ℕ) (left : List (List ℕ)) → InRangeRunning running → InRangeEvent what left →
-    DeskPartFits (IsAccepted running) (IsTurnLink running what) (IsAcceptedAfter running what) (event_part running what now left)
+    DialWorkPartFits (IsAccepted running) (IsTurnLink running what) (IsAcceptedAfter running what) (event_part running what now left)
 step_fits running what now left range comes =
     next_fits (IsAccepted running) (IsTurnLink running what) (IsAcceptedAfter running what) (λ number is. inl is) (by_event what running.dialling (work_of running) left) now
     (event_fits (IsAccepted running) (IsTurnLink running what) (IsAcceptedAfter running what) (λ number is. inl is) what running.dialling (work_of running) left (λ on is. is) (λ on is. inr is) comes
     (record { channel = range.channel; links = with_found running running.links (all_found running.links) range.links; sends = tt }) range.dialling)
 
-accepted_after : (running : Running) (what : Event) (part : Result (Part Desk) StepRefused) (left : List (List ℕ)) →
-    DeskPartFits (IsAccepted running) (IsTurnLink running what) (IsAcceptedAfter running what) part →
+accepted_after : (running : Running) (what : Event) (part : Result (Part DialWork) StepRefused) (left : List (List ℕ)) →
+    DialWorkPartFits (IsAccepted running) (IsTurnLink running what) (IsAcceptedAfter running what) part →
     AcceptedUnlessStopped running what (step_by actions_in state_in halted_state left part).state.running
 accepted_after running what (Err why) left fits = tt
 accepted_after running what (Ok part) left fits =

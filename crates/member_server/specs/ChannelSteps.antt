@@ -13,7 +13,7 @@ use Rattle.channel_client.specs.Machine.{can_start, needs_challenge, start_of, t
 use Rattle.channel_client.specs.State.{Requester}
 use Rattle.member_server.specs.Laws.{Asks, Doing, Loses, Starts, Takes, heard_in, state_after}
 use Rattle.member_server.specs.Machine.{by_event, event_part, work_of}
-use Rattle.member_server.specs.Turns.{Desk, timestamp_of}
+use Rattle.member_server.specs.Turns.{DialWork, timestamp_of}
 use Rattle.member_server.specs.declared.state.Dialling.TheVariants as dialling
 use Rattle.member_server.specs.declared.state.Running.{Running}
 use Rattle.member_server.specs.declared.state.TurnTalk.{TurnTalk}
@@ -40,15 +40,15 @@ IsNextTurn true true now mid before new after =
 
 -- what the event comes to, whose channel is such, and then the next turn
 pub record ChannelSteps
-    (first : Result (Part Desk) StepRefused) (Mid : Requester → Type 0) (now : ℕ) (new : Requester) (after : List (List ℕ)) : Type 0 where
-  pub part : Part Desk
+    (first : Result (Part DialWork) StepRefused) (Mid : Requester → Type 0) (now : ℕ) (new : Requester) (after : List (List ℕ)) : Type 0 where
+  pub part : Part DialWork
   pub is : first ≡ Ok part
   pub mid : Mid part.value.0.logons.channel
   pub next : IsNextTurn
       (can_start part.value.0.logons.channel.turn part.value.0.logons.channel.waiting)
       (needs_challenge part.value.0.logons.channel.standing) now part.value.0.logons.channel part.left new after
 
-abbrev pub StepsIfTaken : Result (Part Desk) StepRefused → (Requester → Type 0) → ℕ → Result (Part Desk) StepRefused → Type 0
+abbrev pub StepsIfTaken : Result (Part DialWork) StepRefused → (Requester → Type 0) → ℕ → Result (Part DialWork) StepRefused → Type 0
 StepsIfTaken first Mid now (Err why) = Unit {0}
 StepsIfTaken first Mid now (Ok part) = ChannelSteps first Mid now part.value.0.logons.channel part.left
 

@@ -13,7 +13,7 @@ use Rattle.channel_client.specs.State.{Requester}
 use Rattle.member_server.specs.ChannelSteps.{IsNextTurn}
 use Rattle.member_server.specs.Laws.{Asks, Doing, IsInOrder, Loses, Starts, Takes, state_after}
 use Rattle.member_server.specs.Machine.{by_event, event_part, work_of}
-use Rattle.member_server.specs.Turns.{Desk}
+use Rattle.member_server.specs.Turns.{DialWork}
 use Rattle.member_server.specs.declared.state.Dialling.{Dialling}
 use Rattle.member_server.specs.declared.state.Dialling.TheVariants as dialling
 use Rattle.member_server.specs.declared.state.Running.{Running}
@@ -50,13 +50,13 @@ pub record ComesUnstarted (old new : Requester) : Type 0 where
   pub is : new ≡ state_after doings old
 
 -- what is dialled where a turn starts, or none. The argument: whether one starts
-abbrev pub IsDialledBy : Bool → Dialling → Desk → Type 0
-IsDialledBy false how desk = (dials_in desk.0.actions ≡ 0) × (desk.1 ≡ how)
-IsDialledBy true how desk = (dials_in desk.0.actions ≡ 1) × IsWaiting desk.1
+abbrev pub IsDialledBy : Bool → Dialling → DialWork → Type 0
+IsDialledBy false how dial_work = (dials_in dial_work.0.actions ≡ 0) × (dial_work.1 ≡ how)
+IsDialledBy true how dial_work = (dials_in dial_work.0.actions ≡ 1) × IsWaiting dial_work.1
 
 -- what the event comes to, in which no turn starts, and then the next turn
-pub record TurnSteps (old : Requester) (first : Result (Part Desk) StepRefused) (now : ℕ) (after : Part Desk) : Type 0 where
-  pub part : Part Desk
+pub record TurnSteps (old : Requester) (first : Result (Part DialWork) StepRefused) (now : ℕ) (after : Part DialWork) : Type 0 where
+  pub part : Part DialWork
   pub is : first ≡ Ok part
   pub comes : ComesUnstarted old part.value.0.logons.channel
   pub next : IsNextTurn
@@ -64,7 +64,7 @@ pub record TurnSteps (old : Requester) (first : Result (Part Desk) StepRefused) 
       (needs_challenge part.value.0.logons.channel.standing) now part.value.0.logons.channel part.left after.value.0.logons.channel after.left
   pub dials : IsDialledBy (can_start part.value.0.logons.channel.turn part.value.0.logons.channel.waiting) part.value.1 after.value
 
-abbrev pub TurnStepsIfTaken : Requester → Result (Part Desk) StepRefused → ℕ → Result (Part Desk) StepRefused → Type 0
+abbrev pub TurnStepsIfTaken : Requester → Result (Part DialWork) StepRefused → ℕ → Result (Part DialWork) StepRefused → Type 0
 TurnStepsIfTaken old first now (Err why) = Unit {0}
 TurnStepsIfTaken old first now (Ok after) = TurnSteps old first now after
 
@@ -78,14 +78,14 @@ IsNoAnswer event.DialFailed = ⊥
 IsNoAnswer event.Stop = Unit {0}
 
 -- nothing becomes of the turn that waits, nor of the channel, and nothing is dialled
-pub record StaysOut (old : Requester) (how : Dialling) (desk : Desk) : Type 0 where
-  pub none : dials_in desk.0.actions ≡ 0
-  pub dialling : desk.1 ≡ how
-  pub caller : desk.0.logons.channel.caller ≡ old.caller
-  pub standing : desk.0.logons.channel.standing ≡ old.standing
-  pub turn : desk.0.logons.channel.turn ≡ old.turn
+pub record StaysOut (old : Requester) (how : Dialling) (dial_work : DialWork) : Type 0 where
+  pub none : dials_in dial_work.0.actions ≡ 0
+  pub dialling : dial_work.1 ≡ how
+  pub caller : dial_work.0.logons.channel.caller ≡ old.caller
+  pub standing : dial_work.0.logons.channel.standing ≡ old.standing
+  pub turn : dial_work.0.logons.channel.turn ≡ old.turn
 
-abbrev pub StaysOutIfTaken : Requester → Dialling → Result (Part Desk) StepRefused → Type 0
+abbrev pub StaysOutIfTaken : Requester → Dialling → Result (Part DialWork) StepRefused → Type 0
 StaysOutIfTaken old how (Err why) = Unit {0}
 StaysOutIfTaken old how (Ok after) = StaysOut old how after.value
 

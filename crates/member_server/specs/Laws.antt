@@ -45,13 +45,14 @@ use Rattle.member_server.specs.declared.state.Talk.{Talk}
 use Rattle.member_server.specs.declared.state.TurnTalk.{TurnTalk}
 use Rattle.member_server.specs.declared.state.Work.{Work}
 use Rattle.member_server.specs.Machine.{fresh_member, step_of}
-use Rattle.member_server.specs.Outcomes.{end_logon, outcome_of, tell_outcome, turn_waiting, waiting_at, waiting_on, without_link, without_logon}
+use Rattle.member_server.specs.Outcomes.{end_logon, outcome_of, tell_outcome, reach_waiting, waiting_at, waiting_on, without_link, without_logon}
 use Rattle.member_server.specs.State.{State}
 use Rattle.member_server.specs.Units.{bound_unit}
 
 -- ---- a challenge serves one AUTHENTICATE
 
--- the logon of the link is asked, or no controller will answer it
+-- the logon of the link is asked, or no controller will answer it. An AUTHENTICATE comes to one of these two, and `In`
+-- comes of a controller's answer alone
 abbrev pub is_past : Phase → Bool
 is_past phase.Fresh = false
 is_past (phase.Challenged bound challenge flags) = false
@@ -83,7 +84,7 @@ pub record ReachesItsLink : Type 0 where
   pub turns : (place : ℕ) (how : Ending) (logon : Logon) (link : LinkState Talk) (waits : Bound × List (List ℕ)) (work : Work) →
       lookup same_number place work.logons.asked ≡ Some logon → lookup same_number logon.link work.links ≡ Some link →
       waiting_at place link.talk.phase ≡ Some waits →
-      end_logon place how work ≡ turn_waiting waits link how logon (without_link logon.link (tell_outcome how logon (without_logon place work)))
+      end_logon place how work ≡ reach_waiting waits link how logon (without_link logon.link (tell_outcome how logon (without_logon place work)))
 
 -- ---- what follows a link that was closed, or a dial's answer
 

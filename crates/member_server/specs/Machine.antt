@@ -28,7 +28,7 @@ use Rattle.member_server.specs.declared.state.Work.{Work}
 use Rattle.member_server.specs.Lines.{line_of}
 use Rattle.member_server.specs.Outcomes.{tell_at, without_link, with_link, at_link, after_served}
 use Rattle.member_server.specs.State.{State}
-use Rattle.member_server.specs.Turns.{Desk, desk_part, lose_turn, next_turn, turn_server, turn_talk}
+use Rattle.member_server.specs.Turns.{DialWork, dial_work_part, lose_turn, next_turn, turn_server, turn_talk}
 use Rattle.member_server.specs.Units.{link_server}
 
 -- ---- at first
@@ -54,11 +54,11 @@ fresh_member plan = record {
 -- ---- links that close
 
 -- the argument: whether it is the link of the turn
-abbrev pub close_turn : Bool → ℕ → Dialling → Work → Desk
+abbrev pub close_turn : Bool → ℕ → Dialling → Work → DialWork
 close_turn false link how work = (without_link link work, how)
 close_turn true link how work = (lose_turn drop_cause.LinkClosed work, dialling.Nothing)
 
-abbrev pub close_link : Dialling → ℕ → Work → Desk
+abbrev pub close_link : Dialling → ℕ → Work → DialWork
 close_link dialling.Nothing link work = (without_link link work, dialling.Nothing)
 close_link (dialling.Waits turn frames) link work = (without_link link work, dialling.Waits turn frames)
 close_link (dialling.On number said) link work = close_turn (number == link) link (dialling.On number said) work
@@ -74,13 +74,13 @@ open_by true link work = tell_at work (action.Close link close.TooManyLinks)
 open_by false link work = with_link link fresh_link work
 
 -- an older link of that number is closed first
-abbrev pub open_after_close : Desk → ℕ → Desk
-open_after_close desk link = (open_by (nat_le 256 (length desk.0.links)) link desk.0, desk.1)
+abbrev pub open_after_close : DialWork → ℕ → DialWork
+open_after_close dial_work link = (open_by (nat_le 256 (length dial_work.0.links)) link dial_work.0, dial_work.1)
 
 -- ---- dials
 
 -- the bind goes out; an older link of that number is closed first
-abbrev pub answer_dial : Dialling → ℕ → Work → Desk
+abbrev pub answer_dial : Dialling → ℕ → Work → DialWork
 answer_dial dialling.Nothing link work = (work, dialling.Nothing)
 answer_dial (dialling.On number said) link work = (work, dialling.On number said)
 answer_dial (dialling.Waits turn frames) link work = (
@@ -88,24 +88,24 @@ answer_dial (dialling.Waits turn frames) link work = (
   dialling.On link (record { rest = []; talk = turn_talk None }),
 )
 
-abbrev pub fail_dial : Dialling → Work → Desk
+abbrev pub fail_dial : Dialling → Work → DialWork
 fail_dial dialling.Nothing work = (work, dialling.Nothing)
 fail_dial (dialling.On number said) work = (work, dialling.On number said)
 fail_dial (dialling.Waits turn frames) work = (lose_turn drop_cause.DialFailed work, dialling.Nothing)
 
 -- ---- bytes
 
-abbrev pub after_units : ServedPart AtLink Talk → List ℕ → ℕ → Dialling → Work → Result (Part Desk) StepRefused
+abbrev pub after_units : ServedPart AtLink Talk → List ℕ → ℕ → Dialling → Work → Result (Part DialWork) StepRefused
 after_units (Err why) rest number how work = Err why
-after_units (Ok part) rest number how work = desk_part (after_served part.value rest number work) how part.left
+after_units (Ok part) rest number how work = dial_work_part (after_served part.value rest number work) how part.left
 
 -- a link that is out of the map
-abbrev pub serve_alone : Cut → ℕ → Talk → Dialling → Work → List (List ℕ) → Result (Part Desk) StepRefused
+abbrev pub serve_alone : Cut → ℕ → Talk → Dialling → Work → List (List ℕ) → Result (Part DialWork) StepRefused
 serve_alone cut number talk how work left =
     after_units (served_cut link_server cut (at_link number work) talk left) cut.rest number how work
 
-abbrev pub bytes_on_link : Option (LinkState Talk) → ℕ → List ℕ → Dialling → Work → List (List ℕ) → Result (Part Desk) StepRefused
-bytes_on_link None number piece how work left = desk_part work how left
+abbrev pub bytes_on_link : Option (LinkState Talk) → ℕ → List ℕ → Dialling → Work → List (List ℕ) → Result (Part DialWork) StepRefused
+bytes_on_link None number piece how work left = dial_work_part work how left
 bytes_on_link (Some link) number piece how work left =
     serve_alone (cut_stream (link.rest ++ piece)) number link.talk how (without_link number work) left
 
@@ -118,24 +118,24 @@ abbrev pub keep_turn : Option TurnTalk → List ℕ → ℕ → Dialling
 keep_turn None rest number = dialling.Nothing
 keep_turn (Some talk) rest number = dialling.On number (record { rest = rest; talk = talk })
 
-abbrev pub after_turn : ServedPart AtTurn TurnTalk → List ℕ → ℕ → Result (Part Desk) StepRefused
+abbrev pub after_turn : ServedPart AtTurn TurnTalk → List ℕ → ℕ → Result (Part DialWork) StepRefused
 after_turn (Err why) rest number = Err why
-after_turn (Ok part) rest number = desk_part part.value.0.work (keep_turn part.value.1 rest number) part.left
+after_turn (Ok part) rest number = dial_work_part part.value.0.work (keep_turn part.value.1 rest number) part.left
 
 abbrev pub at_turn : ℕ → Work → AtTurn
 at_turn number work = record { link = number; work = work }
 
-abbrev pub serve_dialled : Cut → ℕ → TurnTalk → Work → List (List ℕ) → Result (Part Desk) StepRefused
+abbrev pub serve_dialled : Cut → ℕ → TurnTalk → Work → List (List ℕ) → Result (Part DialWork) StepRefused
 serve_dialled cut number talk work left =
     after_turn (served_cut turn_server cut (at_turn number work) talk left) cut.rest number
 
 -- the argument: whether it is the link of the turn
-abbrev pub bytes_by : Bool → LinkState TurnTalk → ℕ → List ℕ → Dialling → Work → List (List ℕ) → Result (Part Desk) StepRefused
+abbrev pub bytes_by : Bool → LinkState TurnTalk → ℕ → List ℕ → Dialling → Work → List (List ℕ) → Result (Part DialWork) StepRefused
 bytes_by true said number piece how work left = serve_dialled (cut_stream (said.rest ++ piece)) number said.talk work left
 bytes_by false said number piece how work left =
     bytes_on_link (lookup same_number number work.links) number piece how work left
 
-abbrev pub bytes_on : Dialling → ℕ → List ℕ → Work → List (List ℕ) → Result (Part Desk) StepRefused
+abbrev pub bytes_on : Dialling → ℕ → List ℕ → Work → List (List ℕ) → Result (Part DialWork) StepRefused
 bytes_on dialling.Nothing number piece work left =
     bytes_on_link (lookup same_number number work.links) number piece dialling.Nothing work left
 bytes_on (dialling.Waits turn frames) number piece work left =
@@ -145,16 +145,16 @@ bytes_on (dialling.On other said) number piece work left =
 
 -- ---- an event
 
-abbrev pub drawless_desk : Desk → List (List ℕ) → Result (Part Desk) StepRefused
-drawless_desk desk left = Ok (record { value = desk; left = left })
+abbrev pub drawless_part : DialWork → List (List ℕ) → Result (Part DialWork) StepRefused
+drawless_part dial_work left = Ok (record { value = dial_work; left = left })
 
-abbrev pub by_event : Event → Dialling → Work → List (List ℕ) → Result (Part Desk) StepRefused
-by_event (event.Opened link) how work left = drawless_desk (open_after_close (close_link how link work) link) left
+abbrev pub by_event : Event → Dialling → Work → List (List ℕ) → Result (Part DialWork) StepRefused
+by_event (event.Opened link) how work left = drawless_part (open_after_close (close_link how link work) link) left
 by_event (event.Bytes link piece) how work left = bytes_on how link piece work left
-by_event (event.Closed link) how work left = drawless_desk (close_link how link work) left
-by_event (event.Dialled link) how work left = drawless_desk (answer_dial how link work) left
-by_event event.DialFailed how work left = drawless_desk (fail_dial how work) left
-by_event event.Stop how work left = drawless_desk (work, how) left
+by_event (event.Closed link) how work left = drawless_part (close_link how link work) left
+by_event (event.Dialled link) how work left = drawless_part (answer_dial how link work) left
+by_event event.DialFailed how work left = drawless_part (fail_dial how work) left
+by_event event.Stop how work left = drawless_part (work, how) left
 
 -- ---- a step
 
@@ -164,13 +164,13 @@ halted_state = record { running = None }
 abbrev pub work_of : Running → Work
 work_of running = record { logons = running.logons; links = running.links; actions = [] }
 
-abbrev pub actions_in : Desk → List Action
-actions_in desk = desk.0.actions
+abbrev pub actions_in : DialWork → List Action
+actions_in dial_work = dial_work.0.actions
 
-abbrev pub state_in : Desk → State
-state_in desk = record { running = Some (record { logons = desk.0.logons; links = desk.0.links; dialling = desk.1 }) }
+abbrev pub state_in : DialWork → State
+state_in dial_work = record { running = Some (record { logons = dial_work.0.logons; links = dial_work.0.links; dialling = dial_work.1 }) }
 
-abbrev pub event_part : Running → Event → ℕ → List (List ℕ) → Result (Part Desk) StepRefused
+abbrev pub event_part : Running → Event → ℕ → List (List ℕ) → Result (Part DialWork) StepRefused
 event_part running what now left = then_part (by_event what running.dialling (work_of running) left) (next_turn now)
 
 abbrev pub step_on : Option Running → State → Event → ℕ → List (List ℕ) → Stepped State

@@ -114,24 +114,24 @@ waiting_on place None = None
 waiting_on place (Some link) = waiting_at place link.talk.phase
 
 -- a link that waits, and is out of the map, is in or out, and then what is held is served as it would be now
-abbrev pub turn_waiting : Bound × List (List ℕ) → LinkState Talk → Ending → Logon → Work → Work
-turn_waiting waits link how logon work =
+abbrev pub reach_waiting : Bound × List (List ℕ) → LinkState Talk → Ending → Logon → Work → Work
+reach_waiting waits link how logon work =
     after_served (serve_held waits.1 (at_link logon.link work) (record { joiner = link.talk.joiner; phase = phase_after how logon waits.0 }))
     link.rest logon.link work
 
 -- the same where it waits, of a link that is out of the map
-abbrev pub turn_alone : Option (Bound × List (List ℕ)) → LinkState Talk → Ending → Logon → Work → Work
-turn_alone None link how logon work = work
-turn_alone (Some waits) link how logon work = turn_waiting waits link how logon work
+abbrev pub reach_alone : Option (Bound × List (List ℕ)) → LinkState Talk → Ending → Logon → Work → Work
+reach_alone None link how logon work = work
+reach_alone (Some waits) link how logon work = reach_waiting waits link how logon work
 
 -- any other link stays as it is
-abbrev pub turn_link : Option (Bound × List (List ℕ)) → LinkState Talk → Ending → Logon → Work → Work
-turn_link None link how logon work = work
-turn_link (Some waits) link how logon work = turn_waiting waits link how logon (without_link logon.link work)
+abbrev pub reach_in_map : Option (Bound × List (List ℕ)) → LinkState Talk → Ending → Logon → Work → Work
+reach_in_map None link how logon work = work
+reach_in_map (Some waits) link how logon work = reach_waiting waits link how logon (without_link logon.link work)
 
 abbrev pub reach_link : Option (LinkState Talk) → ℕ → Ending → Logon → Work → Work
 reach_link None place how logon work = work
-reach_link (Some link) place how logon work = turn_link (waiting_at place link.talk.phase) link how logon work
+reach_link (Some link) place how logon work = reach_in_map (waiting_at place link.talk.phase) link how logon work
 
 -- ---- the outcome of the logon of a place: it is told, also where its link has closed, and reaches the link where that
 -- still waits for this place

@@ -17,7 +17,7 @@ use Rattle.member_server.specs.declared.state.Talk.{Talk}
 use Rattle.member_server.specs.declared.state.Work.{Work}
 use Rattle.member_server.specs.Machine.{event_part, work_of}
 use Rattle.member_server.specs.State.{State}
-use Rattle.member_server.specs.Turns.{Desk}
+use Rattle.member_server.specs.Turns.{DialWork}
 
 -- the requests that are held: each makes a send once its link is out
 abbrev pub held_in : Phase → ℕ
@@ -48,11 +48,11 @@ channel_weight c = 2 * length c.waiting + start_weight (can_start c.turn c.waiti
 abbrev pub work_weight : Work → ℕ
 work_weight work = held_on work.links + channel_weight work.logons.channel
 
-abbrev pub desk_weight : Desk → ℕ
-desk_weight desk = work_weight desk.0 + dial_weight desk.1
+abbrev pub dial_work_weight : DialWork → ℕ
+dial_work_weight dial_work = work_weight dial_work.0 + dial_weight dial_work.1
 
 abbrev pub pending_of : Running → ℕ
-pending_of running = desk_weight (work_of running, running.dialling)
+pending_of running = dial_work_weight (work_of running, running.dialling)
 
 abbrev pub pending_by : Option Running → ℕ
 pending_by None = 0
@@ -62,10 +62,10 @@ abbrev pub pending_in : State → ℕ
 pending_in s = pending_by s.running
 
 -- with what the actions so far make
-abbrev pub total : Desk → ℕ
-total desk = most_made_by desk.0.actions + desk_weight desk
+abbrev pub total : DialWork → ℕ
+total dial_work = most_made_by dial_work.0.actions + dial_work_weight dial_work
 
-abbrev pub Within : Result (Part Desk) StepRefused → ℕ → Type 0
+abbrev pub Within : Result (Part DialWork) StepRefused → ℕ → Type 0
 Within (Err why) most = Unit {0}
 Within (Ok part) most = total part.value ≤ most
 

@@ -85,6 +85,8 @@ take_by taking joiner at = do_taken taking.taken joiner (with_work at (with_requ
 abbrev pub break_turn : CloseCause → AtTurn → TurnServed
 break_turn cause at = (with_work at (lose_turn drop_cause.BadReply (tell_turn_closed cause at)), None)
 
+-- a fragment that was joined: what joining answers, and what is open then. `Memory` is no answer of `answer_of`, and
+-- its line says nothing
 abbrev pub turn_by_join : Result (Option RpcUnit) JoinRefused → Option RpcUnit → AtTurn → TurnServed
 turn_by_join (Err join.OutOfPlace) after at = break_turn close.OutOfPlace at
 turn_by_join (Err join.CallTooLong) after at = break_turn close.TooMuchHeld at
@@ -107,31 +109,32 @@ turn_server = record { unit = serve_turn; refusal = refuse_turn }
 
 -- ---- the next turn, which starts after each event where one can
 
-abbrev pub Desk : Type 0
-Desk = Work × Dialling
+-- a member at work, with its dial
+abbrev pub DialWork : Type 0
+DialWork = Work × Dialling
 
-abbrev pub desk_part : Work → Dialling → List (List ℕ) → Result (Part Desk) StepRefused
-desk_part work how left = Ok (record { value = (work, how); left = left })
+abbrev pub dial_work_part : Work → Dialling → List (List ℕ) → Result (Part DialWork) StepRefused
+dial_work_part work how left = Ok (record { value = (work, how); left = left })
 
-abbrev pub dial_for : Option (Unit {0} × List (List ℕ)) → Work → Dialling → Desk
+abbrev pub dial_for : Option (Unit {0} × List (List ℕ)) → Work → Dialling → DialWork
 dial_for None work how = (work, how)
 dial_for (Some start) work how =
     (tell_at work (action.Dial work.logons.plan.controller), dialling.Waits start.0 start.1)
 
-abbrev pub dial_by : Starting → Work → Dialling → Desk
+abbrev pub dial_by : Starting → Work → Dialling → DialWork
 dial_by starting work how = dial_for starting.answer (with_requester work starting.state) how
 
-abbrev pub dial_part : Starting → Work → Dialling → List (List ℕ) → Result (Part Desk) StepRefused
+abbrev pub dial_part : Starting → Work → Dialling → List (List ℕ) → Result (Part DialWork) StepRefused
 dial_part starting work how left = Ok (record { value = dial_by starting work how; left = left })
 
 -- the arguments: whether a turn can start, and whether it draws a challenge
-abbrev pub turn_by : Bool → Bool → ℕ → Work → Dialling → List (List ℕ) → Result (Part Desk) StepRefused
-turn_by false needs now work how left = desk_part work how left
+abbrev pub turn_by : Bool → Bool → ℕ → Work → Dialling → List (List ℕ) → Result (Part DialWork) StepRefused
+turn_by false needs now work how left = dial_work_part work how left
 turn_by true false now work how left = dial_part (start_of work.logons.channel (timestamp_of now) (replicate 8 0)) work how left
 turn_by true true now work how [] = Err refused.Spent
 turn_by true true now work how (challenge ∷ left) = dial_part (start_of work.logons.channel (timestamp_of now) challenge) work how left
 
-abbrev pub next_turn : ℕ → Desk → List (List ℕ) → Result (Part Desk) StepRefused
-next_turn now desk left =
-    turn_by (can_start desk.0.logons.channel.turn desk.0.logons.channel.waiting) (needs_challenge desk.0.logons.channel.standing)
-    now desk.0 desk.1 left
+abbrev pub next_turn : ℕ → DialWork → List (List ℕ) → Result (Part DialWork) StepRefused
+next_turn now dial_work left =
+    turn_by (can_start dial_work.0.logons.channel.turn dial_work.0.logons.channel.waiting) (needs_challenge dial_work.0.logons.channel.standing)
+    now dial_work.0 dial_work.1 left

@@ -10,7 +10,7 @@ ghost use Rattle.outside.specs.Machine.{AnswersBy};
 ghost use Rattle.rpc_units.specs.Reading.{unit_of};
 ghost use Rattle.rpc_units.specs.Writing.{written, ContextsFit, IsWritable};
 ghost use Rattle.rpc_units.specs.Numbers.{ntlm_provider};
-ghost use Rattle.member_server.specs.Binds.{is_enough, offer_by, offer_at, offer_in, challenge_message, challenge_trailer, challenge_ack, ack_fits, bound_by, refusal_of_bind, answer_of_bind, answer_bind, bind_by, fresh_unit, ClosesBy};
+ghost use Rattle.member_server.specs.Binds.{is_enough, offer_by, offer_at, offer_in, challenge_message, challenge_trailer, challenge_ack, ack_fits, FitsEach, bound_by, refusal_of_bind, answer_of_bind, answer_bind, bind_by, fresh_unit, ClosesBy};
 ghost use Rattle.member_server.specs.Levels.{is_plain, is_served};
 ghost use Rattle.member_server.specs.Units.{first_unit};
 ghost use Rattle.member_server.specs.Work.{send_unit, stay};
@@ -31,8 +31,7 @@ use ntlm_flags::{
 use ntlm_messages::{Challenge, Pairs, WriteRefused, view_negotiate, write_challenge, write_pairs};
 use outside::{Chances, CloseCause, Spent, StepRefused};
 use rpc_units::{
-    Body, Contexts, Joiner, NTLM_PROVIDER, Trailer, Unit, UnitRefused, UnitWriteRefused, read_unit,
-    write_unit,
+    Body, Contexts, Joiner, NTLM_PROVIDER, Trailer, UNIT_LIMIT, Unit, UnitRefused, read_unit,
 };
 use std::alloc::Global;
 use wire_base::{Blob, Name, NoMemory};
@@ -93,6 +92,7 @@ fn name_bytes(alloc: Global, name: &Name) -> Result<Blob, NoMemory>
     ensures even { IfOk result (λ bytes. length bytes % 2 ≡ 0) }
     ensures short { IfOk result (λ bytes. length bytes ≤ 128) }
 {
+    // so that it is known that the name has at most 64 bytes
     let _short = name.bytes();
     name.units(alloc)?.bytes(alloc)
 }
@@ -180,24 +180,15 @@ fn challenge_ack(
     })
 }
 
-/// Whether the answer to a bind fits a unit, whichever challenge it carries.
-fn ack_fits(
-    alloc: Global,
-    offer: Offer,
-    plan: &MemberPlan,
-    call: u32,
-    receive: u16,
-    contexts: &Contexts,
-) -> Result<bool, NoMemory>
+/// Whether the answer to a bind fits a unit, whichever challenge it carries, and whatever is offered. It has 100 bytes
+/// beside 24 for each context, four for each byte of the domain's name and two for each of the computer's.
+#[tactic(auto, using(crate::proofs::BindLaws::each_fits))]
+fn ack_fits(plan: &MemberPlan, contexts: &Contexts) -> bool
     requires { length contexts.now ≤ 242 }
-    ensures { IfOk result (λ fits. fits ≡ ack_fits offer plan.now call receive contexts.now) }
+    ensures { FitsEach result plan.now contexts.now }
 {
-    let unit = challenge_ack(alloc, offer, plan, call, receive, contexts, [0; 8])?;
-    match write_unit(alloc, &unit) {
-        Ok(_) => Ok(true),
-        Err(UnitWriteRefused::TooLong) => Ok(false),
-        Err(UnitWriteRefused::Memory) => Err(NoMemory),
-    }
+    let names = 4 * plan.domain.bytes().len() + 2 * plan.computer.bytes().len();
+    100 + 24 * contexts.len() + names <= usize::from(UNIT_LIMIT)
 }
 
 /// A bind_nak is sent.
@@ -420,14 +411,7 @@ fn take_offer<Q: Chances>(
         (bind_by (Some offer) call receive contexts.now joiner at (Q.drawing chances.old).left)
         (Q.drawing chances.new).left }
 {
-    let fits = match ack_fits(alloc, offer, &at.logons.plan, call, receive, contexts) {
-        Ok(fits) => fits,
-        Err(NoMemory) => {
-            drop(joiner);
-            return Err(StepRefused::Memory);
-        }
-    };
-    if fits {
+    if ack_fits(&at.logons.plan, contexts) {
         return draw_bind(alloc, offer, call, receive, contexts, joiner, at, chances);
     }
     match refuse_bind(alloc, call, joiner, at) {

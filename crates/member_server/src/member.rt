@@ -95,7 +95,7 @@ impl Member {
             return Err(StepRefused::Stopped);
         };
         let (work, dialling) = match run_event(alloc, running, event, now, chances) {
-            Ok(desk) => desk,
+            Ok(dial_work) => dial_work,
             Err(why) => return Err(why),
         };
         let Work {
@@ -152,6 +152,7 @@ fn account_of(alloc: Global, computer: &Name) -> Result<Units, NoMemory>
     ensures value { IfOk result (λ account. account ≡ account_of computer.now) }
     ensures short { IfOk result (λ account. length account ≤ 65) }
 {
+    // so that it is known that the name has at most 64 bytes
     let _short = computer.bytes();
     let mut units = computer.units(alloc)?.into_vec();
     units.push(0x24)?;
@@ -191,7 +192,7 @@ fn close_link(
     link: u32,
     work: Work,
 ) -> Result<(Work, Dialling), NoMemory>
-    ensures { IfOk result (λ desk. desk ≡ close_link how link work) }
+    ensures { IfOk result (λ dial_work. dial_work ≡ close_link how link work) }
 {
     match how {
         Dialling::On(number, said) if number == link => {
@@ -234,7 +235,7 @@ fn answer_dial(
     link: u32,
     work: Work,
 ) -> Result<(Work, Dialling), NoMemory>
-    ensures { IfOk result (λ desk. desk ≡ answer_dial how link work) }
+    ensures { IfOk result (λ dial_work. dial_work ≡ answer_dial how link work) }
 {
     match how {
         Dialling::Waits(turn, frames) => send_bind(alloc, turn, &frames, link, work),
@@ -250,7 +251,8 @@ fn send_bind(
     link: u32,
     work: Work,
 ) -> Result<(Work, Dialling), NoMemory>
-    ensures { IfOk result (λ desk. desk ≡ answer_dial (dialling.Waits turn frames.now) link work) }
+    ensures { IfOk result (λ dial_work. dial_work
+        ≡ answer_dial (dialling.Waits turn frames.now) link work) }
 {
     let bytes = frames.join(alloc)?;
     let work = tell_at(drop_link(link, work), Action::Send(link, bytes))?;
@@ -263,7 +265,7 @@ fn send_bind(
 
 /// The dial failed.
 fn fail_dial(alloc: Global, how: Dialling, work: Work) -> Result<(Work, Dialling), NoMemory>
-    ensures { IfOk result (λ desk. desk ≡ fail_dial how work) }
+    ensures { IfOk result (λ dial_work. dial_work ≡ fail_dial how work) }
 {
     match how {
         Dialling::Waits(turn, _frames) => {
@@ -472,7 +474,8 @@ fn open_event(
     link: u32,
     work: Work,
 ) -> Result<(Work, Dialling), NoMemory>
-    ensures { IfOk result (λ desk. desk ≡ open_after_close (close_link how link work) link) }
+    ensures { IfOk result (λ dial_work. dial_work
+        ≡ open_after_close (close_link how link work) link) }
 {
     let (work, how) = close_link(alloc, how, link, work)?;
     Ok((open_link(alloc, link, work)?, how))
@@ -505,7 +508,7 @@ fn run_event<Q: Chances>(
         actions: ShortActions::new(alloc),
     };
     let (work, how) = match on_event(alloc, event, dialling, work, chances) {
-        Ok(desk) => desk,
+        Ok(dial_work) => dial_work,
         Err(why) => return Err(why),
     };
     next_turn(alloc, now, work, how, chances)

@@ -4,7 +4,7 @@ ghost use Rattle.std.specs.Prelude.{◌≡◌, ◌≤◌, ◌<◌, Option, Some,
 ghost use Rattle.end_links.specs.Bounds.{IsShortSend};
 ghost use Rattle.wire_base.specs.Maps.{lookup, same_number};
 ghost use Rattle.member_server.specs.Units.{serve_held};
-ghost use Rattle.member_server.specs.Outcomes.{at_link, tell_at, without_link, keep_link, after_served, name_in, key_in, session_in, outcome_of, phase_after, waiting_at, waiting_on, turn_alone, turn_link, reach_link, without_logon, end_logon};
+ghost use Rattle.member_server.specs.Outcomes.{at_link, tell_at, without_link, keep_link, after_served, name_in, key_in, session_in, outcome_of, phase_after, waiting_at, waiting_on, reach_alone, reach_in_map, reach_link, without_logon, end_logon};
 
 use crate::held::Held;
 use crate::state::{AtLink, Bound, LoggedOn, Logon, Phase, Talk, Work};
@@ -171,7 +171,7 @@ pub(crate) fn keep_link(
 }
 
 /// A link that waits for this place and is out of the map is in or out, and what is held is served.
-fn turn_link(
+fn reach_alone(
     alloc: Global,
     place: u32,
     how: &Ending,
@@ -181,15 +181,16 @@ fn turn_link(
 ) -> Result<Work, NoMemory>
     requires room { length work.links < 256 }
     ensures { IfOk result (λ turned. turned
-        ≡ turn_alone (waiting_at place link.talk.phase) link how.now logon.now work) }
+        ≡ reach_alone (waiting_at place link.talk.phase) link how.now logon.now work) }
 {
+    // so that it is known that the link holds at most 5,839 bytes
     let _short = link.rest_len();
     let (flow, talk) = link.parts();
-    turn_talk(alloc, place, how, logon, flow, talk, work)
+    reach_talk(alloc, place, how, logon, flow, talk, work)
 }
 
 /// The same, by its stream and what is said on it.
-fn turn_talk(
+fn reach_talk(
     alloc: Global,
     place: u32,
     how: &Ending,
@@ -202,7 +203,7 @@ fn turn_talk(
     requires waits { length flow.held ≤ 5839 }
     requires room { length work.links < 256 }
     ensures { IfOk result (λ turned. turned
-        ≡ turn_alone (waiting_at place talk.phase)
+        ≡ reach_alone (waiting_at place talk.phase)
         (record { rest = flow.held; talk = talk }) how.now logon.now work) }
 {
     let Talk { joiner, phase } = talk;
@@ -215,14 +216,14 @@ fn turn_talk(
             if other != place {
                 return Ok(work);
             }
-            turn_waiting(alloc, how, logon, bound, held, joiner, flow, work)
+            reach_waiting(alloc, how, logon, bound, held, joiner, flow, work)
         }
         Phase::Fresh | Phase::Challenged { .. } | Phase::In(_) | Phase::Out { .. } => Ok(work),
     }
 }
 
 /// The same, by what is bound and held on it.
-fn turn_waiting(
+fn reach_waiting(
     alloc: Global,
     how: &Ending,
     logon: &Logon,
@@ -315,7 +316,7 @@ fn reach_link(
         actions,
     };
     match found {
-        Some(link) => turn_link(alloc, place, how, logon, link, work),
+        Some(link) => reach_alone(alloc, place, how, logon, link, work),
         None => unreachable!(),
     }
 }

@@ -320,7 +320,7 @@ fn dial(
     work: Work,
     how: Dialling,
 ) -> Result<(Work, Dialling), NoMemory>
-    ensures { IfOk result (λ desk. desk
+    ensures { IfOk result (λ dial_work. dial_work
         ≡ dial_by (start_of work.logons.channel timestamp challenge) work how) }
 {
     let Work {
@@ -360,7 +360,7 @@ fn send_dial(
     frames: ShortFrames,
     work: Work,
 ) -> Result<(Work, Dialling), NoMemory>
-    ensures { IfOk result (λ desk. desk
+    ensures { IfOk result (λ dial_work. dial_work
         ≡ (tell_at work (action.Dial work.logons.plan.controller), dialling.Waits turn frames)) }
 {
     let peer = match Blob::copy(alloc, work.logons.plan.controller.bytes()) {
@@ -393,7 +393,7 @@ pub(crate) fn next_turn<Q: Chances>(
     }
     if !work.logons.channel.needs_challenge() {
         return match dial(alloc, timestamp_at(now), [0; 8], work, how) {
-            Ok(desk) => Ok(desk),
+            Ok(dial_work) => Ok(dial_work),
             Err(NoMemory) => Err(StepRefused::Memory),
         };
     }
@@ -405,7 +405,7 @@ pub(crate) fn next_turn<Q: Chances>(
         }
     };
     match dial(alloc, timestamp_at(now), challenge, work, how) {
-        Ok(desk) => Ok(desk),
+        Ok(dial_work) => Ok(dial_work),
         Err(NoMemory) => Err(StepRefused::Memory),
     }
 }

@@ -12,7 +12,7 @@ use Rattle.outside.specs.declared.event.Happening.{Happening}
 use Rattle.outside.specs.declared.event.Happening.TheVariants as happening
 use Rattle.end_loop.specs.Acts.{Performs, made_events}
 use Rattle.end_loop.specs.Begun.{Begun}
-use Rattle.end_loop.specs.Runs.{Step, AreSteps, Standing as Places, drawn_of, moments_of, story_of}
+use Rattle.end_loop.specs.Runs.{Step, AreSteps, RunState as Places, drawn_of, moments_of, story_of}
 use Rattle.end_loop.specs.Seen.{Sight}
 use Rattle.end_loop.proofs.RunLaws.{Shows-trans}
 use Rattle.logon_client.specs.declared.plan.ClientPlan.{ClientPlan}

@@ -15,7 +15,7 @@ use Rattle.outside.specs.declared.event.Happening.TheVariants as happening
 use Rattle.outside.proofs.StoryLaws.{stories_add_up}
 use Rattle.end_loop.specs.Acts.{Performs, made_events}
 use Rattle.end_loop.specs.Begun.{Begun}
-use Rattle.end_loop.specs.Runs.{Step, IsStep, AreSteps, Chooses, Standing as Places, drawn_of, lines_of, moments_of, story_of, step_story}
+use Rattle.end_loop.specs.Runs.{Step, IsStep, AreSteps, Chooses, RunState as Places, drawn_of, lines_of, moments_of, story_of, step_story}
 use Rattle.end_loop.specs.Acts.{puts}
 use Rattle.end_loop.specs.Seen.{Sight, Shows}
 use Rattle.end_loop.proofs.AskingLaws.{asks_for}

@@ -17,9 +17,9 @@ use Rattle.outside.proofs.TellingLaws.{Appends-trans, Appends-nothing, AppendsFr
 use Rattle.end_loop.specs.Acts.{Performs, made_events, next_line, puts}
 use Rattle.end_loop.specs.Asking.{gives_stop as is_stop_given}
 use Rattle.end_loop.specs.Begun.{Begun, BegunUntil}
-use Rattle.end_loop.specs.Runs.{Standing, Step, AreSteps, Chooses, Closes, Halts, RanInto, asked_by, drawn_of, lines_of, moments_of, step_story, story_of, standing_at}
+use Rattle.end_loop.specs.Runs.{RunState, Step, AreSteps, Chooses, Closes, Halts, RanInto, asked_by, drawn_of, lines_of, moments_of, step_story, story_of, run_state_at}
 use Rattle.end_loop.specs.Seen.{Sight, Shows}
-use Rattle.end_loop.specs.Served.{Opens}
+use Rattle.end_loop.specs.Serving.{Opens}
 use Rattle.end_loop.specs.declared.halt.Halt.{Halt}
 use Rattle.end_loop.specs.declared.halt.Halt.TheVariants as halts
 use Rattle.end_loop.proofs.AskingLaws.{asks_for}
@@ -52,7 +52,7 @@ started story faults moments old new taken seed boot seed_is boot_is drawn =
 
 -- ---- what a run shows, from the first actions on
 
-record Told (plan : ClientPlan) (before after : Sight) (steps : List Step) (last : Standing State) (later : List Happening) (moments_later : List ℕ) : Type 0 where
+record Told (plan : ClientPlan) (before after : Sight) (steps : List Step) (last : RunState State) (later : List Happening) (moments_later : List ℕ) : Type 0 where
   happened : List Happening
   performs : Performs [] (first_actions plan) happened
   are : AreSteps client_machine (start_of plan happened after.drawing) steps last
@@ -65,10 +65,10 @@ left_is opened middle ended draws none first all =
     let drawn : ended.drawn ≡ draws = all.drawn ∙ ap (λ (d : List (List ℕ)). d ++ draws) none in
     sym first.left ∙ all.left ∙ ap (λ (d : List (List ℕ)). d ++ ended.left) (sym drawn)
 
-told_by : (plan : ClientPlan) (seed : List ℕ) (boot : ℕ) (before opened middle ran ended : Sight) (happened : List Happening) (steps : List Step) (last : Standing State)
+told_by : (plan : ClientPlan) (seed : List ℕ) (boot : ℕ) (before opened middle ran ended : Sight) (happened : List Happening) (steps : List Step) (last : RunState State)
     (later : List Happening) (moments_later : List ℕ) (drawn_later : List (List ℕ)) (put put2 put3 : List ℕ) →
     Opens seed boot before opened [] → Performs [] (first_actions plan) happened → Shows opened middle happened [] [] put →
-    AreSteps client_machine (standing_at (client_that_dials plan) (made_events happened) middle) steps last → Shows middle ran (story_of steps) (moments_of steps) (drawn_of steps) put2 →
+    AreSteps client_machine (run_state_at (client_that_dials plan) (made_events happened) middle) steps last → Shows middle ran (story_of steps) (moments_of steps) (drawn_of steps) put2 →
     Shows ran ended later moments_later drawn_later put3 → Told plan before ended steps last later moments_later
 told_by plan seed boot before opened middle ran ended happened steps last later moments_later drawn_later put put2 put3 opens performs first are run more =
     let rest = Shows-trans middle ran ended (story_of steps) later (moments_of steps) moments_later (drawn_of steps) drawn_later put2 put3 run more in
@@ -90,14 +90,14 @@ told_items {X} old new all items more is now told =
     let there : all ++ more ≡ all ++ items = subst (λ (o : Option (List X)). Appends o (Some (all ++ more)) items) is here in
     append_cancel_left all items more (sym there)
 
-record Compared (plan : ClientPlan) (drawing : Drawing) (steps others : List Step) (last other : Standing State) (later later2 : List Happening) (given given2 : List ℕ) : Type 0 where
+record Compared (plan : ClientPlan) (drawing : Drawing) (steps others : List Step) (last other : RunState State) (later later2 : List Happening) (given given2 : List ℕ) : Type 0 where
   happened : List Happening
   are : AreSteps client_machine (start_of plan happened drawing) steps last
   others_are : AreSteps client_machine (start_of plan happened drawing) others other
   story : story_of steps ++ later ≡ story_of others ++ later2
   moments : moments_of steps ++ given ≡ moments_of others ++ given2
 
-compare : (plan : ClientPlan) (before after : Sight) (steps others : List Step) (last other : Standing State) (later later2 : List Happening) (moments moments2 : List ℕ) →
+compare : (plan : ClientPlan) (before after : Sight) (steps others : List Step) (last other : RunState State) (later later2 : List Happening) (moments moments2 : List ℕ) →
     Told plan before after steps last later moments → TellsRun plan before after others other later2 moments2 → Compared plan after.drawing steps others last other later later2 moments moments2
 compare plan before after steps others last other later later2 moments moments2 one two =
     let story = told_items before.story after.story two.story (one.happened ++ (story_of steps ++ later)) (two.happened ++ (story_of others ++ later2)) two.story_before two.story_after one.story in
@@ -112,7 +112,7 @@ compare plan before after steps others last other later later2 moments moments2 
     }
 
 -- the one was spent, the other is whole
-spent_is_none : (plan : ClientPlan) (drawing : Drawing) (steps others : List Step) (last other : Standing State) (step : Step) (waiting : List Event) (stop : List Happening) →
+spent_is_none : (plan : ClientPlan) (drawing : Drawing) (steps others : List Step) (last other : RunState State) (step : Step) (waiting : List Event) (stop : List Happening) →
     Compared plan drawing steps others last other (step_story step) stop (step.moment ∷ []) [] → Chooses client_machine last.state last.queue step waiting →
     (step_of last.state step.event step.moment last.left).answer ≡ Err refusals.Spent → ⊥
 spent_is_none plan drawing steps others last other step waiting stop same chooses spent =
@@ -146,7 +146,7 @@ concluded plan seed boot before opened after exit opens ends =
 
 record Spends (plan : ClientPlan) (before after : Sight) : Type 0 where
   steps : List Step
-  last : Standing State
+  last : RunState State
   step : Step
   waiting : List Event
   told : Told plan before after steps last (step_story step) (step.moment ∷ [])
@@ -170,7 +170,7 @@ spends plan seed boot before opened after opens (inr half) = record {
 -- the run came to where it would ask for one more event
 record AsksStill (plan : ClientPlan) (before after : Sight) : Type 0 where
   steps : List Step
-  last : Standing State
+  last : RunState State
   told : Told plan before after steps last [] []
   more : asked_by steps < most_answers
   open_still : client_machine.is_over last.state ≡ false
@@ -188,11 +188,11 @@ asks_still plan seed boot before opened after opens (inr half) = record {
 }
 
 -- a run that would ask for one more event isn't at its end
-asks_not_closed : (steps others : List Step) (state : State) (left : List (List ℕ)) (last : Standing State) (stop : List Happening) (start : Standing State) → AreSteps client_machine start steps last →
+asks_not_closed : (steps others : List Step) (state : State) (left : List (List ℕ)) (last : RunState State) (stop : List Happening) (start : RunState State) → AreSteps client_machine start steps last →
     AreSteps client_machine start others (end_at state left) → story_of steps ++ [] ≡ story_of others ++ stop → last ≡ end_at state left → [] ≡ stop →
     asked_by steps < most_answers → client_machine.is_over last.state ≡ false → Closes client_machine (end_at state left) (asked_by others) most_answers stop → ⊥
 asks_not_closed steps others state left last stop start are others_are story same none more open_still (inl over) =
-    let wrong : false ≡ true = sym open_still ∙ ap (λ (s : Standing State). client_machine.is_over s.state) same ∙ over.0 in cc
+    let wrong : false ≡ true = sym open_still ∙ ap (λ (s : RunState State). client_machine.is_over s.state) same ∙ over.0 in cc
 asks_not_closed steps others state left last stop start are others_are story same none more open_still (inr (inl took)) =
     let alike : story_of steps ≡ story_of others = sym (append-nil (story_of steps)) ∙ story ∙ ap (λ (h : List Happening). story_of others ++ h) took.1 ∙ append-nil (story_of others) in
     let count : asked_by steps ≡ asked_by others = sym (asks_for client_machine start last steps are).count ∙ ap (λ (h : List Happening). length (events_in h)) alike ∙ (asks_for client_machine start (end_at state left) others others_are).count in
@@ -227,7 +227,7 @@ outcome_law plan seed boot before after exit outcome logon comes =
             let same = compare plan before after ends.run.run.ran.steps comes.steps (end_at ends.last ends.run.run.left) (end_at comes.state comes.left) ends.run.run.stop comes.stop [] [] told comes.tells in
             let whole = both_whole client_machine (start_of plan same.happened after.drawing) (end_at ends.last ends.run.run.left) (end_at comes.state comes.left) ends.run.run.ran.steps comes.steps ends.run.run.stop comes.stop same.are same.others_are
             same.story (append_cancel_right (moments_of ends.run.run.ran.steps) (moments_of comes.steps) [] same.moments) in
-            let outcome_is : ends.last.outcome ≡ outcome = ap (λ (s : Standing State). s.state.outcome) whole.0 ∙ comes.outcome_is in
+            let outcome_is : ends.last.outcome ≡ outcome = ap (λ (s : RunState State). s.state.outcome) whole.0 ∙ comes.outcome_is in
             subst (λ (o : Option ClientOutcome). (exit ≡ outcome_exit o) ⊎ IsExcuse exit) outcome_is (says_exit ends.last.outcome ends.ended.taken after.taken exit ends.says)
       ]
     ]
@@ -238,7 +238,7 @@ quiet_chooses state [] step waiting chooses = chooses
 quiet_chooses state (first ∷ later) step waiting chooses = chooses
 
 -- a run that is told to come to a step that draws too many isn't whole
-spent_not_told : (plan : ClientPlan) (before after : Sight) (steps : List Step) (last : Standing State) (stop : List Happening) → Told plan before after steps last stop [] → ComesToSpent plan before after → ⊥
+spent_not_told : (plan : ClientPlan) (before after : Sight) (steps : List Step) (last : RunState State) (stop : List Happening) → Told plan before after steps last stop [] → ComesToSpent plan before after → ⊥
 spent_not_told plan before after steps last stop told comes =
     let same = compare plan before after steps comes.steps last comes.last stop comes.step.asked [] (comes.step.moment ∷ []) told comes.tells in
     let quiet : Step = record comes.step { happened = [] } in
@@ -302,12 +302,12 @@ quiet before after happened given drawn put none shows = subst (λ (p : List ℕ
 joined : (first second third : Option (List ℕ)) → Appends first second [] → Appends second third [] → Appends first third []
 joined first second third one other = Appends-trans first second third [] [] one other
 
-into_quiet : (start : Standing State) (most : ℕ) (before after : Sight) (halt : Halt) → RanInto client_machine start most before after halt → Appends before.taken after.taken []
+into_quiet : (start : RunState State) (most : ℕ) (before after : Sight) (halt : Halt) → RanInto client_machine start most before after halt → Appends before.taken after.taken []
 into_quiet start most before after halt into =
     joined before.taken into.middle.taken after.taken (quiet before into.middle _ _ _ _ (no_run_lines into.ran.steps) into.ran.shows)
     (quiet into.middle after _ _ _ _ (ap (λ (l : List ℕ). l ++ into.part) (no_lines into.step.actions) ∙ no_part into.part into.begins.more into.begins.rest into.begins.front) into.shows)
 
-halts_quiet : (start : Standing State) (most : ℕ) (before after : Sight) (halt : Halt) → Halts client_machine start most before after halt → Appends before.taken after.taken []
+halts_quiet : (start : RunState State) (most : ℕ) (before after : Sight) (halt : Halt) → Halts client_machine start most before after halt → Appends before.taken after.taken []
 halts_quiet start most before after halts.PortFault run = quiet before after _ _ _ _ (no_run_lines run.ran.steps) run.ran.shows
 halts_quiet start most before after halts.SinkFault run = into_quiet start most before after halts.SinkFault run
 halts_quiet start most before after halts.NoMemory (inl run) = quiet before after _ _ _ _ (no_run_lines run.ran.steps) run.ran.shows

@@ -3,7 +3,7 @@ use Rattle.std.proofs.Common.{◌≡◌, inl, inr, ℕ, true, false, List, ◌�
 use Rattle.outside.specs.Causes.{Rose}
 use Rattle.outside.specs.Machine.{Machine}
 use Rattle.end_loop.specs.Seen.{Sight}
-use Rattle.end_loop.specs.Served.{Served, ServedUntil}
+use Rattle.end_loop.specs.Serving.{Served, ServedUntil}
 use Rattle.end_loop.specs.declared.halt.Halt.{Halt}
 use Rattle.end_loop.specs.declared.halt.Halt.TheVariants as halts
 use Rattle.wire_base.specs.Memory.{UpToMemory}

@@ -10,9 +10,9 @@ use Rattle.outside.specs.declared.event.Event.TheVariants as event
 use Rattle.outside.specs.declared.event.Happening.{Happening}
 use Rattle.outside.specs.declared.event.Happening.TheVariants as happening
 use Rattle.outside.proofs.TellingLaws.{Appends-trans}
-use Rattle.end_loop.specs.Runs.{Standing, Step, AreSteps, Chooses, Closes, asked_by, drawn_of, moments_of, step_story, story_of, idle_at}
+use Rattle.end_loop.specs.Runs.{RunState, Step, AreSteps, Chooses, Closes, asked_by, drawn_of, moments_of, step_story, story_of, idle_at}
 use Rattle.end_loop.specs.Seen.{Sight, Shows}
-use Rattle.end_loop.specs.Served.{Opens, Served, ServedHalf, ServedUntil}
+use Rattle.end_loop.specs.Serving.{Opens, Served, ServedHalf, ServedUntil}
 use Rattle.end_loop.specs.declared.halt.Halt.TheVariants as halts
 use Rattle.end_loop.proofs.AskingLaws.{asks_for}
 use Rattle.end_loop.proofs.RunLaws.{Shows-none, Shows-trans}
@@ -26,7 +26,7 @@ use Rattle.nt_top.proofs.PairLaws.{both_whole, spent_not_whole}
 
 -- ---- what a run shows, from the listening place on
 
-record Told {S : Type 0} (machine : Machine S) (old : S) (address : List ℕ) (before after : Sight) (steps : List Step) (last : Standing S) (later : List Happening)
+record Told {S : Type 0} (machine : Machine S) (old : S) (address : List ℕ) (before after : Sight) (steps : List Step) (last : RunState S) (later : List Happening)
     (moments_later : List ℕ) : Type 0 where
   are : AreSteps machine (rest_at old (after.drawing.drawn ++ after.drawing.left)) steps last
   story : Appends before.story after.story (happening.Listened address ∷ (story_of steps ++ later))
@@ -38,7 +38,7 @@ whole_left opened ended draws none all =
     let drawn : ended.drawn ≡ draws = all.drawn ∙ ap (λ (d : List (List ℕ)). d ++ draws) none in
     all.left ∙ ap (λ (d : List (List ℕ)). d ++ ended.left) (sym drawn)
 
-told_by : {S : Type 0} (machine : Machine S) (old : S) (address seed : List ℕ) (boot : ℕ) (before opened ran ended : Sight) (steps : List Step) (last : Standing S)
+told_by : {S : Type 0} (machine : Machine S) (old : S) (address seed : List ℕ) (boot : ℕ) (before opened ran ended : Sight) (steps : List Step) (last : RunState S)
     (later : List Happening) (moments_later : List ℕ) (drawn_later : List (List ℕ)) (put put2 : List ℕ) →
     Opens seed boot before opened (happening.Listened address ∷ []) → AreSteps machine (idle_at old opened) steps last →
     Shows opened ran (story_of steps) (moments_of steps) (drawn_of steps) put → Shows ran ended later moments_later drawn_later put2 →
@@ -76,14 +76,14 @@ told_spent machine old address seed boot most before after half =
 
 -- ---- two runs that the same outside shows
 
-record Compared {S : Type 0} (machine : Machine S) (start : Standing S) (steps others : List Step) (last other : Standing S) (later later2 : List Happening)
+record Compared {S : Type 0} (machine : Machine S) (start : RunState S) (steps others : List Step) (last other : RunState S) (later later2 : List Happening)
     (given given2 : List ℕ) : Type 0 where
   are : AreSteps machine start steps last
   others_are : AreSteps machine start others other
   story : story_of steps ++ later ≡ story_of others ++ later2
   moments : moments_of steps ++ given ≡ moments_of others ++ given2
 
-compare : {S : Type 0} (machine : Machine S) (old : S) (address : List ℕ) (before after : Sight) (steps others : List Step) (last other : Standing S) (later later2 : List Happening)
+compare : {S : Type 0} (machine : Machine S) (old : S) (address : List ℕ) (before after : Sight) (steps others : List Step) (last other : RunState S) (later later2 : List Happening)
     (moments moments2 : List ℕ) → Told machine old address before after steps last later moments → TellsService machine old address before after others other later2 moments2 →
     Compared machine (rest_at old (after.drawing.drawn ++ after.drawing.left)) steps others last other later later2 moments moments2
 compare machine old address before after steps others last other later later2 moments moments2 one two =
@@ -97,7 +97,7 @@ compare machine old address before after steps others last other later later2 mo
     }
 
 -- nothing happened at the port, though it is told that it listened
-nothing_told : {S : Type 0} (machine : Machine S) (old : S) (address : List ℕ) (before after : Sight) (others : List Step) (other : Standing S) (later : List Happening) (moments : List ℕ) →
+nothing_told : {S : Type 0} (machine : Machine S) (old : S) (address : List ℕ) (before after : Sight) (others : List Step) (other : RunState S) (later : List Happening) (moments : List ℕ) →
     Appends before.story after.story [] → TellsService machine old address before after others other later moments → ⊥
 nothing_told machine old address before after others other later moments none two =
     let wrong : [] ≡ happening.Listened address ∷ (story_of others ++ later) =
@@ -106,11 +106,11 @@ nothing_told machine old address before after others other later moments none tw
 -- ---- `Done`
 
 -- a run that would ask for one more event isn't at its end
-asks_not_closed : {S : Type 0} (machine : Machine S) (most : ℕ) (steps others : List Step) (state : S) (left : List (List ℕ)) (last : Standing S) (stop : List Happening) (start : Standing S) →
+asks_not_closed : {S : Type 0} (machine : Machine S) (most : ℕ) (steps others : List Step) (state : S) (left : List (List ℕ)) (last : RunState S) (stop : List Happening) (start : RunState S) →
     AreSteps machine start steps last → AreSteps machine start others (rest_at state left) → story_of steps ++ [] ≡ story_of others ++ stop → last ≡ rest_at state left → [] ≡ stop →
     asked_by steps < most → machine.is_over last.state ≡ false → Closes machine (rest_at state left) (asked_by others) most stop → ⊥
 asks_not_closed {S} machine most steps others state left last stop start are others_are story same none more open_still (inl over) =
-    let wrong : false ≡ true = sym open_still ∙ ap (λ (s : Standing S). machine.is_over s.state) same ∙ over.0 in cc
+    let wrong : false ≡ true = sym open_still ∙ ap (λ (s : RunState S). machine.is_over s.state) same ∙ over.0 in cc
 asks_not_closed machine most steps others state left last stop start are others_are story same none more open_still (inr (inl took)) =
     let alike : story_of steps ≡ story_of others = sym (append-nil (story_of steps)) ∙ story ∙ ap (λ (h : List Happening). story_of others ++ h) took.1 ∙ append-nil (story_of others) in
     let count : asked_by steps ≡ asked_by others = sym (asks_for machine start last steps are).count ∙ ap (λ (h : List Happening). length (events_in h)) alike ∙ (asks_for machine start (rest_at state left) others others_are).count in
@@ -171,7 +171,7 @@ quiet_chooses machine state [] step waiting chooses = chooses
 quiet_chooses machine state (first ∷ later) step waiting chooses = chooses
 
 -- a run that is told to come to a step that draws too many isn't whole
-spent_not_told : {S : Type 0} (machine : Machine S) (old : S) (address : List ℕ) (before after : Sight) (steps : List Step) (last : Standing S) (stop : List Happening) →
+spent_not_told : {S : Type 0} (machine : Machine S) (old : S) (address : List ℕ) (before after : Sight) (steps : List Step) (last : RunState S) (stop : List Happening) →
     Told machine old address before after steps last stop [] → TellsSpent machine old address before after → ⊥
 spent_not_told machine old address before after steps last stop told comes =
     let same = compare machine old address before after steps comes.steps last comes.last stop comes.step.asked [] (comes.step.moment ∷ []) told comes.tells in

@@ -7,7 +7,7 @@ use Rattle.outside.specs.declared.action.Action.{Action}
 use Rattle.end_loop.specs.declared.halt.Halt.{Halt}
 use Rattle.end_loop.specs.Begun.{Begun, BegunUntil}
 use Rattle.end_loop.specs.Seen.{Sight}
-use Rattle.end_loop.specs.Served.{Opens}
+use Rattle.end_loop.specs.Serving.{Opens}
 use Rattle.logon_client.specs.declared.outcome.ClientOutcome.{ClientOutcome}
 use Rattle.logon_client.specs.declared.outcome.ClientOutcome.TheVariants as outcomes
 use Rattle.logon_client.specs.declared.outcome.NoAnswerCause.TheVariants.{LinkClosed}

@@ -11,10 +11,10 @@ use Rattle.outside.specs.declared.event.Happening.{Happening}
 use Rattle.outside.specs.declared.event.Happening.TheVariants as happening
 use Rattle.outside.specs.Stories.{events_in}
 use Rattle.end_loop.specs.Acts.{Performs, made_events}
-use Rattle.end_loop.specs.Runs.{Standing, Step, AreSteps, Chooses, Closes, asked_by, moments_of, story_of}
+use Rattle.end_loop.specs.Runs.{RunState, Step, AreSteps, Chooses, Closes, asked_by, moments_of, story_of}
 use Rattle.end_loop.specs.Begun.{Begun, BegunUntil}
 use Rattle.end_loop.specs.Seen.{Sight}
-use Rattle.end_loop.specs.Served.{Opens}
+use Rattle.end_loop.specs.Serving.{Opens}
 use Rattle.end_loop.specs.declared.halt.Halt.{Halt}
 use Rattle.end_loop.specs.declared.halt.Halt.TheVariants as halts
 use Rattle.logon_client.specs.declared.outcome.ClientOutcome.{ClientOutcome}
@@ -33,12 +33,12 @@ use Rattle.nt_top.specs.Serve.{GivesFewer}
 
 -- where a client stands once its first actions were performed: what they made waits, and the challenges are left that
 -- were drawn later and those that still are
-abbrev pub start_of : ClientPlan → List Happening → Drawing → Standing State
+abbrev pub start_of : ClientPlan → List Happening → Drawing → RunState State
 start_of plan happened drawing = record { state = client_that_dials plan; queue = made_events happened; left = drawing.drawn ++ drawing.left }
 
 -- The outside tells that the client's first actions were performed, that it made these steps, and that this happened at
 -- the port and these moments were given after them.
-pub record TellsRun (plan : ClientPlan) (before after : Sight) (steps : List Step) (last : Standing State) (later : List Happening)
+pub record TellsRun (plan : ClientPlan) (before after : Sight) (steps : List Step) (last : RunState State) (later : List Happening)
     (moments_later : List ℕ) : Type 0 where
   pub story : List Happening
   pub story_before : before.story ≡ Some story
@@ -50,7 +50,7 @@ pub record TellsRun (plan : ClientPlan) (before after : Sight) (steps : List Ste
   pub story_after : after.story ≡ Some (story ++ (happened ++ (story_of steps ++ later)))
   pub moments_after : after.moments ≡ Some (moments ++ (moments_of steps ++ moments_later))
 
-abbrev pub end_at : State → List (List ℕ) → Standing State
+abbrev pub end_at : State → List (List ℕ) → RunState State
 end_at state left = record { state = state; queue = []; left = left }
 
 -- It tells that the client ran to its end, with that outcome or none.
@@ -65,7 +65,7 @@ pub record ComesTo (plan : ClientPlan) (before after : Sight) (outcome : Option 
 
 -- It tells that the client came to a step that draws more challenges than were left.
 pub record ComesToSpent (plan : ClientPlan) (before after : Sight) : Type 0 where
-  pub last : Standing State
+  pub last : RunState State
   pub steps : List Step
   pub step : Step
   pub waiting : List Event

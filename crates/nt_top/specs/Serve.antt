@@ -8,7 +8,7 @@ use Rattle.outside.specs.Telling.{Appends}
 use Rattle.outside.specs.declared.event.Happening.{Happening}
 use Rattle.end_loop.specs.Asking.{gives_stop}
 use Rattle.end_loop.specs.Seen.{Sight}
-use Rattle.end_loop.specs.Served.{Served, ServedUntil}
+use Rattle.end_loop.specs.Serving.{Served, ServedUntil}
 use Rattle.end_loop.specs.declared.halt.Halt.{Halt}
 use Rattle.end_loop.specs.declared.halt.Halt.TheVariants as halts
 use Rattle.nt_top.specs.declared.exit.Exit.{Exit}

@@ -5,7 +5,7 @@ use Rattle.outside.specs.declared.action.StepRefused.TheVariants as refusals
 use Rattle.outside.specs.declared.event.Event.{Event}
 use Rattle.outside.specs.declared.event.Happening.{Happening}
 use Rattle.outside.specs.declared.event.Happening.TheVariants as happening
-use Rattle.end_loop.specs.Runs.{Standing, Step, AreSteps, Chooses, Closes, asked_by, moments_of, story_of}
+use Rattle.end_loop.specs.Runs.{RunState, Step, AreSteps, Chooses, Closes, asked_by, moments_of, story_of}
 use Rattle.end_loop.specs.Seen.{Sight}
 use Rattle.nt_top.specs.declared.exit.Exit.{Exit}
 use Rattle.nt_top.specs.declared.exit.Exit.TheVariants.{Done, PortFault, Spent}
@@ -13,13 +13,13 @@ use Rattle.nt_top.specs.LogonExits.{IsExcuse}
 use Rattle.nt_top.specs.Serve.{GivesFewer, MayServe}
 
 -- an end of that state, where no event waits and these challenges are left
-abbrev pub rest_at : {S : Type 0} → S → List (List ℕ) → Standing S
+abbrev pub rest_at : {S : Type 0} → S → List (List ℕ) → RunState S
 rest_at state left = record { state = state; queue = []; left = left }
 
 -- The outside tells that the port listened at the address, that the end made these steps, and that this happened at the
 -- port and these moments were given after them.
 pub record TellsService {S : Type 0} (machine : Machine S) (old : S) (address : List ℕ) (before after : Sight) (steps : List Step)
-    (last : Standing S) (later : List Happening) (moments_later : List ℕ) : Type 0 where
+    (last : RunState S) (later : List Happening) (moments_later : List ℕ) : Type 0 where
   pub story : List Happening
   pub story_before : before.story ≡ Some story
   pub moments : List ℕ
@@ -39,7 +39,7 @@ pub record TellsEnd {S : Type 0} (machine : Machine S) (old : S) (address : List
 
 -- It tells that the end came to a step that draws more challenges than were left.
 pub record TellsSpent {S : Type 0} (machine : Machine S) (old : S) (address : List ℕ) (before after : Sight) : Type 0 where
-  pub last : Standing S
+  pub last : RunState S
   pub steps : List Step
   pub step : Step
   pub waiting : List Event

@@ -12,7 +12,7 @@ use Rattle.wire_base.proofs.NumberLaws.{AreBytes-drop, number_at-inside, number_
 use Rattle.ntlm_messages.specs.declared.pairs.PairsRefused.{PairsRefused}
 use Rattle.ntlm_messages.specs.declared.pairs.PairsRefused.TheVariants.{NoEnd, CutPair, BadLength, Memory}
 use Rattle.ntlm_messages.specs.Fields.{◌>>=◌, short_at}
-use Rattle.ntlm_messages.specs.Pairs.{pair_bytes, written_pairs, IsPair, ArePairs, IsPairs, may_have_length, pair_of, pairs_within, pairs_of, pair_value_of, timestamp_of, StopsAt, IsPairsRefusal}
+use Rattle.ntlm_messages.specs.Pairs.{pair_bytes, written_pairs, IsPair, ArePairs, IsPairs, may_have_length, pair_of, pairs_within, pairs_of, pair_value_of, timestamp_pair_of, StopsAt, IsPairsRefusal}
 use Rattle.ntlm_messages.proofs.FieldLaws.{bind_then, passed, not_failed, chosen, failed, refused_then}
 use Rattle.ntlm_messages.proofs.WrittenLaws.{Stands_short}
 
@@ -331,7 +331,7 @@ pub whole_number : (value : List ℕ) → length value ≡ 8 → u64_of value 0 
 whole_number value eight =
     number_at-inside w64 value 0 (omega (arith, eight)) ∙ ap (λ (t : List ℕ). Some (from_le_bytes w64 t)) (take_all 8 value (omega (arith, eight)))
 
-pub timestamp_read : (pairs : List (ℕ × List ℕ)) (value : List ℕ) → ArePairs pairs → pair_value_of 7 pairs ≡ Some value → timestamp_of pairs ≡ u64_of value 0
+pub timestamp_read : (pairs : List (ℕ × List ℕ)) (value : List ℕ) → ArePairs pairs → pair_value_of 7 pairs ≡ Some value → timestamp_pair_of pairs ≡ u64_of value 0
 timestamp_read pairs value are e = rw e (sym (whole_number value (timestamp_length pairs value are e)))
 
 -- for `search`: what was found of the bytes says what reading them gives

@@ -42,8 +42,8 @@ abbrev pub pair_value_of : ℕ → List (ℕ × List ℕ) → Option (List ℕ)
 pair_value_of id pairs = lookup same_number id pairs
 
 -- the time of pair 7, a FILETIME
-abbrev pub timestamp_of : List (ℕ × List ℕ) → Option ℕ
-timestamp_of pairs = option_map (from_le_bytes w64) (pair_value_of 7 pairs)
+abbrev pub timestamp_pair_of : List (ℕ × List ℕ) → Option ℕ
+timestamp_pair_of pairs = option_map (from_le_bytes w64) (pair_value_of 7 pairs)
 
 -- ---- reading from the front
 

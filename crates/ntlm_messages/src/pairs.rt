@@ -5,7 +5,7 @@ ghost use Rattle.std.specs.List.{flat_map};
 ghost use Rattle.wire_base.specs.Memory.{UpToMemory};
 ghost use Rattle.ntlm_messages.specs.Fields.{Shows};
 ghost use Rattle.ntlm_messages.specs.declared.pairs.PairsRefused.{PairsRefused};
-ghost use Rattle.ntlm_messages.specs.Pairs.{IsPairs, IsPairsRefusal, ArePairs, pair_of, pairs_of, pair_bytes, pair_value_of, timestamp_of, verdict_on_pairs, written_pairs, may_have_length};
+ghost use Rattle.ntlm_messages.specs.Pairs.{IsPairs, IsPairsRefusal, ArePairs, pair_of, pairs_of, pair_bytes, pair_value_of, timestamp_pair_of, verdict_on_pairs, written_pairs, may_have_length};
 
 use crate::fields::short_at;
 use std::alloc::Global;
@@ -200,7 +200,7 @@ pub fn pair_value(pairs: &Pairs, id: u16) -> Option<&[u8]>
 #[tactic(auto, using(crate::proofs::PairsLaws::timestamp_read))]
 pub fn timestamp(pairs: &Pairs) -> Option<u64>
     requires { ArePairs pairs.now }
-    ensures { result ≡ timestamp_of pairs.now }
+    ensures { result ≡ timestamp_pair_of pairs.now }
 {
     u64_at(pair_value(pairs, 7)?, 0)
 }

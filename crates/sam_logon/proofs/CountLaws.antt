@@ -15,7 +15,7 @@ use Rattle.logon_stubs.specs.declared.info.NetworkInfo.{NetworkInfo}
 use Rattle.sam_logon.specs.Rules.{Shown, answer_by, change_of, count_after, first_refusal, rules_for, shown_by_hash, shown_by_response}
 use Rattle.logon_stubs.specs.declared.info.SamInfo.{SamInfo}
 use Rattle.logon_stubs.specs.declared.info.Verdict.TheVariants.{Granted, Status}
-use Rattle.sam_logon.specs.Granted.{sam_info_of}
+use Rattle.sam_logon.specs.Granting.{sam_info_of}
 use Rattle.sam_logon.specs.Verdict.{interactive_judgement_of, interactive_table_after, judged_account, judgement_of, table_after, table_routed, table_shown, verdict_shown}
 use Rattle.sam_logon.specs.declared.rules.Refusal.{Refusal}
 

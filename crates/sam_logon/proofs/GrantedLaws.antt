@@ -18,7 +18,7 @@ use Rattle.logon_stubs.specs.Ranges.{HasShortTexts, InRangeExtra, InRangeGroup, 
 use Rattle.logon_stubs.specs.Writing.{CanWriteReply, CanWriteSamInfo, HasLevel, written_reply}
 use Rattle.logon_stubs.specs.Structures.{has_extra}
 use Rattle.logon_stubs.proofs.WrittenLaws.{written_reply-joins}
-use Rattle.sam_logon.specs.Granted.{at_level, extra_of, granting_reply, groups_of, or_never, sam_info_of, user_flags_of, with_extra_if}
+use Rattle.sam_logon.specs.Granting.{at_level, extra_of, granting_reply, groups_of, or_never, sam_info_of, user_flags_of, with_extra_if}
 
 -- the bytes of a name are units
 name_units : (name : List ℕ) → IsName name → AreUnits name

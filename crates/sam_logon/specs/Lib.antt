@@ -1,4 +1,4 @@
-pub mod Granted
+pub mod Granting
 pub mod MayLogOn
 pub mod Rules
 pub mod Verdict

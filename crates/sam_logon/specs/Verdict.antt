@@ -13,7 +13,7 @@ use Rattle.logon_stubs.specs.declared.info.SamInfo.{SamInfo}
 use Rattle.logon_stubs.specs.declared.info.Verdict.{Verdict}
 use Rattle.logon_stubs.specs.declared.info.Verdict.TheVariants.{Granted, Status}
 use Rattle.logon_stubs.specs.Status.{no_such_user, no_such_domain}
-use Rattle.sam_logon.specs.Granted.{sam_info_of}
+use Rattle.sam_logon.specs.Granting.{sam_info_of}
 use Rattle.sam_logon.specs.Rules.{Shown, count_after, first_refusal, rules_for, shown_by_hash, shown_by_response}
 use Rattle.sam_logon.specs.declared.rules.Refusal.{Refusal}
 

@@ -5,7 +5,7 @@ ghost use Rattle.account_table.specs.Changes.{with_count};
 ghost use Rattle.account_table.specs.Ranges.{InRangeAccount};
 ghost use Rattle.logon_stubs.specs.Ranges.{HasShortTexts, InRangeSamInfo, IsBlock};
 ghost use Rattle.logon_stubs.specs.Writing.{CanWriteSamInfo};
-ghost use Rattle.sam_logon.specs.Granted.{at_level, extra_of, groups_of, or_never, sam_info_of, user_flags_of, without_extra, without_extra_flag};
+ghost use Rattle.sam_logon.specs.Granting.{at_level, extra_of, groups_of, or_never, sam_info_of, user_flags_of, without_extra, without_extra_flag};
 ghost use Rattle.wire_base.specs.Numbers.{AreBytes};
 
 use account_table::{Account, Table};

@@ -6,7 +6,7 @@ ghost use Rattle.wire_base.specs.declared.authenticator.Authenticator.{Authentic
 ghost use Rattle.logon_stubs.specs.declared.info.SamInfo.{SamInfo as Info};
 ghost use Rattle.logon_stubs.specs.Ranges.{HasShortTexts, InRangeReply, InRangeSamInfo, IsAuthenticator, IsBlock};
 ghost use Rattle.logon_stubs.specs.Writing.{CanWriteReply, CanWriteSamInfo, written_reply};
-ghost use Rattle.sam_logon.specs.Granted.{granting_reply};
+ghost use Rattle.sam_logon.specs.Granting.{granting_reply};
 
 /// A reply to a logon carries what is granted at level 2 and at level 3, whatever key of 16 bytes stands in place of
 /// its own: it can be written, and where its other parts have their ranges, it has them and is at most 65,536 bytes,

@@ -55,8 +55,8 @@ use Rattle.logon_client.specs.declared.state.Phase.TheVariants.{Bound, Asked}
 use Rattle.logon_client.specs.declared.state.Question.{Question}
 use Rattle.logon_client.specs.declared.state.Question.TheVariants.{Who, Echo}
 use Rattle.logon_client.specs.declared.state.Running.{Running}
-use Rattle.logon_client.specs.declared.state.Standing.{Standing}
-use Rattle.logon_client.specs.declared.state.Standing.TheVariants.{On}
+use Rattle.logon_client.specs.declared.state.ClientLink.{ClientLink}
+use Rattle.logon_client.specs.declared.state.ClientLink.TheVariants.{On}
 use Rattle.logon_client.specs.declared.state.Talk.{Talk}
 use Rattle.logon_client.specs.declared.state.Terms.{Terms}
 use Rattle.logon_client.specs.declared.state.Work.{Work}
@@ -561,14 +561,14 @@ step_down (Ok part) s left level w units actions down is =
 abbrev pub state_of : Option Running → Option ClientOutcome → ClientState
 state_of running outcome = record { running = running; outcome = outcome }
 
-abbrev pub running_at : ClientPlan → Standing → Running
+abbrev pub running_at : ClientPlan → ClientLink → Running
 running_at plan standing = record { task = plan; standing = standing }
 
 lifted : (P : ClientState → Type 0) (s : ClientState) (running : Running) (link : LinkState Talk) → IsOn s running link → P (state_of (Some (running_at running.task (On link))) None) → P s
 lifted P s running link on base =
     subst (λ (o : Option ClientOutcome). P (state_of s.running o)) (sym on.none)
     (subst (λ (r : Option Running). P (state_of r None)) (sym on.runs)
-    (subst (λ (h : Standing). P (state_of (Some (running_at running.task h)) None)) (sym on.stands) base))
+    (subst (λ (h : ClientLink). P (state_of (Some (running_at running.task h)) None)) (sym on.stands) base))
 
 abbrev pub WrittenAt : ℕ → ClientAt → ℕ → List ℕ → ℕ → List (List ℕ) → ClientState → Type 0
 WrittenAt level w number piece now left s =

@@ -4,7 +4,7 @@ use Rattle.std.specs.Prelude.{ℕ, ◌≡◌, Bool, true, false, List, [], ◌�
 use Rattle.std.specs.List.{AllByRecursion}
 use Rattle.wire_base.specs.Maps.{lookup, same_number}
 use Rattle.wire_base.specs.declared.authenticator.Authenticator.{Authenticator}
-use Rattle.authenticators.specs.Channels.{Channel, channel_key}
+use Rattle.authenticators.specs.Channels.{ChannelIdentity, channel_key}
 use Rattle.authenticators.specs.Sequences.{authenticator_of, next_seed}
 use Rattle.authenticators.specs.SecureChannels.{SecureChannelState, after_call}
 use Rattle.outside.specs.declared.action.Action.{Action}
@@ -106,7 +106,7 @@ call_for plan given place logon = call.Logon (record {
 -- authenticator of that timestamp on the channel, at the seed from which that timestamp moved the channel that stands;
 -- and the channel is that of the plan, with that controller.
 pub record AreForLogon
-    (controller : ℕ) (logons : Logons) (channel : Channel) (number timestamp : ℕ) (frames : List (List ℕ)) : Type 0 where
+    (controller : ℕ) (logons : Logons) (channel : ChannelIdentity) (number timestamp : ℕ) (frames : List (List ℕ)) : Type 0 where
   pub place : ℕ
   pub logon : Logon
   pub kept : lookup same_number place logons.asked ≡ Some logon
@@ -120,7 +120,7 @@ pub record AreForLogon
 -- What goes out on the link of the turn is such a request, for the logon that is kept under the place that is written
 -- down.
 pub record IsForItsLogon
-    (controller : ℕ) (before : AtTurn) (later : Option AtTurn) (called : Option ℕ) (channel : Channel) (number timestamp : ℕ) : Type 0 where
+    (controller : ℕ) (before : AtTurn) (later : Option AtTurn) (called : Option ℕ) (channel : ChannelIdentity) (number timestamp : ℕ) : Type 0 where
   pub frames : List (List ℕ)
   pub asks : AreForLogon controller before.work.logons channel number timestamp frames
   pub called_is : called ≡ Some asks.place
@@ -129,7 +129,7 @@ pub record IsForItsLogon
   pub sends : done.work.actions ≡ before.work.actions ++ action.Send before.link (joined_frames frames) ∷ []
 
 -- of the channel, the number and the timestamp of a mark, if it is that of a Logon call
-abbrev pub IfCalling : (Channel → ℕ → ℕ → Type 0) → Mark → Type 0
+abbrev pub IfCalling : (ChannelIdentity → ℕ → ℕ → Type 0) → Mark → Type 0
 IfCalling Holds (Calling channel number timestamp) = Holds channel number timestamp
 IfCalling Holds _ = Unit {0}
 

@@ -6,7 +6,7 @@ use Rattle.std.specs.Prelude.{ℕ, ◌≡◌, Bool, true, false, List, [], ◌�
 use Rattle.std.specs.List.{AllByRecursion}
 use Rattle.wire_base.specs.Maps.{lookup}
 use Rattle.wire_base.specs.Names.{same_name}
-use Rattle.authenticators.specs.Channels.{Channel, SameChannel}
+use Rattle.authenticators.specs.Channels.{ChannelIdentity, SameChannel}
 use Rattle.authenticators.specs.SecureChannels.{SecureChannelState, channel_of}
 use Rattle.outside.specs.declared.action.Action.{Action}
 use Rattle.outside.specs.declared.action.Action.TheVariants as action
@@ -56,8 +56,8 @@ use Rattle.logon_client.specs.declared.state.Phase.{Phase}
 use Rattle.logon_client.specs.declared.state.Phase.TheVariants.{Bound, Asked}
 use Rattle.logon_client.specs.declared.state.Question.{Question}
 use Rattle.logon_client.specs.declared.state.Running.{Running as ClientRunning}
-use Rattle.logon_client.specs.declared.state.Standing.{Standing as ClientStanding}
-use Rattle.logon_client.specs.declared.state.Standing.TheVariants.{Idle, Dialling, On}
+use Rattle.logon_client.specs.declared.state.ClientLink.{ClientLink as ClientStanding}
+use Rattle.logon_client.specs.declared.state.ClientLink.TheVariants.{Idle, Dialling, On}
 use Rattle.logon_client.specs.declared.state.Talk.{Talk as ClientTalk}
 use Rattle.logon_client.specs.declared.state.Terms.{Terms}
 use Rattle.member_server.specs.Turns.{turn_server}
@@ -74,7 +74,7 @@ use Rattle.step_notes.specs.Served.{talk_after, work_after}
 -- ---- at a member
 
 -- the channel that stands at a requester, as the member names it, with that controller
-abbrev pub standing_channel : ℕ → Requester → Option Channel
+abbrev pub standing_channel : ℕ → Requester → Option ChannelIdentity
 standing_channel controller s = stands_in controller s.caller.computer s.standing
 
 -- the turn's bind is out, and that call waits for the answer to it
@@ -117,11 +117,11 @@ abbrev pub AreFramesOf : ℕ → Call → List (List ℕ) → Type 0
 AreFramesOf number c frames = (limit : ℕ) × (frames ≡ frames_of (request_of number 0 (opnum_of_call c) (written_call c)) limit)
 
 -- a credential passed on that channel, and the answer of that place was taken, if one was
-abbrev pub passed_note : Channel → Option ℕ → TurnNote
+abbrev pub passed_note : ChannelIdentity → Option ℕ → TurnNote
 passed_note channel answered = record { sends = false; mark = Plain; checked = Some channel; called = None; answered = answered }
 
 -- the channel that stood stands on, or none does
-abbrev pub StandsOrGoes : Channel → Option Channel → Type 0
+abbrev pub StandsOrGoes : ChannelIdentity → Option ChannelIdentity → Type 0
 StandsOrGoes channel None = Unit {0}
 StandsOrGoes channel (Some other) = other ≡ channel
 
@@ -141,24 +141,24 @@ pub record Expects (d : Desk) (s : Requester) (client server : List ℕ) : Type 
   pub pair : lookup same_name s.caller.computer d.work.computers.pending ≡ Some (record { client = client; server = server })
 
 -- it keeps that channel, with whatever seed
-pub record HasChannel (computers : Computers) (channel : Channel) : Type 0 where
+pub record HasChannel (computers : Computers) (channel : ChannelIdentity) : Type 0 where
   pub state : SecureChannelState
   pub kept : lookup same_name channel.computer computers.channels ≡ Some state
   pub is : channel_of channel.controller channel.computer state ≡ channel
 
 -- the channel that a unit opens, if it does
-abbrev pub opened_call : ℕ → Call → Desk → Option Channel
+abbrev pub opened_call : ℕ → Call → Desk → Option ChannelIdentity
 opened_call controller (call.Authenticate c) d = opened_by controller c d
 opened_call controller _ d = None
 
-abbrev pub opened_unit : ℕ → Heard → Desk → Option Channel
+abbrev pub opened_unit : ℕ → Heard → Desk → Option ChannelIdentity
 opened_unit controller (heard.Asked line c talk) d = opened_call controller c d
 opened_unit controller (heard.Close cause) d = None
 opened_unit controller (heard.Answer bytes talk) d = None
 opened_unit controller (heard.Waits talk) d = None
 
 -- it is none of that computer
-abbrev pub IsOfOther : List ℕ → Option Channel → Type 0
+abbrev pub IsOfOther : List ℕ → Option ChannelIdentity → Type 0
 IsOfOther computer None = Unit {0}
 IsOfOther computer (Some opened) = same_name opened.computer computer ≡ false
 
@@ -213,7 +213,7 @@ pub record ChannelsStandAsAsked : Type 0 where
       standing_channel controller (ask_of s info).state ≡ standing_channel controller s
   pub starts : (controller : ℕ) (s : Requester) (timestamp : ℕ) (challenge : List ℕ) →
       standing_channel controller (start_of s timestamp challenge).state ≡ standing_channel controller s
-  pub takes : (controller : ℕ) (s : Requester) (unit : RpcUnit) (channel : Channel) → standing_channel controller s ≡ Some channel →
+  pub takes : (controller : ℕ) (s : Requester) (unit : RpcUnit) (channel : ChannelIdentity) → standing_channel controller s ≡ Some channel →
       StandsOrGoes channel (standing_channel controller (take_of s unit).state)
   pub loses : (controller : ℕ) (s : Requester) → standing_channel controller (lose_of s).state ≡ None
 
@@ -221,34 +221,34 @@ pub record ChannelsStandAsAsked : Type 0 where
 -- has the channel keeps it until it opens another one for that computer, and a call that passes there passes on it. The
 -- member takes the answer on the channel that stands.
 pub record CallsAreNamedAlike : Type 0 where
-  pub starts : (controller : ℕ) (s : Requester) (timestamp : ℕ) (challenge : List ℕ) (channel : Channel) →
+  pub starts : (controller : ℕ) (s : Requester) (timestamp : ℕ) (challenge : List ℕ) (channel : ChannelIdentity) →
       standing_channel controller s ≡ Some channel → can_start s.turn s.waiting ≡ true →
       WillCall (start_of s timestamp challenge).state channel.computer
-  pub asks : (controller : ℕ) (s : Requester) (unit : RpcUnit) (channel : Channel) (logon : LogonCall) (frames : List (List ℕ)) →
+  pub asks : (controller : ℕ) (s : Requester) (unit : RpcUnit) (channel : ChannelIdentity) (logon : LogonCall) (frames : List (List ℕ)) →
       standing_channel controller s ≡ Some channel → (ask : WillAsk s (call.Logon logon)) →
       frames_sent (take_of s unit).taken ≡ Some frames →
       AreFramesOf s.next_call (call.Logon logon) frames
       × (taking_note (Some (take_of s unit)) controller s
       ≡ request_note (Calling channel s.next_call (timestamp_in logon.authenticator)) (Some ask.place))
   pub keeps : (controller : ℕ) (name : List ℕ) (now link : ℕ) (bytes : List ℕ) (before after : Desk) (talk : ControllerTalk) (left : List (List ℕ))
-      (channel : Channel) → HasChannel before.work.computers channel →
+      (channel : ChannelIdentity) → HasChannel before.work.computers channel →
       IsOfOther channel.computer (opened_unit controller (hear link bytes talk) before) →
       work_after ((controller_server name now link).unit bytes before talk left) ≡ Some after → HasChannel after.work.computers channel
-  pub passes : (j : Judging) (channel : Channel) → j.controller ≡ channel.controller → j.logon.computer ≡ Some channel.computer →
+  pub passes : (j : Judging) (channel : ChannelIdentity) → j.controller ≡ channel.controller → j.logon.computer ≡ Some channel.computer →
       HasChannel j.computers channel → has_passed j.how ≡ true → logon_answer j ≡ passing (Some channel) j
   pub takes : (controller : ℕ) (s : Requester) (unit : RpcUnit) (place : ℕ) → place_answered (take_of s unit).taken ≡ Some place →
-      (channel : Channel) × (standing_channel controller s ≡ Some channel)
+      (channel : ChannelIdentity) × (standing_channel controller s ≡ Some channel)
       × (standing_channel controller (take_of s unit).state ≡ Some channel)
       × (taking_note (Some (take_of s unit)) controller s ≡ passed_note channel (Some place))
 
 -- A credential that passes on a channel in a unit that was made for it is no clash.
 abbrev pub OwnUnitsAreNoClash : Type 0
 OwnUnitsAreNoClash =
-    (channel other : Channel) (unit : ℕ) (sent : List Sent) → sent_channel (slice_get sent unit) ≡ Some other → SameChannel other channel →
+    (channel other : ChannelIdentity) (unit : ℕ) (sent : List Sent) → sent_channel (slice_get sent unit) ≡ Some other → SameChannel other channel →
     clashes (Some channel) (Some unit) sent ≡ false
 
 -- the channel that a unit was made for, where what came was a unit of the bag
-abbrev pub channel_marked : Option ℕ → List Sent → Option Channel
+abbrev pub channel_marked : Option ℕ → List Sent → Option ChannelIdentity
 channel_marked None sent = None
 channel_marked (Some unit) sent = sent_channel (slice_get sent unit)
 
@@ -263,10 +263,10 @@ pub record ExchangesHaveNoClash : Type 0 where
       s.standing ≡ standing.Half client server → (take_of s unit).taken ≡ taken.Opened →
       channel_marked number sent ≡ Some (half_channel controller s client server) →
       clashes (taking_note (Some (take_of s unit)) controller s).checked number sent ≡ false
-  pub calling : (j : Judging) (channel : Channel) (sent : List Sent) → j.controller ≡ channel.controller →
+  pub calling : (j : Judging) (channel : ChannelIdentity) (sent : List Sent) → j.controller ≡ channel.controller →
       j.logon.computer ≡ Some channel.computer → HasChannel j.computers channel → has_passed j.how ≡ true →
       channel_marked j.unit sent ≡ Some channel → clashes (logon_answer j).checked j.unit sent ≡ false
-  pub answered : (controller : ℕ) (s : Requester) (unit : RpcUnit) (place : ℕ) (channel : Channel) (number : Option ℕ) (sent : List Sent) →
+  pub answered : (controller : ℕ) (s : Requester) (unit : RpcUnit) (place : ℕ) (channel : ChannelIdentity) (number : Option ℕ) (sent : List Sent) →
       standing_channel controller s ≡ Some channel → place_answered (take_of s unit).taken ≡ Some place →
       channel_marked number sent ≡ Some channel → clashes (taking_note (Some (take_of s unit)) controller s).checked number sent ≡ false
 

@@ -22,8 +22,8 @@ use Rattle.logon_client.specs.declared.hearing.Heard.TheVariants as heard
 use Rattle.logon_client.specs.declared.outcome.ClientOutcome.{ClientOutcome}
 use Rattle.logon_client.specs.declared.plan.ClientPlan.{ClientPlan}
 use Rattle.logon_client.specs.declared.state.Running.{Running}
-use Rattle.logon_client.specs.declared.state.Standing.{Standing}
-use Rattle.logon_client.specs.declared.state.Standing.TheVariants.{Idle, Dialling, On}
+use Rattle.logon_client.specs.declared.state.ClientLink.{ClientLink}
+use Rattle.logon_client.specs.declared.state.ClientLink.TheVariants.{Idle, Dialling, On}
 use Rattle.logon_client.specs.declared.state.Talk.{Talk}
 use Rattle.logon_client.specs.declared.state.Work.{Work}
 use Rattle.step_notes.specs.MemberNotes.{message_in}
@@ -38,7 +38,7 @@ units_if false own piece task now left = []
 units_if true own piece task now left =
     served_units client_server (cut_stream (own.rest ++ piece)).units (work_of task now) own.talk left
 
-abbrev pub units_on : Standing → ℕ → List ℕ → ClientPlan → ℕ → List (List ℕ) → List (ServedUnit Work Talk)
+abbrev pub units_on : ClientLink → ℕ → List ℕ → ClientPlan → ℕ → List (List ℕ) → List (ServedUnit Work Talk)
 units_on Idle number piece task now left = []
 units_on Dialling number piece task now left = []
 units_on (On own) number piece task now left = units_if (number == own.talk.link) own piece task now left

@@ -7,7 +7,7 @@ use Rattle.wire_base.specs.Names.{same_name}
 use Rattle.ntlm_flags.specs.Flags.{has_flag}
 use Rattle.channel_keys.specs.Credentials.{cred_of}
 use Rattle.channel_keys.specs.Flags.{rc4_flag}
-use Rattle.authenticators.specs.Channels.{Channel}
+use Rattle.authenticators.specs.Channels.{ChannelIdentity}
 use Rattle.authenticators.specs.SecureChannels.{SecureChannelState, channel_of, key_of_channel}
 use Rattle.outside.specs.declared.action.Action.{Action}
 use Rattle.outside.specs.declared.action.Action.TheVariants as action
@@ -55,12 +55,12 @@ units_of_controller c number piece now left =
 
 -- ---- channels
 
-abbrev pub channel_by : ℕ → List ℕ → Option SecureChannelState → Option Channel
+abbrev pub channel_by : ℕ → List ℕ → Option SecureChannelState → Option ChannelIdentity
 channel_by controller computer None = None
 channel_by controller computer (Some c) = Some (channel_of controller computer c)
 
 -- the channel of the computer that a call names
-abbrev pub channel_in : ℕ → Option (List ℕ) → Computers → Option Channel
+abbrev pub channel_in : ℕ → Option (List ℕ) → Computers → Option ChannelIdentity
 channel_in controller None computers = None
 channel_in controller (Some computer) computers = channel_by controller computer (lookup same_name computer computers.channels)
 
@@ -84,7 +84,7 @@ abbrev pub opened_account : Option Account → Option ChallengePair → AuthCall
 opened_account None pair c = None
 opened_account (Some account) pair c = opened_offer (has_flag c.flags rc4_flag) pair account c
 
-abbrev pub opened_by : ℕ → AuthCall → Desk → Option Channel
+abbrev pub opened_by : ℕ → AuthCall → Desk → Option ChannelIdentity
 opened_by controller c d =
     channel_by controller c.computer (opened_account (account_for d.table c) (lookup same_name c.computer d.work.computers.pending) c)
 
@@ -95,7 +95,7 @@ opened_by controller c d =
 pub record Answered : Type 0 where
   pub sends : Bool
   pub mark : Mark
-  pub checked : Option Channel
+  pub checked : Option ChannelIdentity
   pub judging : Option Judging
 
 abbrev pub silent : Answered
@@ -120,12 +120,12 @@ new_actions None before = []
 new_actions (Some after) before = drop (length before.work.actions) after.work.actions
 
 -- a reply goes into the bag where the call came in a unit of the bag
-abbrev pub reply_mark : Option ℕ → Channel → ℕ → Mark
+abbrev pub reply_mark : Option ℕ → ChannelIdentity → ℕ → Mark
 reply_mark None channel number = Plain
 reply_mark (Some unit) channel number = ReplyTo channel number unit
 
 -- a NetrLogonSamLogon that passed, by its channel
-abbrev pub passing : Option Channel → Judging → Answered
+abbrev pub passing : Option ChannelIdentity → Judging → Answered
 passing None j = record { sends = true; mark = Plain; checked = None; judging = Some j }
 passing (Some channel) j =
     record { sends = true; mark = reply_mark j.unit channel j.number; checked = Some channel; judging = Some j }
@@ -144,12 +144,12 @@ pub record Where : Type 0 where
   pub moment : ℕ
 
 -- the reply that accepts a NetrServerAuthenticate2 goes into the bag where the call came in a unit of the bag
-abbrev pub opened_mark : Option ℕ → Channel → ℕ → Mark
+abbrev pub opened_mark : Option ℕ → ChannelIdentity → ℕ → Mark
 opened_mark None channel number = Plain
 opened_mark (Some unit) channel number = Opened channel number unit
 
 -- such a call, by the channel that it opens, and its number
-abbrev pub opening : Option Channel → Where → ℕ → Answered
+abbrev pub opening : Option ChannelIdentity → Where → ℕ → Answered
 opening None w number = plain
 opening (Some channel) w number =
     record { sends = true; mark = opened_mark w.unit channel number; checked = Some channel; judging = None }

@@ -3,7 +3,7 @@
 use Rattle.std.specs.Prelude.{ℕ, ◌≡◌, ◌⊎◌, Bool, true, false, List, Option, Some, None}
 use Rattle.rpc_units.specs.declared.unit.Unit.{Unit as RpcUnit}
 use Rattle.logon_stubs.specs.declared.info.NetworkInfo.{NetworkInfo}
-use Rattle.authenticators.specs.Channels.{Channel}
+use Rattle.authenticators.specs.Channels.{ChannelIdentity}
 use Rattle.channel_client.specs.Effects.{Effect, Stays, Counts, Begins, Opens, Moves, Calls, Answers, Drops, IsCoherent, View, effect_of_take, step_in, view_of}
 use Rattle.channel_client.specs.Machine.{ask_of, fresh_requester, start_of, take_of}
 use Rattle.channel_client.specs.State.{Requester}
@@ -30,7 +30,7 @@ StaysOut v old new = (challenge : List ℕ) → v.opening ≡ Some challenge →
 
 -- the opening that is under way goes out, which wasn't out before
 pub record GoesOut (note : TurnNote) (u : View) (old new : Bool) : Type 0 where
-  pub channel : Channel
+  pub channel : ChannelIdentity
   pub is : note ≡ request_note (Opening channel u.call) None
   pub none : u.stands ≡ None
   pub under_way : u.opening ≡ Some channel.client

@@ -13,7 +13,7 @@ use Rattle.logon_stubs.specs.declared.info.SamInfo.{SamInfo}
 use Rattle.logon_stubs.specs.Writing.{written_reply}
 use Rattle.account_table.specs.declared.account.Account.{Account}
 use Rattle.account_table.specs.LookUps.{account_in}
-use Rattle.sam_logon.specs.Granted.{granting_reply, sam_info_of}
+use Rattle.sam_logon.specs.Granting.{granting_reply, sam_info_of}
 use Rattle.end_links.specs.Sending.{response_of}
 use Rattle.channel_keys.specs.Hidden.{crypt_key}
 use Rattle.authenticators.specs.SecureChannels.{SecureChannelState, key_of_channel}

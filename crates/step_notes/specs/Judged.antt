@@ -4,7 +4,7 @@ use Rattle.std.specs.Prelude.{ℕ, ◌≡◌, ◌↔◌, Bool, true, false, List
 use Rattle.wire_base.specs.Maps.{lookup}
 use Rattle.wire_base.specs.Names.{same_name}
 use Rattle.wire_base.specs.declared.authenticator.Authenticator.{Authenticator}
-use Rattle.authenticators.specs.Channels.{Channel}
+use Rattle.authenticators.specs.Channels.{ChannelIdentity}
 use Rattle.authenticators.specs.Sequences.{Passes}
 use Rattle.authenticators.specs.SecureChannels.{SecureChannelState, key_of_channel}
 use Rattle.outside.specs.declared.action.Judged.{Judged}
@@ -22,11 +22,11 @@ use Rattle.step_notes.specs.Records.{Judging}
 -- ---- authenticators that pass
 
 -- the channel on which the authenticator of a call passed: none where it didn't pass
-abbrev pub channel_if : Bool → Judging → Option Channel
+abbrev pub channel_if : Bool → Judging → Option ChannelIdentity
 channel_if false j = None
 channel_if true j = channel_in j.controller j.logon.computer j.computers
 
-abbrev pub passed_channel : Judging → Option Channel
+abbrev pub passed_channel : Judging → Option ChannelIdentity
 passed_channel j = channel_if (has_passed j.how) j
 
 -- the hash that is stored for the user of what is asked

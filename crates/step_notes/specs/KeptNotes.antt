@@ -5,7 +5,7 @@ use Rattle.std.specs.Prelude.{ℕ, ◌≡◌, ◌⊎◌, Bool, true, false, List
 use Rattle.wire_base.specs.Maps.{IsMap, lookup}
 use Rattle.wire_base.specs.Names.{SameName, same_name}
 use Rattle.wire_base.specs.declared.authenticator.Authenticator.{Authenticator}
-use Rattle.authenticators.specs.Channels.{Channel, SameChannel}
+use Rattle.authenticators.specs.Channels.{ChannelIdentity, SameChannel}
 use Rattle.logon_stubs.specs.declared.calls.AuthCall.{AuthCall}
 use Rattle.logon_stubs.specs.declared.calls.ChallengeCall.{ChallengeCall}
 use Rattle.logon_stubs.specs.declared.info.NetworkInfo.{NetworkInfo}
@@ -28,7 +28,7 @@ server_in (Some pair) = Some pair.server
 abbrev pub waits_in : Computers → List ℕ → Option (List ℕ)
 waits_in computers name = server_in (lookup same_name name computers.pending)
 
-abbrev pub keeps_in : ℕ → Computers → List ℕ → Option Channel
+abbrev pub keeps_in : ℕ → Computers → List ℕ → Option ChannelIdentity
 keeps_in controller computers name = channel_by controller name (lookup same_name name computers.channels)
 
 -- ---- what a call changes
@@ -36,7 +36,7 @@ keeps_in controller computers name = channel_by controller name (lookup same_nam
 -- no challenge waits, and no channel is kept, that wasn't before (`ControllerForgets`)
 pub record KeepsNoMore (controller : ℕ) (before after : Computers) : Type 0 where
   pub waits : (name challenge : List ℕ) → waits_in after name ≡ Some challenge → waits_in before name ≡ Some challenge
-  pub keeps : (name : List ℕ) (c : Channel) → keeps_in controller after name ≡ Some c → keeps_in controller before name ≡ Some c
+  pub keeps : (name : List ℕ) (c : ChannelIdentity) → keeps_in controller after name ≡ Some c → keeps_in controller before name ≡ Some c
 
 -- that challenge waits for that computer, in place of an older one, and none else that didn't before, and no channel is
 -- kept more (`ServerWaits`)
@@ -44,7 +44,7 @@ pub record WaitsAnew (controller : ℕ) (computer server : List ℕ) (before aft
   pub now : waits_in after computer ≡ Some server
   pub waits : (name challenge : List ℕ) → waits_in after name ≡ Some challenge →
       (SameName name computer × (challenge ≡ server)) ⊎ (waits_in before name ≡ Some challenge)
-  pub keeps : (name : List ℕ) (c : Channel) → keeps_in controller after name ≡ Some c → keeps_in controller before name ≡ Some c
+  pub keeps : (name : List ℕ) (c : ChannelIdentity) → keeps_in controller after name ≡ Some c → keeps_in controller before name ≡ Some c
 
 -- by whether the accounts know the computer
 abbrev pub WaitsIfKnown : Bool → ℕ → List ℕ → List ℕ → Computers → Computers → Type 0
@@ -53,18 +53,18 @@ WaitsIfKnown true controller computer server before after = WaitsAnew controller
 
 -- the channel's challenge waited for that computer and waits no more, and the channel is kept, and none else that
 -- wasn't before (`OpeningAccepted`)
-pub record Accepts (controller : ℕ) (computer : List ℕ) (channel : Channel) (before after : Computers) : Type 0 where
+pub record Accepts (controller : ℕ) (computer : List ℕ) (channel : ChannelIdentity) (before after : Computers) : Type 0 where
   pub controller_is : channel.controller ≡ controller
   pub computer_is : channel.computer ≡ computer
   pub waited : waits_in before computer ≡ Some channel.server
   pub now : keeps_in controller after computer ≡ Some channel
   pub served : (name challenge : List ℕ) → waits_in after name ≡ Some challenge →
       (waits_in before name ≡ Some challenge) × (SameName name computer → ⊥)
-  pub kept : (name : List ℕ) (c : Channel) → keeps_in controller after name ≡ Some c →
+  pub kept : (name : List ℕ) (c : ChannelIdentity) → keeps_in controller after name ≡ Some c →
       SameChannel channel c ⊎ (keeps_in controller before name ≡ Some c)
 
 -- by the channel that a call opens, if it does; either way no challenge waits for the computer any more
-abbrev pub IsKeptBy : ℕ → List ℕ → Option Channel → Computers → Computers → Type 0
+abbrev pub IsKeptBy : ℕ → List ℕ → Option ChannelIdentity → Computers → Computers → Type 0
 IsKeptBy controller computer None before after = KeepsNoMore controller before after × (waits_in after computer ≡ None)
 IsKeptBy controller computer (Some channel) before after = Accepts controller computer channel before after
 

@@ -2,7 +2,7 @@
 -- machine.
 use Rattle.std.specs.Prelude.{ℕ, ◌+◌, ◌-◌, ◌==◌, Bool, true, false, List, [], ◌∷◌, ◌++◌, length, Option, Some, None, Result, Ok, Err}
 use Rattle.wire_base.specs.Maps.{lookup, same_number}
-use Rattle.authenticators.specs.Channels.{Channel}
+use Rattle.authenticators.specs.Channels.{ChannelIdentity}
 use Rattle.rpc_units.specs.declared.refused.JoinRefused.{JoinRefused}
 use Rattle.rpc_units.specs.declared.refused.UnitRefused.{UnitRefused}
 use Rattle.rpc_units.specs.declared.unit.Trailer.{Trailer}
@@ -117,7 +117,7 @@ taking_at unit = taking_read (unit_of unit.bytes) unit.talk.joiner unit.work.wor
 pub record TurnNote : Type 0 where
   pub sends : Bool
   pub mark : Mark
-  pub checked : Option Channel
+  pub checked : Option ChannelIdentity
   pub called : Option ℕ
   pub answered : Option ℕ
 
@@ -129,7 +129,7 @@ abbrev pub request_note : Mark → Option ℕ → TurnNote
 request_note mark called = record { sends = true; mark = mark; checked = None; called = called; answered = None }
 
 -- the channel that is opened, with that controller
-abbrev pub half_channel : ℕ → Requester → List ℕ → List ℕ → Channel
+abbrev pub half_channel : ℕ → Requester → List ℕ → List ℕ → ChannelIdentity
 half_channel controller s client server = record {
   controller = controller;
   computer = s.caller.computer;
@@ -184,12 +184,12 @@ turn_note controller unit = taking_note (taking_at unit) controller unit.work.wo
 
 -- ---- a turn that starts
 
-abbrev pub stamped : Option Channel → Option Authenticator → ℕ → List LogonTurn
+abbrev pub stamped : Option ChannelIdentity → Option Authenticator → ℕ → List LogonTurn
 stamped None given member = []
 stamped (Some channel) None member = []
 stamped (Some channel) (Some given) member = record { member = member; channel = channel; timestamp = given.timestamp } ∷ []
 
-abbrev pub turn_by : Option Step → Option Channel → ℕ → List LogonTurn
+abbrev pub turn_by : Option Step → Option ChannelIdentity → ℕ → List LogonTurn
 turn_by (Some (step.Bind (call.Logon c))) channel member = stamped channel c.authenticator member
 turn_by _ channel member = []
 

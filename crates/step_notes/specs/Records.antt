@@ -3,7 +3,7 @@
 -- 0.
 use Rattle.std.specs.Prelude.{ℕ, Bool, false, List, [], Option, Some, None}
 use Rattle.wire_base.specs.declared.authenticator.Authenticator.{Authenticator}
-use Rattle.authenticators.specs.Channels.{Channel}
+use Rattle.authenticators.specs.Channels.{ChannelIdentity}
 use Rattle.outside.specs.declared.action.Judged.{Judged}
 use Rattle.outside.specs.declared.action.Outcome.{Outcome}
 use Rattle.logon_stubs.specs.declared.calls.LogonCall.{LogonCall}
@@ -91,7 +91,7 @@ pub record OutcomeTold : Type 0 where
 -- A Logon turn of a member: the channel and the timestamp of its authenticator.
 pub record LogonTurn : Type 0 where
   pub member : ℕ
-  pub channel : Channel
+  pub channel : ChannelIdentity
   pub timestamp : ℕ
 
 -- ---- at a client

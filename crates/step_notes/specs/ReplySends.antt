@@ -1,7 +1,7 @@
 -- What a controller sends when bytes come, as replies to the Logon calls that it judged (MS-NRPC 3.5.4.5.3; what is
 -- claimed is this project's own choice, in the standard's terms).
 use Rattle.std.specs.Prelude.{ℕ, ◌≡◌, Bool, true, false, List, [], ◌∷◌, Option, Some, None, Ok, map}
-use Rattle.authenticators.specs.Channels.{Channel}
+use Rattle.authenticators.specs.Channels.{ChannelIdentity}
 use Rattle.authenticators.specs.Sequences.{return_of}
 use Rattle.channel_keys.specs.Credentials.{cred_of}
 use Rattle.wire_base.specs.declared.authenticator.Authenticator.{Authenticator}
@@ -60,7 +60,7 @@ pub record IsItsReply (j : Judging) (bytes : List ℕ) : Type 0 where
   pub frames : bytes ≡ bytes_of_call (response_of j.number context (written_reply (reply_passed j next.channel next.given))) limit
 
 -- The call came in that unit of the bag, passed on that channel and had that number, and these bytes are its reply.
-pub record IsReplyOfCall (channel : Channel) (number request : ℕ) (j : Judging) (bytes : List ℕ) : Type 0 where
+pub record IsReplyOfCall (channel : ChannelIdentity) (number request : ℕ) (j : Judging) (bytes : List ℕ) : Type 0 where
   pub came : j.unit ≡ Some request
   pub passed : passed_channel j ≡ Some channel
   pub call : j.number ≡ number

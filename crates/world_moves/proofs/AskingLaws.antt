@@ -62,10 +62,10 @@ use Rattle.rpc_units.specs.Numbers.{ntlm_provider}
 use Rattle.member_server.specs.Machine.{actions_in, after_turn, after_units, answer_dial, at_turn, by_event, bytes_by, bytes_on, bytes_on_link, close_link, close_turn, event_part, fail_dial, fresh_link, halted_state, open_by, serve_dialled, state_in, step_of, step_on, work_of}
 use Rattle.member_server.specs.Memo.{call_answer}
 use Rattle.member_server.specs.Messages.{ask_by, info_of, is_fit, take_auth3, take_message, take_trailer, wait_by, with_channel}
-use Rattle.member_server.specs.Outcomes.{after_link, at_link, end_found, end_logon, keep_link, outcome_of, phase_after, reach_link, tell_at, tell_outcome, turn_link, turn_waiting, waiting_at, without_link, without_logon}
+use Rattle.member_server.specs.Outcomes.{after_link, at_link, end_found, end_logon, keep_link, outcome_of, phase_after, reach_link, tell_at, tell_outcome, reach_in_map, reach_waiting, waiting_at, without_link, without_logon}
 use Rattle.member_server.specs.Requests.{answer_call, body_asked, body_out, hold_by, join_by, join_if, join_request, join_unit, open_unit, reply, seal_reply, send_reply, send_sealed, signed_cause, signed_unit, unit_asked, unit_in, unit_out}
 use Rattle.member_server.specs.State.{State as MemberState}
-use Rattle.member_server.specs.Turns.{Desk, break_turn, dial_for, do_taken, ending_of, lose_turn, next_turn, tell_turn_closed, timestamp_of, turn_by, turn_by_join, turn_server, turn_unit, with_requester, with_work}
+use Rattle.member_server.specs.Turns.{DialWork, break_turn, dial_for, do_taken, ending_of, lose_turn, next_turn, tell_turn_closed, timestamp_of, turn_by, turn_by_join, turn_server, turn_unit, with_requester, with_work}
 use Rattle.member_server.specs.Units.{body_challenged, bound_unit, first_unit, is_fresh, link_server, serve_held, then_said, unit_by, unit_challenged}
 use Rattle.member_server.specs.Work.{Served, send, shut}
 use Rattle.world_moves.specs.Ends.{actions_by}
@@ -400,9 +400,9 @@ ask_put k link (entry ∷ links) = ask_put_if (has_key same_number k entry) k li
 abbrev pub due_in : Work → ℕ
 due_in w = (told_by w.actions + length w.logons.asked) + asks_on w.links
 
-abbrev pub DueDesk : ℕ → Result (Part Desk) StepRefused → Type 0
-DueDesk most (Err why) = Unit {0}
-DueDesk most (Ok part) = due_in part.value.0 ≤ most
+abbrev pub DueDialWork : ℕ → Result (Part DialWork) StepRefused → Type 0
+DueDialWork most (Err why) = Unit {0}
+DueDialWork most (Ok part) = due_in part.value.0 ≤ most
 
 abbrev pub DueTurn : ℕ → ServedPart AtTurn TurnTalk → Type 0
 DueTurn most (Err why) = Unit {0}
@@ -418,14 +418,14 @@ kept_due most (Some talk) rest number at w few = omega (arith, few, ask_put numb
 
 -- ---- an outcome
 
-waiting_due : (most : ℕ) (x : Bound × List (List ℕ)) (link : LinkState Talk) (how : Ending) (logon : Logon) (w : Work) → due_in w ≤ most → due_in (turn_waiting x link how logon w) ≤ most
+waiting_due : (most : ℕ) (x : Bound × List (List ℕ)) (link : LinkState Talk) (how : Ending) (logon : Logon) (w : Work) → due_in w ≤ most → due_in (reach_waiting x link how logon w) ≤ most
 waiting_due most x link how logon w few =
     let at : AtLink = at_link logon.link w in
     let talk : Talk = record { joiner = link.talk.joiner; phase = phase_after how logon x.0 } in
     let served : Served = serve_held x.1 at talk in
     kept_due most served.1 link.rest logon.link served.0 w (omega (arith, few, held_adds x.1 at talk, ended_none how logon x.0))
 
-link_due : (most : ℕ) (x : Option (Bound × List (List ℕ))) (link : LinkState Talk) (how : Ending) (logon : Logon) (w : Work) → due_in w ≤ most → due_in (turn_link x link how logon w) ≤ most
+link_due : (most : ℕ) (x : Option (Bound × List (List ℕ))) (link : LinkState Talk) (how : Ending) (logon : Logon) (w : Work) → due_in w ≤ most → due_in (reach_in_map x link how logon w) ≤ most
 link_due most None link how logon w few = few
 link_due most (Some x) link how logon w few = waiting_due most x link how logon (without_link logon.link w) (omega (arith, few, ask_out logon.link w.links))
 
@@ -491,11 +491,11 @@ turns_due most (bytes ∷ units) why at talk left few =
     let served : AtTurn × Option TurnTalk = turn_unit (unit_of bytes) talk.joiner at in
     turn_said most units why (turns_due most units why) served.0 served.1 left (turn_due most (unit_of bytes) talk.joiner at few)
 
-turn_done : (most : ℕ) (part : ServedPart AtTurn TurnTalk) (rest : List ℕ) (number : ℕ) → DueTurn most part → DueDesk most (after_turn part rest number)
+turn_done : (most : ℕ) (part : ServedPart AtTurn TurnTalk) (rest : List ℕ) (number : ℕ) → DueTurn most part → DueDialWork most (after_turn part rest number)
 turn_done most (Err why) rest number few = tt
 turn_done most (Ok part) rest number few = few
 
-dialled_due : (most : ℕ) (cut : Cut) (number : ℕ) (talk : TurnTalk) (w : Work) (left : List (List ℕ)) → due_in w ≤ most → DueDesk most (serve_dialled cut number talk w left)
+dialled_due : (most : ℕ) (cut : Cut) (number : ℕ) (talk : TurnTalk) (w : Work) (left : List (List ℕ)) → due_in w ≤ most → DueDialWork most (serve_dialled cut number talk w left)
 dialled_due most cut number talk w left few =
     turn_done most (served_by turn_server cut.units cut.refused (at_turn number w) talk left) cut.rest number
     (turns_due most cut.units cut.refused (at_turn number w) talk left few)
@@ -503,12 +503,12 @@ dialled_due most cut number talk w left few =
 -- ---- bytes on an accepted link
 
 after_due : (most count : ℕ) (at : AtLink) (part : ServedPart AtLink Talk) (rest : List ℕ) (number : ℕ) (how : Dialling) (w : Work) → AddsPart count at part →
-    due_at at + count + asks_on w.links ≤ most → DueDesk most (after_units part rest number how w)
+    due_at at + count + asks_on w.links ≤ most → DueDialWork most (after_units part rest number how w)
 after_due most count at (Err why) rest number how w adds few = tt
 after_due most count at (Ok part) rest number how w adds few = kept_due most part.value.1 rest number part.value.0 w (omega (arith, adds, few))
 
 link_bytes : (most : ℕ) (found : Option (LinkState Talk)) (number : ℕ) (piece : List ℕ) (how : Dialling) (w : Work) (left : List (List ℕ)) → lookup same_number number w.links ≡ found →
-    due_in w ≤ most → DueDesk most (bytes_on_link found number piece how w left)
+    due_in w ≤ most → DueDialWork most (bytes_on_link found number piece how w left)
 link_bytes most None number piece how w left is few = few
 link_bytes most (Some link) number piece how w left is few =
     let cut : Cut = cut_stream (link.rest ++ piece) in
@@ -518,11 +518,11 @@ link_bytes most (Some link) number piece how w left is few =
     (units_add cut.units cut.refused at link.talk left) (omega (arith, few, ask_taken number w.links link is))
 
 bytes_if : (most : ℕ) (hit : Bool) (said : LinkState TurnTalk) (number : ℕ) (piece : List ℕ) (how : Dialling) (w : Work) (left : List (List ℕ)) → due_in w ≤ most →
-    DueDesk most (bytes_by hit said number piece how w left)
+    DueDialWork most (bytes_by hit said number piece how w left)
 bytes_if most true said number piece how w left few = dialled_due most (cut_stream (said.rest ++ piece)) number said.talk w left few
 bytes_if most false said number piece how w left few = link_bytes most (lookup same_number number w.links) number piece how w left refl few
 
-bytes_due : (most : ℕ) (how : Dialling) (number : ℕ) (piece : List ℕ) (w : Work) (left : List (List ℕ)) → due_in w ≤ most → DueDesk most (bytes_on how number piece w left)
+bytes_due : (most : ℕ) (how : Dialling) (number : ℕ) (piece : List ℕ) (w : Work) (left : List (List ℕ)) → due_in w ≤ most → DueDialWork most (bytes_on how number piece w left)
 bytes_due most dialling.Nothing number piece w left few = link_bytes most (lookup same_number number w.links) number piece dialling.Nothing w left refl few
 bytes_due most (dialling.Waits turn frames) number piece w left few = link_bytes most (lookup same_number number w.links) number piece (dialling.Waits turn frames) w left refl few
 bytes_due most (dialling.On other said) number piece w left few = bytes_if most (other == number) said number piece (dialling.On other said) w left few
@@ -558,13 +558,13 @@ fail_due most (dialling.Waits turn frames) w few = lost_due most drop_cause.Dial
 more_due : (most : ℕ) (w : Work) → due_in w ≤ most → due_in w ≤ most + 0
 more_due most w few = omega (arith, few)
 
-bytes_more : (most : ℕ) (part : Result (Part Desk) StepRefused) → DueDesk most part → DueDesk (most + 0) part
+bytes_more : (most : ℕ) (part : Result (Part DialWork) StepRefused) → DueDialWork most part → DueDialWork (most + 0) part
 bytes_more most (Err why) few = tt
 bytes_more most (Ok part) few = more_due most part.value.0 few
 
-event_due : (most : ℕ) (what : Event) (how : Dialling) (w : Work) (left : List (List ℕ)) → due_in w ≤ most → DueDesk (most + opens_at what) (by_event what how w left)
+event_due : (most : ℕ) (what : Event) (how : Dialling) (w : Work) (left : List (List ℕ)) → due_in w ≤ most → DueDialWork (most + opens_at what) (by_event what how w left)
 event_due most (event.Opened link) how w left few =
-    let closed : Desk = close_link how link w in opens_due most (nat_le 256 (length closed.0.links)) link closed.0 (close_due most how link w few)
+    let closed : DialWork = close_link how link w in opens_due most (nat_le 256 (length closed.0.links)) link closed.0 (close_due most how link w few)
 event_due most (event.Bytes link piece) how w left few = bytes_more most (bytes_on how link piece w left) (bytes_due most how link piece w left few)
 event_due most (event.Closed link) how w left few = more_due most (close_link how link w).0 (close_due most how link w few)
 event_due most (event.Dialled link) how w left few = more_due most (answer_dial how link w).0 (answer_due most how link w few)
@@ -577,7 +577,7 @@ dial_due : (most : ℕ) (start : Option (Unit {0} × List (List ℕ))) (w : Work
 dial_due most None w how few = few
 dial_due most (Some start) w how few = tells_due most w _ refl few
 
-turn_if : (most : ℕ) (starts needs : Bool) (now : ℕ) (w : Work) (how : Dialling) (left : List (List ℕ)) → due_in w ≤ most → DueDesk most (turn_by starts needs now w how left)
+turn_if : (most : ℕ) (starts needs : Bool) (now : ℕ) (w : Work) (how : Dialling) (left : List (List ℕ)) → due_in w ≤ most → DueDialWork most (turn_by starts needs now w how left)
 turn_if most false needs now w how left few = few
 turn_if most true false now w how left few =
     let starting = start_of w.logons.channel (timestamp_of now) (replicate 8 0) in dial_due most starting.answer (with_requester w starting.state) how few
@@ -585,7 +585,7 @@ turn_if most true true now w how [] few = tt
 turn_if most true true now w how (challenge ∷ left) few =
     let starting = start_of w.logons.channel (timestamp_of now) challenge in dial_due most starting.answer (with_requester w starting.state) how few
 
-next_due : (most : ℕ) (part : Result (Part Desk) StepRefused) (now : ℕ) → DueDesk most part → DueDesk most (then_part part (next_turn now))
+next_due : (most : ℕ) (part : Result (Part DialWork) StepRefused) (now : ℕ) → DueDialWork most part → DueDialWork most (then_part part (next_turn now))
 next_due most (Err why) now few = tt
 next_due most (Ok part) now few =
     let w : Work = part.value.0 in
@@ -593,7 +593,7 @@ next_due most (Ok part) now few =
 
 -- ---- a step
 
-part_step : (most : ℕ) (left : List (List ℕ)) (part : Result (Part Desk) StepRefused) → DueDesk most part →
+part_step : (most : ℕ) (left : List (List ℕ)) (part : Result (Part DialWork) StepRefused) → DueDialWork most part →
     told_by (actions_by (step_by actions_in state_in halted_state left part).answer) + outcomes_left (step_by actions_in state_in halted_state left part).state.running ≤ most
 part_step most left (Err why) few = omega arith
 part_step most left (Ok part) few = omega (arith, few)

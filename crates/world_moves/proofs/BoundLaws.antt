@@ -18,8 +18,8 @@ use Rattle.world_moves.specs.declared.links.Route.TheVariants.{Stranger}
 use Rattle.world_moves.specs.declared.moves.Move.{Move}
 use Rattle.world_moves.specs.declared.moves.Move.TheVariants as move
 use Rattle.world_moves.specs.declared.state.State.{State}
-use Rattle.world_moves.specs.declared.state.Waiting.{Waiting}
-use Rattle.world_moves.specs.Acting.{bag_unit, close_open, closed_at, forget, hear, hears, hears_if, perform, perform_all, perform_all_quietly, perform_quietly, piece_comes, pieces_come, send_on, shut_link}
+use Rattle.world_moves.specs.declared.state.WaitingDial.{WaitingDial}
+use Rattle.world_moves.specs.Acting.{bag_unit, close_open, closed_at, forget, hear, hear_and_act, hear_and_act_if, perform, perform_all, perform_all_quietly, perform_quietly, piece_comes, pieces_come, send_on, shut_link}
 use Rattle.world_moves.specs.Bag.{first_waiting, pieces_of}
 use Rattle.world_moves.specs.Choosing.{chosen_in, chosen_place}
 use Rattle.world_moves.specs.Ends.{acceptors_in, count_of, end_at}
@@ -67,10 +67,10 @@ all_links : (end : EndId) (actions : List Action) (s : State) → (perform_all e
 all_links end [] s = refl
 all_links end (what ∷ actions) s = all_links end actions (perform end what s).state ∙ perform_links end what s
 
-pub hears_links : (end : EndId) (what : Event) (s : State) → (hears end what s).state.links ≡ s.links
+pub hears_links : (end : EndId) (what : Event) (s : State) → (hear_and_act end what s).state.links ≡ s.links
 hears_links end what s = all_links end (hear end what s).actions (hear end what s).state
 
-hears_if_links : (end : Option EndId) (what : Event) (s : State) → (hears_if end what s).state.links ≡ s.links
+hears_if_links : (end : Option EndId) (what : Event) (s : State) → (hear_and_act_if end what s).state.links ≡ s.links
 hears_if_links None what s = refl
 hears_if_links (Some end) what s = hears_links end what s
 
@@ -91,7 +91,7 @@ start_at_links : (at : Option ℕ) (s : State) → (start_at at s).state.links �
 start_at_links None s = refl
 start_at_links (Some at) s = start_by_links (slice_get s.client_plans at) at s
 
-fail_links : (first : Option Waiting) (s : State) → (fail_first first s).state.links ≡ s.links
+fail_links : (first : Option WaitingDial) (s : State) → (fail_first first s).state.links ≡ s.links
 fail_links None s = refl
 fail_links (Some first) s = hears_links first.end event.DialFailed s
 
@@ -154,7 +154,7 @@ open_count : (route : Route) (s : State) → length (open_link route s).state.li
 open_count route s = ap length (hears_links (acceptor_of route) (event.Opened (length s.links)) (with_link route s)) ∙ length-append s.links (route ∷ [])
 
 answer_links : (there : Option OpenLink) (end : EndId) (link : ℕ) (s : State) → (answer_by there end link s).state.links ≡ s.links
-answer_links None end link s = closed_links (Some end) link (hears end (event.Dialled link) s).state ∙ hears_links end (event.Dialled link) s
+answer_links None end link s = closed_links (Some end) link (hear_and_act end (event.Dialled link) s).state ∙ hears_links end (event.Dialled link) s
 answer_links (Some there) end link s = hears_links end (event.Dialled link) (answered_link link there s)
 
 connect_by_count : (route : Option Route) (end : EndId) (s : State) → length (connect_by route end s).state.links ≤ length s.links + 1
@@ -163,7 +163,7 @@ connect_by_count (Some route) end s =
     let later : State = (open_link route s).state in
     omega (arith, ap length (answer_links (lookup same_number (length s.links) later.open_links) end (length s.links) later), open_count route s)
 
-connect_count : (first : Option Waiting) (s : State) → length (connect_first first s).state.links ≤ length s.links + 1
+connect_count : (first : Option WaitingDial) (s : State) → length (connect_first first s).state.links ≤ length s.links + 1
 connect_count None s = omega arith
 connect_count (Some first) s = connect_by_count (route_to first.end (end_of_peer first.peer s.ends)) first.end s
 

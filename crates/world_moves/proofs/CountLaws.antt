@@ -24,8 +24,8 @@ use Rattle.world_moves.specs.declared.moves.Move.{Move}
 use Rattle.world_moves.specs.declared.moves.Move.TheVariants as move
 use Rattle.world_moves.specs.declared.plan.Plan.{Plan}
 use Rattle.world_moves.specs.declared.state.State.{State}
-use Rattle.world_moves.specs.declared.state.Waiting.{Waiting}
-use Rattle.world_moves.specs.Acting.{Acted, Heard, Given, bag_unit, close_open, closed_at, done, forget, given_by, hear, hears, hears_if, nothing_done, perform, perform_all, perform_all_quietly, perform_quietly, piece_comes, pieces_come, send_on, shut_link, then_act}
+use Rattle.world_moves.specs.declared.state.WaitingDial.{WaitingDial}
+use Rattle.world_moves.specs.Acting.{Acted, Heard, Given, bag_unit, close_open, closed_at, done, forget, given_by, hear, hear_and_act, hear_and_act_if, nothing_done, perform, perform_all, perform_all_quietly, perform_quietly, piece_comes, pieces_come, send_on, shut_link, then_act}
 use Rattle.world_moves.specs.Bag.{first_waiting, pieces_of}
 use Rattle.world_moves.specs.Choosing.{chosen_in, chosen_place}
 use Rattle.world_moves.specs.Counting.{add_counts, clipped, counts_of, is_barred, is_in, is_out, is_unanswered, judges, no_counts, tells}
@@ -170,10 +170,10 @@ done_right end heard s counted =
           ∙ ap (λ all. add_counts s.counts (counts_of all)) (sym (actions_append (given_by end heard.actions) (perform_all end heard.actions heard.state).given));
     }
 
-hears_right : (end : EndId) (what : Event) (s : State) → Right s (hears end what s)
+hears_right : (end : EndId) (what : Event) (s : State) → Right s (hear_and_act end what s)
 hears_right end what s = done_right end (hear end what s) s refl
 
-hears_if_right : (end : Option EndId) (what : Event) (s : State) → Still s.counts → Right s (hears_if end what s)
+hears_if_right : (end : Option EndId) (what : Event) (s : State) → Still s.counts → Right s (hear_and_act_if end what s)
 hears_if_right None what s still = unchanged s s refl still
 hears_if_right (Some end) what s still = hears_right end what s
 
@@ -210,9 +210,9 @@ stranger_right (Some number) s still = stranger_by_right (end_at number s.ends) 
 
 answer_right : (there : Option OpenLink) (end : EndId) (link : ℕ) (s : State) → Right s (answer_by there end link s)
 answer_right None end link s =
-    let first : Right s (hears end (event.Dialled link) s) = hears_right end (event.Dialled link) s in
-    then_right s (hears end (event.Dialled link) s) (λ later. closed_at (Some end) link later) first
-    (closed_right (Some end) link (hears end (event.Dialled link) s).state (still_after s (hears end (event.Dialled link) s) first))
+    let first : Right s (hear_and_act end (event.Dialled link) s) = hears_right end (event.Dialled link) s in
+    then_right s (hear_and_act end (event.Dialled link) s) (λ later. closed_at (Some end) link later) first
+    (closed_right (Some end) link (hear_and_act end (event.Dialled link) s).state (still_after s (hear_and_act end (event.Dialled link) s) first))
 answer_right (Some there) end link s =
     from_same s (answered_link link there s) _ refl (hears_right end (event.Dialled link) (answered_link link there s))
 
@@ -223,11 +223,11 @@ connect_by_right (Some route) end s =
     then_right s (open_link route s) (λ t. answer_by (lookup same_number (length s.links) t.open_links) end (length s.links) t) (open_right route s)
     (answer_right (lookup same_number (length s.links) later.open_links) end (length s.links) later)
 
-connect_right : (first : Option Waiting) (s : State) → Still s.counts → Right s (connect_first first s)
+connect_right : (first : Option WaitingDial) (s : State) → Still s.counts → Right s (connect_first first s)
 connect_right None s still = unchanged s s refl still
 connect_right (Some first) s still = connect_by_right (route_to first.end (end_of_peer first.peer s.ends)) first.end s
 
-fail_right : (first : Option Waiting) (s : State) → Still s.counts → Right s (fail_first first s)
+fail_right : (first : Option WaitingDial) (s : State) → Still s.counts → Right s (fail_first first s)
 fail_right None s still = unchanged s s refl still
 fail_right (Some first) s still = hears_right first.end event.DialFailed s
 

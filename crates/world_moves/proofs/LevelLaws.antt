@@ -38,8 +38,8 @@ use Rattle.world_moves.specs.declared.moves.Move.{Move}
 use Rattle.world_moves.specs.declared.moves.Move.TheVariants as move
 use Rattle.world_moves.specs.declared.plan.Plan.{Plan}
 use Rattle.world_moves.specs.declared.state.State.{State}
-use Rattle.world_moves.specs.declared.state.Waiting.{Waiting}
-use Rattle.world_moves.specs.Acting.{Heard, bag_unit, close_open, closed_at, done, forget, hear, hears, hears_if, perform, perform_all, perform_all_quietly, perform_quietly, piece_comes, pieces_come, send_on, shut_link}
+use Rattle.world_moves.specs.declared.state.WaitingDial.{WaitingDial}
+use Rattle.world_moves.specs.Acting.{Heard, bag_unit, close_open, closed_at, done, forget, hear, hear_and_act, hear_and_act_if, perform, perform_all, perform_all_quietly, perform_quietly, piece_comes, pieces_come, send_on, shut_link}
 use Rattle.world_moves.specs.Bag.{AreShortUnits, first_waiting, piece_limit, pieces_in, pieces_of, settle_at, settle_by, settled}
 use Rattle.world_moves.specs.Choosing.{chosen_in, chosen_place}
 use Rattle.world_moves.specs.Counting.{AreCounted, add_counts, clipped, counts_of, is_barred, is_in, is_out, is_unanswered, judges, tells}
@@ -221,10 +221,10 @@ module _ (most : ℕ) where
   done_level : (end : EndId) (heard : Heard) → level heard.state ≤ most → level (done end heard).state ≤ most
   done_level end heard few = all_level end heard.actions heard.state few
 
-  hears_level : (end : EndId) (what : Event) (s : State) → level s + adds_at what ≤ most → level (hears end what s).state ≤ most
+  hears_level : (end : EndId) (what : Event) (s : State) → level s + adds_at what ≤ most → level (hear_and_act end what s).state ≤ most
   hears_level end what s few = done_level end (hear end what s) (hear_level most end what s few)
 
-  hears_if_level : (end : Option EndId) (what : Event) (s : State) → level s + adds_at what ≤ most → level (hears_if end what s).state ≤ most
+  hears_if_level : (end : Option EndId) (what : Event) (s : State) → level s + adds_at what ≤ most → level (hear_and_act_if end what s).state ≤ most
   hears_if_level None what s few = omega (arith, few)
   hears_if_level (Some end) what s few = hears_level end what s few
 
@@ -295,7 +295,7 @@ module _ (most : ℕ) where
 
   answer_level : (there : Option OpenLink) (end : EndId) (link : ℕ) (s : State) → level s ≤ most → level (answer_by there end link s).state ≤ most
   answer_level None end link s few =
-      closed_level most (Some end) link (hears end (event.Dialled link) s).state (hears_level most end (event.Dialled link) s (nothing_more (level s) most few))
+      closed_level most (Some end) link (hear_and_act end (event.Dialled link) s).state (hears_level most end (event.Dialled link) s (nothing_more (level s) most few))
   answer_level (Some there) end link s few = hears_level most end (event.Dialled link) (answered_link link there s) (nothing_more (level s) most few)
 
   connect_by_level : (route : Option Route) (end : EndId) (s : State) → level s + 16 ≤ most → level (connect_by route end s).state ≤ most
@@ -304,11 +304,11 @@ module _ (most : ℕ) where
       let later : State = (open_link route s).state in
       answer_level (lookup same_number (length s.links) later.open_links) end (length s.links) later (open_level route s few)
 
-  connect_level : (first : Option Waiting) (s : State) → level s + 16 ≤ most → level (connect_first first s).state ≤ most
+  connect_level : (first : Option WaitingDial) (s : State) → level s + 16 ≤ most → level (connect_first first s).state ≤ most
   connect_level None s few = omega (arith, few)
   connect_level (Some first) s few = connect_by_level (route_to first.end (end_of_peer first.peer s.ends)) first.end s few
 
-  fail_level : (first : Option Waiting) (s : State) → level s ≤ most → level (fail_first first s).state ≤ most
+  fail_level : (first : Option WaitingDial) (s : State) → level s ≤ most → level (fail_first first s).state ≤ most
   fail_level None s few = few
   fail_level (Some first) s few = hears_level most first.end event.DialFailed s (nothing_more (level s) most few)
 

@@ -19,8 +19,8 @@ use Rattle.world_moves.specs.declared.links.Route.TheVariants.{Stranger}
 use Rattle.world_moves.specs.declared.moves.Move.{Move}
 use Rattle.world_moves.specs.declared.moves.Move.TheVariants as move
 use Rattle.world_moves.specs.declared.state.State.{State}
-use Rattle.world_moves.specs.declared.state.Waiting.{Waiting}
-use Rattle.world_moves.specs.Acting.{Heard, bag_unit, close_open, closed_at, forget, hear, hears, hears_if, perform, perform_all, perform_all_quietly, perform_quietly, send_on, shut_link}
+use Rattle.world_moves.specs.declared.state.WaitingDial.{WaitingDial}
+use Rattle.world_moves.specs.Acting.{Heard, bag_unit, close_open, closed_at, forget, hear, hear_and_act, hear_and_act_if, perform, perform_all, perform_all_quietly, perform_quietly, send_on, shut_link}
 use Rattle.world_moves.specs.Bag.{first_waiting, settle_at}
 use Rattle.world_moves.specs.Choosing.{chosen_place}
 use Rattle.world_moves.specs.Ends.{acceptors_in, count_of, end_at}
@@ -108,10 +108,10 @@ module _ (Fits : LinkFact) (stays : StaysOnLinks Fits) where
   actions_stay end [] s holds = holds
   actions_stay end (what ∷ actions) s holds = actions_stay end actions (perform end what s).state (perform_stays end what s holds)
 
-  pub heard_stays : (end : EndId) (what : Event) (s : State) → FitsIn Fits s → FitsIn Fits (hears end what s).state
+  pub heard_stays : (end : EndId) (what : Event) (s : State) → FitsIn Fits s → FitsIn Fits (hear_and_act end what s).state
   heard_stays end what s holds = actions_stay end (hear end what s).actions (hear end what s).state holds
 
-  pub heard_if_stays : (end : Option EndId) (what : Event) (s : State) → FitsIn Fits s → FitsIn Fits (hears_if end what s).state
+  pub heard_if_stays : (end : Option EndId) (what : Event) (s : State) → FitsIn Fits s → FitsIn Fits (hear_and_act_if end what s).state
   heard_if_stays None what s holds = holds
   heard_if_stays (Some end) what s holds = heard_stays end what s holds
 
@@ -148,7 +148,7 @@ module _ (Fits : LinkFact) (stays : StaysAlways Fits) where
 
   answer_stays : (there : Option OpenLink) (end : EndId) (link : ℕ) (s : State) → lookup same_number link s.open_links ≡ there → FitsIn Fits s → FitsIn Fits (answer_by there end link s).state
   answer_stays None end link s is holds =
-      closed_stays Fits stays.steps (Some end) link (hears end (event.Dialled link) s).state (heard_stays Fits stays.steps end (event.Dialled link) s holds)
+      closed_stays Fits stays.steps (Some end) link (hear_and_act end (event.Dialled link) s).state (heard_stays Fits stays.steps end (event.Dialled link) s holds)
   answer_stays (Some there) end link s is holds =
       heard_stays Fits stays.steps end (event.Dialled link) (answered_link link there s) (stays.answers link there s.links s.open_links s.bag is holds)
 
@@ -158,11 +158,11 @@ module _ (Fits : LinkFact) (stays : StaysAlways Fits) where
       let later : State = (open_link route s).state in
       answer_stays (lookup same_number (length s.links) later.open_links) end (length s.links) later refl (open_stays route s holds)
 
-  connect_stays : (first : Option Waiting) (s : State) → FitsIn Fits s → FitsIn Fits (connect_first first s).state
+  connect_stays : (first : Option WaitingDial) (s : State) → FitsIn Fits s → FitsIn Fits (connect_first first s).state
   connect_stays None s holds = holds
   connect_stays (Some first) s holds = connect_by_stays (route_to first.end (end_of_peer first.peer s.ends)) first.end s holds
 
-  fail_stays : (first : Option Waiting) (s : State) → FitsIn Fits s → FitsIn Fits (fail_first first s).state
+  fail_stays : (first : Option WaitingDial) (s : State) → FitsIn Fits s → FitsIn Fits (fail_first first s).state
   fail_stays None s holds = holds
   fail_stays (Some first) s holds = heard_stays Fits stays.steps first.end event.DialFailed s holds
 

@@ -34,8 +34,8 @@ use Rattle.logon_client.specs.declared.state.Phase.TheVariants.{Bound, Asked}
 use Rattle.logon_client.specs.declared.state.Question.{Question}
 use Rattle.logon_client.specs.declared.state.Question.TheVariants.{Who, Echo}
 use Rattle.logon_client.specs.declared.state.Running.{Running}
-use Rattle.logon_client.specs.declared.state.Standing.{Standing}
-use Rattle.logon_client.specs.declared.state.Standing.TheVariants.{Idle, Dialling, On}
+use Rattle.logon_client.specs.declared.state.ClientLink.{ClientLink}
+use Rattle.logon_client.specs.declared.state.ClientLink.TheVariants.{Idle, Dialling, On}
 use Rattle.logon_client.specs.declared.state.Talk.{Talk}
 use Rattle.logon_client.specs.declared.state.Terms.{Terms}
 use Rattle.logon_client.specs.declared.state.Work.{Work}
@@ -181,7 +181,7 @@ closed_mute : (own : Bool) (link : LinkState Talk) (work : Work) (left : List (L
 closed_mute false link work left mute = mute
 closed_mute true link work left mute = mute
 
-event_mute : (what : Event) (standing : Standing) (work : Work) (left : List (List ℕ)) → IsMute work → AfterMute (by_event what standing work left)
+event_mute : (what : Event) (standing : ClientLink) (work : Work) (left : List (List ℕ)) → IsMute work → AfterMute (by_event what standing work left)
 event_mute (event.Opened link) Idle work left mute = mute
 event_mute (event.Opened link) Dialling work left mute = mute
 event_mute (event.Opened link) (On own) work left mute = closed_mute (link == own.talk.link) own work left mute

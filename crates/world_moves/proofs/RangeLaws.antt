@@ -1,5 +1,5 @@
--- For the laws on what a controller of a world sends: a table of a schedule (`HasForms`) has the ranges of
--- domain_controller.
+-- A table of a schedule (`HasForms`) has the ranges of domain_controller.
+-- Of `schedules_are_heard` of domain_world: what its controllers send is whole.
 use Rattle.std.proofs.Common.{ℕ, ◌<◌, ◌^◌, List, [], ◌∷◌, All}
 use Rattle.std.specs.List.{AllByRecursion}
 use Rattle.std.proofs.lemmas.List.Elements.{All-head, All-tail, recursion_from_All}

@@ -11,7 +11,7 @@ use Rattle.world_moves.specs.declared.links.LinkKind.TheVariants as kind
 use Rattle.world_moves.specs.declared.links.OpenLink.{OpenLink}
 use Rattle.world_moves.specs.declared.links.Route.{Route}
 use Rattle.world_moves.specs.declared.state.State.{State}
-use Rattle.world_moves.specs.declared.state.Waiting.{Waiting}
+use Rattle.world_moves.specs.declared.state.WaitingDial.{WaitingDial}
 use Rattle.world_moves.specs.Counting.{add_counts, counts_of}
 use Rattle.world_moves.specs.Ends.{EndStep, end_step}
 use Rattle.world_moves.specs.Links.{forget_end, hearer_of, is_accepted_by, kind_of, other_hearer, same_end}
@@ -130,18 +130,18 @@ done end heard = record {
   given = given_by end heard.actions ++ (perform_all end heard.actions heard.state).given;
 }
 
-abbrev pub hears : EndId → Event → State → Acted
-hears end what s = done end (hear end what s)
+abbrev pub hear_and_act : EndId → Event → State → Acted
+hear_and_act end what s = done end (hear end what s)
 
 -- ---- what comes on a link, `back` to the end that dialled it: a side that isn't open hears nothing
 
-abbrev pub hears_if : Option EndId → Event → State → Acted
-hears_if None what s = nothing_done s
-hears_if (Some end) what s = hears end what s
+abbrev pub hear_and_act_if : Option EndId → Event → State → Acted
+hear_and_act_if None what s = nothing_done s
+hear_and_act_if (Some end) what s = hear_and_act end what s
 
 abbrev pub piece_comes : Bool → ℕ → List ℕ → State → Acted
 piece_comes back link piece s =
-    hears_if (hearer_of back (lookup same_number link s.open_links)) (event.Bytes link piece) s
+    hear_and_act_if (hearer_of back (lookup same_number link s.open_links)) (event.Bytes link piece) s
 
 abbrev pub pieces_come : Bool → ℕ → List (List ℕ) → State → Acted
 pieces_come back link [] s = nothing_done s
@@ -150,7 +150,7 @@ pieces_come back link (piece ∷ pieces) s =
 
 -- ---- an end is forgotten: its links are open at its side no more, and its dials wait no more
 
-abbrev pub is_of_other : EndId → Waiting → Bool
+abbrev pub is_of_other : EndId → WaitingDial → Bool
 is_of_other end waiting = not (same_end waiting.end end)
 
 abbrev pub forget : EndId → State → State

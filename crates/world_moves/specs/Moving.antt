@@ -13,8 +13,8 @@ use Rattle.world_moves.specs.declared.links.Route.TheVariants.{ToMember, ToContr
 use Rattle.world_moves.specs.declared.moves.Move.{Move}
 use Rattle.world_moves.specs.declared.moves.Move.TheVariants as move
 use Rattle.world_moves.specs.declared.state.State.{State}
-use Rattle.world_moves.specs.declared.state.Waiting.{Waiting}
-use Rattle.world_moves.specs.Acting.{Acted, Heard, closed_at, done, forget, hears, nothing_done, piece_comes, pieces_come, shut_link, then_act}
+use Rattle.world_moves.specs.declared.state.WaitingDial.{WaitingDial}
+use Rattle.world_moves.specs.Acting.{Acted, Heard, closed_at, done, forget, hear_and_act, nothing_done, piece_comes, pieces_come, shut_link, then_act}
 use Rattle.world_moves.specs.Bag.{first_waiting, pieces_of, settle_at}
 use Rattle.world_moves.specs.Choosing.{chosen_in, chosen_place}
 use Rattle.world_moves.specs.Counting.{add_counts, counts_of}
@@ -52,7 +52,7 @@ with_link route s = record s {
 }
 
 abbrev pub open_link : Route → State → Acted
-open_link route s = hears (acceptor_of route) (event.Opened (length s.links)) (with_link route s)
+open_link route s = hear_and_act (acceptor_of route) (event.Opened (length s.links)) (with_link route s)
 
 -- ---- a stranger
 
@@ -87,30 +87,30 @@ answered_link link there s = record s { open_links = put same_number link (answe
 -- the end that dialled hears that it is answered; where the end that accepted has closed the link, it hears that too
 abbrev pub answer_by : Option OpenLink → EndId → ℕ → State → Acted
 answer_by None end link s =
-    then_act (hears end (event.Dialled link) s) (λ later. closed_at (Some end) link later)
-answer_by (Some there) end link s = hears end (event.Dialled link) (answered_link link there s)
+    then_act (hear_and_act end (event.Dialled link) s) (λ later. closed_at (Some end) link later)
+answer_by (Some there) end link s = hear_and_act end (event.Dialled link) (answered_link link there s)
 
 abbrev pub answer : EndId → ℕ → State → Acted
 answer end link s = answer_by (lookup same_number link s.open_links) end link s
 
 abbrev pub connect_by : Option Route → EndId → State → Acted
-connect_by None end s = hears end event.DialFailed s
+connect_by None end s = hear_and_act end event.DialFailed s
 connect_by (Some route) end s = then_act (open_link route s) (λ later. answer end (length s.links) later)
 
 -- the oldest dial waits no more
 abbrev pub without_first : State → State
 without_first s = record s { dials = drop 1 s.dials }
 
-abbrev pub connect_first : Option Waiting → State → Acted
+abbrev pub connect_first : Option WaitingDial → State → Acted
 connect_first None s = nothing_done s
 connect_first (Some first) s = connect_by (route_to first.end (end_of_peer first.peer s.ends)) first.end s
 
 abbrev pub connect : State → Acted
 connect s = connect_first (slice_get s.dials 0) (without_first s)
 
-abbrev pub fail_first : Option Waiting → State → Acted
+abbrev pub fail_first : Option WaitingDial → State → Acted
 fail_first None s = nothing_done s
-fail_first (Some first) s = hears first.end event.DialFailed s
+fail_first (Some first) s = hear_and_act first.end event.DialFailed s
 
 abbrev pub fail_dial : State → Acted
 fail_dial s = fail_first (slice_get s.dials 0) (without_first s)

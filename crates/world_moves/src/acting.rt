@@ -3,7 +3,7 @@
 ghost use Rattle.std.specs.Prelude.{◌≡◌, ◌≢◌, ◌≤◌, ◌+◌, ◌*◌, [], Err, length, filter, IfOk, OnOk, IsSome, slice_get};
 ghost use Rattle.wire_base.specs.Maps.{lookup, same_number};
 ghost use Rattle.end_links.specs.Bounds.{AreShortSends, IsShortSend, send_limit};
-ghost use Rattle.world_moves.specs.Acting.{hear, bag_unit, send_on, perform_quietly, perform_all_quietly, hear_closed, closed_at, close, perform, perform_all, hears, piece_comes, pieces_come, forget, shut_link, is_of_other};
+ghost use Rattle.world_moves.specs.Acting.{hear, bag_unit, send_on, perform_quietly, perform_all_quietly, hear_closed, closed_at, close, perform, perform_all, hear_and_act, piece_comes, pieces_come, forget, shut_link, is_of_other};
 ghost use Rattle.world_moves.specs.Bag.{AreShortPieces, piece_limit};
 ghost use Rattle.world_moves.specs.Bounds.{DrawsWithin, draws_at};
 ghost use Rattle.world_moves.specs.Links.{hearer_of};
@@ -11,7 +11,7 @@ ghost use Rattle.world_moves.specs.Outcomes.{KeepsOutcomes};
 
 use crate::bag::{Bag, BagUnit};
 use crate::links::{EndId, LinkKind, OpenLink, OpenLinks, forget_end, same_end};
-use crate::state::{State, Waiting};
+use crate::state::{State, WaitingDial};
 use outside::{Action, Actions, Event, StepRefused};
 use std::alloc::Global;
 use std::mem;
@@ -104,7 +104,7 @@ impl State {
     {
         match action {
             Action::Send(link, bytes) => self.send_on(alloc, end, link, bytes),
-            Action::Dial(peer) => self.dials.push(Waiting { end, peer }),
+            Action::Dial(peer) => self.dials.push(WaitingDial { end, peer }),
             Action::Keep(_) | Action::Close(_, _) | Action::Told(_, _) | Action::Judged(_) => {
                 Ok(())
             }
@@ -245,13 +245,13 @@ impl State {
 
     /// The end hears the event, and does what it then does.
     #[tactic(auto, using(crate::proofs::OutcomeLaws::stays_same, crate::proofs::OutcomeLaws::stays_on))]
-    pub(crate) fn hears(
+    pub(crate) fn hear_and_act(
         &mut self,
         alloc: Global,
         end: EndId,
         event: &Event,
     ) -> Result<(), StepRefused>
-        ensures state { OnOk result (self.new ≡ (hears end event.now self.old).state) }
+        ensures state { OnOk result (self.new ≡ (hear_and_act end event.now self.old).state) }
         ensures spent { result ≡ Err StepRefused.Spent → self.new.chances.left ≡ [] }
         ensures few { DrawsWithin (draws_at event.now) self.old self.new }
         ensures runs { result ≢ Err StepRefused.Stopped }
@@ -278,7 +278,7 @@ impl State {
         ensures outcomes { KeepsOutcomes self.old self.new }
     {
         match self.hearer(back, link) {
-            Some(end) => self.hears(alloc, end, &Event::Bytes(link, piece)),
+            Some(end) => self.hear_and_act(alloc, end, &Event::Bytes(link, piece)),
             None => Ok(()),
         }
     }
@@ -332,7 +332,7 @@ impl State {
 }
 
 /// The dials of other ends.
-fn dials_of_others(end: EndId, dials: List<Waiting>) -> List<Waiting>
+fn dials_of_others(end: EndId, dials: List<WaitingDial>) -> List<WaitingDial>
     ensures { result ≡ filter (is_of_other end) dials }
 {
     let mut dials = dials.into_vec();

@@ -65,14 +65,14 @@ impl Bag {
         self.units.len()
     }
 
-    /// None has more bytes than an end sends at once, which callers learn so.
+    /// None has more bytes than an end sends at once. It is called so that this is known.
     pub(crate) fn units_are_short(&self)
         ensures { AreShortUnits self.now }
     {
         let _count = self.units.len();
     }
 
-    /// Each has bytes, which callers learn so.
+    /// Each has bytes. It is called so that this is known.
     pub(crate) fn units_have_bytes(&self)
         ensures { HaveBytes self.now }
     {
@@ -102,7 +102,7 @@ impl Bag {
 
     /// The number of the first unit that was neither delivered nor lost. None exactly where there is none.
     #[tactic(auto, using(crate::proofs::BagLaws::seeking))]
-    pub(crate) fn first_waiting(&mut self) -> Option<usize>
+    pub(crate) fn seek_waiting(&mut self) -> Option<usize>
         ensures number { result ≡ first_waiting self.old }
         ensures inside { IfSome result (λ number. number < length self.old) }
         ensures same { self.new ≡ self.old }
@@ -129,7 +129,7 @@ impl Bag {
     }
 }
 
-/// A slice of bytes has bytes: only so that its caller knows it.
+/// A slice of bytes has bytes. It is called so that this is known.
 fn are_bytes(bytes: &[u8])
     ensures { AreBytes bytes.now }
 {

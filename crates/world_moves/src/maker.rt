@@ -38,14 +38,14 @@ impl Maker {
         Maker { chances }
     }
 
-    /// No two draws are alike, which callers learn so.
+    /// No two draws are alike. It is called so that this is known.
     pub(crate) fn draws_differ(&self)
         ensures { AllPairs (λ one other. one ≢ other) self.now.drawn }
     {
         let _chances = &self.chances;
     }
 
-    /// Each draw has 8 bytes, which callers learn so.
+    /// Each draw has 8 bytes. It is called so that this is known.
     pub(crate) fn draws_are_blocks(&self)
         ensures { All IsBlock self.now.drawn }
     {

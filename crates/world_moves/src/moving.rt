@@ -10,7 +10,7 @@ use crate::bag::pieces;
 use crate::choosing::chosen_place;
 use crate::links::{EndId, OpenLink, OpenLinks, Route, WorldLinks};
 use crate::moves::Move;
-use crate::state::{State, Waiting};
+use crate::state::{State, WaitingDial};
 use member_server::Member;
 use outside::{Event, StepRefused};
 use std::alloc::Global;
@@ -64,7 +64,7 @@ impl State {
             acceptor: true,
         };
         self.open_links.push((number, there))?;
-        self.hears(alloc, route.acceptor(), &Event::Opened(number))
+        self.hear_and_act(alloc, route.acceptor(), &Event::Opened(number))
     }
 
     /// A stranger opens a link.
@@ -124,10 +124,10 @@ impl State {
         match self.open_link(link) {
             Some(there) => {
                 self.put_answered(alloc, link, there)?;
-                self.hears(alloc, end, &Event::Dialled(link))
+                self.hear_and_act(alloc, end, &Event::Dialled(link))
             }
             None => {
-                self.hears(alloc, end, &Event::Dialled(link))?;
+                self.hear_and_act(alloc, end, &Event::Dialled(link))?;
                 self.closed_at(alloc, Some(end), link)
             }
         }
@@ -149,7 +149,7 @@ impl State {
         ensures outcomes { KeepsOutcomes self.old self.new }
     {
         let Some(route) = route else {
-            return self.hears(alloc, end, &Event::DialFailed);
+            return self.hear_and_act(alloc, end, &Event::DialFailed);
         };
         let link = self.links.len() as u32;
         self.open(alloc, route)?;
@@ -157,7 +157,7 @@ impl State {
     }
 
     /// The oldest dial that waits, which waits no more.
-    fn next_dial(&mut self, alloc: Global) -> Option<Waiting>
+    fn next_dial(&mut self, alloc: Global) -> Option<WaitingDial>
         ensures first { result ≡ slice_get self.old.dials 0 }
         ensures rest { self.new ≡ without_first self.old }
         ensures ends { self.new.ends ≡ self.old.ends }
@@ -200,7 +200,7 @@ impl State {
         ensures outcomes { KeepsOutcomes self.old self.new }
     {
         match self.next_dial(alloc) {
-            Some(first) => self.hears(alloc, first.end, &Event::DialFailed),
+            Some(first) => self.hear_and_act(alloc, first.end, &Event::DialFailed),
             None => Ok(()),
         }
     }
@@ -231,7 +231,7 @@ impl State {
         ensures runs { result ≢ Err StepRefused.Stopped }
         ensures outcomes { KeepsOutcomes self.old self.new }
     {
-        let Some(number) = self.bag.first_waiting() else {
+        let Some(number) = self.bag.seek_waiting() else {
             return Ok(());
         };
         let link = match self.bag.get(number) {
@@ -246,7 +246,7 @@ impl State {
     fn lose(&mut self)
         ensures { self.new ≡ lose self.old }
     {
-        if let Some(number) = self.bag.first_waiting() {
+        if let Some(number) = self.bag.seek_waiting() {
             self.bag.settle(number);
         }
     }

@@ -10,7 +10,7 @@ use wire_base::{Blob, List};
 
 /// A dial that waits: who dialled, and the address.
 #[derive(Debug, Drop)]
-pub struct Waiting {
+pub struct WaitingDial {
     pub end: EndId,
     pub peer: Blob,
 }
@@ -26,7 +26,7 @@ pub struct State {
     pub links: WorldLinks,
     pub open_links: OpenLinks,
     pub bag: Bag,
-    pub dials: List<Waiting>,
+    pub dials: List<WaitingDial>,
     pub moment: u64,
     pub chances: Maker,
     pub counts: Counts,

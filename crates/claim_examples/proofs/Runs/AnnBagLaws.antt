@@ -44,7 +44,7 @@ use Rattle.logon_stubs.specs.Writing.{put_auth_call, put_auth_reply, put_authent
 use Rattle.memo_stubs.specs.Memo.{echo_reply, echo_reply_of, echo_request, echo_request_of, put_echo_reply, put_echo_request, put_who_reply, status_zero, who_of, who_reply, written_echo_reply, written_echo_request, written_who_reply}
 use Rattle.account_table.specs.Changes.{with_bad_count}
 use Rattle.account_table.specs.LookUps.{knows_in, machine_in, place_in, route_in}
-use Rattle.sam_logon.specs.Granted.{at_level, sam_info_of}
+use Rattle.sam_logon.specs.Granting.{at_level, sam_info_of}
 use Rattle.sam_logon.specs.Verdict.{judgement_of, table_after, verdict_of}
 use Rattle.world_moves.specs.Bag.{pieces_of}
 use Rattle.wire_base.specs.Numbers.{AreBytes}

@@ -4,7 +4,7 @@
 use Rattle.std.proofs.Common.{◌≡◌, ℕ, ◌<◌, ◌^◌, arith, true, List, [], ◌∷◌, length, Option, Some, None, refl, sym, ap, subst, ◌∙◌}
 use Rattle.wire_base.specs.Maps.{lookup}
 use Rattle.wire_base.specs.Names.{same_name}
-use Rattle.authenticators.specs.Channels.{Channel}
+use Rattle.authenticators.specs.Channels.{ChannelIdentity}
 use Rattle.authenticators.specs.SecureChannels.{channel_of, SecureChannelState, after_call, key_of_channel}
 use Rattle.outside.specs.declared.action.Action.TheVariants as action
 use Rattle.outside.specs.declared.action.Judged.{Judged}
@@ -89,7 +89,7 @@ logon_trail s t accounts next number stamp o state info sam how_judged computers
     let s4 : State = goes s3 in
     let asks : Requester = channel_in_turn t next number (step.Bind c) in
     let channel : Requester = channel_in_turn t (after next) next (step.Reply q) in
-    let named : Channel = channel_of t.at_controller t.caller.computer o in
+    let named : ChannelIdentity = channel_of t.at_controller t.caller.computer o in
     let base : List ℕ = key_in_turn t info in
     let d : Desk = desk_in_turn t computers in
     let then_so : Option Desk = work_after (by_call c (turn_line t.link next) (bound_talk None turn_agreed) t.name moment d left) in

@@ -11,7 +11,7 @@ use Rattle.logon_client.specs.State.{State as ClientState}
 use Rattle.member_server.specs.State.{State as MemberState}
 use Rattle.member_server.specs.declared.state.AtTurn.{AtTurn}
 use Rattle.member_server.specs.declared.state.TurnTalk.{TurnTalk}
-use Rattle.authenticators.specs.Channels.{Channel}
+use Rattle.authenticators.specs.Channels.{ChannelIdentity}
 use Rattle.channel_events.specs.Marks.{Mark}
 use Rattle.step_notes.specs.Marking.{answered_marks, clashes, mark_channel, turn_marks}
 use Rattle.step_notes.specs.MemberNotes.{turn_note, turn_units}
@@ -54,7 +54,7 @@ pub record Fine (s : State) (count : ℕ) (b : Book) : Type 0 where
   pub marked : length b.sent ≡ length s.bag
 
 -- the oldest unit that waits was made for that channel, if for one
-pub record Waits (s : State) (channel : Option Channel) (b : Book) : Type 0 where
+pub record Waits (s : State) (channel : Option ChannelIdentity) (b : Book) : Type 0 where
   pub number : ℕ
   pub first : first_waiting s.bag ≡ Some number
   pub one : Sent

@@ -6,7 +6,7 @@ use Rattle.std.specs.Prelude.{drop, not}
 use Rattle.std.specs.Option.{option_map}
 use Rattle.std.proofs.lemmas.Bool.{cases_Bool}
 use Rattle.std.proofs.lemmas.List.{drop_at, length-append, length-drop, length-map}
-use Rattle.authenticators.specs.Channels.{Channel}
+use Rattle.authenticators.specs.Channels.{ChannelIdentity}
 use Rattle.channel_events.specs.Marks.{Mark}
 use Rattle.channel_events.proofs.ListLaws.{got_append}
 use Rattle.step_notes.specs.ChannelNames.{channel_marked}
@@ -18,7 +18,7 @@ use Rattle.world_moves.specs.declared.moves.Move.TheVariants as move
 use Rattle.world_moves.specs.declared.state.State.{State}
 use Rattle.world_moves.specs.Bag.{first_waiting, is_waiting}
 use Rattle.world_moves.specs.Moving.{onward, settle}
-use Rattle.logon_runs.specs.Seen.Waiting.{waiting}
+use Rattle.logon_runs.specs.Seen.WaitingUnits.{waiting}
 use Rattle.logon_runs.proofs.Seen.WaitingLaws.{first_place, later_place, waits_first, waits_later}
 use Rattle.domain_world.specs.Past.{is_sent_on, marks_by, marks_of, note, note_at, note_given, sent_at}
 use Rattle.domain_world.proofs.Frames.MarkPlaceLaws.{got_later, marks_length, settled_length}
@@ -88,7 +88,7 @@ onward_waits s unit end came k link back count mark next b now is marked written
     })
 
 -- it is the one that comes next
-pub waits_marked : (s : State) (channel : Option Channel) (b : Book) (number : ℕ) → Waits s channel b → first_waiting s.bag ≡ Some number → channel_marked (Some number) b.sent ≡ channel
+pub waits_marked : (s : State) (channel : Option ChannelIdentity) (b : Book) (number : ℕ) → Waits s channel b → first_waiting s.bag ≡ Some number → channel_marked (Some number) b.sent ≡ channel
 waits_marked s channel b number waits first =
     let same : waits.number ≡ number = (let both : Some waits.number ≡ Some number = sym waits.first ∙ first in cc) in
     ap (λ (n : ℕ). sent_channel (slice_get b.sent n)) (sym same) ∙ ap sent_channel waits.there ∙ waits.made

@@ -27,7 +27,7 @@ use Rattle.world_moves.specs.Counting.{is_in}
 use Rattle.world_moves.specs.Moving.{onward, settle}
 use Rattle.domain_world.specs.Past.{Coming, controller_of, note, note_at, note_client, note_coming, note_controller, note_member, note_messages, note_turn, note_turns, numbers_on, told_in}
 use Rattle.logon_runs.specs.Scenes.{HasFirst, Scene, Shows}
-use Rattle.logon_runs.specs.Seen.Waiting.{Comes}
+use Rattle.logon_runs.specs.Seen.WaitingUnits.{Comes}
 use Rattle.logon_runs.proofs.Seen.SceneLaws.{first_comes}
 use Rattle.logon_runs.proofs.Seen.WaitingLaws.{waiting_comes}
 use Rattle.claim_examples.proofs.Runs.NotedLaws.{world_at}

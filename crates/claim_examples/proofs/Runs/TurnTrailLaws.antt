@@ -4,7 +4,7 @@
 use Rattle.std.proofs.Common.{◌≡◌, ℕ, ◌<◌, ◌^◌, arith, true, List, [], ◌∷◌, length, Option, Some, None, refl, ap, ◌∙◌, slice_get}
 use Rattle.wire_base.specs.Maps.{lookup}
 use Rattle.wire_base.specs.Names.{same_name}
-use Rattle.authenticators.specs.Channels.{Channel}
+use Rattle.authenticators.specs.Channels.{ChannelIdentity}
 use Rattle.account_table.specs.LookUps.{knows_in}
 use Rattle.account_table.specs.declared.account.Account.{Account}
 use Rattle.logon_stubs.specs.Ranges.{IsBlock}
@@ -137,7 +137,7 @@ opening_trail s t next number client server account computers kept left moment s
     let steps = controllers_step.proved t.table t.name computers t.link moment next t.caller client server account left below_next is_call found hash waits in
     let asks : Requester = channel_in_turn t next number (step.Bind c) in
     let channel : Requester = channel_in_turn t (after next) next (step.Reply q) in
-    let named : Channel = half_channel t.at_controller channel client server in
+    let named : ChannelIdentity = half_channel t.at_controller channel client server in
     let takes =
     turns_go_through.takes.reply channel next t.place q r is_reply
     ∙ ap (λ (h : Standing). settle (judge q r h t.caller.secret) (asking t.caller h t.info t.place (after next) (Some (record { number = next; place = t.place; step = step.Reply q })))) how

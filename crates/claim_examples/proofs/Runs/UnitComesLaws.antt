@@ -19,7 +19,7 @@ use Rattle.channel_client.specs.declared.state.Question.{Question}
 use Rattle.channel_client.specs.declared.state.Standing.{Standing}
 use Rattle.channel_client.specs.declared.state.Step.{Step}
 use Rattle.channel_client.specs.declared.state.Step.TheVariants as step
-use Rattle.authenticators.specs.Channels.{Channel}
+use Rattle.authenticators.specs.Channels.{ChannelIdentity}
 use Rattle.logon_stubs.specs.Interface.{netlogon_syntax}
 use Rattle.channel_events.specs.Marks.{Mark}
 use Rattle.domain_controller.specs.Hearing.{first_talk}
@@ -60,7 +60,7 @@ use Rattle.logon_runs.specs.Runs.{connects, goes}
 use Rattle.logon_runs.specs.Seen.LinkScenes.{Meeting, meeting_scene, unit_up}
 use Rattle.logon_runs.specs.Scenes.{HasFirst, Scene, Shows}
 use Rattle.logon_runs.specs.Seen.TurnScenes.{IsBetween, Turn, dial_scene, turn_scene, unit_back, unit_there}
-use Rattle.logon_runs.specs.Seen.Waiting.{after_hearing, unit_on, with_controller_at, with_member_at}
+use Rattle.logon_runs.specs.Seen.WaitingUnits.{after_hearing, unit_on, with_controller_at, with_member_at}
 use Rattle.logon_runs.proofs.Seen.LinkSceneLaws.{heard_up}
 use Rattle.logon_runs.proofs.Seen.TurnSceneLaws.{heard_back, heard_there}
 use Rattle.logon_runs.proofs.Seen.WaitingLaws.{waiting_comes}
@@ -187,7 +187,7 @@ abbrev pub channel_in_turn : Turn → ℕ → ℕ → Step → Requester
 channel_in_turn t next number what = (logons_in_turn t.plan t.caller t.how t.info t.place next number what t.asked).channel
 
 -- fine, and a unit that was made for that channel waits
-pub record FineAnd (s : State) (count : ℕ) (channel : Option Channel) (b : Book) : Type 0 where
+pub record FineAnd (s : State) (count : ℕ) (channel : Option ChannelIdentity) (b : Book) : Type 0 where
   pub fine : Fine s count b
   pub waits : Waits s channel b
 
@@ -287,7 +287,7 @@ call_comes s t next number what c computers left rest moment count total actions
     }
 
 -- and the reply waits then, with its mark
-pub reply_waits : (s : State) (t : Turn) (number : ℕ) (c : Call) (computers : Computers) (k count total : ℕ) (left : List (List ℕ)) (moment : ℕ) (b : Book) (bytes : List ℕ) (channel : Option Channel) →
+pub reply_waits : (s : State) (t : Turn) (number : ℕ) (c : Call) (computers : Computers) (k count total : ℕ) (left : List (List ℕ)) (moment : ℕ) (b : Book) (bytes : List ℕ) (channel : Option ChannelIdentity) →
     Fine s count b → (called : Called s t number c computers k total left moment b) → (mark : Mark) → answered_marks (answer_in_turn s t number c computers k called.came.number left moment ∷ []) ≡ mark ∷ [] →
     mark_channel mark ≡ channel →
     (state_then (Controller t.at_controller) (unit_there t (bytes_of_call (turn_request number c) 5840)) called.came.number s).bag
@@ -298,7 +298,7 @@ reply_waits s t number c computers k count total left moment b bytes channel fin
     let end : EndId = Controller t.at_controller in
     record {
       fine = called.has.fine;
-      waits = subst (λ (ch : Option Channel). Waits (goes s) ch (note (world_at k s) move.Onward b)) made
+      waits = subst (λ (ch : Option ChannelIdentity). Waits (goes s) ch (note (world_at k s) move.Onward b)) made
           (onward_waits s unit end called.came k t.link true total mark _ b called.has.now called.has.is fine.marked
           (subst (λ (all : List Mark). Written k t.link true (settle called.came.number s) (state_then end unit called.came.number s) total all b called.has.now) marks called.has.written)
           bag refl (on_back t bytes));

@@ -6,7 +6,7 @@ use Rattle.std.specs.Prelude.{replicate}
 use Rattle.std.specs.List.{AllByRecursion}
 use Rattle.std.proofs.lemmas.Bool.Decides.{Decides-eqb}
 use Rattle.std.proofs.lemmas.Slice.Eq.{bytes_eq-Decides}
-use Rattle.authenticators.specs.Channels.{Channel, SameChannel, channel_key, same_channel}
+use Rattle.authenticators.specs.Channels.{ChannelIdentity, SameChannel, channel_key, same_channel}
 use Rattle.authenticators.proofs.ChannelLaws.{same_channel-Decides}
 use Rattle.outside.specs.declared.action.Judged.TheVariants as judged
 use Rattle.outside.specs.declared.action.Outcome.{Outcome}
@@ -24,7 +24,7 @@ use Rattle.ntlm_responses.specs.Verification.{base_key_of}
 use Rattle.account_table.specs.AccountTable.{AccountTable}
 use Rattle.account_table.specs.LookUps.{account_in}
 use Rattle.account_table.specs.declared.account.Account.{Account}
-use Rattle.sam_logon.specs.Granted.{sam_info_of}
+use Rattle.sam_logon.specs.Granting.{sam_info_of}
 use Rattle.sam_logon.specs.MayLogOn.{MayLogOn, ResponseVerifies}
 use Rattle.domain_controller.specs.Laws.{IsNext}
 use Rattle.domain_controller.specs.Machine.{status_of}
@@ -104,7 +104,7 @@ are_answers message j request unit passed call came reply sent =
 -- ---- channels
 
 pub record StandsFor (j : Judging) : Type 0 where
-  pub channel : Channel
+  pub channel : ChannelIdentity
   pub found : channel_in j.controller j.logon.computer j.computers ≡ Some channel
   pub passed : passed_channel j ≡ Some channel
 
@@ -116,19 +116,19 @@ channel_there j right passed =
     record { channel = channel_of j.controller next.computer next.channel; found = found; passed = ap (λ (p : Bool). channel_if p j) passed ∙ found }
 
 -- the channel that a unit was made for is the one on which a credential passed in it
-pub record IsMade (made : Option Channel) (channel : Channel) : Type 0 where
-  pub named : Channel
+pub record IsMade (made : Option ChannelIdentity) (channel : ChannelIdentity) : Type 0 where
+  pub named : ChannelIdentity
   pub is : made ≡ Some named
   pub same : SameChannel named channel
 
-on_made : (made : Option Channel) (channel : Channel) → not (is_channel made channel) ≡ false → IsMade made channel
+on_made : (made : Option ChannelIdentity) (channel : ChannelIdentity) → not (is_channel made channel) ≡ false → IsMade made channel
 on_made None channel is = absurd (let x = is in cc)
 on_made (Some named) channel is = record { named = named; is = refl; same = one_channel named channel (not_false (same_channel named channel) is) }
 
-made_for : (j : Judging) (channel : Channel) (unit : ℕ) (sent : List Sent) → passed_channel j ≡ Some channel → j.unit ≡ Some unit → clashes (passed_channel j) j.unit sent ≡ false →
+made_for : (j : Judging) (channel : ChannelIdentity) (unit : ℕ) (sent : List Sent) → passed_channel j ≡ Some channel → j.unit ≡ Some unit → clashes (passed_channel j) j.unit sent ≡ false →
     IsMade (sent_channel (slice_get sent unit)) channel
 made_for j channel unit sent passed came none =
-    on_made (sent_channel (slice_get sent unit)) channel (ap₂ (λ (c : Option Channel) (u : Option ℕ). clashes c u sent) (sym passed) (sym came) ∙ none)
+    on_made (sent_channel (slice_get sent unit)) channel (ap₂ (λ (c : Option ChannelIdentity) (u : Option ℕ). clashes c u sent) (sym passed) (sym came) ∙ none)
 
 right_told : (told : List JudgementTold) (judgings : List Judging) → AreTheirJudgements told judgings → AllByRecursion IsJudgedRight judgings
 right_told [] [] are = tt
@@ -155,7 +155,7 @@ let_in_by : (key : List ℕ) (verdict : Verdict) (logon : Logon) (info : _) → 
 let_in_by key (Granted granted) logon info is = refl
 let_in_by key (Status status) logon info is = absurd (let x = is in cc)
 
-pub passed_of : (passed : Bool) (j : Judging) (channel : Channel) → has_passed j.how ≡ passed → channel_if passed j ≡ Some channel → has_passed j.how ≡ true
+pub passed_of : (passed : Bool) (j : Judging) (channel : ChannelIdentity) → has_passed j.how ≡ passed → channel_if passed j ≡ Some channel → has_passed j.how ≡ true
 passed_of true j channel is on = is
 passed_of false j channel is on = absurd (let x = on in cc)
 
@@ -208,7 +208,7 @@ module _ (past : Past) (known : IsProved past) (heard : AnswersAreHeard past) (c
   pub right_at : (k : ℕ) (j : Judging) → slice_get all_judged k ≡ Some j → IsJudgedRight j
   right_at k j there = all_at IsJudgedRight all_judged k j (right_judged past.book.judgements all_judged known.credentials) there
 
-  pub made_at : (k : ℕ) (j : Judging) (channel : Channel) (unit : ℕ) → slice_get all_judged k ≡ Some j → passed_channel j ≡ Some channel → j.unit ≡ Some unit →
+  pub made_at : (k : ℕ) (j : Judging) (channel : ChannelIdentity) (unit : ℕ) → slice_get all_judged k ≡ Some j → passed_channel j ≡ Some channel → j.unit ≡ Some unit →
       IsMade (sent_channel (slice_get past.book.sent unit)) channel
   made_at k j channel unit there passed came =
       made_for j channel unit past.book.sent passed came
@@ -226,15 +226,15 @@ module _ (past : Past) (known : IsProved past) (heard : AnswersAreHeard past) (c
       let one : made_late.named ≡ made_early.named = some_is made_late.named made_early.named (sym made_late.is ∙ made_early.is) in
       let same : SameChannel late.channel early.channel =
       same_on late.channel made_late.named early.channel (same_back made_late.named late.channel made_late.same)
-      (subst (λ (c : Channel). SameChannel c early.channel) (sym one) made_early.same) in
+      (subst (λ (c : ChannelIdentity). SameChannel c early.channel) (sym one) made_early.same) in
       let is_same : same_channel late.channel early.channel ≡ true = (same_channel-Decides late.channel early.channel).1 same in
       let alike : second.logon ≡ first.logon =
       all_at (λ (other : Judging). (u : ℕ) → second.unit ≡ Some u → other.unit ≡ Some u → second.logon ≡ other.logon) all_judged l first
       (all_at (λ (j : Judging). AllByRecursion (λ (other : Judging). (u : ℕ) → j.unit ≡ Some u → other.unit ≡ Some u → j.logon ≡ other.logon) all_judged) all_judged k second heard.alike at_second)
       at_first unit came_second came_first in
-      let first_on : passed_on early.channel first ≡ true = ap (λ (c : Option Channel). is_channel c early.channel) early.passed ∙ itself early.channel in
+      let first_on : passed_on early.channel first ≡ true = ap (λ (c : Option ChannelIdentity). is_channel c early.channel) early.passed ∙ itself early.channel in
       let law = known.replays early.channel cut.later cut.between cut.earlier second first cut.is first_on
-      (ap (λ (c : Option Channel). is_channel c early.channel) late.found ∙ is_same) (ap (λ (c : LogonCall). c.authenticator) alike) in
+      (ap (λ (c : Option ChannelIdentity). is_channel c early.channel) late.found ∙ is_same) (ap (λ (c : LogonCall). c.authenticator) alike) in
       clear.onward (record {
         channel = early.channel;
         later = cut.later;
@@ -244,7 +244,7 @@ module _ (past : Past) (known : IsProved past) (heard : AnswersAreHeard past) (c
         earlier = cut.earlier;
         all = cut.is;
         first_passed = first_on;
-        second_passed = ap (λ (c : Option Channel). is_channel c early.channel) late.passed ∙ is_same;
+        second_passed = ap (λ (c : Option ChannelIdentity). is_channel c early.channel) late.passed ∙ is_same;
         around = law.0 passed_second;
       })
 
@@ -304,7 +304,7 @@ module _ (past : Past) (known : IsProved past) (heard : AnswersAreHeard past) (c
         of = of;
         passed = passed;
         taken = found.is ∙ ap Some same;
-        with_controller = subst (λ (n : ℕ). HasController (slice_get past.plan.members message.member) past.world.state.ends n) (sym (ap (λ (c : Channel). c.controller) on.is)) is.controller;
+        with_controller = subst (λ (n : ℕ). HasController (slice_get past.plan.members message.member) past.world.state.ends n) (sym (ap (λ (c : ChannelIdentity). c.controller) on.is)) is.controller;
       }
 
   its_answer : (message : MessageTaken) (unit : ℕ) (judged_so : IsJudgedAs past message unit) → IsItsControllersAnswer past message judged_so.j
@@ -324,7 +324,7 @@ module _ (past : Past) (known : IsProved past) (heard : AnswersAreHeard past) (c
   told_as : (place : ℕ) (message : MessageTaken) (unit : ℕ) → slice_get past.book.messages place ≡ Some message → message.reply ≡ Some unit → (judged_so : IsJudgedAs past message unit) →
       OneOf (IsToldAsRead judged_so.in_reply.channel message judged_so.j) past.book.told
   told_as place message unit there reply judged_so =
-      all_at (λ (m : MessageTaken). (u : ℕ) → m.reply ≡ Some u → (carrier : BagUnit) (sent : Sent) (channel : Channel) (number request k : ℕ) (j : Judging) →
+      all_at (λ (m : MessageTaken). (u : ℕ) → m.reply ≡ Some u → (carrier : BagUnit) (sent : Sent) (channel : ChannelIdentity) (number request k : ℕ) (j : Judging) →
       slice_get past.world.state.bag u ≡ Some carrier → slice_get past.book.sent u ≡ Some sent → slice_get past.book.judged k ≡ Some j → sent.mark ≡ ReplyTo channel number request →
       IsReplyOfCall channel number request j carrier.bytes → OneOf (IsToldAsRead channel m j) past.book.told) past.book.messages place message (heard.told clear.apart) there unit reply
       judged_so.carrier judged_so.in_reply.sent judged_so.in_reply.channel judged_so.in_reply.number judged_so.in_reply.request judged_so.place judged_so.j judged_so.carried judged_so.in_reply.there judged_so.there judged_so.in_reply.mark judged_so.of
@@ -437,7 +437,7 @@ module _ (past : Past) (known : IsProved past) (heard : AnswersAreHeard past) (c
       apart_same (λ (m : MessageTaken). m.link) past.book.messages heard.messages one.place place one.item message one.there there (one.is.link ∙ sym link) in
       let by : IsLetInAsRead past told message = subst (λ (m : MessageTaken). IsLetInAsRead past told m) same one.is in
       let judged_so : IsJudgedAs past message by.unit = judged_as place message by.unit there by.reply in
-      let channel : Channel = judged_so.in_reply.channel in
+      let channel : ChannelIdentity = judged_so.in_reply.channel in
       let outcome : told.outcome ≡ outcome_read channel judged_so.j message = read_is message told by judged_so in
       let same_j : j ≡ judged_so.j = some_is j judged_so.j (sym taken ∙ judged_so.taken) in
       let nothing : status_of (verdict_passed judged_so.j) ≡ 0 = status_zero (channel_key channel) (verdict_passed judged_so.j) message.logon (ap is_in (sym outcome) ∙ let_in) in

@@ -2,7 +2,7 @@
 -- message. It serves `carried_calls_are_heard`.
 use Rattle.std.proofs.Common.{◌≡◌, ℕ, Bool, true, false, not, List, [], ◌∷◌, map, Option, Some, None, Result, Ok, slice_get, refl, sym, ap, ◌∙◌, subst}
 use Rattle.std.specs.List.{AllByRecursion}
-use Rattle.authenticators.specs.Channels.{Channel, SameChannel}
+use Rattle.authenticators.specs.Channels.{ChannelIdentity, SameChannel}
 use Rattle.rpc_units.specs.Calls.{IsHeard}
 use Rattle.rpc_units.specs.Joining.{AddsTo, answer_of, open_after, stub_of}
 use Rattle.rpc_units.specs.Reading.{unit_of}
@@ -120,10 +120,10 @@ module _ (past : Past) where
   -- ---- an answer is to the call of its message
 
   -- the unit of a call that was judged and passed is marked as a call, with that number
-  pub record IsRequested (channel : Channel) (number request : ℕ) : Type 0 where
+  pub record IsRequested (channel : ChannelIdentity) (number request : ℕ) : Type 0 where
     pub sent : Sent
     pub there : slice_get past.book.sent request ≡ Some sent
-    pub named : Channel
+    pub named : ChannelIdentity
     pub timestamp : ℕ
     pub mark : sent.mark ≡ Calling named number timestamp
     pub same : SameChannel named channel
@@ -132,7 +132,7 @@ module _ (past : Past) where
   not_false true is = refl
   not_false false is = absurd (let x = is in cc)
 
-  requested_by : (mark : Mark) (one : Sent) (channel : Channel) (j : Judging) (request number : ℕ) (is : IsJudgedAsCarried past j request) → one.mark ≡ mark →
+  requested_by : (mark : Mark) (one : Sent) (channel : ChannelIdentity) (j : Judging) (request number : ℕ) (is : IsJudgedAsCarried past j request) → one.mark ≡ mark →
       slice_get past.book.sent request ≡ Some one → is_channel (mark_channel mark) channel ≡ true → ((IsPlain mark → ⊥) → IsWholeAsMarked mark is.carrier.bytes) →
       j.number ≡ number → IsRequested channel number request
   requested_by Plain one channel j request number is marked there on whole numbered = absurd (let x = on in cc)
@@ -152,7 +152,7 @@ module _ (past : Past) where
 
   module _ (whole : MarkedUnitsAreWhole past) (way : MarksHaveTheirWay past) (judged : JudgedAsCarried past) (passes : PassesAreUnclashed past)
       (replies : RepliesCarryTheirJudgement past) (numbers : CallsHaveNumbers past) (clear : past.book.clash ≡ false) where
-    requested_in : (found : Option Sent) (k : ℕ) (channel : Channel) (j : Judging) (request number : ℕ) → slice_get past.book.judged k ≡ Some j → j.unit ≡ Some request →
+    requested_in : (found : Option Sent) (k : ℕ) (channel : ChannelIdentity) (j : Judging) (request number : ℕ) → slice_get past.book.judged k ≡ Some j → j.unit ≡ Some request →
         slice_get past.book.sent request ≡ found → not (is_channel (sent_channel found) channel) ≡ false → j.number ≡ number → IsRequested channel number request
     requested_in None k channel j request number at came there on numbered = absurd (let x = on in cc)
     requested_in (Some one) k channel j request number at came there on numbered =
@@ -160,14 +160,14 @@ module _ (past : Past) where
         requested_by one.mark one channel j request number is refl there (not_false (is_channel (mark_channel one.mark) channel) on)
         (λ isn't. whole request is.carrier one is.there there isn't) numbered
 
-    pub requested : (k : ℕ) (channel : Channel) (j : Judging) (request number : ℕ) (bytes : List ℕ) → slice_get past.book.judged k ≡ Some j → IsReplyOfCall channel number request j bytes →
+    pub requested : (k : ℕ) (channel : ChannelIdentity) (j : Judging) (request number : ℕ) (bytes : List ℕ) → slice_get past.book.judged k ≡ Some j → IsReplyOfCall channel number request j bytes →
         IsRequested channel number request
     requested k channel j request number bytes at reply =
         let free : clashes (passed_channel j) j.unit past.book.sent ≡ false =
         all_at (λ (one : Judging). clashes (passed_channel one) one.unit past.book.sent ≡ false) past.book.judged k j (passes clear) at in
         requested_in (slice_get past.book.sent request) k channel j request number at reply.came refl
         (sym (ap (λ (u : Option ℕ). clashes (passed_channel j) u past.book.sent) reply.came
-        ∙ ap (λ (c : Option Channel). clashes c (Some request) past.book.sent) reply.passed) ∙ free)
+        ∙ ap (λ (c : Option ChannelIdentity). clashes c (Some request) past.book.sent) reply.passed) ∙ free)
         reply.call
 
     -- by the mark of the unit that was taken
@@ -186,7 +186,7 @@ module _ (past : Past) where
         let asked : IsRequested c k r = requested one.place c one.item r k is.carrier.bytes one.there one.is.1 in
         let named : c ≡ is.named = some_is c is.named made in
         let same : k ≡ is.number = sym its.marked.1 ∙ ap (λ (unit : RpcUnit). unit.call) (one_unit is.carrier.bytes its.whole is.whole) ∙ is.has in
-        let client : asked.named.client ≡ is.channel.client = asked.same.client ∙ ap (λ (d : Channel). d.client) named ∙ is.same.client in
+        let client : asked.named.client ≡ is.channel.client = asked.same.client ∙ ap (λ (d : ChannelIdentity). d.client) named ∙ is.same.client in
         let found : r ≡ is.request =
         numbers r is.request is.number asked.timestamp is.timestamp asked.named is.channel asked.sent is.out asked.there is.asked
         (asked.mark ∙ ap (λ (m : ℕ). Calling asked.named m asked.timestamp) same) is.mark client in
@@ -199,7 +199,7 @@ module _ (past : Past) where
           mark = marked;
           call = is.call ∙ ap Some (sym found);
           controller = subst (λ (at : ℕ). HasController (slice_get past.plan.members message.member) past.world.state.ends at)
-              (sym (ap (λ (d : Channel). d.controller) named ∙ is.same.controller)) is.controller;
+              (sym (ap (λ (d : ChannelIdentity). d.controller) named ∙ is.same.controller)) is.controller;
         }
 
     pub answered : (message : MessageTaken) (u : ℕ) → IsTakenInTurn past message u → IsAnsweredIn past message u

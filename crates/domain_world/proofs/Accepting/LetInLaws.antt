@@ -39,7 +39,7 @@ use Rattle.world_moves.specs.declared.links.Route.TheVariants.{ToController}
 use Rattle.world_moves.specs.declared.moves.Move.{Move}
 use Rattle.world_moves.specs.declared.plan.Plan.{Plan}
 use Rattle.world_moves.specs.declared.state.State.{State}
-use Rattle.world_moves.specs.Acting.{Given, Heard, given_by, hear, heard_by, hears}
+use Rattle.world_moves.specs.Acting.{Given, Heard, given_by, hear, heard_by, hear_and_act}
 use Rattle.world_moves.specs.Counting.{is_in}
 use Rattle.world_moves.specs.Ends.{actions_by, member_step}
 use Rattle.world_moves.specs.Links.{acceptor_of}
@@ -351,7 +351,7 @@ module _ (law : LetsInTheGranted) where
           (nobody_so (IsKnown at b.messages) _ (end_silent law (acceptor_of route) (event.Opened (length s.links)) (with_link route s) tt));
     };
     begins = λ at client plan s b is kept. record { keeps = kept.keeps; known = kept.known; let_in = clients_tell (IsKnown at b.messages) client (begun client plan s).actions };
-    comes = λ end w piece s given b side came kept. end_goes end w piece s (hears end (event.Bytes w.link piece) s).state given b (carried_from w.unit s w piece came) kept;
+    comes = λ end w piece s given b side came kept. end_goes end w piece s (hear_and_act end (event.Bytes w.link piece) s).state given b (carried_from w.unit s w piece came) kept;
     renews = λ at end s b kept. record { keeps = renewed_keeps NotLate at b.messages end s kept.keeps; known = kept.known; let_in = kept.let_in };
     over = λ at on next s given b kept. record {
       keeps = later_keeps (Late on) (Late next) at b.messages s.ends.members s.links kept.keeps;

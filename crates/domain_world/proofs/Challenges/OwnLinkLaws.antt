@@ -52,7 +52,7 @@ use Rattle.member_server.specs.Messages.{ask_by, info_of, is_fit, take_auth3, ta
 use Rattle.member_server.specs.Outcomes.{at_link, without_link}
 use Rattle.member_server.specs.Rests.{first_rest, link_leaves}
 use Rattle.member_server.specs.State.{State as MemberState}
-use Rattle.member_server.specs.Turns.{Desk, next_turn}
+use Rattle.member_server.specs.Turns.{DialWork, next_turn}
 use Rattle.member_server.specs.Units.{body_challenged, bound_unit, first_unit, is_fresh, link_server, unit_by, unit_challenged}
 use Rattle.member_server.specs.Work.{Served}
 use Rattle.channel_events.specs.Marks.{OneOf}
@@ -64,7 +64,7 @@ use Rattle.world_moves.specs.declared.links.Route.{Route}
 use Rattle.world_moves.specs.Links.{acceptor_of}
 use Rattle.channel_events.proofs.ListLaws.{got_append, got_behind}
 use Rattle.step_notes.proofs.Members.RestLaws.{next_rest}
-use Rattle.step_notes.proofs.Members.UnservedLaws.{DeskLinks, HasServed, IfUnserved, IfUnservedAfter, IfUnservedPart, LinksIn, Unserved, after_known, bound_serves, bytes_hold, dialled_known, fewer_known, found_known, next_known, none_so}
+use Rattle.step_notes.proofs.Members.UnservedLaws.{DialWorkLinks, HasServed, IfUnserved, IfUnservedAfter, IfUnservedPart, LinksIn, Unserved, after_known, bound_serves, bytes_hold, dialled_known, fewer_known, found_known, next_known, none_so}
 use Rattle.domain_world.proofs.Frames.AllLaws.{all_join, all_flat}
 
 -- ---- lists
@@ -600,7 +600,7 @@ IsServedOwn challenges links w units After =
 
 module _ (challenges : List ChallengeSent) (links : List Route) (w : LinkAt) (piece : List ℕ) (now : ℕ) (left : List (List ℕ)) where
   link_own : (running : Running) (found : Option (LinkState Talk)) (how : Dialling) → Unserved (IsOwn challenges links w.member) running.links → lookup same_number w.link running.links ≡ found →
-      IsServedOwn challenges links w (link_units_on found w.link piece running left) (DeskLinks (IsOwn challenges links w.member) (bytes_on_link found w.link piece how (work_of running) left))
+      IsServedOwn challenges links w (link_units_on found w.link piece running left) (DialWorkLinks (IsOwn challenges links w.member) (bytes_on_link found w.link piece how (work_of running) left))
   link_own running None how all there sent = (tt, all)
   link_own running (Some link) how all there sent =
       let cut : Cut = cut_stream (link.rest ++ piece) in
@@ -612,15 +612,15 @@ module _ (challenges : List ChallengeSent) (links : List Route) (w : LinkAt) (pi
             (fewer_known (IsOwn challenges links w.member) w.link running.links all),
       )
 
-  desk_own : (running : Running) (how : Dialling) → Unserved (IsOwn challenges links w.member) running.links →
+  dial_work_own : (running : Running) (how : Dialling) → Unserved (IsOwn challenges links w.member) running.links →
       IsServedOwn challenges links w (link_units_by (is_turn_link how w.link) w.link piece running left)
-      (DeskLinks (IsOwn challenges links w.member) (bytes_on how w.link piece (work_of running) left))
-  desk_own running how all =
-      bytes_hold (λ units part. IsServedOwn challenges links w units (DeskLinks (IsOwn challenges links w.member) part)) w.link piece running left
+      (DialWorkLinks (IsOwn challenges links w.member) (bytes_on how w.link piece (work_of running) left))
+  dial_work_own running how all =
+      bytes_hold (λ units part. IsServedOwn challenges links w units (DialWorkLinks (IsOwn challenges links w.member) part)) w.link piece running left
       (λ other. link_own running (lookup same_number w.link running.links) other all refl)
       (λ said sent. (tt, dialled_known (IsOwn challenges links w.member) (cut_stream (said.rest ++ piece)) w.link said.talk (work_of running) left all)) how
 
-  stepped_own : (units : List (ServedUnit AtLink Talk)) (part : Result (Part Desk) StepRefused) → IsServedOwn challenges links w units (DeskLinks (IsOwn challenges links w.member) part) →
+  stepped_own : (units : List (ServedUnit AtLink Talk)) (part : Result (Part DialWork) StepRefused) → IsServedOwn challenges links w units (DialWorkLinks (IsOwn challenges links w.member) part) →
       IsServedOwn challenges links w (units_if_taken (step_by actions_in state_in halted_state left part).answer units)
       (LinksIn (IsOwn challenges links w.member) (step_by actions_in state_in halted_state left part).state.running)
   stepped_own units (Err why) own sent = (tt, tt)
@@ -631,9 +631,9 @@ module _ (challenges : List ChallengeSent) (links : List Route) (w : LinkAt) (pi
       (LinksIn (IsOwn challenges links w.member) (step_on r m (event.Bytes w.link piece) now left).state.running)
   running_own m None was all sent = (tt, was)
   running_own m (Some running) was all sent =
-      let desk : Result (Part Desk) StepRefused = bytes_on running.dialling w.link piece (work_of running) left in
+      let dial_work : Result (Part DialWork) StepRefused = bytes_on running.dialling w.link piece (work_of running) left in
       stepped_own (link_units_in (Some running) w.link piece left) (event_part running (event.Bytes w.link piece) now left)
-      (λ sure. let own = desk_own running running.dialling all sure in (own.0, next_known (IsOwn challenges links w.member) desk now own.1)) sent
+      (λ sure. let own = dial_work_own running running.dialling all sure in (own.0, next_known (IsOwn challenges links w.member) dial_work now own.1)) sent
 
   pub bytes_own : (m : MemberState) → LinksIn (IsOwn challenges links w.member) m.running →
       IsServedOwn challenges links w (link_units m w.link piece now left) (LinksIn (IsOwn challenges links w.member) (step_of m (event.Bytes w.link piece) now left).state.running)
@@ -659,7 +659,7 @@ module _ (w : LinkAt) (piece : List ℕ) (now : ℕ) (left : List (List ℕ)) wh
   bytes_one m = taken_one (step_of m (event.Bytes w.link piece) now left).answer (link_units_in m.running w.link piece left) (running_one m.running)
 
 -- the challenges that are written down of units are among those that were drawn before or are not left then
-abbrev pub AreDrawn : List (List ℕ) → List (List ℕ) → LinkAt → List (ServedUnit AtLink Talk) → Result (Part Desk) StepRefused → Type 0
+abbrev pub AreDrawn : List (List ℕ) → List (List ℕ) → LinkAt → List (ServedUnit AtLink Talk) → Result (Part DialWork) StepRefused → Type 0
 AreDrawn drawn all w units part = (last : List (List ℕ)) → IsRest last (left_by part) → AllByRecursion (IsDrawn (drawn ++ draws_between all last)) (flat_map (challenge_note w) units)
 
 -- what is left after the units of a link is what is left after its bytes
@@ -678,11 +678,11 @@ module _ (drawn left : List (List ℕ)) (w : LinkAt) (drew : w.drawn ≡ length 
       units_drawn w drawn left last drew had cut.units cut.refused at link.talk left (IsRest-refl left)
       (after_rest (served_by link_server cut.units cut.refused at link.talk left) cut.rest w.link how (without_link w.link (work_of running)) last after)
 
-  desk_drawn : (running : Running) (how : Dialling) → AreDrawn drawn left w (link_units_by (is_turn_link how w.link) w.link piece running left) (bytes_on how w.link piece (work_of running) left)
-  desk_drawn running how =
+  dial_work_drawn : (running : Running) (how : Dialling) → AreDrawn drawn left w (link_units_by (is_turn_link how w.link) w.link piece running left) (bytes_on how w.link piece (work_of running) left)
+  dial_work_drawn running how =
       bytes_hold (AreDrawn drawn left w) w.link piece running left (λ other. link_drawn running (lookup same_number w.link running.links) other) (λ said last after. tt) how
 
-  stepped_drawn : (units : List (ServedUnit AtLink Talk)) (part : Result (Part Desk) StepRefused) → AreDrawn drawn left w units part →
+  stepped_drawn : (units : List (ServedUnit AtLink Talk)) (part : Result (Part DialWork) StepRefused) → AreDrawn drawn left w units part →
       AllByRecursion (IsDrawn (drawn ++ (step_by actions_in state_in halted_state left part).drawn))
       (flat_map (challenge_note w) (units_if_taken (step_by actions_in state_in halted_state left part).answer units))
   stepped_drawn units (Err why) all = tt
@@ -693,11 +693,11 @@ module _ (drawn left : List (List ℕ)) (w : LinkAt) (drew : w.drawn ≡ length 
       (flat_map (challenge_note w) (units_if_taken (step_on r m (event.Bytes w.link piece) now left).answer (link_units_in r w.link piece left)))
   running_drawn m None = tt
   running_drawn m (Some running) =
-      let desk : Result (Part Desk) StepRefused = bytes_on running.dialling w.link piece (work_of running) left in
+      let dial_work : Result (Part DialWork) StepRefused = bytes_on running.dialling w.link piece (work_of running) left in
       stepped_drawn (link_units_in (Some running) w.link piece left) (event_part running (event.Bytes w.link piece) now left)
       (λ last after.
-      desk_drawn running running.dialling last
-      (IsRest-trans last (left_by (then_part desk (next_turn now))) (left_by desk) after (then_part-rest desk (next_turn now) (left_by desk) (next_rest now) (IsRest-refl (left_by desk)))))
+      dial_work_drawn running running.dialling last
+      (IsRest-trans last (left_by (then_part dial_work (next_turn now))) (left_by dial_work) after (then_part-rest dial_work (next_turn now) (left_by dial_work) (next_rest now) (IsRest-refl (left_by dial_work)))))
 
   pub bytes_drawn : (m : MemberState) →
       AllByRecursion (IsDrawn (drawn ++ (step_of m (event.Bytes w.link piece) now left).drawn)) (flat_map (challenge_note w) (link_units m w.link piece now left))

@@ -4,7 +4,7 @@
 use Rattle.std.proofs.Common.{◌≡◌, ℕ, true, refl, sym, ap, ap₂, subst, ◌∙◌, List, [], ◌∷◌, ◌++◌, length, map, replicate, Option, Some, None, inl}
 use Rattle.std.specs.Prelude.{IsSomeAnd}
 use Rattle.rc4_stream.specs.Rc4.{applied}
-use Rattle.authenticators.specs.Channels.{Channel}
+use Rattle.authenticators.specs.Channels.{ChannelIdentity}
 use Rattle.outside.specs.declared.action.Judged.{Judged}
 use Rattle.outside.specs.declared.action.Judged.TheVariants as judged
 use Rattle.outside.specs.Machine.{Stepped}
@@ -64,7 +64,7 @@ use Rattle.domain_world.proofs.Completeness.UnitNotedLaws.{Came, comes_so, comin
 
 -- ---- the judging of an answer
 
-passing_judging : (channel : Option Channel) (j : Judging) → (passing channel j).judging ≡ Some j
+passing_judging : (channel : Option ChannelIdentity) (j : Judging) → (passing channel j).judging ≡ Some j
 passing_judging None j = refl
 passing_judging (Some channel) j = refl
 

@@ -19,8 +19,8 @@ use Rattle.world_moves.specs.declared.links.Route.{Route}
 use Rattle.world_moves.specs.declared.moves.Move.{Move}
 use Rattle.world_moves.specs.declared.moves.Move.TheVariants as move
 use Rattle.world_moves.specs.declared.state.State.{State}
-use Rattle.world_moves.specs.declared.state.Waiting.{Waiting}
-use Rattle.world_moves.specs.Acting.{Heard, bag_unit, close_open, closed_at, done, forget, hear, hears, hears_if, perform, perform_all, perform_all_quietly, perform_quietly, piece_comes, pieces_come, send_on, shut_link}
+use Rattle.world_moves.specs.declared.state.WaitingDial.{WaitingDial}
+use Rattle.world_moves.specs.Acting.{Heard, bag_unit, close_open, closed_at, done, forget, hear, hear_and_act, hear_and_act_if, perform, perform_all, perform_all_quietly, perform_quietly, piece_comes, pieces_come, send_on, shut_link}
 use Rattle.world_moves.specs.Bag.{first_waiting, pieces_of}
 use Rattle.world_moves.specs.Choosing.{chosen_place}
 use Rattle.world_moves.specs.Counting.{add_counts, counts_of}
@@ -73,12 +73,12 @@ all_moment : (end : EndId) (actions : List Action) (s : State) → (perform_all 
 all_moment end [] s = refl
 all_moment end (what ∷ actions) s = all_moment end actions (perform end what s).state ∙ perform_moment end what s
 
-hears_moment : (end : EndId) (what : Event) (s : State) → (hears end what s).state.moment ≡ s.moment
+hears_moment : (end : EndId) (what : Event) (s : State) → (hear_and_act end what s).state.moment ≡ s.moment
 hears_moment end what s = all_moment end (hear end what s).actions (hear end what s).state
 
 -- ---- bytes come
 
-piece_moment : (back : Bool) (link : ℕ) (piece : List ℕ) (end : Option EndId) (s : State) → (hears_if end (event.Bytes link piece) s).state.moment ≡ s.moment
+piece_moment : (back : Bool) (link : ℕ) (piece : List ℕ) (end : Option EndId) (s : State) → (hear_and_act_if end (event.Bytes link piece) s).state.moment ≡ s.moment
 piece_moment back link piece None s = refl
 piece_moment back link piece (Some end) s = hears_moment end (event.Bytes link piece) s
 
@@ -111,7 +111,7 @@ start_moment None s = refl
 start_moment (Some at) s = start_by_moment (slice_get s.client_plans at) at s
 
 answer_moment : (there : Option OpenLink) (end : EndId) (link : ℕ) (s : State) → (answer_by there end link s).state.moment ≡ s.moment
-answer_moment None end link s = closed_moment (Some end) link (hears end (event.Dialled link) s).state ∙ hears_moment end (event.Dialled link) s
+answer_moment None end link s = closed_moment (Some end) link (hear_and_act end (event.Dialled link) s).state ∙ hears_moment end (event.Dialled link) s
 answer_moment (Some there) end link s = hears_moment end (event.Dialled link) (answered_link link there s)
 
 connect_by_moment : (route : Option Route) (end : EndId) (s : State) → (connect_by route end s).state.moment ≡ s.moment
@@ -121,7 +121,7 @@ connect_by_moment (Some route) end s =
     answer_moment (lookup same_number (length s.links) later.open_links) end (length s.links) later
     ∙ hears_moment (acceptor_of route) (event.Opened (length s.links)) (with_link route s)
 
-connect_moment : (first : Option Waiting) (s : State) → (connect_first first s).state.moment ≡ s.moment
+connect_moment : (first : Option WaitingDial) (s : State) → (connect_first first s).state.moment ≡ s.moment
 connect_moment None s = refl
 connect_moment (Some first) s = connect_by_moment (route_to first.end (end_of_peer first.peer s.ends)) first.end s
 

@@ -9,7 +9,7 @@ use Rattle.std.proofs.lemmas.List.{length-map}
 use Rattle.std.proofs.lemmas.Nat.{mod_below}
 use Rattle.outside.specs.Drawing.{Drawing}
 use Rattle.logon_client.specs.Machine.{fresh_client}
-use Rattle.world_moves.specs.declared.state.Waiting.{Waiting}
+use Rattle.world_moves.specs.declared.state.WaitingDial.{WaitingDial}
 use Rattle.world_moves.specs.Acting.{Acted}
 use Rattle.world_moves.specs.Ends.{EndStates}
 use Rattle.logon_client.specs.State.{State as ClientState}
@@ -28,7 +28,7 @@ use Rattle.logon_runs.specs.Seen.Others.{IsStepOn}
 use Rattle.logon_runs.specs.Passing.{HasEnough}
 use Rattle.logon_runs.specs.Rests.{AtRest, moved_by}
 use Rattle.logon_runs.specs.Seen.Staying.{HasSameEnds}
-use Rattle.logon_runs.specs.Seen.Waiting.{waiting}
+use Rattle.logon_runs.specs.Seen.WaitingUnits.{waiting}
 use Rattle.logon_runs.proofs.Any.AnyLogonLaws.{logons_rest}
 use Rattle.logon_runs.proofs.PassingLaws.{rest_of}
 use Rattle.logon_runs.proofs.RestStayLaws.{rests_stay}
@@ -140,7 +140,7 @@ rests_on plan left s what steps resting = record {
 
 -- no end changes
 ends_rest : (plan : Plan) (s : State) (what : Move) → IsStepOn what → AtRest plan s → (act s what).state.ends ≡ s.ends
-ends_rest plan s move.Connect steps rest = ap (λ (dials : List Waiting). (connect_first (slice_get dials 0) (without_first s)).state.ends) rest.dials
+ends_rest plan s move.Connect steps rest = ap (λ (dials : List WaitingDial). (connect_first (slice_get dials 0) (without_first s)).state.ends) rest.dials
 ends_rest plan s move.Onward steps rest = ap (λ (a : Acted). a.state.ends) (waiting_comes.idle s rest.units)
 ends_rest plan s (move.Tick more) steps rest = refl
 ends_rest plan s (move.Start number) steps rest = absurd steps

@@ -28,7 +28,7 @@ use Rattle.logon_runs.specs.Phases.{Coming, IsReached, IsUnderWay, LogonPhase, N
 use Rattle.logon_runs.specs.Phases.{Acked, Answers, Binds, BindsBefore, BindsHeld, Calls, Challenged, Dials, DialsBefore, DialsHeld, Echoed, Echoes, Granted, Halved, Named, Proved}
 use Rattle.logon_runs.specs.Rests.{CanBeGranted, HasBegun, coming_of}
 use Rattle.logon_runs.specs.Scenes.{Shows}
-use Rattle.logon_runs.specs.Seen.Waiting.{waiting}
+use Rattle.logon_runs.specs.Seen.WaitingUnits.{waiting}
 use Rattle.logon_runs.proofs.Phases.PhaseLaws.{one_waits}
 use Rattle.logon_runs.proofs.RestLaws.{logons_come_to_rest}
 use Rattle.logon_runs.proofs.Seen.StayingLaws.{ends_stay, reach_still}

@@ -9,12 +9,12 @@ use Rattle.world_moves.specs.declared.links.EndId.{EndId}
 use Rattle.world_moves.specs.declared.links.OpenLink.{OpenLink}
 use Rattle.world_moves.specs.declared.moves.Move.TheVariants as move
 use Rattle.world_moves.specs.declared.state.State.{State}
-use Rattle.world_moves.specs.Acting.{hears, hears_if}
+use Rattle.world_moves.specs.Acting.{hear_and_act, hear_and_act_if}
 use Rattle.world_moves.specs.Bag.{first_waiting, settle_at, settled}
 use Rattle.world_moves.specs.Links.{hearer_of, hearer_on}
 use Rattle.world_moves.specs.Moving.{onward, settle}
 use Rattle.logon_runs.specs.Scenes.{HasFirst, Scene, Shows}
-use Rattle.logon_runs.specs.Seen.Waiting.{IsOldest, waiting}
+use Rattle.logon_runs.specs.Seen.WaitingUnits.{IsOldest, waiting}
 use Rattle.logon_runs.proofs.Seen.WaitingLaws.{comes_by, one_piece, set_there, settled_by, waiting_comes}
 use Rattle.domain_world.specs.Past.{Coming, note_at, note_coming, note_onward, note_own, note_pieces, note_unit}
 
@@ -22,7 +22,7 @@ abbrev pub coming : ℕ → ℕ → BagUnit → Coming
 coming k number unit = record { at = k; unit = Some number; link = unit.link; back = unit.back }
 
 abbrev pub state_then : EndId → BagUnit → ℕ → State → State
-state_then end unit number s = (hears end (event.Bytes unit.link unit.bytes) (settle number s)).state
+state_then end unit number s = (hear_and_act end (event.Bytes unit.link unit.bytes) (settle number s)).state
 
 -- the oldest unit comes at that end, and this is written down
 pub record Came (s : State) (unit : BagUnit) (later : List BagUnit) (end : EndId) : Type 0 where
@@ -44,8 +44,8 @@ noted_by s unit end there number k b some short first found opened hearer =
     ∙ ap (λ (u : Option BagUnit). note_unit u number unit.link k s1 b)
     (ap (λ (bag : List BagUnit). slice_get bag number) (settled_by s.bag number unit found) ∙ set_there s.bag number unit (settled unit) found)
     ∙ ap (λ (pieces : List (List ℕ)). note_pieces w pieces s1 b) (one_piece unit.bytes some short)
-    ∙ ap (λ (o : Option OpenLink). note_at (hearer_of unit.back o) w unit.bytes s1 (hears_if (hearer_of unit.back o) (event.Bytes unit.link unit.bytes) s1).state b) opened
-    ∙ ap (λ (h : Option EndId). note_at h w unit.bytes s1 (hears_if h (event.Bytes unit.link unit.bytes) s1).state b) hearer
+    ∙ ap (λ (o : Option OpenLink). note_at (hearer_of unit.back o) w unit.bytes s1 (hear_and_act_if (hearer_of unit.back o) (event.Bytes unit.link unit.bytes) s1).state b) opened
+    ∙ ap (λ (h : Option EndId). note_at h w unit.bytes s1 (hear_and_act_if h (event.Bytes unit.link unit.bytes) s1).state b) hearer
 
 pub comes_so : (s : State) (v : Scene) (unit : BagUnit) (later : List BagUnit) (end : EndId) → Shows s v → HasFirst v unit later end → Came s unit later end
 comes_so s v unit later end shows first =

@@ -22,7 +22,7 @@ use Rattle.world_moves.specs.declared.links.Route.{Route}
 use Rattle.world_moves.specs.declared.moves.Move.{Move}
 use Rattle.world_moves.specs.declared.plan.Plan.{Plan}
 use Rattle.world_moves.specs.declared.state.State.{State}
-use Rattle.world_moves.specs.Acting.{Heard, done, heard_by, hears}
+use Rattle.world_moves.specs.Acting.{Heard, done, heard_by, hear_and_act}
 use Rattle.world_moves.specs.Bag.{settle_at, settled}
 use Rattle.world_moves.specs.Ends.{actions_by, controller_step, member_step}
 use Rattle.world_moves.specs.World.{World, first_world, happens, run}
@@ -139,7 +139,7 @@ pub record IsMarked {X : Type 0} (P : UnitFact X) (x : X) (bag : List BagUnit) (
   pub all : length sent ≡ length bag
 
 abbrev hear_bytes : EndId → Coming → List ℕ → State → State
-hear_bytes end w piece s = (hears end (event.Bytes w.link piece) s).state
+hear_bytes end w piece s = (hear_and_act end (event.Bytes w.link piece) s).state
 
 abbrev pub IsServer : EndId → Type 0
 IsServer (Controller at) = Unit {0}
@@ -254,7 +254,7 @@ module _ {X : Type 0} (part : Book → X) (Side : X → Fact) (P : UnitFact X) (
       × (IsServer end → length (note_at (Some end) w piece s after b).sent ≡ length after.bag)
 
   end_hears : (end : EndId) (w : Coming) (piece : List ℕ) (s : State) (b : Book) → HoldsIn (Side (part b)) s → IsAtSide s.links w.link w.back end →
-      OfEachUnit P (part b) s.bag b.sent → (IsServer end → length b.sent ≡ length s.bag) → EndHeard end w piece s b (hears end (event.Bytes w.link piece) s).state
+      OfEachUnit P (part b) s.bag b.sent → (IsServer end → length b.sent ≡ length s.bag) → EndHeard end w piece s b (hear_and_act end (event.Bytes w.link piece) s).state
   end_hears (Controller at) w piece s b side hears each all =
       let after : State = (hear_bytes (Controller at) w piece s) in
       let marked : IsMarked P (part (note_at (Some (Controller at)) w piece s after b)) after.bag (note_at (Some (Controller at)) w piece s after b).sent =

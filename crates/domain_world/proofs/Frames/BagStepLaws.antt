@@ -11,7 +11,7 @@ use Rattle.world_moves.specs.declared.links.EndId.{EndId}
 use Rattle.world_moves.specs.declared.moves.Move.{Move}
 use Rattle.world_moves.specs.declared.plan.Plan.{Plan}
 use Rattle.world_moves.specs.declared.state.State.{State}
-use Rattle.world_moves.specs.Acting.{Given, hears, perform_quietly}
+use Rattle.world_moves.specs.Acting.{Given, hear_and_act, perform_quietly}
 use Rattle.world_moves.specs.Moving.{settle}
 use Rattle.world_moves.specs.World.{first_world}
 use Rattle.domain_world.specs.Past.{Coming, note_at, note_given, past}
@@ -37,7 +37,7 @@ pub record BagKeeps {X : Type 0} (Holds : RunFact) (part : Book → X) (Side : X
   pub still : (old bag : List BagUnit) (b : Book) → StillHas old bag → Fits old b → Fits bag b
   pub comes : (n : ℕ) (end : EndId) (w : Coming) (piece : List ℕ) (s : State) (given : Given) (b : Book) → IsAtSide s.links w.link w.back end → CameFrom w.unit s w piece → AreBytes piece →
       (IsServer end → length b.sent ≡ length s.bag) → Holds n s given b → HoldsIn (Side (part b)) s → Fits s.bag b →
-      Fits (hears end (event.Bytes w.link piece) s).state.bag (note_at (Some end) w piece s (hears end (event.Bytes w.link piece) s).state b)
+      Fits (hear_and_act end (event.Bytes w.link piece) s).state.bag (note_at (Some end) w piece s (hear_and_act end (event.Bytes w.link piece) s).state b)
   pub over : (at : ℕ) (given : Given) (s : State) (b : Book) → Fits s.bag b → Fits s.bag (note_given at given s b)
 
 -- ---- nothing of units

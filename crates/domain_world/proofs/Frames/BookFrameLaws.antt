@@ -8,7 +8,7 @@ use Rattle.world_moves.specs.declared.links.EndId.{EndId}
 use Rattle.world_moves.specs.declared.moves.Move.{Move}
 use Rattle.world_moves.specs.declared.plan.Plan.{Plan}
 use Rattle.world_moves.specs.declared.state.State.{State}
-use Rattle.world_moves.specs.Acting.{Given, hears}
+use Rattle.world_moves.specs.Acting.{Given, hear_and_act}
 use Rattle.world_moves.specs.World.{World}
 use Rattle.domain_world.specs.Past.{Coming, book, note_at, note_given, past}
 use Rattle.domain_world.proofs.Frames.EndFrameLaws.{EndFact, KeepsEnds, ends_after, ends_later}
@@ -26,7 +26,7 @@ module _ (Holds : Book → Type 0)
     dialled = λ at end link s given b side holds. holds;
     opens = λ at route s given b holds. holds;
     begins = λ at client plan s b is holds. holds;
-    comes = λ end w piece s given b side came holds. bytes end w piece s (hears end (event.Bytes w.link piece) s).state b holds;
+    comes = λ end w piece s given b side came holds. bytes end w piece s (hear_and_act end (event.Bytes w.link piece) s).state b holds;
     renews = λ at end s b holds. holds;
     over = λ at on next s given b holds. gives at given s b holds;
   }

@@ -20,7 +20,7 @@ use Rattle.world_moves.specs.declared.links.Route.{Route}
 use Rattle.world_moves.specs.declared.moves.Move.{Move}
 use Rattle.world_moves.specs.declared.plan.Plan.{Plan}
 use Rattle.world_moves.specs.declared.state.State.{State}
-use Rattle.world_moves.specs.Acting.{Given, forget, Heard, bag_unit, given_by, hear, hears, perform_quietly, send_on}
+use Rattle.world_moves.specs.Acting.{Given, forget, Heard, bag_unit, given_by, hear, hear_and_act, perform_quietly, send_on}
 use Rattle.world_moves.specs.Ends.{EndStates}
 use Rattle.world_moves.specs.Links.{acceptor_of, is_accepted_by, kind_of}
 use Rattle.world_moves.specs.Moving.{begun, renewed, with_link}
@@ -72,7 +72,7 @@ pub record KeepsEnds (Holds : EndFact) : Type 0 where
       HasHeard Holds at None (Client client) (begun client plan s) [] b
   pub comes : (end : EndId) (w : Coming) (piece : List ℕ) (s : State) (given : Given) (b : Book) → IsAtSide s.links w.link w.back end → CameFrom w.unit s w piece →
       Holds w.at (Some w) (ends_in s) given b →
-      HasHeard Holds w.at (Some w) end (hear end (event.Bytes w.link piece) s) given (note_at (Some end) w piece s (hears end (event.Bytes w.link piece) s).state b)
+      HasHeard Holds w.at (Some w) end (hear end (event.Bytes w.link piece) s) given (note_at (Some end) w piece s (hear_and_act end (event.Bytes w.link piece) s).state b)
   pub renews : (at : ℕ) (end : EndId) (s : State) (b : Book) → Holds at None (ends_in s) [] b → Holds at None (ends_in (renewed end s)) [] b
   -- the move is over, whatever comes in the next one
   pub over : (at : ℕ) (on next : Option Coming) (s : State) (given : Given) (b : Book) → Holds at on (ends_in s) given b → Holds (at + 1) next (ends_in s) [] (note_given at given s b)

@@ -19,7 +19,7 @@ use Rattle.world_moves.specs.declared.links.EndId.TheVariants.{Controller, Membe
 use Rattle.world_moves.specs.declared.links.Route.{Route}
 use Rattle.world_moves.specs.declared.moves.Move.{Move}
 use Rattle.world_moves.specs.declared.state.State.{State}
-use Rattle.world_moves.specs.Acting.{Given, hears}
+use Rattle.world_moves.specs.Acting.{Given, hear_and_act}
 use Rattle.world_moves.specs.Ends.{EndStates, EndStep, end_step, renew_client, renew_controller, renew_member, with_client, with_member}
 use Rattle.world_moves.specs.Links.{acceptor_of}
 use Rattle.world_moves.specs.Moving.{renewed}
@@ -153,7 +153,7 @@ module _ {X : Type 0} (part : Book → X) (Fits : X → PlannedFact) (written : 
     dialled = λ at end link s given b side holds. (written.stays (part b)).hears end (event.Dialled link) s.moment s.client_plans s.ends s.chances s.links tt holds;
     opens = λ at route s given b holds. (written.stays (part b)).opens route s.moment s.client_plans s.ends s.chances s.links holds;
     begins = λ at client plan s b is holds. (written.stays (part b)).begins plan client s.client_plans s.ends s.chances s.links is holds;
-    comes = λ end w piece s given b side came holds. written.bytes end w piece s (hears end (event.Bytes w.link piece) s).state b holds;
+    comes = λ end w piece s given b side came holds. written.bytes end w piece s (hear_and_act end (event.Bytes w.link piece) s).state b holds;
     renews = λ at end s b holds. renewed_stays (Fits (part b)) (written.stays (part b)) end s holds;
     over = λ at on next s given b holds. subst (λ (x : X). HoldsByPlans (Fits x) s) (sym (written.given at given s b)) holds;
   }

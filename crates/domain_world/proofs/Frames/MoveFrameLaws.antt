@@ -26,8 +26,8 @@ use Rattle.world_moves.specs.declared.moves.Move.{Move}
 use Rattle.world_moves.specs.declared.moves.Move.TheVariants as move
 use Rattle.world_moves.specs.declared.plan.Plan.{Plan}
 use Rattle.world_moves.specs.declared.state.State.{State}
-use Rattle.world_moves.specs.declared.state.Waiting.{Waiting}
-use Rattle.world_moves.specs.Acting.{Acted, Given, Heard, bag_unit, close_open, closed_at, done, forget, given_by, hear, hears, hears_if, nothing_done, perform, perform_all, perform_all_quietly, perform_quietly, piece_comes, pieces_come, send_on, shut_link, then_act}
+use Rattle.world_moves.specs.declared.state.WaitingDial.{WaitingDial}
+use Rattle.world_moves.specs.Acting.{Acted, Given, Heard, bag_unit, close_open, closed_at, done, forget, given_by, hear, hear_and_act, hear_and_act_if, nothing_done, perform, perform_all, perform_all_quietly, perform_quietly, piece_comes, pieces_come, send_on, shut_link, then_act}
 use Rattle.world_moves.specs.Bag.{first_waiting, pieces_of}
 use Rattle.world_moves.specs.Choosing.{chosen_in, chosen_place}
 use Rattle.world_moves.specs.Ends.{acceptors_in, count_of, end_at}
@@ -106,7 +106,7 @@ pub record KeepsMoves (Known : Type 0) (Side Holds : MoveFact) : Type 0 where
       Holds n (waiting at None) s [] b → IsHeard Holds n (waiting at None) (Client client) (begun client plan s) [] b
   pub comes : (n : ℕ) (end : EndId) (w : Coming) (piece : List ℕ) (s : State) (given : Given) (b : Book) → IsAtSide s.links w.link w.back end → CameFrom w.unit s w piece →
       (Known → AreBytes piece) → Side n (coming w) s given b → Holds n (coming w) s given b →
-      let after : State = (hears end (event.Bytes w.link piece) s).state in
+      let after : State = (hear_and_act end (event.Bytes w.link piece) s).state in
       IsHeard Holds n (record (coming w) { to = Some after }) end (hear end (event.Bytes w.link piece) s) given (note_at (Some end) w piece s after b)
   -- the step at bytes is done
   pub reaches : (n : ℕ) (w : Coming) (s : State) (given : Given) (b : Book) → Side n (record (coming w) { to = Some s }) s given b → Holds n (record (coming w) { to = Some s }) s given b →
@@ -122,7 +122,7 @@ pub record KeepsMoves (Known : Type 0) (Side Holds : MoveFact) : Type 0 where
   pub settles : (n at : ℕ) (on : Option Coming) (number : ℕ) (s : State) (b : Book) → Side n (started at on) s [] b → Holds n (started at on) s [] b →
       Holds n (started at on) (settle number s) [] b
   -- the first dial waits no more
-  pub dials : (n at : ℕ) (dial : Waiting) (s : State) (b : Book) → slice_get s.dials 0 ≡ Some dial → Side n (waiting at None) s [] b → Holds n (waiting at None) s [] b →
+  pub dials : (n at : ℕ) (dial : WaitingDial) (s : State) (b : Book) → slice_get s.dials 0 ≡ Some dial → Side n (waiting at None) s [] b → Holds n (waiting at None) s [] b →
       Holds n (waiting at (Some dial.end)) (without_first s) [] b
   pub renews : (n at : ℕ) (end : EndId) (s : State) (b : Book) → Side n (waiting at None) s [] b → Holds n (waiting at None) s [] b → Holds n (waiting at None) (renewed end (forget end s)) [] b
   pub ticks : (n at more : ℕ) (s : State) (b : Book) → Side n (waiting at None) s [] b → Holds n (waiting at None) s [] b → Holds n (waiting at None) (tick more s) [] b
@@ -209,7 +209,7 @@ send_open None end link bytes s = refl
 send_open (Some route) end link bytes s = bag_unit_open (kind_of route) (is_accepted_by end route) link bytes s
 
 -- no dial waits: the first isn't taken
-none_dialled : (dials : List Waiting) → slice_get dials 0 ≡ None → drop 1 dials ≡ dials
+none_dialled : (dials : List WaitingDial) → slice_get dials 0 ≡ None → drop 1 dials ≡ dials
 none_dialled [] none = refl
 none_dialled (dial ∷ dials) none = absurd (let x = none in cc)
 
@@ -342,16 +342,16 @@ module _ (Known : Type 0) (Holds : MoveFact) (keeps : KeepsMoves Known NoSide Ho
   answer_part : (there : Option OpenLink) (end : EndId) (link n at : ℕ) (s : State) (given : Given) (b : Book) → lookup same_number link s.open_links ≡ there →
       IsAtSide s.links link true end → Holds n (waiting at (Some end)) s given b → Quietly at (n + 3 + 2 * length s.open_links) (answer_by there end link s) given b
   answer_part None end link n at s given b is side holds =
-      let first : Quietly at (n + 1 + 2 * length s.open_links) (hears end (event.Dialled link) s) given b =
+      let first : Quietly at (n + 1 + 2 * length s.open_links) (hear_and_act end (event.Dialled link) s) given b =
       done_part (waiting at None) tt n end (hear end (event.Dialled link) s) given b (keeps.dialled n at end link s given b side tt holds) in
-      let after : State = (hears end (event.Dialled link) s).state in
-      followed (waiting at None) (n + 3 + 2 * length s.open_links) (hears end (event.Dialled link) s) (λ later. closed_at (Some end) link later) given b
+      let after : State = (hear_and_act end (event.Dialled link) s).state in
+      followed (waiting at None) (n + 3 + 2 * length s.open_links) (hear_and_act end (event.Dialled link) s) (λ later. closed_at (Some end) link later) given b
       (widen (waiting at None) (first.steps + 1 + 2 * length after.open_links) (n + 3 + 2 * length s.open_links) (closed_at (Some end) link after)
-      (given ++ (hears end (event.Dialled link) s).given) b (omega (arith, first.few))
-      (closed_part (waiting at None) tt (Some end) link first.steps after (given ++ (hears end (event.Dialled link) s).given) b first.holds))
+      (given ++ (hear_and_act end (event.Dialled link) s).given) b (omega (arith, first.few))
+      (closed_part (waiting at None) tt (Some end) link first.steps after (given ++ (hear_and_act end (event.Dialled link) s).given) b first.holds))
   answer_part (Some there) end link n at s given b is side holds =
       let before : State = answered_link link there s in
-      widen (waiting at None) (n + 1 + 2 * length before.open_links) (n + 3 + 2 * length s.open_links) (hears end (event.Dialled link) before) given b
+      widen (waiting at None) (n + 1 + 2 * length before.open_links) (n + 3 + 2 * length s.open_links) (hear_and_act end (event.Dialled link) before) given b
       (omega (arith, put_more link (answered there) s.open_links))
       (done_part (waiting at None) tt n end (hear end (event.Dialled link) before) given b
       (keeps.dialled n at end link before given b side tt (keeps.answers n at (Some end) link there s given b is tt holds)))
@@ -359,7 +359,7 @@ module _ (Known : Type 0) (Holds : MoveFact) (keeps : KeepsMoves Known NoSide Ho
   connect_by_part : (route : Option Route) (end : EndId) (n at : ℕ) (s : State) (b : Book) → ((found : Route) → route ≡ Some found → dialler_of found ≡ Some end) →
       Holds n (waiting at (Some end)) s [] b → Quietly at (n + 6 + 2 * length s.open_links) (connect_by route end s) [] b
   connect_by_part None end n at s b dials holds =
-      widen (waiting at None) (n + 1 + 2 * length s.open_links) (n + 6 + 2 * length s.open_links) (hears end event.DialFailed s) [] b (omega arith)
+      widen (waiting at None) (n + 1 + 2 * length s.open_links) (n + 6 + 2 * length s.open_links) (hear_and_act end event.DialFailed s) [] b (omega arith)
       (done_part (waiting at None) tt n end (hear end event.DialFailed s) [] b (keeps.fails n at end s b tt holds))
   connect_by_part (Some route) end n at s b dials holds =
       let first : After (waiting at (Some end)) (n + 3 + 2 * length s.open_links) (open_link route s) [] b = open_part (Some end) route n at s b holds in
@@ -374,16 +374,16 @@ module _ (Known : Type 0) (Holds : MoveFact) (keeps : KeepsMoves Known NoSide Ho
 
   -- no dial waited
   none_first : (n at : ℕ) (s : State) (b : Book) → slice_get s.dials 0 ≡ None → Holds n (waiting at None) s [] b → Holds n (waiting at None) (without_first s) [] b
-  none_first n at s b none holds = subst (λ (dials : List Waiting). Holds n (waiting at None) (record s { dials = dials }) [] b) (sym (none_dialled s.dials none)) holds
+  none_first n at s b none holds = subst (λ (dials : List WaitingDial). Holds n (waiting at None) (record s { dials = dials }) [] b) (sym (none_dialled s.dials none)) holds
 
-  connect_part : (first : Option Waiting) (n at : ℕ) (s : State) (b : Book) → slice_get s.dials 0 ≡ first → Holds n (waiting at None) s [] b →
+  connect_part : (first : Option WaitingDial) (n at : ℕ) (s : State) (b : Book) → slice_get s.dials 0 ≡ first → Holds n (waiting at None) s [] b →
       Quietly at (n + 6 + 2 * length s.open_links) (connect_first first (without_first s)) [] b
   connect_part None n at s b is holds = nothing (waiting at None) (n + 6 + 2 * length s.open_links) n (without_first s) [] b (none_first n at s b is holds) (omega arith)
   connect_part (Some dial) n at s b is holds =
       connect_by_part (route_to dial.end (end_of_peer dial.peer s.ends)) dial.end n at (without_first s) b (λ found is. route_dials dial.end (end_of_peer dial.peer s.ends) found is)
       (keeps.dials n at dial s b is tt holds)
 
-  fail_part : (first : Option Waiting) (n at : ℕ) (s : State) (b : Book) → slice_get s.dials 0 ≡ first → Holds n (waiting at None) s [] b →
+  fail_part : (first : Option WaitingDial) (n at : ℕ) (s : State) (b : Book) → slice_get s.dials 0 ≡ first → Holds n (waiting at None) s [] b →
       Quietly at (n + 1 + 2 * length s.open_links) (fail_first first (without_first s)) [] b
   fail_part None n at s b is holds = nothing (waiting at None) (n + 1 + 2 * length s.open_links) n (without_first s) [] b (none_first n at s b is holds) (omega arith)
   fail_part (Some dial) n at s b is holds =
@@ -421,15 +421,15 @@ module _ (Known : Type 0) (Holds : MoveFact) (keeps : KeepsMoves Known NoSide Ho
 
   piece_part : (end : Option EndId) (w : Coming) (piece : List ℕ) (n : ℕ) (s : State) (given : Given) (b : Book) → hearer_of w.back (lookup same_number w.link s.open_links) ≡ end →
       CameFrom w.unit s w piece → (Known → AreBytes piece) → IsPlaced s → Holds n (coming w) s given b →
-      After (coming w) (n + 1 + 2 * length s.open_links) (hears_if end (event.Bytes w.link piece) s) given (note_at end w piece s (hears_if end (event.Bytes w.link piece) s).state b)
+      After (coming w) (n + 1 + 2 * length s.open_links) (hear_and_act_if end (event.Bytes w.link piece) s) given (note_at end w piece s (hear_and_act_if end (event.Bytes w.link piece) s).state b)
   piece_part None w piece n s given b is came bytes placed holds = nothing (coming w) (n + 1 + 2 * length s.open_links) n s given b holds (omega arith)
   piece_part (Some end) w piece n s given b is came bytes placed holds =
       let side : IsAtSide s.links w.link w.back end = hears_side w.back w.link s.links s.open_links end placed.made is in
-      let after : State = (hears end (event.Bytes w.link piece) s).state in
+      let after : State = (hear_and_act end (event.Bytes w.link piece) s).state in
       let now : Book = note_at (Some end) w piece s after b in
-      let all : After (record (coming w) { to = Some after }) (n + 1 + 2 * length s.open_links) (hears end (event.Bytes w.link piece) s) given now =
+      let all : After (record (coming w) { to = Some after }) (n + 1 + 2 * length s.open_links) (hear_and_act end (event.Bytes w.link piece) s) given now =
       done_part (record (coming w) { to = Some after }) tt n end (hear end (event.Bytes w.link piece) s) given now (keeps.comes n end w piece s given b side came bytes tt holds) in
-      record { steps = all.steps; holds = keeps.reaches all.steps w after (given ++ (hears end (event.Bytes w.link piece) s).given) now tt all.holds; few = all.few }
+      record { steps = all.steps; holds = keeps.reaches all.steps w after (given ++ (hear_and_act end (event.Bytes w.link piece) s).given) now tt all.holds; few = all.few }
 
   pieces_part : (w : Coming) (links : List Route) (old : List BagUnit) (pieces : List (List ℕ)) (n : ℕ) (s : State) (given : Given) (b : Book) →
       ((later : State) (piece : List ℕ) → Since links old later.links later.open_links later.bag → OneOf (λ (one : List ℕ). one ≡ piece) pieces → CameFrom w.unit later w piece) →
@@ -535,7 +535,7 @@ module _ (Known : Type 0) (Holds : MoveFact) (keeps : KeepsMoves Known NoSide Ho
   hand_part (Some link) back piece n at s b outside placed bytes holds =
       let w : Coming = record { at = at; unit = None; link = link; back = back } in
       let end : Option EndId = hearer_of back (lookup same_number link s.open_links) in
-      let one : After (coming w) (n + 1 + 2 * length s.open_links) (hears_if end (event.Bytes link piece) s) [] (note_at end w piece s (hears_if end (event.Bytes link piece) s).state b) =
+      let one : After (coming w) (n + 1 + 2 * length s.open_links) (hear_and_act_if end (event.Bytes link piece) s) [] (note_at end w piece s (hear_and_act_if end (event.Bytes link piece) s).state b) =
       piece_part end w piece n s [] b refl (outside link refl) bytes placed (holds (Some w)) in
       record {
         steps = one.steps;

@@ -18,7 +18,7 @@ use Rattle.world_moves.specs.declared.links.Route.{Route}
 use Rattle.world_moves.specs.declared.moves.Move.{Move}
 use Rattle.world_moves.specs.declared.plan.Plan.{Plan}
 use Rattle.world_moves.specs.declared.state.State.{State}
-use Rattle.world_moves.specs.Acting.{Given, Heard, forget, given_by, hear, hears, perform_quietly, shut_link}
+use Rattle.world_moves.specs.Acting.{Given, Heard, forget, given_by, hear, hear_and_act, perform_quietly, shut_link}
 use Rattle.world_moves.specs.Links.{acceptor_of}
 use Rattle.world_moves.specs.Moving.{answered_link, begun, renewed, settle, tick, with_link, without_first}
 use Rattle.world_moves.specs.World.{first_world}
@@ -63,7 +63,7 @@ pub record KeepsWith (Over : Type 0) (Side Holds : RunFact) (Fine : ActionFact) 
   -- each unit of the bag has its mark, where a controller or a member hears bytes
   pub comes : (n : ℕ) (end : EndId) (w : Coming) (piece : List ℕ) (s : State) (given : Given) (b : Book) → IsAtSide s.links w.link w.back end → CameFrom w.unit s w piece → AreBytes piece →
       (IsServer end → length b.sent ≡ length s.bag) → Side n s given b → Holds n s given b →
-      HasHeard Holds Fine (n + 1) end (hear end (event.Bytes w.link piece) s) given (note_at (Some end) w piece s (hears end (event.Bytes w.link piece) s).state b)
+      HasHeard Holds Fine (n + 1) end (hear end (event.Bytes w.link piece) s) given (note_at (Some end) w piece s (hear_and_act end (event.Bytes w.link piece) s).state b)
   -- an action is done: a unit goes into the bag, or a dial waits
   pub acts : (n : ℕ) (end : EndId) (what : Action) (s : State) (given : Given) (b : Book) → Fine end s.links what → Side n s given b → Holds n s given b →
       Holds n (perform_quietly end what s) given b
@@ -123,7 +123,7 @@ module _ (A B : RunFact) (F G : ActionFact) where
     begins = λ n client plan s given b is none holds.
         both_heard (n + 1) (Client client) (begun client plan s) given b (one.begins n client plan s given b is tt holds.0) (other.begins n client plan s given b is holds.0 holds.1);
     comes = λ n end w piece s given b side came bytes marked none holds.
-        both_heard (n + 1) end (hear end (event.Bytes w.link piece) s) given (note_at (Some end) w piece s (hears end (event.Bytes w.link piece) s).state b)
+        both_heard (n + 1) end (hear end (event.Bytes w.link piece) s) given (note_at (Some end) w piece s (hear_and_act end (event.Bytes w.link piece) s).state b)
         (one.comes n end w piece s given b side came bytes marked tt holds.0) (other.comes n end w piece s given b side came bytes marked holds.0 holds.1);
     acts = λ n end what s given b fine none holds. (one.acts n end what s given b fine.0 tt holds.0, other.acts n end what s given b fine.1 holds.0 holds.1);
     shuts = λ n link s given b none holds. (one.shuts n link s given b tt holds.0, other.shuts n link s given b holds.0 holds.1);
@@ -189,7 +189,7 @@ module _ (most : ℕ) (Side Holds : RunFact) (keeps : Keeps Side Holds AnyAction
     begins = λ n client plan s given b is side holds.
         few_heard n (Client client) (begun client plan s) given b (λ few. keeps.begins n client plan s given b is (side (omega (arith, few))) (holds (omega (arith, few))));
     comes = λ n end w piece s given b at came bytes marked side holds.
-        few_heard n end (hear end (event.Bytes w.link piece) s) given (note_at (Some end) w piece s (hears end (event.Bytes w.link piece) s).state b)
+        few_heard n end (hear end (event.Bytes w.link piece) s) given (note_at (Some end) w piece s (hear_and_act end (event.Bytes w.link piece) s).state b)
         (λ few. keeps.comes n end w piece s given b at came bytes marked (side (omega (arith, few))) (holds (omega (arith, few))));
     acts = λ n end what s given b fine side holds few. keeps.acts n end what s given b fine (side few) (holds few);
     shuts = λ n link s given b side holds few. keeps.shuts n link s given b (side few) (holds few);
@@ -234,7 +234,7 @@ module _ {Over : Type 0} (Holds : RunFact) (Fine : ActionFact) (keeps : KeepsWit
     fails = λ n at end s b side holds. so_heard n (waiting at None) end (hear end event.DialFailed s) [] b (keeps.calm n end event.DialFailed s [] b tt tt holds.0) tt;
     begins = λ n at client plan s b is side holds. so_heard n (waiting at None) (Client client) (begun client plan s) [] b (keeps.begins n client plan s [] b is tt holds.0) tt;
     comes = λ n end w piece s given b here came bytes side holds.
-        so_heard n (coming w) end (hear end (event.Bytes w.link piece) s) given (note_at (Some end) w piece s (hears end (event.Bytes w.link piece) s).state b)
+        so_heard n (coming w) end (hear end (event.Bytes w.link piece) s) given (note_at (Some end) w piece s (hear_and_act end (event.Bytes w.link piece) s).state b)
         (keeps.comes n end w piece s given b here came (bytes tt) (λ server. marks n w s given b side end here server) tt holds.0) tt;
     reaches = λ n w s given b side holds. holds;
     acts = λ n p end what s given b work side holds. (

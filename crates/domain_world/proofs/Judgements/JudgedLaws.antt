@@ -3,7 +3,7 @@
 use Rattle.std.proofs.Common.{◌≡◌, ℕ, Bool, true, false, List, [], ◌∷◌, ◌++◌, map, Option, Some, None, Result, Ok, Err, refl, sym, subst, slice_get}
 use Rattle.std.specs.List.{AllByRecursion}
 use Rattle.wire_base.specs.Maps.{lookup, same_number}
-use Rattle.authenticators.specs.Channels.{Channel}
+use Rattle.authenticators.specs.Channels.{ChannelIdentity}
 use Rattle.outside.specs.declared.action.Action.{Action}
 use Rattle.outside.specs.declared.action.StepRefused.{StepRefused}
 use Rattle.outside.specs.declared.event.Event.TheVariants as event
@@ -50,7 +50,7 @@ abbrev pub IsServedBy : {W T : Type 0} → Server W T → ServedUnit W T → Typ
 IsServedBy server unit = unit.part ≡ server.unit unit.bytes unit.work unit.talk unit.left
 
 module _ (Fits : Judging → Type 0) where
-  passing_holds : (channel : Option Channel) (j : Judging) → Fits j → HoldsIf Fits (passing channel j).judging
+  passing_holds : (channel : Option ChannelIdentity) (j : Judging) → Fits j → HoldsIf Fits (passing channel j).judging
   passing_holds None j holds = holds
   passing_holds (Some channel) j holds = holds
 
@@ -58,7 +58,7 @@ module _ (Fits : Judging → Type 0) where
   judging_holds false j holds = holds
   judging_holds true j holds = passing_holds (channel_in j.controller j.logon.computer j.computers) j holds
 
-  pub opening_holds : (channel : Option Channel) (w : Where) (number : ℕ) → HoldsIf Fits (opening channel w number).judging
+  pub opening_holds : (channel : Option ChannelIdentity) (w : Where) (number : ℕ) → HoldsIf Fits (opening channel w number).judging
   opening_holds None w number = tt
   opening_holds (Some channel) w number = tt
 

@@ -8,7 +8,7 @@ use Rattle.wire_base.specs.declared.authenticator.Authenticator.{Authenticator}
 use Rattle.channel_keys.specs.Credentials.{cred_of}
 use Rattle.channel_keys.specs.Des.{IsBlock}
 use Rattle.channel_keys.proofs.CredLaws.{IsBlock-cred_of}
-use Rattle.authenticators.specs.Channels.{Channel, SameChannel, channel_key}
+use Rattle.authenticators.specs.Channels.{ChannelIdentity, SameChannel, channel_key}
 use Rattle.authenticators.specs.Sequences.{Passes, add_to, moved_by, seed_after}
 use Rattle.authenticators.specs.SecureChannels.{SecureChannelState, key_of_channel, channel_of}
 use Rattle.authenticators.proofs.ChannelLaws.{channel_key-same}
@@ -39,7 +39,7 @@ use Rattle.world_moves.specs.declared.state.State.{State}
 use Rattle.world_moves.specs.Ends.{EndStates, client_step, controller_step, end_step, member_step}
 use Rattle.world_moves.specs.Links.{acceptor_of}
 use Rattle.world_moves.specs.World.{first_controllers, first_world}
-use Rattle.domain_world.specs.Claims.{ReplaysBySum, moved_if, moved_on, passed_on, timestamp_of}
+use Rattle.domain_world.specs.Claims.{ReplaysBySum, moved_if, moved_on, passed_on, judged_timestamp}
 use Rattle.domain_world.specs.Past.{Coming, controller_of, note_at, note_client, note_controller, note_member, note_messages, numbers_on, past}
 use Rattle.channel_events.proofs.ListLaws.{moved_none, moved_one}
 use Rattle.channel_events.proofs.SameLaws.{one_channel}
@@ -184,14 +184,14 @@ later_right [] j earlier right = right
 later_right (one ∷ later) j earlier right = later_right later j earlier right.1
 
 -- the call is checked on the channel
-pub record IsOn (j : Judging) (channel : Channel) : Type 0 where
+pub record IsOn (j : Judging) (channel : ChannelIdentity) : Type 0 where
   pub name : List ℕ
   pub state : SecureChannelState
   pub named : j.logon.computer ≡ Some name
   pub stands : lookup same_name name j.computers.channels ≡ Some state
   pub same : SameChannel (channel_of j.controller name state) channel
 
-on_by : (found : Option Channel) (j : Judging) (channel : Channel) → channel_in j.controller j.logon.computer j.computers ≡ found → is_channel found channel ≡ true → IsOn j channel
+on_by : (found : Option ChannelIdentity) (j : Judging) (channel : ChannelIdentity) → channel_in j.controller j.logon.computer j.computers ≡ found → is_channel found channel ≡ true → IsOn j channel
 on_by None j channel is same = absurd cc
 on_by (Some other) j channel is same =
     let found = found_in j.controller j.logon.computer j.computers other is in
@@ -200,17 +200,17 @@ on_by (Some other) j channel is same =
       state = found.state;
       named = found.named;
       stands = found.stands;
-      same = subst (λ (c : Channel). SameChannel c channel) (sym found.is) (one_channel other channel same);
+      same = subst (λ (c : ChannelIdentity). SameChannel c channel) (sym found.is) (one_channel other channel same);
     }
 
-pub on_if : (passed : Bool) (j : Judging) (channel : Channel) → is_channel (channel_if passed j) channel ≡ true → (passed ≡ true) × IsOn j channel
+pub on_if : (passed : Bool) (j : Judging) (channel : ChannelIdentity) → is_channel (channel_if passed j) channel ≡ true → (passed ≡ true) × IsOn j channel
 on_if false j channel same = absurd cc
 on_if true j channel same = (refl, on_by (channel_in j.controller j.logon.computer j.computers) j channel refl same)
 
 some_is : {T : Type 0} (one other : T) → Some one ≡ Some other → one ≡ other
 some_is one other is = cc
 
-module _ (j : Judging) (channel : Channel) (on : IsOn j channel) where
+module _ (j : Judging) (channel : ChannelIdentity) (on : IsOn j channel) where
   key_is : key_of_channel on.state ≡ channel_key channel
   key_is = channel_key-same (channel_of j.controller on.name on.state) channel on.same
 
@@ -249,27 +249,27 @@ abbrev pub timestamp_if : Bool → ℕ → List ℕ → List ℕ
 timestamp_if false timestamp timestamps = timestamps
 timestamp_if true timestamp timestamps = timestamp ∷ timestamps
 
-abbrev pub timestamps_on : Channel → List Judging → List ℕ
+abbrev pub timestamps_on : ChannelIdentity → List Judging → List ℕ
 timestamps_on channel [] = []
-timestamps_on channel (j ∷ judgings) = timestamp_if (passed_on channel j) (timestamp_of j) (timestamps_on channel judgings)
+timestamps_on channel (j ∷ judgings) = timestamp_if (passed_on channel j) (judged_timestamp j) (timestamps_on channel judgings)
 
 moved_if_one : (passed : Bool) (timestamp : ℕ) (timestamps : List ℕ) (moved : ℕ) → moved_by timestamps ≡ moved → moved_by (timestamp_if passed timestamp timestamps) ≡ moved_if passed timestamp moved
 moved_if_one false timestamp timestamps moved is = is
 moved_if_one true timestamp timestamps moved is = moved_one timestamp timestamps ∙ ap (λ (n : ℕ). timestamp + 1 + n) is
 
-moved_sum : (channel : Channel) (judgings : List Judging) → moved_by (timestamps_on channel judgings) ≡ moved_on channel judgings
+moved_sum : (channel : ChannelIdentity) (judgings : List Judging) → moved_by (timestamps_on channel judgings) ≡ moved_on channel judgings
 moved_sum channel [] = moved_none
 moved_sum channel (j ∷ judgings) =
-    moved_if_one (passed_on channel j) (timestamp_of j) (timestamps_on channel judgings) (moved_on channel judgings) (moved_sum channel judgings)
+    moved_if_one (passed_on channel j) (judged_timestamp j) (timestamps_on channel judgings) (moved_on channel judgings) (moved_sum channel judgings)
 
 -- a call that passed moves the seed by its timestamp plus one
-moved_first : (channel : Channel) (j : Judging) (older : List Judging) (timestamp : ℕ) → passed_on channel j ≡ true → timestamp_of j ≡ timestamp →
+moved_first : (channel : ChannelIdentity) (j : Judging) (older : List Judging) (timestamp : ℕ) → passed_on channel j ≡ true → judged_timestamp j ≡ timestamp →
     moved_on channel (j ∷ older) ≡ timestamp + 1 + moved_on channel older
 moved_first channel j older timestamp passed is =
-    ap (λ (b : Bool). moved_if b (timestamp_of j) (moved_on channel older)) passed ∙ ap (λ (n : ℕ). n + 1 + moved_on channel older) is
+    ap (λ (b : Bool). moved_if b (judged_timestamp j) (moved_on channel older)) passed ∙ ap (λ (n : ℕ). n + 1 + moved_on channel older) is
 
 -- a call that passed on a channel, and those that were judged after it
-module _ (channel : Channel) (between earlier : List Judging) (first : Judging) (given : Authenticator) (passed : passed_on channel first ≡ true)
+module _ (channel : ChannelIdentity) (between earlier : List Judging) (first : Judging) (given : Authenticator) (passed : passed_on channel first ≡ true)
     (there : first.logon.authenticator ≡ Some given) where
   sum_between : moved_by (given.timestamp ∷ timestamps_on channel between) ≡ moved_on channel (between ++ first ∷ [])
   sum_between =
@@ -296,7 +296,7 @@ module _ (channel : Channel) (between earlier : List Judging) (first : Judging) 
         λ whole. subst (λ (s : List ℕ). Passes key s given) at (law.1 (subst (λ (n : ℕ). n % 2 ^ 32 ≡ 0) (sym sum_between) whole)),
       )
 
-by_sum : (channel : Channel) (between earlier : List Judging) (second first : Judging) → AreMoved (second ∷ (between ++ first ∷ earlier)) → AreRight (second ∷ (between ++ first ∷ earlier)) →
+by_sum : (channel : ChannelIdentity) (between earlier : List Judging) (second first : Judging) → AreMoved (second ∷ (between ++ first ∷ earlier)) → AreRight (second ∷ (between ++ first ∷ earlier)) →
     passed_on channel first ≡ true → is_channel (channel_in second.controller second.logon.computer second.computers) channel ≡ true → second.logon.authenticator ≡ first.logon.authenticator →
     (has_passed second.how ≡ true) ↔ (moved_on channel (between ++ first ∷ []) % 2 ^ 32 ≡ 0)
 by_sum channel between earlier second first moved right passed same again =

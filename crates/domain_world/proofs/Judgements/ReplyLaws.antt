@@ -2,7 +2,7 @@
 -- It serves `replies_carry_their_judgement`.
 use Rattle.std.proofs.Common.{◌≡◌, ℕ, zero, suc, ◌+◌, Bool, true, false, List, [], ◌∷◌, ◌++◌, length, map, inl, inr, Option, Some, None, Result, Ok, Err, refl, sym, ◌∙◌, subst, slice_get}
 use Rattle.std.specs.List.{AllByRecursion}
-use Rattle.authenticators.specs.Channels.{Channel}
+use Rattle.authenticators.specs.Channels.{ChannelIdentity}
 use Rattle.outside.specs.declared.action.Action.{Action}
 use Rattle.outside.specs.declared.action.StepRefused.{StepRefused}
 use Rattle.outside.specs.declared.event.Event.TheVariants as event
@@ -80,7 +80,7 @@ same_channel false j reply = refl
 same_channel true j reply = refl
 
 -- a call is written down with its reply
-with_number : (channel : Channel) (call request : ℕ) (j : Judging) (bytes : List ℕ) (reply : Option ℕ) → IsReplyOfCall channel call request j bytes →
+with_number : (channel : ChannelIdentity) (call request : ℕ) (j : Judging) (bytes : List ℕ) (reply : Option ℕ) → IsReplyOfCall channel call request j bytes →
     IsReplyOfCall channel call request (record j { reply = reply }) bytes
 with_number channel call request j bytes reply is = record {
   came = is.came;

@@ -13,7 +13,7 @@ use Rattle.ntlm_flags.specs.Flags.{has_flag}
 use Rattle.channel_keys.specs.Credentials.{cred_of}
 use Rattle.channel_keys.specs.Flags.{rc4_flag}
 use Rattle.channel_keys.proofs.CredLaws.{IsBlock-cred_of}
-use Rattle.authenticators.specs.Channels.{Channel}
+use Rattle.authenticators.specs.Channels.{ChannelIdentity}
 use Rattle.authenticators.specs.Sequences.{add_to}
 use Rattle.authenticators.specs.SecureChannels.{SecureChannelState, channel_by, key_of_channel, passes_on, return_by, channel_of}
 use Rattle.authenticators.proofs.SeedLaws.{add_to-add_to, add_to-zero}
@@ -35,7 +35,7 @@ use Rattle.step_notes.specs.ControllerNotes as notes
 use Rattle.step_notes.specs.Judged.{channel_if, passed_channel}
 use Rattle.step_notes.specs.Marking.{is_channel}
 use Rattle.step_notes.specs.Records.{Judging, timestamp_in}
-use Rattle.domain_world.specs.Claims.{moved_if, moved_on, passed_on, timestamp_of}
+use Rattle.domain_world.specs.Claims.{moved_if, moved_on, passed_on, judged_timestamp}
 use Rattle.step_notes.proofs.Controllers.ComputerLaws.{lookup_named, return_computers, taken_none}
 use Rattle.step_notes.proofs.Controllers.JudgedStepLaws.{told_first}
 use Rattle.domain_world.proofs.Judgements.MovedLaws.{moved_past, moved_same, not_passed, passed_in}
@@ -55,7 +55,7 @@ abbrev pub IsSpent : List ℕ → List (List ℕ) → Type 0
 IsSpent challenge left = AllByRecursion (λ (one : List ℕ). one ≢ challenge) left
 
 -- a channel of the controller and the computer
-abbrev pub channel_from : ℕ → List ℕ → List ℕ → List ℕ → List ℕ → ℕ → Channel
+abbrev pub channel_from : ℕ → List ℕ → List ℕ → List ℕ → List ℕ → ℕ → ChannelIdentity
 channel_from controller name secret client server flags =
     record { controller = controller; computer = name; secret = secret; client = client; server = server; flags = flags }
 
@@ -88,7 +88,7 @@ AreMoved (j ∷ judgings) = IsMovedIn judgings j.controller j.logon.computer j.c
 
 -- nothing passed on a channel with a challenge that is left
 abbrev pub AreUnheard : List Judging → List (List ℕ) → Type 0
-AreUnheard judgings left = AllByRecursion (λ (one : List ℕ). (channel : Channel) → channel.server ≡ one → moved_on channel judgings ≡ 0) left
+AreUnheard judgings left = AllByRecursion (λ (one : List ℕ). (channel : ChannelIdentity) → channel.server ≡ one → moved_on channel judgings ≡ 0) left
 
 -- no two of them are alike
 abbrev pub AreApart : List (List ℕ) → Type 0
@@ -262,12 +262,12 @@ module _ (judgings : List Judging) (left : List (List ℕ)) (controller : ℕ) w
 -- ---- a Logon call is judged
 
 module _ (judgings : List Judging) (left : List (List ℕ)) (j : Judging) (kept : AreKept judgings left j.controller j.computers) where
-  spent_on : (channel : Channel) → passed_channel j ≡ Some channel → IsSpent channel.server left
+  spent_on : (channel : ChannelIdentity) → passed_channel j ≡ Some channel → IsSpent channel.server left
   spent_on channel passed =
       let found = passed_in j channel passed in
-      subst (λ (c : Channel). IsSpent c.server left) found.is ((kept.each found.name).channels found.state found.stands).1
+      subst (λ (c : ChannelIdentity). IsSpent c.server left) found.is ((kept.each found.name).channels found.state found.stands).1
 
-  still_unheard : (some : List (List ℕ)) → ((channel : Channel) → passed_channel j ≡ Some channel → IsSpent channel.server some) → AreUnheard judgings some → AreUnheard (j ∷ judgings) some
+  still_unheard : (some : List (List ℕ)) → ((channel : ChannelIdentity) → passed_channel j ≡ Some channel → IsSpent channel.server some) → AreUnheard judgings some → AreUnheard (j ∷ judgings) some
   still_unheard [] spent unheard = tt
   still_unheard (one ∷ some) spent unheard = (
     λ channel is.
@@ -287,16 +287,16 @@ module _ (judgings : List Judging) (left : List (List ℕ)) (j : Judging) (kept 
   }
 
   -- the seeds of other controllers' channels, and of other computers', don't move
-  pub others_unmoved : (channel : Channel) → (channel.controller ≡ j.controller → ⊥) → moved_on channel (j ∷ judgings) ≡ moved_on channel judgings
+  pub others_unmoved : (channel : ChannelIdentity) → (channel.controller ≡ j.controller → ⊥) → moved_on channel (j ∷ judgings) ≡ moved_on channel judgings
   others_unmoved channel apart =
-      moved_past channel j judgings (λ other passed same. apart (sym same.controller ∙ sym (ap Channel.controller (passed_in j other passed).is)))
+      moved_past channel j judgings (λ other passed same. apart (sym same.controller ∙ sym (ap ChannelIdentity.controller (passed_in j other passed).is)))
 
-  unnamed_unmoved : (name : List ℕ) (channel : Channel) → j.logon.computer ≡ Some name → same_name name channel.computer ≡ false → moved_on channel (j ∷ judgings) ≡ moved_on channel judgings
+  unnamed_unmoved : (name : List ℕ) (channel : ChannelIdentity) → j.logon.computer ≡ Some name → same_name name channel.computer ≡ false → moved_on channel (j ∷ judgings) ≡ moved_on channel judgings
   unnamed_unmoved name channel named apart =
       moved_past channel j judgings (λ other passed same.
       let found = passed_in j other passed in
       let here : found.name ≡ name = some_is found.name name (sym found.named ∙ named) in
-      let computer : other.computer ≡ name = sym (ap Channel.computer found.is) ∙ here in
+      let computer : other.computer ≡ name = sym (ap ChannelIdentity.computer found.is) ∙ here in
       let so : same_name name channel.computer ≡ true =
       (same_name-Decides name channel.computer).1 (subst (λ (n : List ℕ). SameName n channel.computer) computer same.computer) in
       absurd cc)
@@ -307,12 +307,12 @@ module _ (judgings : List Judging) (left : List (List ℕ)) (j : Judging) (kept 
       moved_past (channel_from j.controller name secret client pair.server flags) j judgings (λ other passed same.
       let found = passed_in j other passed in
       let one : same_name found.name name ≡ true =
-      (same_name-Decides found.name name).1 (subst (λ (c : Channel). SameName c.computer name) (sym found.is) same.computer) in
-      (kept.each name).differ found.state pair (lookup_named found.name name j.computers.channels one ∙ found.stands) waits (ap Channel.server found.is ∙ same.server))
+      (same_name-Decides found.name name).1 (subst (λ (c : ChannelIdentity). SameName c.computer name) (sym found.is) same.computer) in
+      (kept.each name).differ found.state pair (lookup_named found.name name j.computers.channels one ∙ found.stands) waits (ap ChannelIdentity.server found.is ∙ same.server))
       ∙ ((kept.each name).pairs pair waits).0 secret client flags
 
   -- a call that passed on no channel
-  none_moved : ((channel : Channel) → passed_channel j ≡ Some channel → ⊥) → (new : Computers) → new.pending ≡ j.computers.pending → new.channels ≡ j.computers.channels →
+  none_moved : ((channel : ChannelIdentity) → passed_channel j ≡ Some channel → ⊥) → (new : Computers) → new.pending ≡ j.computers.pending → new.channels ≡ j.computers.channels →
       AreKept (j ∷ judgings) left j.controller new
   none_moved none new pending channels = record {
     map = subst (λ entries. IsMap same_name entries) (sym pending) kept.map;
@@ -326,7 +326,7 @@ module _ (judgings : List Judging) (left : List (List ℕ)) (j : Judging) (kept 
   passed_here : (name : List ℕ) (c : SecureChannelState) → has_passed j.how ≡ true → j.logon.computer ≡ Some name → lookup same_name name j.computers.channels ≡ Some c →
       passed_on (channel_of j.controller name c) j ≡ true
   passed_here name c passed named stands =
-      ap (λ (found : Option Channel). is_channel found (channel_of j.controller name c))
+      ap (λ (found : Option ChannelIdentity). is_channel found (channel_of j.controller name c))
       (ap (λ (b : Bool). channel_if b j) passed ∙ ap (λ (o : Option (List ℕ)). channel_in j.controller o j.computers) named
       ∙ ap (λ (found : Option SecureChannelState). notes.channel_by j.controller name found) stands)
       ∙ itself (channel_of j.controller name c)
@@ -341,7 +341,7 @@ module _ (judgings : List Judging) (left : List (List ℕ)) (j : Judging) (kept 
   seed_moved true name given c passed named there stands =
       let before : ℕ = moved_on (channel_of j.controller name c) judgings in
       let moved : moved_on (channel_of j.controller name c) (j ∷ judgings) ≡ given.timestamp + 1 + before =
-      ap (λ (b : Bool). moved_if b (timestamp_of j) before) (passed_here name c passed named stands)
+      ap (λ (b : Bool). moved_if b (judged_timestamp j) before) (passed_here name c passed named stands)
       ∙ ap (λ (o : Option Authenticator). timestamp_in o + 1 + before) there in
       let sum : before + (given.timestamp + 1) ≡ given.timestamp + 1 + before = omega arith in
       ap (λ (seed : List ℕ). add_to seed (given.timestamp + 1)) ((kept.each name).channels c stands).0

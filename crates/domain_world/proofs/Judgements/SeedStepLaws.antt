@@ -5,7 +5,7 @@ use Rattle.std.specs.Prelude.{nat_le}
 use Rattle.std.specs.List.{AllByRecursion}
 use Rattle.wire_base.specs.Maps.{lookup, same_number, take_out}
 use Rattle.wire_base.specs.Names.{same_name}
-use Rattle.authenticators.specs.Channels.{Channel}
+use Rattle.authenticators.specs.Channels.{ChannelIdentity}
 use Rattle.outside.specs.declared.event.Event.{Event}
 use Rattle.outside.specs.declared.event.Event.TheVariants as event
 use Rattle.outside.specs.Drawing.{Drawing, IsRest}
@@ -57,14 +57,14 @@ spent_rest rest left is challenge spent =
 order_rest : (judgings : List Judging) (rest left : List (List ℕ)) → IsRest rest left → IsInOrder judgings left → IsInOrder judgings rest
 order_rest judgings rest left is order = record {
   moved = order.moved;
-  unheard = all_behind (λ (one : List ℕ). (channel : Channel) → channel.server ≡ one → moved_on channel judgings ≡ 0) is.front rest
+  unheard = all_behind (λ (one : List ℕ). (channel : ChannelIdentity) → channel.server ≡ one → moved_on channel judgings ≡ 0) is.front rest
       (subst (λ (l : List (List ℕ)). AreUnheard judgings l) (sym is.is) order.unheard);
   apart = apart_behind is.front rest (subst (λ (l : List (List ℕ)). AreApart l) (sym is.is) order.apart);
 }
 
 -- what a controller keeps, where how far its channels' seeds moved is the same
 kept_rest : (judgings now : List Judging) (rest left : List (List ℕ)) (controller : ℕ) (computers : Computers) → IsRest rest left →
-    ((channel : Channel) → channel.controller ≡ controller → moved_on channel now ≡ moved_on channel judgings) → AreKept judgings left controller computers →
+    ((channel : ChannelIdentity) → channel.controller ≡ controller → moved_on channel now ≡ moved_on channel judgings) → AreKept judgings left controller computers →
     AreKept now rest controller computers
 kept_rest judgings now rest left controller computers is moved kept = record {
   map = kept.map;
@@ -81,7 +81,7 @@ pub record Goes (judgings now : List Judging) (left rest : List (List ℕ)) (con
   pub order : IsInOrder now rest
   pub kept : AreKept now rest controller computers
   pub fewer : IsRest rest left
-  pub others : (channel : Channel) → (channel.controller ≡ controller → ⊥) → moved_on channel now ≡ moved_on channel judgings
+  pub others : (channel : ChannelIdentity) → (channel.controller ≡ controller → ⊥) → moved_on channel now ≡ moved_on channel judgings
 
 abbrev pub PartGoes : List Judging → List Judging → List (List ℕ) → ℕ → ServedPart Desk Talk → Type 0
 PartGoes judgings now left controller (Err why) = Unit {0}
@@ -108,11 +108,11 @@ abbrev pub with_judging : Option Judging → Option ℕ → List Judging → Lis
 with_judging None number judgings = judgings
 with_judging (Some j) number judgings = record j { reply = number } ∷ judgings
 
-opening_none : (channel : Option Channel) (w : Where) (number : ℕ) → (opening channel w number).judging ≡ None
+opening_none : (channel : Option ChannelIdentity) (w : Where) (number : ℕ) → (opening channel w number).judging ≡ None
 opening_none None w number = refl
 opening_none (Some channel) w number = refl
 
-passing_some : (channel : Option Channel) (j : Judging) → (passing channel j).judging ≡ Some j
+passing_some : (channel : Option ChannelIdentity) (j : Judging) → (passing channel j).judging ≡ Some j
 passing_some None j = refl
 passing_some (Some channel) j = refl
 
@@ -208,7 +208,7 @@ pub record StepGoes (judgings now : List Judging) (left rest : List (List ℕ)) 
   pub order : IsInOrder now rest
   pub kept : AreKeptIf now rest controller running
   pub fewer : IsRest rest left
-  pub others : (channel : Channel) → (channel.controller ≡ controller → ⊥) → moved_on channel now ≡ moved_on channel judgings
+  pub others : (channel : ChannelIdentity) → (channel.controller ≡ controller → ⊥) → moved_on channel now ≡ moved_on channel judgings
 
 step_stays : (judgings : List Judging) (left : List (List ℕ)) (controller : ℕ) (running : Option Running) → IsInOrder judgings left → AreKeptIf judgings left controller running →
     StepGoes judgings judgings left left controller running
@@ -286,7 +286,7 @@ pub record SeedsFollow (judgings : List Judging) (left : List (List ℕ)) (contr
   pub each : (at : ℕ) (c : ControllerState) → slice_get controllers at ≡ Some c → AreKeptIf judgings left at c.running
 
 kept_apart : (judgings now : List Judging) (rest left : List (List ℕ)) (controller : ℕ) (running : Option Running) → IsRest rest left →
-    ((channel : Channel) → channel.controller ≡ controller → moved_on channel now ≡ moved_on channel judgings) → AreKeptIf judgings left controller running → AreKeptIf now rest controller running
+    ((channel : ChannelIdentity) → channel.controller ≡ controller → moved_on channel now ≡ moved_on channel judgings) → AreKeptIf judgings left controller running → AreKeptIf now rest controller running
 kept_apart judgings now rest left controller None is moved kept = tt
 kept_apart judgings now rest left controller (Some running) is moved kept = kept_rest judgings now rest left controller running.computers is moved kept
 

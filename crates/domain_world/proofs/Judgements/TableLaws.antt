@@ -13,7 +13,7 @@ use Rattle.logon_stubs.specs.declared.calls.Call.{Call}
 use Rattle.logon_stubs.specs.declared.calls.Call.TheVariants as call
 use Rattle.logon_stubs.specs.declared.calls.ChallengeCall.{ChallengeCall}
 use Rattle.logon_stubs.specs.declared.calls.LogonCall.{LogonCall}
-use Rattle.authenticators.specs.Channels.{Channel}
+use Rattle.authenticators.specs.Channels.{ChannelIdentity}
 use Rattle.account_table.specs.AccountTable.{AccountTable}
 use Rattle.end_links.specs.Links.{LinkState}
 use Rattle.end_links.specs.Serving.{ServedPart, served_by, then_open, then_talk, ServedUnit, served_units, units_on, units_then}
@@ -92,7 +92,7 @@ module _ (w : Where) (d : Desk) where
       let right : IsJudgedRight (judging_of w line c d (Some (answer_logon c.computer c.authenticator w.name w.moment line c.info c.validation d))) = calls_right w d line c in
       counts_by_verdict.other c w.name w.moment line d (λ next. absurd (let never : false ≡ true = sym is ∙ right.passed.1 next in cc))
 
-  passing_judging : (channel : Option Channel) (j : Judging) → (passing channel j).judging ≡ Some j
+  passing_judging : (channel : Option ChannelIdentity) (j : Judging) → (passing channel j).judging ≡ Some j
   passing_judging None j = refl
   passing_judging (Some channel) j = refl
 
@@ -100,7 +100,7 @@ module _ (w : Where) (d : Desk) where
   logon_judging false j = refl
   logon_judging true j = passing_judging (channel_in j.controller j.logon.computer j.computers) j
 
-  opening_judging : (channel : Option Channel) (number : ℕ) → (opening channel w number).judging ≡ None
+  opening_judging : (channel : Option ChannelIdentity) (number : ℕ) → (opening channel w number).judging ≡ None
   opening_judging None number = refl
   opening_judging (Some channel) number = refl
 

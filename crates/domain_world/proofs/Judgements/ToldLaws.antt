@@ -9,7 +9,7 @@ use Rattle.wire_base.specs.Maps.{lookup, same_number, take_out}
 use Rattle.wire_base.specs.Names.{same_name}
 use Rattle.ntlm_flags.specs.Flags.{has_flag}
 use Rattle.channel_keys.specs.Flags.{rc4_flag}
-use Rattle.authenticators.specs.Channels.{Channel}
+use Rattle.authenticators.specs.Channels.{ChannelIdentity}
 use Rattle.authenticators.specs.SecureChannels.{SecureChannelState}
 use Rattle.outside.specs.declared.action.Action.{Action}
 use Rattle.outside.specs.declared.action.Action.TheVariants as action
@@ -59,7 +59,7 @@ use Rattle.world_moves.specs.declared.links.EndId.TheVariants.{Controller, Membe
 use Rattle.world_moves.specs.declared.moves.Move.{Move}
 use Rattle.world_moves.specs.declared.plan.Plan.{Plan}
 use Rattle.world_moves.specs.declared.state.State.{State}
-use Rattle.world_moves.specs.Acting.{Given, given_by, hears}
+use Rattle.world_moves.specs.Acting.{Given, given_by, hear_and_act}
 use Rattle.world_moves.specs.Acting as acting
 use Rattle.world_moves.specs.Ends.{EndStates, actions_by, controller_step}
 use Rattle.world_moves.specs.Links.{acceptor_of}
@@ -166,11 +166,11 @@ account_told : (account : Option Account) (pair : Option ChallengePair) (w : Whe
 account_told None pair w line c work = sends w work.actions _ _
 account_told (Some account) pair w line c work = offer_told (has_flag c.flags rc4_flag) pair w account line c work
 
-opening_silent : (channel : Option Channel) (w : Where) (number : ℕ) → telling_if (opening channel w number).judging ≡ []
+opening_silent : (channel : Option ChannelIdentity) (w : Where) (number : ℕ) → telling_if (opening channel w number).judging ≡ []
 opening_silent None w number = refl
 opening_silent (Some channel) w number = refl
 
-passing_told : (channel : Option Channel) (j : Judging) → telling_if (passing channel j).judging ≡ telling j
+passing_told : (channel : Option ChannelIdentity) (j : Judging) → telling_if (passing channel j).judging ≡ telling j
 passing_told None j = refl
 passing_told (Some channel) j = refl
 
@@ -420,7 +420,7 @@ told_keeps = record {
       none_told at given (given_by end (acting.hear end what (with_link route s)).actions) b b told (end_quiet end what (with_link route s) at tt) refl refl;
   begins = λ at client plan s b is told.
       none_told at [] (given_by (Client client) (begun client plan s).actions) b b told (client_quiet client (begun client plan s).actions at) refl refl;
-  comes = λ end w piece s given b side came told. end_told end w piece s (hears end (event.Bytes w.link piece) s).state given b told;
+  comes = λ end w piece s given b side came told. end_told end w piece s (hear_and_act end (event.Bytes w.link piece) s).state given b told;
   renews = λ at end s b told. told;
   over = λ at on next s given b told. told;
 }

@@ -2,7 +2,7 @@
 -- that carried the call. It serves `passes_are_unclashed`.
 use Rattle.std.proofs.Common.{◌≡◌, ℕ, Bool, true, false, ◌||◌, not, List, [], ◌∷◌, ◌++◌, map, Option, Some, None, slice_get, refl, ap, ap₂, ◌∙◌}
 use Rattle.std.specs.List.{AllByRecursion}
-use Rattle.authenticators.specs.Channels.{Channel}
+use Rattle.authenticators.specs.Channels.{ChannelIdentity}
 use Rattle.logon_stubs.specs.declared.calls.Call.{Call}
 use Rattle.logon_stubs.specs.declared.calls.Call.TheVariants as call
 use Rattle.end_links.specs.Serving.{ServedUnit}
@@ -45,13 +45,13 @@ AreUnclashed b = b.clash ≡ false → AllByRecursion (Fits b.sent) b.judged
 
 -- ---- more units are sent
 
-more_by : (found : Option Sent) (channel : Channel) (unit : ℕ) (sent more : List Sent) → slice_get sent unit ≡ found → not (is_channel (sent_channel found) channel) ≡ false →
+more_by : (found : Option Sent) (channel : ChannelIdentity) (unit : ℕ) (sent more : List Sent) → slice_get sent unit ≡ found → not (is_channel (sent_channel found) channel) ≡ false →
     not (is_channel (sent_channel (slice_get (sent ++ more) unit)) channel) ≡ false
 more_by None channel unit sent more is none = absurd (let x = none in cc)
 more_by (Some one) channel unit sent more is none =
     ap (λ (f : Option Sent). not (is_channel (sent_channel f) channel)) (got_append sent more unit one is) ∙ none
 
-clashes_more : (channel : Option Channel) (unit : Option ℕ) (sent more : List Sent) → clashes channel unit sent ≡ false → clashes channel unit (sent ++ more) ≡ false
+clashes_more : (channel : Option ChannelIdentity) (unit : Option ℕ) (sent more : List Sent) → clashes channel unit sent ≡ false → clashes channel unit (sent ++ more) ≡ false
 clashes_more None unit sent more none = refl
 clashes_more (Some channel) None sent more none = refl
 clashes_more (Some channel) (Some unit) sent more none = more_by (slice_get sent unit) channel unit sent more refl none
@@ -68,14 +68,14 @@ or_false true other is = absurd (let x = is in cc)
 -- ---- what a controller answers
 
 -- a call that was judged came in that unit, and what is checked is the channel on which it passed
-abbrev IfNoted : Option ℕ → Option Channel → Option Judging → Type 0
+abbrev IfNoted : Option ℕ → Option ChannelIdentity → Option Judging → Type 0
 IfNoted unit checked None = Unit {0}
 IfNoted unit checked (Some j) = (passed_channel j ≡ checked) × (j.unit ≡ unit)
 
 abbrev IsNoted : Option ℕ → Answered → Type 0
 IsNoted unit one = IfNoted unit one.checked one.judging
 
-passing_noted : (found : Option Channel) (j : Judging) → has_passed j.how ≡ true → channel_in j.controller j.logon.computer j.computers ≡ found → IsNoted j.unit (passing found j)
+passing_noted : (found : Option ChannelIdentity) (j : Judging) → has_passed j.how ≡ true → channel_in j.controller j.logon.computer j.computers ≡ found → IsNoted j.unit (passing found j)
 passing_noted None j passed is = (ap (λ (p : Bool). channel_if p j) passed ∙ is, refl)
 passing_noted (Some channel) j passed is = (ap (λ (p : Bool). channel_if p j) passed ∙ is, refl)
 
@@ -83,7 +83,7 @@ judging_noted : (passed : Bool) (j : Judging) → has_passed j.how ≡ passed �
 judging_noted false j is = (ap (λ (p : Bool). channel_if p j) is, refl)
 judging_noted true j is = passing_noted (channel_in j.controller j.logon.computer j.computers) j is refl
 
-opening_noted : (channel : Option Channel) (w : Where) (number : ℕ) → IsNoted w.unit (opening channel w number)
+opening_noted : (channel : Option ChannelIdentity) (w : Where) (number : ℕ) → IsNoted w.unit (opening channel w number)
 opening_noted None w number = tt
 opening_noted (Some channel) w number = tt
 
@@ -108,11 +108,11 @@ reply_same : (passed : Bool) (j : Judging) (number : Option ℕ) → channel_if 
 reply_same false j number = refl
 reply_same true j number = refl
 
-judging_fits : (judging : Option Judging) (checked : Option Channel) (unit number : Option ℕ) (sent : List Sent) (later : List Judging) → IfNoted unit checked judging →
+judging_fits : (judging : Option Judging) (checked : Option ChannelIdentity) (unit number : Option ℕ) (sent : List Sent) (later : List Judging) → IfNoted unit checked judging →
     clashes checked unit sent ≡ false → AllByRecursion (Fits sent) later → AllByRecursion (Fits sent) (with_reply judging number ++ later)
 judging_fits None checked unit number sent later noted none fits = fits
 judging_fits (Some j) checked unit number sent later noted none fits = (
-  ap₂ (λ (c : Option Channel) (u : Option ℕ). clashes c u sent) (reply_same (has_passed j.how) j number ∙ noted.0) noted.1 ∙ none,
+  ap₂ (λ (c : Option ChannelIdentity) (u : Option ℕ). clashes c u sent) (reply_same (has_passed j.how) j number ∙ noted.0) noted.1 ∙ none,
   fits,
 )
 

@@ -18,7 +18,7 @@ use Rattle.domain_controller.specs.State.{State as ControllerState}
 use Rattle.logon_client.specs.State.{State as ClientState}
 use Rattle.member_server.specs.Machine.{actions_in, at_turn, event_part, halted_state, state_in, step_of, work_of}
 use Rattle.member_server.specs.State.{State as MemberState}
-use Rattle.member_server.specs.Turns.{Desk}
+use Rattle.member_server.specs.Turns.{DialWork}
 use Rattle.member_server.specs.declared.state.AtTurn.{AtTurn}
 use Rattle.member_server.specs.declared.state.Dialling.{Dialling}
 use Rattle.member_server.specs.declared.state.Dialling.TheVariants as dialling
@@ -213,7 +213,7 @@ module _ (laws : CallLaws) (n at : ℕ) (w : Coming) (piece : List ℕ) (s after
     left = s.chances.left
 
     -- what the step comes to
-    abbrev pub stepped : Result (Part Desk) StepRefused
+    abbrev pub stepped : Result (Part DialWork) StepRefused
     stepped = event_part running (event.Bytes w.link piece) s.moment left
 
     -- the member at work on the link of its turn
@@ -225,7 +225,7 @@ module _ (laws : CallLaws) (n at : ℕ) (w : Coming) (piece : List ℕ) (s after
     served = turn_units_in (Some running) w.link piece left
 
     -- those of a step that is taken
-    abbrev pub taken : Result (Part Desk) StepRefused → List (ServedUnit AtTurn TurnTalk)
+    abbrev pub taken : Result (Part DialWork) StepRefused → List (ServedUnit AtTurn TurnTalk)
     taken part = units_if_taken (step_by actions_in state_in halted_state left part).answer served
 
     -- what is written down of the whole unit
@@ -249,7 +249,7 @@ module _ (laws : CallLaws) (n at : ℕ) (w : Coming) (piece : List ℕ) (s after
     all_messages = b.messages ++ news m
 
     -- and what the step changes of them
-    abbrev pub noted_by : Result (Part Desk) StepRefused → List MessageTaken
+    abbrev pub noted_by : Result (Part DialWork) StepRefused → List MessageTaken
     noted_by (Err why) = all_messages
     noted_by (Ok part) = noted note running.logons w.unit (first_of numbers) all_messages
 
@@ -257,13 +257,13 @@ module _ (laws : CallLaws) (n at : ℕ) (w : Coming) (piece : List ℕ) (s after
     pub units_whole : TakesWhole turn whole.unit left served
     units_whole = whole_units running w.link whole.said piece whole.frames whole.unit left whole.on whole.rest whole.none whole.heard
 
-    messages_are : (part : Result (Part Desk) StepRefused) → (note_turns its (taken part) w.unit numbers (note_messages at m w piece s b)).messages ≡ noted_by part
+    messages_are : (part : Result (Part DialWork) StepRefused) → (note_turns its (taken part) w.unit numbers (note_messages at m w piece s b)).messages ≡ noted_by part
     messages_are (Err why) = refl
     messages_are (Ok part) = whole_messages its turn whole.unit left served w.unit numbers (note_messages at m w piece s b) units_whole
 
-    one_mark : (part : Part Desk) → stepped ≡ Ok part → note.sends ≡ true → turn_marks (map (turn_note its) (taken stepped)) ≡ note.mark ∷ []
+    one_mark : (part : Part DialWork) → stepped ≡ Ok part → note.sends ≡ true → turn_marks (map (turn_note its) (taken stepped)) ≡ note.mark ∷ []
     one_mark part is sends =
-        ap (λ (p : Result (Part Desk) StepRefused). turn_marks (map (turn_note its) (taken p))) is ∙ sent_marks its turn whole.unit left served units_whole sends
+        ap (λ (p : Result (Part DialWork) StepRefused). turn_marks (map (turn_note its) (taken p))) is ∙ sent_marks its turn whole.unit left served units_whole sends
 
     -- the request is the first of the new units
     module _ (dialled : IsDialledBy s.links at w.link) (even : length b.sent ≡ length s.bag)
@@ -273,12 +273,12 @@ module _ (laws : CallLaws) (n at : ℕ) (w : Coming) (piece : List ℕ) (s after
       abbrev route : Route
       route = ToController at dialled.controller
 
-      request_sent : (part : Part Desk) → stepped ≡ Ok part → note.sends ≡ true → IsSentAs note (first_of numbers) sent
+      request_sent : (part : Part DialWork) → stepped ≡ Ok part → note.sends ≡ true → IsSentAs note (first_of numbers) sent
       request_sent part is sends =
           let actions : List Action = actions_in part.value in
           let t : State = (heard_by (member_step (Some m) at (event.Bytes w.link piece) s.moment s.ends s.chances) s).state in
           let answers : (step_of m (event.Bytes w.link piece) s.moment left).answer ≡ Ok actions =
-          ap (λ (p : Result (Part Desk) StepRefused). (step_by actions_in state_in halted_state left p).answer) is in
+          ap (λ (p : Result (Part DialWork) StepRefused). (step_by actions_in state_in halted_state left p).answer) is in
           let units : taken stepped ≡ served = ap taken is in
           let first : SendsFirst w.link actions =
           whole_first its turn whole.unit left served actions units_whole sends
@@ -294,12 +294,12 @@ module _ (laws : CallLaws) (n at : ℕ) (w : Coming) (piece : List ℕ) (s after
           (new_as own s.bag after.bag (perform_all (Member at) actions t).state.bag same new))
 
       -- its mark stands in one place
-      pub request_placed : (part : Part Desk) → stepped ≡ Ok part → note.sends ≡ true → IsPlaced marks note.mark
+      pub request_placed : (part : Part DialWork) → stepped ≡ Ok part → note.sends ≡ true → IsPlaced marks note.mark
       request_placed part is sends =
           let actions : List Action = actions_in part.value in
           let t : State = (heard_by (member_step (Some m) at (event.Bytes w.link piece) s.moment s.ends s.chances) s).state in
           let answers : (step_of m (event.Bytes w.link piece) s.moment left).answer ≡ Ok actions =
-          ap (λ (p : Result (Part Desk) StepRefused). (step_by actions_in state_in halted_state left p).answer) is in
+          ap (λ (p : Result (Part DialWork) StepRefused). (step_by actions_in state_in halted_state left p).answer) is in
           let units : taken stepped ≡ served = ap taken is in
           let first : SendsFirst w.link actions =
           whole_first its turn whole.unit left served actions units_whole sends
@@ -316,11 +316,11 @@ module _ (laws : CallLaws) (n at : ℕ) (w : Coming) (piece : List ℕ) (s after
       pub grown : (k : ℕ) (one : Sent) → slice_get b.sent k ≡ Some one → slice_get sent k ≡ Some one
       grown k one there = got_append b.sent (map (sent_at w.at) marks) k one there
 
-      own_after : (part : Result (Part Desk) StepRefused) → stepped ≡ part → MemberHolds s.links b.sent b.messages its at (Some running) →
+      own_after : (part : Result (Part DialWork) StepRefused) → stepped ≡ part → MemberHolds s.links b.sent b.messages its at (Some running) →
           MemberHolds s.links sent (noted_by part) its at (step_by actions_in state_in halted_state left part).state.running
       own_after (Err why) is own = record { asks = tt; kept = tt; accepts = tt; out = tt }
       own_after (Ok part) is own =
-          subst (λ (p : Result (Part Desk) StepRefused).
+          subst (λ (p : Result (Part DialWork) StepRefused).
           MemberHolds s.links sent (noted note running.logons w.unit (first_of numbers) all_messages) its at (step_by actions_in state_in halted_state left p).state.running) is
           (whole_holds laws.steps s.links b.sent sent b.messages its here running whole.said piece whole.frames whole.unit s.moment left w.unit (first_of numbers) grown whole.on whole.rest whole.none
           whole.heard request_sent own)
@@ -330,14 +330,14 @@ module _ (laws : CallLaws) (n at : ℕ) (w : Coming) (piece : List ℕ) (s after
           all_join (λ (message : MessageTaken). IsAcceptedBy s.links message.member message.link) b.messages (news m) holds.accepted
           (new_accepted s.links here m piece s.moment left own.accepts)
 
-      others_after : (part : Result (Part Desk) StepRefused) (k : ℕ) → (k ≡ at → ⊥) → AreAccepted s.links all_messages → MemberHolds s.links b.sent b.messages its at (Some running) →
+      others_after : (part : Result (Part DialWork) StepRefused) (k : ℕ) → (k ≡ at → ⊥) → AreAccepted s.links all_messages → MemberHolds s.links b.sent b.messages its at (Some running) →
           StaysKnown s.links s.links b.sent sent b.messages (noted_by part) k
       others_after (Err why) k differs accepted own = messages_more s.links b.sent sent b.messages (news m) k grown
       others_after (Ok part) k differs accepted own =
           others_known s.links b.sent sent b.messages all_messages its at k note running w.unit (first_of numbers) (λ number. IsDialledBy s.links at number) grown
           (λ P one. one_before P b.messages (news m) one) differs accepted own.kept
 
-      accepted_after : (part : Result (Part Desk) StepRefused) → AreAccepted s.links all_messages → AreAccepted s.links (noted_by part)
+      accepted_after : (part : Result (Part DialWork) StepRefused) → AreAccepted s.links all_messages → AreAccepted s.links (noted_by part)
       accepted_after (Err why) accepted = accepted
       accepted_after (Ok part) accepted = noted_accepted s.links note running.logons w.unit (first_of numbers) all_messages accepted
 

@@ -41,7 +41,7 @@ use Rattle.world_moves.specs.declared.links.Route.TheVariants.{ToController}
 use Rattle.world_moves.specs.declared.moves.Move.{Move}
 use Rattle.world_moves.specs.declared.plan.Plan.{Plan}
 use Rattle.world_moves.specs.declared.state.State.{State}
-use Rattle.world_moves.specs.Acting.{Given, bag_unit, hear, heard_by, hears, perform_all, perform_quietly, send_on}
+use Rattle.world_moves.specs.Acting.{Given, bag_unit, hear, heard_by, hear_and_act, perform_all, perform_quietly, send_on}
 use Rattle.world_moves.specs.Bag.{AreShortUnits, HaveBytes}
 use Rattle.world_moves.specs.Draws.{DrawsDiffer}
 use Rattle.world_moves.specs.Ends.{actions_by, member_step, renew_client, renew_controller, renew_member}
@@ -167,13 +167,13 @@ module _ (laws : CallLaws) where
       ]
 
   comes_so : (n : ℕ) (end : EndId) (w : Coming) (piece : List ℕ) (s : State) (b : Book) → CameFrom w.unit s w piece → (IsServer end → length b.sent ≡ length s.bag) → IsQuiet s → KeptIn n s b →
-      KeptIn (n + 1) (hear end (event.Bytes w.link piece) s).state (note_at (Some end) w piece s (hears end (event.Bytes w.link piece) s).state b)
+      KeptIn (n + 1) (hear end (event.Bytes w.link piece) s).state (note_at (Some end) w piece s (hear_and_act end (event.Bytes w.link piece) s).state b)
   comes_so n (Controller at) w piece s b came even quiet kept =
-      controller_comes n (slice_get s.ends.controllers at) at w piece s (hears (Controller at) (event.Bytes w.link piece) s).state b kept
+      controller_comes n (slice_get s.ends.controllers at) at w piece s (hear_and_act (Controller at) (event.Bytes w.link piece) s).state b kept
   comes_so n (Client at) w piece s b came even quiet kept = client_comes n (slice_get s.ends.clients at) at w piece s b kept
   comes_so n (Member at) w piece s b came even quiet kept =
       let what : Event = event.Bytes w.link piece in
-      member_comes n (slice_get s.ends.members at) at w piece s (hears (Member at) what s).state b refl quiet came (even tt)
+      member_comes n (slice_get s.ends.members at) at w piece s (hear_and_act (Member at) what s).state b refl quiet came (even tt)
       (λ m is. ap (λ (found : Option MemberState).
       (perform_all (Member at) (member_step found at what s.moment s.ends s.chances).actions (heard_by (member_step found at what s.moment s.ends s.chances) s).state).state.bag) is) kept
 

@@ -3,7 +3,7 @@
 use Rattle.std.proofs.Common.{◌≡◌, ℕ, zero, suc, ◌==◌, Bool, true, false, List, [], ◌∷◌, ◌++◌, map, Option, Some, None, Result, Ok, Err, refl, sym, ap, ap₂, subst, ◌∙◌, slice_get}
 use Rattle.std.specs.List.{AllByRecursion}
 use Rattle.wire_base.specs.Maps.{lookup, same_number}
-use Rattle.authenticators.specs.Channels.{Channel, channel_key}
+use Rattle.authenticators.specs.Channels.{ChannelIdentity, channel_key}
 use Rattle.authenticators.specs.Sequences.{authenticator_of}
 use Rattle.outside.specs.declared.action.Action.{Action}
 use Rattle.outside.specs.declared.action.Action.TheVariants as action
@@ -174,7 +174,7 @@ module _ (r : Option Running) where
   as_kept (Err why) joiner at alike = tt
   as_kept (Ok unit) joiner at alike = as_joined (answer_of joiner unit) (open_after joiner unit) at alike
 
-for_same : (controller : ℕ) (one other : Logons) (channel : Channel) (number timestamp : ℕ) (frames : List (List ℕ)) → one.plan ≡ other.plan → one.asked ≡ other.asked →
+for_same : (controller : ℕ) (one other : Logons) (channel : ChannelIdentity) (number timestamp : ℕ) (frames : List (List ℕ)) → one.plan ≡ other.plan → one.asked ≡ other.asked →
     one.channel.standing ≡ other.channel.standing → AreForLogon controller one channel number timestamp frames → AreForLogon controller other channel number timestamp frames
 for_same controller one other channel number timestamp frames plan asked standing are = record {
   place = are.place;
@@ -190,7 +190,7 @@ for_same controller one other channel number timestamp frames plan asked standin
 
 -- ---- each call is for the message of its logon
 
-if_so : (Fits Later : Channel → ℕ → ℕ → Type 0) → ((channel : Channel) (number timestamp : ℕ) → Fits channel number timestamp → Later channel number timestamp) → (mark : Mark) →
+if_so : (Fits Later : ChannelIdentity → ℕ → ℕ → Type 0) → ((channel : ChannelIdentity) (number timestamp : ℕ) → Fits channel number timestamp → Later channel number timestamp) → (mark : Mark) →
     IfCalling Fits mark → IfCalling Later mark
 if_so Fits Later so Plain is = tt
 if_so Fits Later so (Opening channel number) is = tt

@@ -48,7 +48,7 @@ use Rattle.world_moves.specs.declared.links.LinkKind.TheVariants as kind
 use Rattle.world_moves.specs.declared.links.Route.{Route}
 use Rattle.world_moves.specs.declared.links.Route.TheVariants.{ToController}
 use Rattle.world_moves.specs.declared.state.State.{State}
-use Rattle.world_moves.specs.Acting.{Given, Heard, done, heard_by, hears, perform_all, send_on}
+use Rattle.world_moves.specs.Acting.{Given, Heard, done, heard_by, hear_and_act, perform_all, send_on}
 use Rattle.world_moves.specs.Choosing.{places_from}
 use Rattle.world_moves.specs.Ends.{actions_by, member_step}
 use Rattle.world_moves.specs.Links.{is_accepted_by, is_of}
@@ -396,18 +396,18 @@ found_called : (found : Option MemberState) (at : ℕ) (w : Coming) (piece : Lis
 found_called None at w piece s b is side kept called = called
 found_called (Some m) at w piece s b is side kept called = member_called m at w piece s b is side (one_kept b.messages s.ends.members at m is kept) called
 
-heard_still : (end : EndId) (w : Coming) (piece : List ℕ) (s : State) → StillHas s.bag (hears end (event.Bytes w.link piece) s).state.bag
+heard_still : (end : EndId) (w : Coming) (piece : List ℕ) (s : State) → StillHas s.bag (hear_and_act end (event.Bytes w.link piece) s).state.bag
 heard_still end w piece s = heard_stays (StillIn s.bag) (kept_sent s.bag) end (event.Bytes w.link piece) s (kept_same s.bag)
 
 end_called : (end : EndId) (w : Coming) (piece : List ℕ) (s : State) (b : Book) → CallSide s → HoldsIn (AllKept b.messages) s → CalledIn s.bag b →
-    CalledIn (hears end (event.Bytes w.link piece) s).state.bag (note_at (Some end) w piece s (hears end (event.Bytes w.link piece) s).state b)
+    CalledIn (hear_and_act end (event.Bytes w.link piece) s).state.bag (note_at (Some end) w piece s (hear_and_act end (event.Bytes w.link piece) s).state b)
 end_called (Controller at) w piece s b side kept called =
-    let after : State = (hears (Controller at) (event.Bytes w.link piece) s).state in
+    let after : State = (hear_and_act (Controller at) (event.Bytes w.link piece) s).state in
     same_called after.bag b (note_controller (slice_get s.ends.controllers at) at w piece s after b) (controller_messages (slice_get s.ends.controllers at) at w piece s after b)
     (still_called s.bag after.bag b (heard_still (Controller at) w piece s) called)
 end_called (Member at) w piece s b side kept called = found_called (slice_get s.ends.members at) at w piece s b refl side kept called
 end_called (Client at) w piece s b side kept called =
-    let after : State = (hears (Client at) (event.Bytes w.link piece) s).state in
+    let after : State = (hear_and_act (Client at) (event.Bytes w.link piece) s).state in
     same_called after.bag b (note_client (slice_get s.ends.clients at) at w piece s b) (client_messages (slice_get s.ends.clients at) at w piece s b)
     (still_called s.bag after.bag b (heard_still (Client at) w piece s) called)
 

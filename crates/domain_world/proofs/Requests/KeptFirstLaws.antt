@@ -34,7 +34,7 @@ use Rattle.channel_client.proofs.EffectLaws.{steps_have_effects}
 use Rattle.member_server.specs.Machine.{after_units, bytes_on_link}
 use Rattle.member_server.specs.Messages.{ask_by, info_of, is_fit, take_auth3, take_message, take_trailer, wait_by, with_channel, with_logon}
 use Rattle.member_server.specs.Outcomes.{after_link, at_link, keep_link, without_link}
-use Rattle.member_server.specs.Turns.{Desk}
+use Rattle.member_server.specs.Turns.{DialWork}
 use Rattle.member_server.specs.Units.{body_challenged, bound_unit, first_unit, is_fresh, link_server, unit_by, unit_challenged}
 use Rattle.member_server.specs.declared.state.AtLink.{AtLink}
 use Rattle.member_server.specs.declared.state.Bound.{Bound}
@@ -181,7 +181,7 @@ module _ (pending : Pending) (kept : Logon) where
   -- ---- bytes on it
 
   -- so it is of what the event comes to
-  abbrev pub PartLeads : Result (Part Desk) StepRefused → Type 0
+  abbrev pub PartLeads : Result (Part DialWork) StepRefused → Type 0
   PartLeads (Err why) = Unit {0}
   PartLeads (Ok part) = Leads pending kept part.value.0.logons
 

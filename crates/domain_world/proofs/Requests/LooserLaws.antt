@@ -3,7 +3,7 @@
 use Rattle.std.proofs.Common.{◌≡◌, ◌⊎◌, ℕ, zero, suc, ◌≤◌, Bool, true, false, List, [], ◌∷◌, ◌++◌, inl, inr, Some, slice_get, sym, ap, ◌∙◌, subst, arith}
 use Rattle.std.specs.List.{AllByRecursion}
 use Rattle.std.proofs.lemmas.List.{append_assoc}
-use Rattle.authenticators.specs.Channels.{Channel}
+use Rattle.authenticators.specs.Channels.{ChannelIdentity}
 use Rattle.channel_client.specs.Effects.{View}
 use Rattle.channel_events.specs.Marks.{Mark, Calling, Opened, Opening, Plain, ReplyTo}
 use Rattle.channel_events.specs.Requests.{CallsAreApart, IsDrawn, IsNoCall, Requests}
@@ -12,7 +12,7 @@ use Rattle.channel_events.proofs.ListLaws.{got_append, got_nothing}
 -- what is known afterwards was known before
 pub record IsLooser {Who : Type 0} (r t : Requests Who) : Type 0 where
   pub views : (j : Who) (v : View) → t.views j ≡ Some v → r.views j ≡ Some v
-  pub marks : (unit number timestamp : ℕ) (c : Channel) → slice_get t.marks unit ≡ Some (Calling c number timestamp) → slice_get r.marks unit ≡ Some (Calling c number timestamp)
+  pub marks : (unit number timestamp : ℕ) (c : ChannelIdentity) → slice_get t.marks unit ≡ Some (Calling c number timestamp) → slice_get r.marks unit ≡ Some (Calling c number timestamp)
   pub drawn : (challenge : List ℕ) → IsDrawn challenge r.drawn → IsDrawn challenge t.drawn
   pub uses : r.uses ≤ t.uses
 
@@ -40,9 +40,9 @@ drawn_before challenge (first ∷ drawn) more is = elim is [ inl here ↦ inl he
 
 -- none of them is a call
 abbrev pub NoCalls : List Mark → Type 0
-NoCalls marks = (k number timestamp : ℕ) (c : Channel) → slice_get marks k ≡ Some (Calling c number timestamp) → ⊥
+NoCalls marks = (k number timestamp : ℕ) (c : ChannelIdentity) → slice_get marks k ≡ Some (Calling c number timestamp) → ⊥
 
-no_call : (mark : Mark) (number timestamp : ℕ) (c : Channel) → IsNoCall mark → Some mark ≡ Some (Calling c number timestamp) → ⊥
+no_call : (mark : Mark) (number timestamp : ℕ) (c : ChannelIdentity) → IsNoCall mark → Some mark ≡ Some (Calling c number timestamp) → ⊥
 no_call mark number timestamp c none is =
     let same : mark ≡ Calling c number timestamp = (let x = is in cc) in
     subst IsNoCall same none
@@ -54,7 +54,7 @@ no_calls (mark ∷ marks) all zero number timestamp c there = no_call mark numbe
 no_calls (mark ∷ marks) all (suc k) number timestamp c there = no_calls marks all.1 k number timestamp c there
 
 -- a call among those and these is among those
-pub calls_before : (marks more : List Mark) → NoCalls more → (unit number timestamp : ℕ) (c : Channel) → slice_get (marks ++ more) unit ≡ Some (Calling c number timestamp) →
+pub calls_before : (marks more : List Mark) → NoCalls more → (unit number timestamp : ℕ) (c : ChannelIdentity) → slice_get (marks ++ more) unit ≡ Some (Calling c number timestamp) →
     slice_get marks unit ≡ Some (Calling c number timestamp)
 calls_before [] more none unit number timestamp c there = absurd (none unit number timestamp c there)
 calls_before (mark ∷ marks) more none zero number timestamp c there = there

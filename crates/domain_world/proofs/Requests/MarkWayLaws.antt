@@ -2,7 +2,7 @@
 -- marked as a reply goes back to it. It serves `marks_have_their_way`.
 use Rattle.std.proofs.Common.{◌≡◌, ℕ, zero, suc, ◌==◌, ◌&&◌, not, Bool, true, false, List, [], ◌∷◌, ◌++◌, map, Option, Some, None, refl, sym, ◌∙◌, subst, slice_get}
 use Rattle.std.specs.List.{AllByRecursion}
-use Rattle.authenticators.specs.Channels.{Channel}
+use Rattle.authenticators.specs.Channels.{ChannelIdentity}
 use Rattle.logon_stubs.specs.declared.calls.Call.{Call}
 use Rattle.logon_stubs.specs.declared.calls.Call.TheVariants as call
 use Rattle.end_links.specs.Serving.{ServedUnit}
@@ -71,19 +71,19 @@ taking_way : (taking : Option Taking) (controller : ℕ) (before : Requester) �
 taking_way None controller before = tt
 taking_way (Some taking) controller before = taken_way taking.taken controller before taking.state
 
-opened_way : (unit : Option ℕ) (channel : Channel) (number : ℕ) → IsReply (opened_mark unit channel number)
+opened_way : (unit : Option ℕ) (channel : ChannelIdentity) (number : ℕ) → IsReply (opened_mark unit channel number)
 opened_way None channel number = tt
 opened_way (Some unit) channel number = refl
 
-opening_way : (channel : Option Channel) (w : Where) (number : ℕ) → IsReply (opening channel w number).mark
+opening_way : (channel : Option ChannelIdentity) (w : Where) (number : ℕ) → IsReply (opening channel w number).mark
 opening_way None w number = tt
 opening_way (Some channel) w number = opened_way w.unit channel number
 
-reply_way : (unit : Option ℕ) (channel : Channel) (number : ℕ) → IsReply (reply_mark unit channel number)
+reply_way : (unit : Option ℕ) (channel : ChannelIdentity) (number : ℕ) → IsReply (reply_mark unit channel number)
 reply_way None channel number = tt
 reply_way (Some unit) channel number = refl
 
-passing_way : (channel : Option Channel) (j : Judging) → IsReply (passing channel j).mark
+passing_way : (channel : Option ChannelIdentity) (j : Judging) → IsReply (passing channel j).mark
 passing_way None j = tt
 passing_way (Some channel) j = reply_way j.unit channel j.number
 

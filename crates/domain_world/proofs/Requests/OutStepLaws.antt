@@ -9,7 +9,7 @@ use Rattle.outside.specs.Machine.{Part, step_by, then_part}
 use Rattle.outside.specs.declared.action.StepRefused.{StepRefused}
 use Rattle.outside.specs.declared.event.Event.{Event}
 use Rattle.outside.specs.declared.event.Event.TheVariants as event
-use Rattle.authenticators.specs.Channels.{Channel}
+use Rattle.authenticators.specs.Channels.{ChannelIdentity}
 use Rattle.logon_stubs.specs.declared.info.NetworkInfo.{NetworkInfo}
 use Rattle.end_links.specs.Links.{LinkState}
 use Rattle.channel_client.specs.Effects.{ArePlacesApart, IsForFirst, stands_in}
@@ -29,7 +29,7 @@ use Rattle.channel_events.proofs.ListLaws.{one_weaker}
 use Rattle.member_server.specs.ChannelSteps.{ChannelSteps, ChannelStepsKnown, ComesCalmly, IsCalm, IsNextTurn, StepsIfTaken}
 use Rattle.member_server.specs.Laws.{Asks, Doing, Loses, Starts, Takes, heard_if, heard_in, is_dialled, state_after}
 use Rattle.member_server.specs.Machine.{actions_in, by_event, bytes_by, bytes_on, event_part, halted_state, state_in, step_of, work_of}
-use Rattle.member_server.specs.Turns.{Desk, next_turn, turn_by}
+use Rattle.member_server.specs.Turns.{DialWork, next_turn, turn_by}
 use Rattle.member_server.specs.declared.state.Dialling.{Dialling}
 use Rattle.member_server.specs.declared.state.Dialling.TheVariants as dialling
 use Rattle.member_server.specs.declared.state.Logon.{Logon}
@@ -62,14 +62,14 @@ abbrev pub HasOne : ℕ → List MessageTaken → ℕ → Logon → Type 0
 HasOne member messages place logon = OneOf (IsOf member place logon) messages
 
 -- it has its call out, among these units, with that number, on the channel that stands
-pub record IsOutIn (units : List Sent) (member : ℕ) (pending : Pending) (logon : Logon) (standing : Option Channel) (message : MessageTaken) : Type 0 where
+pub record IsOutIn (units : List Sent) (member : ℕ) (pending : Pending) (logon : Logon) (standing : Option ChannelIdentity) (message : MessageTaken) : Type 0 where
   pub link : message.link ≡ logon.link
   pub by : message.member ≡ member
   pub request : ℕ
   pub call : message.call ≡ Some request
   pub unit : Sent
   pub there : slice_get units request ≡ Some unit
-  pub channel : Channel
+  pub channel : ChannelIdentity
   pub timestamp : ℕ
   pub stands : standing ≡ Some channel
   pub mark : unit.mark ≡ Calling channel pending.number timestamp
@@ -137,14 +137,14 @@ next_out true true now mid before new after pending q next can out reply =
     absurd (start_out mid.turn mid.waiting mid _ next.0 pending q can (subst (λ (x : Requester). x.turn ≡ Some pending) next.2 out) reply)
 
 -- so it is of the event, and no turn started after it
-pub record OutSteps (old : Requester) (first : Result (Part Desk) StepRefused) (new : Requester) (pending : Pending) : Type 0 where
+pub record OutSteps (old : Requester) (first : Result (Part DialWork) StepRefused) (new : Requester) (pending : Pending) : Type 0 where
   pub stays : StaysOut old new pending
-  pub part : Part Desk
+  pub part : Part DialWork
   pub is : first ≡ Ok part
   pub none : can_start part.value.0.logons.channel.turn part.value.0.logons.channel.waiting ≡ false
 
 -- of a step after which the turn waits for a reply
-pub out_steps : (old : Requester) (first : Result (Part Desk) StepRefused) (now : ℕ) (new : Requester) (after : List (List ℕ)) (pending : Pending) (q : Question) →
+pub out_steps : (old : Requester) (first : Result (Part DialWork) StepRefused) (now : ℕ) (new : Requester) (after : List (List ℕ)) (pending : Pending) (q : Question) →
     ChannelSteps first (ComesCalmly old) now new after → new.turn ≡ Some pending → pending.step ≡ step.Reply q → OutSteps old first new pending
 out_steps old first now new after pending q steps out reply =
     let mid : Requester = steps.part.value.0.logons.channel in
@@ -255,11 +255,11 @@ pub record StaysKnown (links later : List Route) (units more : List Sent) (messa
   pub dialled : (number : ℕ) → IsDialledBy links member number → IsDialledBy later member number
   pub accepted : (number : ℕ) → IsAcceptedBy links member number → IsAcceptedBy later member number
   pub has : (place : ℕ) (logon : Logon) → HasOne member messages place logon → HasOne member after place logon
-  pub out : (pending : Pending) (logon : Logon) (standing : Option Channel) → OneOf (IsOutIn units member pending logon standing) messages →
+  pub out : (pending : Pending) (logon : Logon) (standing : Option ChannelIdentity) → OneOf (IsOutIn units member pending logon standing) messages →
       OneOf (IsOutIn more member pending logon standing) after
 
 out_known : (units more : List Sent) (messages after : List MessageTaken) (controller member : ℕ) (r : Option Running) →
-    ((pending : Pending) (logon : Logon) (standing : Option Channel) → OneOf (IsOutIn units member pending logon standing) messages → OneOf (IsOutIn more member pending logon standing) after) →
+    ((pending : Pending) (logon : Logon) (standing : Option ChannelIdentity) → OneOf (IsOutIn units member pending logon standing) messages → OneOf (IsOutIn more member pending logon standing) after) →
     OutFor units messages controller member r → OutFor more after controller member r
 out_known units more messages after controller member None so out = tt
 out_known units more messages after controller member (Some running) so out =
@@ -278,9 +278,9 @@ stays_known links later units more messages after controller member r so holds =
 -- ---- a step
 
 -- the logon of the turn was kept before, where it is kept after the step
-abbrev pub KeptBack : Result (Part Desk) StepRefused → Running → Type 0
+abbrev pub KeptBack : Result (Part DialWork) StepRefused → Running → Type 0
 KeptBack part running =
-    (pending : Pending) (logon : Logon) (after : Part Desk) → running.logons.channel.turn ≡ Some pending → part ≡ Ok after →
+    (pending : Pending) (logon : Logon) (after : Part DialWork) → running.logons.channel.turn ≡ Some pending → part ≡ Ok after →
     lookup same_number pending.place after.value.0.logons.asked ≡ Some logon → lookup same_number pending.place running.logons.asked ≡ Some logon
 
 -- the channel that stands is the same
@@ -290,14 +290,14 @@ same_channel controller old new pending stays =
     ∙ ap (λ (caller : Caller). stands_in controller caller.computer new.standing) (sym stays.caller)
 
 -- where the logon of the turn stays kept
-out_by : (units : List Sent) (messages : List MessageTaken) (controller member : ℕ) (part : Result (Part Desk) StepRefused) (running : Running) (first : Result (Part Desk) StepRefused) (now : ℕ)
+out_by : (units : List Sent) (messages : List MessageTaken) (controller member : ℕ) (part : Result (Part DialWork) StepRefused) (running : Running) (first : Result (Part DialWork) StepRefused) (now : ℕ)
     (left : List (List ℕ)) → StepsIfTaken first (ComesCalmly running.logons.channel) now part → OutFor units messages controller member (Some running) → KeptBack part running →
     OutFor units messages controller member (step_by actions_in state_in halted_state left part).state.running
 out_by units messages controller member (Err why) running first now left steps out back = tt
 out_by units messages controller member (Ok part) running first now left steps out back = λ pending logon turn reply there.
     let so : OutSteps running.logons.channel first part.value.0.logons.channel pending =
     out_steps running.logons.channel first now part.value.0.logons.channel part.left pending question.Logon steps turn reply in
-    subst (λ (standing : Option Channel). OneOf (IsOutIn units member pending logon standing) messages)
+    subst (λ (standing : Option ChannelIdentity). OneOf (IsOutIn units member pending logon standing) messages)
     (same_channel controller running.logons.channel part.value.0.logons.channel pending so.stays)
     (out pending logon so.stays.turn reply (back pending logon part so.stays.turn refl there))
 
@@ -305,12 +305,12 @@ some_logon : (found : Option Logon) (one other : Logon) → found ≡ Some one �
 some_logon found one other is same = is ∙ ap (λ (l : Logon). Some l) same
 
 -- no bytes come
-quiet_back : (part : Result (Part Desk) StepRefused) (running : Running) (left : List (List ℕ)) → AsksForKept (is_dialled running.dialling) running.logons →
+quiet_back : (part : Result (Part DialWork) StepRefused) (running : Running) (left : List (List ℕ)) → AsksForKept (is_dialled running.dialling) running.logons →
     ((at : ℕ) (kept : Logon) → OfEach (Only at kept) running.logons.asked → KeptIn (Only at kept) Any (step_by actions_in state_in halted_state left part).state.running) → KeptBack part running
 quiet_back part running left asks keeps pending logon after turn is there =
     let one : IsOnly pending.place running.logons.asked = only_kept (is_dialled running.dialling) running.logons pending asks turn in
     let all : KeptIn (Only pending.place one.logon) Any (step_by actions_in state_in halted_state left (Ok after)).state.running =
-    subst (λ (p : Result (Part Desk) StepRefused). KeptIn (Only pending.place one.logon) Any (step_by actions_in state_in halted_state left p).state.running) is
+    subst (λ (p : Result (Part DialWork) StepRefused). KeptIn (Only pending.place one.logon) Any (step_by actions_in state_in halted_state left p).state.running) is
     (keeps pending.place one.logon one.only) in
     let same : logon ≡ one.logon = each_found (Only pending.place one.logon) pending.place after.value.0.logons.asked logon there all.0 refl in
     some_logon (lookup same_number pending.place running.logons.asked) one.logon logon one.kept (sym same)
@@ -371,7 +371,7 @@ module _ (pending : Pending) (kept : Logon) where
   turn_leads false needs now w how left is leads = leads
   turn_leads true needs now w how left is leads = let x = is in cc
 
-  next_leads : (part : Result (Part Desk) StepRefused) (now : ℕ) → PartLeads pending kept part → PartLeads pending kept (then_part part (next_turn now))
+  next_leads : (part : Result (Part DialWork) StepRefused) (now : ℕ) → PartLeads pending kept part → PartLeads pending kept (then_part part (next_turn now))
   next_leads (Err why) now leads = tt
   next_leads (Ok part) now leads =
       let c : Requester = part.value.0.logons.channel in
@@ -383,7 +383,7 @@ bytes_back : (running : Running) (number : ℕ) (piece : List ℕ) (now : ℕ) (
 bytes_back running number piece now left other asks pending logon after turn is there =
     let one : IsOnly pending.place running.logons.asked = only_kept (is_dialled running.dialling) running.logons pending asks turn in
     let leads : PartLeads pending one.logon (Ok after) =
-    subst (λ (p : Result (Part Desk) StepRefused). PartLeads pending one.logon p) is
+    subst (λ (p : Result (Part DialWork) StepRefused). PartLeads pending one.logon p) is
     (next_leads pending one.logon (bytes_on running.dialling number piece (work_of running) left) now
     (bytes_lead pending one.logon running.dialling number piece (work_of running) left other (record { coherent = asks.coherent; turn = turn; kept = one.kept }))) in
     one.kept ∙ sym leads.kept ∙ there

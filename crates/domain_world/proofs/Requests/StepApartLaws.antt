@@ -13,7 +13,7 @@ use Rattle.outside.specs.declared.event.Event.TheVariants as event
 use Rattle.outside.proofs.DrawLaws.{between_front}
 use Rattle.rpc_units.specs.Calls.{IsHeard}
 use Rattle.rpc_units.specs.declared.unit.Unit.{Unit as RpcUnit}
-use Rattle.authenticators.specs.Channels.{Channel}
+use Rattle.authenticators.specs.Channels.{ChannelIdentity}
 use Rattle.end_links.specs.Links.{LinkState}
 use Rattle.channel_client.specs.Effects.{Answers, Begins, Calls, Counts, Drops, Effect, IsCoherent, Moves, Opens, Stays, View, effect_of_take, view_of}
 use Rattle.channel_client.specs.Machine.{ask_of, can_start, lose_of, needs_challenge, start_of, take_of}
@@ -25,7 +25,7 @@ use Rattle.member_server.specs.ChannelSteps.{ChannelSteps, ChannelStepsKnown, Co
 use Rattle.member_server.specs.Laws.{Asks, Doing, Loses, Starts, Takes, heard_in, state_after}
 use Rattle.member_server.specs.Machine.{actions_in, by_event, event_part, halted_state, state_in, step_of, work_of}
 use Rattle.member_server.specs.State.{State as MemberState}
-use Rattle.member_server.specs.Turns.{Desk, timestamp_of}
+use Rattle.member_server.specs.Turns.{DialWork, timestamp_of}
 use Rattle.member_server.specs.declared.state.Dialling.TheVariants as dialling
 use Rattle.member_server.specs.declared.state.Running.{Running}
 use Rattle.member_server.specs.declared.state.TurnTalk.{TurnTalk}
@@ -177,7 +177,7 @@ module _ (keep : RequestersKeepCallsApart) (views : ℕ → Option View) (who co
     placed_by : (note other : TurnNote) → note ≡ other → Placed note.sends note.mark more → Placed other.sends other.mark more
     placed_by note other is placed = subst (λ (n : TurnNote). Placed n.sends n.mark more) is placed
 
-    called : (c : Channel) (number timestamp : ℕ) → NoCalls more ⊎ IsPlaced more (Calling c number timestamp) → TakesAt (Calls c number) → Later
+    called : (c : ChannelIdentity) (number timestamp : ℕ) → NoCalls more ⊎ IsPlaced more (Calling c number timestamp) → TakesAt (Calls c number) → Later
     called c number timestamp placed takes = elim placed [
       | inl none ↦ unwritten (Calling c number timestamp) none (takes marks stands timestamp)
       | inr is ↦ written_down (Calling c number timestamp) is (takes (marks ++ is.front) (with_front (Calling c number timestamp) is) timestamp)
@@ -300,7 +300,7 @@ CoherentIf (Some running) = IsCoherent running.logons.channel
 
 -- the mark of the request that goes out, if one does, stands among those that are written down; the argument: what the
 -- step comes to
-abbrev pub PlacedBy : Result (Part Desk) StepRefused → TurnNote → List Mark → Type 0
+abbrev pub PlacedBy : Result (Part DialWork) StepRefused → TurnNote → List Mark → Type 0
 PlacedBy (Err why) note more = NoCalls more
 PlacedBy (Ok part) note more = Placed note.sends note.mark more
 
@@ -327,8 +327,8 @@ module _ (keep : RequestersKeepCallsApart) (views : ℕ → Option View) (who co
       }) stands.apart
 
   -- what the event comes to, and then the next turn
-  part_apart : (Mid : Requester → Type 0) (now : ℕ) (marks : List Mark) (drawn left : List (List ℕ)) (uses : ℕ) → uses + 2 < 2 ^ 32 → (first : Result (Part Desk) StepRefused) →
-      ((t : Requester) → Mid t → StandsApart views who controller t marks drawn uses) → ((part : Part Desk) → first ≡ Ok part → IsRest part.left left) → (part : Part Desk) →
+  part_apart : (Mid : Requester → Type 0) (now : ℕ) (marks : List Mark) (drawn left : List (List ℕ)) (uses : ℕ) → uses + 2 < 2 ^ 32 → (first : Result (Part DialWork) StepRefused) →
+      ((t : Requester) → Mid t → StandsApart views who controller t marks drawn uses) → ((part : Part DialWork) → first ≡ Ok part → IsRest part.left left) → (part : Part DialWork) →
       ChannelSteps first Mid now part.value.0.logons.channel part.left → Differ (drawn ++ draws_between left part.left) →
       CallsAreApart (requests_after views who controller (state_in part.value).running marks (drawn ++ draws_between left part.left) (uses + 1))
   part_apart Mid now marks drawn left uses few first so rests part steps differ =
@@ -358,11 +358,11 @@ module _ (keep : RequestersKeepCallsApart) (views : ℕ → Option View) (who co
 
   -- ---- no whole unit comes on the link of the turn
 
-  rest_of : (running : Running) (what : Event) (left : List (List ℕ)) (part : Part Desk) → by_event what running.dialling (work_of running) left ≡ Ok part → IsRest part.left left
+  rest_of : (running : Running) (what : Event) (left : List (List ℕ)) (part : Part DialWork) → by_event what running.dialling (work_of running) left ≡ Ok part → IsRest part.left left
   rest_of running what left part is =
-      subst (λ (first : Result (Part Desk) StepRefused). IsRest (left_by first) left) is (event_rest what running.dialling (work_of running) left)
+      subst (λ (first : Result (Part DialWork) StepRefused). IsRest (left_by first) left) is (event_rest what running.dialling (work_of running) left)
 
-  other_by : (part : Result (Part Desk) StepRefused) (running : Running) (what : Event) (now : ℕ) (left : List (List ℕ)) (marks : List Mark) (drawn : List (List ℕ)) (uses : ℕ) → uses + 2 < 2 ^ 32 →
+  other_by : (part : Result (Part DialWork) StepRefused) (running : Running) (what : Event) (now : ℕ) (left : List (List ℕ)) (marks : List Mark) (drawn : List (List ℕ)) (uses : ℕ) → uses + 2 < 2 ^ 32 →
       StepsIfTaken (by_event what running.dialling (work_of running) left) (ComesCalmly running.logons.channel) now part →
       StandsApart views who controller running.logons.channel marks drawn uses → Differ (drawn ++ (step_by actions_in state_in halted_state left part).drawn) →
       CallsAreApart
@@ -395,7 +395,7 @@ module _ (keep : RequestersKeepCallsApart) (views : ℕ → Option View) (who co
 
   -- ---- a whole unit comes on it
 
-  whole_by : (part : Result (Part Desk) StepRefused) (running : Running) (what : Event) (unit : RpcUnit) (now : ℕ) (left : List (List ℕ)) (marks more : List Mark) (drawn : List (List ℕ)) (uses : ℕ) →
+  whole_by : (part : Result (Part DialWork) StepRefused) (running : Running) (what : Event) (unit : RpcUnit) (now : ℕ) (left : List (List ℕ)) (marks more : List Mark) (drawn : List (List ℕ)) (uses : ℕ) →
       uses + 3 < 2 ^ 32 → StepsIfTaken (by_event what running.dialling (work_of running) left) (ComesCalmly (take_of running.logons.channel unit).state) now part →
       PlacedBy part (taking_note (Some (take_of running.logons.channel unit)) controller running.logons.channel) more →
       StandsApart views who controller running.logons.channel marks drawn uses → Differ (drawn ++ (step_by actions_in state_in halted_state left part).drawn) →

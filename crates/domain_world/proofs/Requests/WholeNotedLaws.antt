@@ -18,7 +18,7 @@ use Rattle.channel_events.specs.Marks.{Calling, Mark, Opened, Opening, Plain, Re
 use Rattle.channel_events.specs.Requests.{IsNoCall}
 use Rattle.channel_events.proofs.ListLaws.{got_behind}
 use Rattle.member_server.specs.Machine.{actions_in, at_turn, halted_state, state_in, work_of}
-use Rattle.member_server.specs.Turns.{Desk, turn_server}
+use Rattle.member_server.specs.Turns.{DialWork, turn_server}
 use Rattle.member_server.specs.declared.state.AtTurn.{AtTurn}
 use Rattle.member_server.specs.declared.state.Dialling.{Dialling}
 use Rattle.member_server.specs.declared.state.Dialling.TheVariants as dialling
@@ -163,7 +163,7 @@ module _ (controller : ℕ) (at : AtTurn) (unit : RpcUnit) where
       ∙ append-nil (mark_if note_for.sends note_for.mark)
 
   -- so the mark of the request is written down in one place at most
-  pub placed_part : (part : Result (Part Desk) StepRefused) (link : ℕ) (new : List BagUnit) (left : List (List ℕ)) (units : List (ServedUnit AtTurn TurnTalk)) → TakesWhole at unit left units →
+  pub placed_part : (part : Result (Part DialWork) StepRefused) (link : ℕ) (new : List BagUnit) (left : List (List ℕ)) (units : List (ServedUnit AtTurn TurnTalk)) → TakesWhole at unit left units →
       PlacedBy part note_for
       (marks_of link false new (turn_marks (map (turn_note controller) (units_if_taken (step_by actions_in state_in halted_state left part).answer units))))
   placed_part (Err why) link new left units whole = none_marked link false new

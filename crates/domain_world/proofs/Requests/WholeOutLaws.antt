@@ -9,7 +9,7 @@ use Rattle.wire_base.specs.Maps.{lookup, same_number}
 use Rattle.outside.specs.Machine.{Part, step_by, then_part}
 use Rattle.outside.specs.declared.action.StepRefused.{StepRefused}
 use Rattle.outside.specs.declared.event.Event.TheVariants as event
-use Rattle.authenticators.specs.Channels.{Channel}
+use Rattle.authenticators.specs.Channels.{ChannelIdentity}
 use Rattle.authenticators.specs.SecureChannels.{channel_of}
 use Rattle.rpc_units.specs.Calls.{IsHeard}
 use Rattle.rpc_units.specs.Stream.{cut_stream}
@@ -34,7 +34,7 @@ use Rattle.channel_events.specs.Marks.{Calling, OneOf}
 use Rattle.channel_events.proofs.ListLaws.{one_found, one_weaker, one_with}
 use Rattle.member_server.specs.ChannelSteps.{ChannelStepsKnown, ComesCalmly, StepsIfTaken}
 use Rattle.member_server.specs.Machine.{actions_in, after_turn, at_turn, by_event, bytes_by, event_part, halted_state, serve_dialled, state_in, step_of, work_of}
-use Rattle.member_server.specs.Turns.{Desk, desk_part, next_turn, take_by, turn_by}
+use Rattle.member_server.specs.Turns.{DialWork, dial_work_part, next_turn, take_by, turn_by}
 use Rattle.member_server.specs.declared.state.AtTurn.{AtTurn}
 use Rattle.member_server.specs.declared.state.Dialling.{Dialling}
 use Rattle.member_server.specs.declared.state.Dialling.TheVariants as dialling
@@ -66,7 +66,7 @@ pub record StaysSo (c t : Requester) (note : TurnNote) : Type 0 where
 
 -- the call went out
 pub record CallsOut (controller : ℕ) (t : Requester) (note : TurnNote) (pending : Pending) : Type 0 where
-  pub channel : Channel
+  pub channel : ChannelIdentity
   pub timestamp : ℕ
   pub is : note ≡ request_note (Calling channel pending.number timestamp) (Some pending.place)
   pub stands : standing_channel controller t ≡ Some channel
@@ -125,22 +125,22 @@ module _ (controller : ℕ) (c : Requester) where
 
 -- ---- the step: the unit is taken, and no turn starts
 
-next_same : (starts needs : Bool) (now : ℕ) (w : Work) (how : Dialling) (left : List (List ℕ)) (part : Part Desk) → starts ≡ false → turn_by starts needs now w how left ≡ Ok part →
+next_same : (starts needs : Bool) (now : ℕ) (w : Work) (how : Dialling) (left : List (List ℕ)) (part : Part DialWork) → starts ≡ false → turn_by starts needs now w how left ≡ Ok part →
     part.value.0.logons ≡ w.logons
 next_same false needs now w how left part none is =
     let same : record { value = (w, how); left = left } ≡ part = (let x = is in cc) in
-    sym (ap (λ (p : Part Desk). p.value.0.logons) same)
+    sym (ap (λ (p : Part DialWork). p.value.0.logons) same)
 next_same true needs now w how left part none is = let x = none in cc
 
-event_same : (first : Result (Part Desk) StepRefused) (now : ℕ) (before part : Part Desk) → first ≡ Ok before →
+event_same : (first : Result (Part DialWork) StepRefused) (now : ℕ) (before part : Part DialWork) → first ≡ Ok before →
     can_start before.value.0.logons.channel.turn before.value.0.logons.channel.waiting ≡ false → then_part first (next_turn now) ≡ Ok part → part.value.0.logons ≡ before.value.0.logons
 event_same first now before part is none done =
     let c : Requester = before.value.0.logons.channel in
     next_same (can_start c.turn c.waiting) (needs_challenge c.standing) now before.value.0 before.value.1 before.left part none
-    (sym (ap (λ (p : Result (Part Desk) StepRefused). then_part p (next_turn now)) is) ∙ done)
+    (sym (ap (λ (p : Result (Part DialWork) StepRefused). then_part p (next_turn now)) is) ∙ done)
 
 -- what the event comes to
-abbrev taken_part : ℕ → List ℕ → RpcUnit → Work → List (List ℕ) → Result (Part Desk) StepRefused
+abbrev taken_part : ℕ → List ℕ → RpcUnit → Work → List (List ℕ) → Result (Part DialWork) StepRefused
 taken_part number bytes unit w left =
     after_turn (Ok (record { value = take_by (take_of w.logons.channel unit) None (at_turn number w); left = left })) (cut_stream bytes).rest number
 
@@ -154,10 +154,10 @@ whole_part running number said bytes frames unit left on rest none heard =
     ∙ ap (λ (r : List ℕ). serve_dialled (cut_stream (r ++ bytes)) number said.talk w left) rest
     ∙ ap (λ (p : ServedPart AtTurn TurnTalk). after_turn p (cut_stream bytes).rest number) (members_take.comes bytes frames unit (at_turn number w) said.talk left heard none)
 
-logons_of : (part : Part Desk) (w : Work) (how : Dialling) (left : List (List ℕ)) → desk_part w how left ≡ Ok part → part.value.0.logons ≡ w.logons
+logons_of : (part : Part DialWork) (w : Work) (how : Dialling) (left : List (List ℕ)) → dial_work_part w how left ≡ Ok part → part.value.0.logons ≡ w.logons
 logons_of part w how left is =
     let same : record { value = (w, how); left = left } ≡ part = (let x = is in cc) in
-    sym (ap (λ (p : Part Desk). p.value.0.logons) same)
+    sym (ap (λ (p : Part DialWork). p.value.0.logons) same)
 
 -- ---- what is written down of it
 
@@ -174,7 +174,7 @@ pub record IsSentAs (note : TurnNote) (number : Option ℕ) (units : List Sent) 
   pub there : slice_get units request ≡ Some unit
   pub mark : unit.mark ≡ note.mark
 
-out_answer : (units : List Sent) (member : ℕ) (pending : Pending) (logon : Logon) (standing : Option Channel) (carried : Option ℕ) (message : MessageTaken) →
+out_answer : (units : List Sent) (member : ℕ) (pending : Pending) (logon : Logon) (standing : Option ChannelIdentity) (carried : Option ℕ) (message : MessageTaken) →
     IsOutIn units member pending logon standing message → IsOutIn units member pending logon standing (with_answer carried message)
 out_answer units member pending logon standing carried message is = record {
   link = is.link;
@@ -190,7 +190,7 @@ out_answer units member pending logon standing carried message is = record {
 }
 
 -- as units come, on the same channel
-pub out_more : (units more : List Sent) (member : ℕ) (pending : Pending) (logon : Logon) (old new : Option Channel) (message : MessageTaken) →
+pub out_more : (units more : List Sent) (member : ℕ) (pending : Pending) (logon : Logon) (old new : Option ChannelIdentity) (message : MessageTaken) →
     ((k : ℕ) (unit : Sent) → slice_get units k ≡ Some unit → slice_get more k ≡ Some unit) → old ≡ new → IsOutIn units member pending logon old message → IsOutIn more member pending logon new message
 out_more units more member pending logon old new message grown same is = record {
   link = is.link;
@@ -215,8 +215,8 @@ has_noted note logons carried number member place logon messages one =
     (λ message is. record { same_member = is.same_member; same_place = is.same_place; same_logon = is.same_logon; link = is.link }) messages one)
 
 -- the message of the logon whose call went out
-called_out : (more : List Sent) (member : ℕ) (pending : Pending) (logon : Logon) (standing : Option Channel) (note : TurnNote) (logons : Logons) (carried number : Option ℕ) (messages : List MessageTaken)
-    (channel : Channel) (timestamp : ℕ) → note ≡ request_note (Calling channel pending.number timestamp) (Some pending.place) → standing ≡ Some channel →
+called_out : (more : List Sent) (member : ℕ) (pending : Pending) (logon : Logon) (standing : Option ChannelIdentity) (note : TurnNote) (logons : Logons) (carried number : Option ℕ) (messages : List MessageTaken)
+    (channel : ChannelIdentity) (timestamp : ℕ) → note ≡ request_note (Calling channel pending.number timestamp) (Some pending.place) → standing ≡ Some channel →
     lookup same_number pending.place logons.asked ≡ Some logon → IsSentAs note number more → HasOne member messages pending.place logon →
     OneOf (IsOutIn more member pending logon standing) (noted note logons carried number messages)
 called_out more member pending logon standing note logons carried number messages channel timestamp is stands there sent one =
@@ -243,7 +243,7 @@ called_out more member pending logon standing note logons carried number message
 module _ (units more : List Sent) (grown : (k : ℕ) (unit : Sent) → slice_get units k ≡ Some unit → slice_get more k ≡ Some unit) (messages after : List MessageTaken)
     (onward : (P : MessageTaken → Type 0) → OneOf P messages → OneOf P after) (controller member : ℕ) (carried number : Option ℕ) where
   -- nothing happened
-  still_out : (pending : Pending) (logon : Logon) (old new : Option Channel) (note : TurnNote) (logons : Logons) → note ≡ no_note → old ≡ new →
+  still_out : (pending : Pending) (logon : Logon) (old new : Option ChannelIdentity) (note : TurnNote) (logons : Logons) → note ≡ no_note → old ≡ new →
       OneOf (IsOutIn units member pending logon old) messages → OneOf (IsOutIn more member pending logon new) (noted note logons carried number after)
   still_out pending logon old new note logons none same one =
       subst (λ (n : TurnNote). OneOf (IsOutIn more member pending logon new) (noted n logons carried number after)) (sym none)
@@ -251,11 +251,11 @@ module _ (units more : List Sent) (grown : (k : ℕ) (unit : Sent) → slice_get
       (one_weaker (IsOutIn units member pending logon old) (IsOutIn more member pending logon new) messages
       (λ message is. out_more units more member pending logon old new message grown same is) one))
 
-  whole_out : ChannelStepsKnown → (part : Result (Part Desk) StepRefused) (running : Running) (link : ℕ) (said : LinkState TurnTalk) (bytes : List ℕ) (frames : List RpcUnit) (unit : RpcUnit) (now : ℕ)
+  whole_out : ChannelStepsKnown → (part : Result (Part DialWork) StepRefused) (running : Running) (link : ℕ) (said : LinkState TurnTalk) (bytes : List ℕ) (frames : List RpcUnit) (unit : RpcUnit) (now : ℕ)
       (left : List (List ℕ)) (Own : ℕ → Type 0) → running.dialling ≡ dialling.On link said → said.rest ≡ [] → said.talk.joiner ≡ None → IsHeard bytes frames unit →
       event_part running (event.Bytes link bytes) now left ≡ part → IsCoherent running.logons.channel → KeptIn (HasOne member messages) Own (Some running) →
       OutFor units messages controller member (Some running) →
-      ((after : Part Desk) → part ≡ Ok after → (taking_note (Some (take_of running.logons.channel unit)) controller running.logons.channel).sends ≡ true →
+      ((after : Part DialWork) → part ≡ Ok after → (taking_note (Some (take_of running.logons.channel unit)) controller running.logons.channel).sends ≡ true →
       IsSentAs (taking_note (Some (take_of running.logons.channel unit)) controller running.logons.channel) number more) →
       OutFor more (noted (taking_note (Some (take_of running.logons.channel unit)) controller running.logons.channel) running.logons carried number after) controller member
       (step_by actions_in state_in halted_state left part).state.running
@@ -266,9 +266,9 @@ module _ (units more : List Sent) (grown : (k : ℕ) (unit : Sent) → slice_get
       let new : Requester = part.value.0.logons.channel in
       let note : TurnNote = taking_note (Some (take_of c unit)) controller c in
       let w : Work = work_of running in
-      let first : Result (Part Desk) StepRefused = by_event (event.Bytes link bytes) running.dialling w left in
+      let first : Result (Part DialWork) StepRefused = by_event (event.Bytes link bytes) running.dialling w left in
       let known : StepsIfTaken first (ComesCalmly t) now (Ok part) =
-      subst (λ (p : Result (Part Desk) StepRefused). StepsIfTaken first (ComesCalmly t) now p) is (steps.whole running link said bytes frames unit now left on rest none heard) in
+      subst (λ (p : Result (Part DialWork) StepRefused). StepsIfTaken first (ComesCalmly t) now p) is (steps.whole running link said bytes frames unit now left on rest none heard) in
       let so : OutSteps t first new pending = out_steps t first now new part.left pending question.Logon known turn reply in
       let same : taken_part link bytes unit w left ≡ Ok so.part = sym (whole_part running link said bytes frames unit left on rest none heard) ∙ so.is in
       let logons : so.part.value.0.logons ≡ (take_by (take_of c unit) None (at_turn link w)).0.work.logons = logons_of so.part (take_by (take_of c unit) None (at_turn link w)).0.work _ left same in
@@ -295,7 +295,7 @@ pub whole_holds : ChannelStepsKnown → (links : List Route) (units more : List 
     (bytes : List ℕ) (frames : List RpcUnit) (unit : RpcUnit) (now : ℕ) (left : List (List ℕ)) (carried number : Option ℕ) →
     ((k : ℕ) (one : Sent) → slice_get units k ≡ Some one → slice_get more k ≡ Some one) → running.dialling ≡ dialling.On w.link said → said.rest ≡ [] → said.talk.joiner ≡ None →
     IsHeard bytes frames unit →
-    ((after : Part Desk) → event_part running (event.Bytes w.link bytes) now left ≡ Ok after → (taking_note (Some (take_of running.logons.channel unit)) controller running.logons.channel).sends ≡ true →
+    ((after : Part DialWork) → event_part running (event.Bytes w.link bytes) now left ≡ Ok after → (taking_note (Some (take_of running.logons.channel unit)) controller running.logons.channel).sends ≡ true →
     IsSentAs (taking_note (Some (take_of running.logons.channel unit)) controller running.logons.channel) number more) →
     MemberHolds links units messages controller w.member (Some running) →
     MemberHolds links more

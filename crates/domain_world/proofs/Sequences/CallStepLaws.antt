@@ -6,7 +6,7 @@ use Rattle.outside.specs.Machine.{Part, left_by}
 use Rattle.outside.specs.declared.action.Action.{Action}
 use Rattle.outside.specs.declared.action.StepRefused.{StepRefused}
 use Rattle.outside.specs.declared.event.Event.{Event}
-use Rattle.authenticators.specs.Channels.{Channel}
+use Rattle.authenticators.specs.Channels.{ChannelIdentity}
 use Rattle.channel_client.specs.Effects.{IsCoherent, stands_in, view_of}
 use Rattle.channel_client.specs.Machine.{can_start, needs_challenge, start_of}
 use Rattle.channel_client.specs.State.{Requester}
@@ -15,7 +15,7 @@ use Rattle.channel_events.specs.Requests.{IsDrawn}
 use Rattle.member_server.specs.ChannelSteps.{IsNextTurn}
 use Rattle.member_server.specs.Dials.{IsDialledBy, IsWaiting, TurnSteps, dials_in}
 use Rattle.member_server.specs.Machine.{by_event, work_of}
-use Rattle.member_server.specs.Turns.{Desk, timestamp_of}
+use Rattle.member_server.specs.Turns.{DialWork, timestamp_of}
 use Rattle.member_server.specs.declared.state.Dialling.{Dialling}
 use Rattle.member_server.specs.declared.state.Running.{Running}
 use Rattle.step_notes.specs.MemberNotes.{turn_of}
@@ -45,7 +45,7 @@ pub record OwnCalls (Done : ℕ → Type 0) (marks : List Mark) (drawn : List (L
 -- more is written down and drawn, and more is answered
 pub own_grows : (Done Later : ℕ → Type 0) (so : (n : ℕ) → Done n → Later n) (marks later : List Mark) (drawn after : List (List ℕ)) (turns : List LogonTurn) (given more : Given) (controller k : ℕ) (running : Running) →
     ((j : ℕ) (mark : Mark) → slice_get marks j ≡ Some mark → slice_get later j ≡ Some mark) →
-    ((c : Channel) → stands_in controller running.logons.channel.caller.computer running.logons.channel.standing ≡ Some c → (n number timestamp : ℕ) (d : Channel) →
+    ((c : ChannelIdentity) → stands_in controller running.logons.channel.caller.computer running.logons.channel.standing ≡ Some c → (n number timestamp : ℕ) (d : ChannelIdentity) →
     slice_get later n ≡ Some (Calling d number timestamp) → d.client ≡ c.client → slice_get marks n ≡ Some (Calling d number timestamp)) →
     given_dials k more ≡ given_dials k given → StillDrawn drawn after → OwnCalls Done marks drawn turns given controller k running → OwnCalls Later later after turns more controller k running
 own_grows Done Later so marks later drawn after turns given more controller k running still new same grown old = record {
@@ -81,11 +81,11 @@ module _ (Done : ℕ → Type 0) (marks : List Mark) (drawn : List (List ℕ)) (
     calls = calls;
   }
 
-  next_calls : (starts needs : Bool) (now : ℕ) (mid : Requester) (left rest_left : List (List ℕ)) (new : Requester) (after : List (List ℕ)) (how : Dialling) (desk : Desk) →
-      can_start mid.turn mid.waiting ≡ starts → needs_challenge mid.standing ≡ needs → IsNextTurn starts needs now mid rest_left new after → IsRest rest_left left → IsDialledBy starts how desk →
+  next_calls : (starts needs : Bool) (now : ℕ) (mid : Requester) (left rest_left : List (List ℕ)) (new : Requester) (after : List (List ℕ)) (how : Dialling) (dial_work : DialWork) →
+      can_start mid.turn mid.waiting ≡ starts → needs_challenge mid.standing ≡ needs → IsNextTurn starts needs now mid rest_left new after → IsRest rest_left left → IsDialledBy starts how dial_work →
       IsCoherent mid → Differ (drawn ++ draws_between left after) → Turned (view_of controller mid) own drawn → KnowsCalls Done marks own controller mid →
-      Next Done marks (drawn ++ draws_between left after) own controller k new (dials_in desk.0.actions)
-  next_calls false needs now mid left rest_left new after how desk can need next rest dials coherent differ turned calls =
+      Next Done marks (drawn ++ draws_between left after) own controller k new (dials_in dial_work.0.actions)
+  next_calls false needs now mid left rest_left new after how dial_work can need next rest dials coherent differ turned calls =
       let still : StillDrawn drawn (drawn ++ draws_between left after) = λ challenge is. drawn_still challenge drawn (draws_between left after) is in
       record {
         turns = own;
@@ -97,23 +97,23 @@ module _ (Done : ℕ → Type 0) (marks : List Mark) (drawn : List (List ℕ)) (
             (turned_later (view_of controller mid) own drawn (drawn ++ draws_between left after) still turned);
         calls = subst (λ (x : Requester). KnowsCalls Done marks own controller x) (sym next.0) calls;
       }
-  next_calls true false now mid left rest_left new after how desk can need next rest dials coherent differ turned calls =
+  next_calls true false now mid left rest_left new after how dial_work can need next rest dials coherent differ turned calls =
       let t : Requester = (start_of mid (timestamp_of now) (replicate 8 0)).state in
       let later : List (List ℕ) = drawn ++ draws_between left after in
       let still : StillDrawn drawn later = λ challenge is. drawn_still challenge drawn (draws_between left after) is in
-      with_turn new (dials_in desk.0.actions) later dials.0 still
+      with_turn new (dials_in dial_work.0.actions) later dials.0 still
       (subst (λ (x : Requester). Turned (view_of controller x) (own ++ turn_of controller k x) later) (sym next.0)
       (turned_later (view_of controller t) (own ++ turn_of controller k t) drawn later still (starts_so own drawn controller k (timestamp_of now) (replicate 8 0) false mid can need tt before coherent turned)))
       (subst (λ (x : Requester). KnowsCalls Done marks (own ++ turn_of controller k x) controller x) (sym next.0)
       (start_knows Done marks own controller k (timestamp_of now) (replicate 8 0) mid can calls))
-  next_calls true true now mid left rest_left new after how desk can need next rest dials coherent differ turned calls =
+  next_calls true true now mid left rest_left new after how dial_work can need next rest dials coherent differ turned calls =
       let challenge : List ℕ = next.0 in
       let t : Requester = (start_of mid (timestamp_of now) challenge).state in
       let later : List (List ℕ) = drawn ++ draws_between left after in
       let still : StillDrawn drawn later = λ one is. drawn_still one drawn (draws_between left after) is in
       let same : later ≡ (drawn ++ rest.front) ++ challenge ∷ [] = one_drawn drawn left rest_left after rest challenge next.1 in
       let fresh : IsDrawn challenge (drawn ++ rest.front) → ⊥ = fresh_last (drawn ++ rest.front) challenge (subst Differ same differ) in
-      with_turn new (dials_in desk.0.actions) later dials.0 still
+      with_turn new (dials_in dial_work.0.actions) later dials.0 still
       (subst (λ (x : Requester). Turned (view_of controller x) (own ++ turn_of controller k x) later) (sym next.2)
       (turned_later (view_of controller t) (own ++ turn_of controller k t) (drawn ++ challenge ∷ []) later
       (λ one is. subst (IsDrawn one) (sym same) (drawn_between one drawn rest.front challenge is))
@@ -123,7 +123,7 @@ module _ (Done : ℕ → Type 0) (marks : List Mark) (drawn : List (List ℕ)) (
 
 -- what the event comes to is known, and the next turn may start
 pub step_calls : (Done : ℕ → Type 0) (marks : List Mark) (drawn : List (List ℕ)) (turns : List LogonTurn) (given : Given) (controller k : ℕ) (running : Running) (what : Event) (now : ℕ) (left : List (List ℕ))
-    (part : Part Desk) (own : List LogonTurn) (steps : TurnSteps running.logons.channel (by_event what running.dialling (work_of running) left) now part) → AreDrawn drawn own →
+    (part : Part DialWork) (own : List LogonTurn) (steps : TurnSteps running.logons.channel (by_event what running.dialling (work_of running) left) now part) → AreDrawn drawn own →
     (given_dials k given ≡ 0 → own ≡ mine k turns) →
     (dials_in part.value.0.actions ≡ 0 → given_dials k given ≡ 1 → IsWaiting part.value.1 → own ≡ mine k turns ++ turn_of controller k part.value.0.logons.channel) → IsCoherent running.logons.channel →
     Turned (view_of controller running.logons.channel) own drawn → KnowsCalls Done marks own controller steps.part.value.0.logons.channel → Differ (drawn ++ draws_between left part.left) →
@@ -134,7 +134,7 @@ step_calls Done marks drawn turns given controller k running what now left part 
     let actions : List Action = part.value.0.actions in
     let comes = comes_so own drawn controller running.logons.channel mid steps.comes coherent turned in
     let rest_left : IsRest steps.part.left left =
-    subst (λ (first : Result (Part Desk) StepRefused). IsRest (left_by first) left) steps.is (event_rest what running.dialling (work_of running) left) in
+    subst (λ (first : Result (Part DialWork) StepRefused). IsRest (left_by first) left) steps.is (event_rest what running.dialling (work_of running) left) in
     let next : Next Done marks (drawn ++ draws_between left part.left) own controller k part.value.0.logons.channel (dials_in actions) =
     next_calls Done marks drawn own controller k before (can_start mid.turn mid.waiting) (needs_challenge mid.standing) now mid left steps.part.left part.value.0.logons.channel part.left
     steps.part.value.1 part.value refl refl steps.next rest_left steps.dials comes.0 differ comes.1 calls in

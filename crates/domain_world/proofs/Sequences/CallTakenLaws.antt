@@ -1,7 +1,7 @@
 -- A unit that a requester takes keeps what is known of the calls of its turns.
 -- It serves `sequences_are_shared`.
 use Rattle.std.proofs.Common.{◌≡◌, ℕ, List, ◌++◌, Option, Some, None, slice_get, refl, sym, ap, subst, ◌∙◌}
-use Rattle.authenticators.specs.Channels.{Channel}
+use Rattle.authenticators.specs.Channels.{ChannelIdentity}
 use Rattle.authenticators.specs.SecureChannels.{channel_of}
 use Rattle.rpc_units.specs.declared.unit.Unit.{Unit as RpcUnit}
 use Rattle.channel_client.specs.Effects.{HasEffect, IsCoherent, MatchesStep, asking_in, effect_heard, effect_judged, number_in, stands_in, step_in, view_of}
@@ -67,7 +67,7 @@ waits_reply (Some p) how number asking = waits_by p p.step how number refl askin
 
 module _ (Done Later : ℕ → Type 0) (so : (n : ℕ) → Done n → Later n) (marks more : List Mark) (own : List LogonTurn) (drawn : List (List ℕ)) (controller : ℕ) (s : Requester)
     (turned : Turned (view_of controller s) own drawn)
-    (fresh : (challenge : List ℕ) → (view_of controller s).opening ≡ Some challenge → (n number timestamp : ℕ) (d : Channel) → slice_get marks n ≡ Some (Calling d number timestamp) → d.client ≡ challenge → ⊥)
+    (fresh : (challenge : List ℕ) → (view_of controller s).opening ≡ Some challenge → (n number timestamp : ℕ) (d : ChannelIdentity) → slice_get marks n ≡ Some (Calling d number timestamp) → d.client ≡ challenge → ⊥)
     (knows : KnowsCalls Done marks own controller s) where
   abbrev noted : Hearing → TurnNote
   noted h = taking_note (Some (act h s)) controller s
@@ -81,36 +81,36 @@ module _ (Done Later : ℕ → Type 0) (so : (n : ℕ) → Done n → Later n) (
       calls_still Done Later so marks (marks ++ more) own c (λ k mark there. got_append marks more k mark there) (λ n number timestamp d there same. calls_before marks more none n number timestamp d there)
       t.turn (known c is)
 
-  later_so : (some : List Mark) (c : Channel) (turn : Option Pending) → CallsMade Done some own c turn → CallsMade Later some own c turn
+  later_so : (some : List Mark) (c : ChannelIdentity) (turn : Option Pending) → CallsMade Done some own c turn → CallsMade Later some own c turn
   later_so some c turn calls = calls_still Done Later so some some own c (λ k mark there. there) (λ n number timestamp d there same. there) turn calls
 
   judged_knows : (j : Judgement) → HasEffect controller (effect_judged controller j s.caller.computer (number_in s.turn)) s (settle j s).state → NoCalls more →
-      ((c : Channel) (number : ℕ) → IsAnswer (settle j s).taken → (view_of controller s).stands ≡ Some c → (view_of controller s).asking ≡ Some number → (n timestamp : ℕ) →
+      ((c : ChannelIdentity) (number : ℕ) → IsAnswer (settle j s).taken → (view_of controller s).stands ≡ Some c → (view_of controller s).asking ≡ Some number → (n timestamp : ℕ) →
       slice_get marks n ≡ Some (Calling c number timestamp) → Later n) → Now (settle j s).state
   judged_knows (judgement.Half client server) has none done = λ c is. absurd (let x = is in cc)
   judged_knows (judgement.Drop cause) has none done = λ c is. absurd (let x = is in cc)
   judged_knows (judgement.Opened o) has none done = λ c is.
-      let its : Channel = channel_of controller s.caller.computer o in
+      let its : ChannelIdentity = channel_of controller s.caller.computer o in
       let same : its ≡ c = some_is its c is in
-      subst (λ (x : Channel). CallsMade Later (marks ++ more) own x None) same
+      subst (λ (x : ChannelIdentity). CallsMade Later (marks ++ more) own x None) same
       (opened_knows Later (marks ++ more) own its
       (λ n number timestamp d there client. fresh its.client has.0.0 n number timestamp d (calls_before marks more none n number timestamp d there) client)
       (none_on its own (turned.fresh its.client has.0.0)))
   judged_knows (judgement.Answer o v) has none done = λ c is.
-      let its : Channel = channel_of controller s.caller.computer o in
+      let its : ChannelIdentity = channel_of controller s.caller.computer o in
       let number : ℕ = number_in s.turn in
       let same : its ≡ c = some_is its c is in
       let waits : WaitsReply s.turn number = waits_reply s.turn s.standing number has.0.1 in
       let answered : CallsMade Later marks own its None =
       answered_knows Later marks own its s.turn number waits.place waits.q waits.is (λ n timestamp there. done its number tt has.0.0 has.0.1 n timestamp there)
       (later_so marks its s.turn (knows its has.0.0)) in
-      subst (λ (x : Channel). CallsMade Later (marks ++ more) own x None) same
+      subst (λ (x : ChannelIdentity). CallsMade Later (marks ++ more) own x None) same
       (calls_still Later Later (λ n is. is) marks (marks ++ more) own its (λ k mark there. got_append marks more k mark there)
       (λ n number timestamp d there same. calls_before marks more none n number timestamp d there) None answered)
 
   -- the call goes out
   next_knows : (q : Question) (frames : List (List ℕ)) (how : Standing) → s.standing ≡ how → IsOfTurn s.turn s.next_call (hearing.Next q frames) → MatchesStep how (Some (step.Reply q)) →
-      ((c : Channel) (number timestamp place : ℕ) → noted (hearing.Next q frames) ≡ request_note (Calling c number timestamp) (Some place) → IsPlaced more (Calling c number timestamp)) →
+      ((c : ChannelIdentity) (number timestamp place : ℕ) → noted (hearing.Next q frames) ≡ request_note (Calling c number timestamp) (Some place) → IsPlaced more (Calling c number timestamp)) →
       Now (act (hearing.Next q frames) s).state
   next_knows q frames standing.Nothing stands of matches placed = λ c is.
       absurd (let none : None ≡ Some c = sym (ap (λ (how : Standing). stands_in controller s.caller.computer how) stands) ∙ is in let x = none in cc)
@@ -119,23 +119,23 @@ module _ (Done Later : ℕ → Type 0) (so : (n : ℕ) → Done n → Later n) (
   next_knows (question.Challenge client) frames (standing.Open o) stands of matches placed = absurd matches
   next_knows question.Authenticate frames (standing.Open o) stands of matches placed = absurd matches
   next_knows question.Logon frames (standing.Open o) stands of matches placed = λ c is.
-      let its : Channel = channel_of controller s.caller.computer o in
+      let its : ChannelIdentity = channel_of controller s.caller.computer o in
       let same : its ≡ c = some_is its c (sym (ap (λ (how : Standing). stands_in controller s.caller.computer how) stands) ∙ is) in
       let stamp : ℕ = timestamp_bound (step_in s.turn) in
       let note : noted (hearing.Next question.Logon frames) ≡ request_note (Calling its s.next_call stamp) (Some (place_of s.turn)) =
       ap (λ (how : Standing). asked_note (Some (step.Reply question.Logon)) how controller s (act (hearing.Next question.Logon frames) s).state) stands in
-      subst (λ (x : Channel). CallsMade Later (marks ++ more) own x (act (hearing.Next question.Logon frames) s).state.turn) same
+      subst (λ (x : ChannelIdentity). CallsMade Later (marks ++ more) own x (act (hearing.Next question.Logon frames) s).state.turn) same
       (later_so (marks ++ more) its (act (hearing.Next question.Logon frames) s).state.turn
       (called_knows Done marks more own its s.next_call stamp (placed its s.next_call stamp (place_of s.turn) note) s.turn of.1 of.0 of.2 question.Logon (place_of s.turn) of.3 refl
       (knows its (ap (λ (how : Standing). stands_in controller s.caller.computer how) stands))))
 
   abbrev Answers : Hearing → Type 0
   Answers h =
-      (c : Channel) (number : ℕ) → IsAnswer (act h s).taken → (view_of controller s).stands ≡ Some c → (view_of controller s).asking ≡ Some number → (n timestamp : ℕ) →
+      (c : ChannelIdentity) (number : ℕ) → IsAnswer (act h s).taken → (view_of controller s).stands ≡ Some c → (view_of controller s).asking ≡ Some number → (n timestamp : ℕ) →
       slice_get marks n ≡ Some (Calling c number timestamp) → Later n
 
   abbrev IsWritten : Hearing → Type 0
-  IsWritten h = (c : Channel) (number timestamp place : ℕ) → noted h ≡ request_note (Calling c number timestamp) (Some place) → IsPlaced more (Calling c number timestamp)
+  IsWritten h = (c : ChannelIdentity) (number timestamp place : ℕ) → noted h ≡ request_note (Calling c number timestamp) (Some place) → IsPlaced more (Calling c number timestamp)
 
   settled_none : (j : Judgement) → Placed (taking_note (Some (settle j s)) controller s).sends (taking_note (Some (settle j s)) controller s).mark more → NoCalls more
   settled_none (judgement.Half client server) placed = placed
@@ -153,8 +153,8 @@ module _ (Done Later : ℕ → Type 0) (so : (n : ℕ) → Done n → Later n) (
 
   pub taken_knows : (unit : RpcUnit) → IsCoherent s →
       Placed (taking_note (Some (take_of s unit)) controller s).sends (taking_note (Some (take_of s unit)) controller s).mark more →
-      ((c : Channel) (number timestamp place : ℕ) → taking_note (Some (take_of s unit)) controller s ≡ request_note (Calling c number timestamp) (Some place) → IsPlaced more (Calling c number timestamp)) →
-      ((c : Channel) (number : ℕ) → IsAnswer (take_of s unit).taken → (view_of controller s).stands ≡ Some c → (view_of controller s).asking ≡ Some number → (n timestamp : ℕ) →
+      ((c : ChannelIdentity) (number timestamp place : ℕ) → taking_note (Some (take_of s unit)) controller s ≡ request_note (Calling c number timestamp) (Some place) → IsPlaced more (Calling c number timestamp)) →
+      ((c : ChannelIdentity) (number : ℕ) → IsAnswer (take_of s unit).taken → (view_of controller s).stands ≡ Some c → (view_of controller s).asking ≡ Some number → (n timestamp : ℕ) →
       slice_get marks n ≡ Some (Calling c number timestamp) → Later n) → KnowsCalls Later (marks ++ more) own controller (take_of s unit).state
   taken_knows unit coherent placed written done =
       acted_knows (hear s.turn unit s.next_call) (steps_have_effects.take controller s unit coherent) (of_turn s.turn unit s.next_call) placed written done

@@ -4,7 +4,7 @@
 use Rattle.std.proofs.Common.{◌≡◌, ◌≢◌, ◌⊎◌, ℕ, zero, suc, ◌<◌, Bool, true, false, List, [], ◌∷◌, ◌++◌, length, inl, inr, Option, Some, None, slice_get, refl, sym, ap, subst, ◌∙◌, arith, length-append}
 use Rattle.std.specs.List.{AllByRecursion}
 use Rattle.std.proofs.lemmas.List.{map-append}
-use Rattle.authenticators.specs.Channels.{Channel}
+use Rattle.authenticators.specs.Channels.{ChannelIdentity}
 use Rattle.authenticators.specs.SecureChannels.{channel_of}
 use Rattle.channel_client.specs.Effects.{stands_in, step_in}
 use Rattle.channel_client.specs.Machine.{ask_by, ask_of, can_start, lose_of, start_of}
@@ -32,7 +32,7 @@ use Rattle.domain_world.proofs.Sequences.SeedTurnLaws.{stamps_last, stamps_on}
 -- ---- what is known
 
 -- the unit was made as a call on the channel, with that timestamp
-pub record IsCalled (marks : List Mark) (c : Channel) (one : ℕ × ℕ) : Type 0 where
+pub record IsCalled (marks : List Mark) (c : ChannelIdentity) (one : ℕ × ℕ) : Type 0 where
   pub number : ℕ
   pub there : slice_get marks one.0 ≡ Some (Calling c number one.1)
 
@@ -40,7 +40,7 @@ abbrev pub AllDone : (ℕ → Type 0) → List (ℕ × ℕ) → Type 0
 AllDone Done made = AllByRecursion (λ (one : ℕ × ℕ). Done one.0) made
 
 -- all calls but the last are answered, and the last has that number
-pub record LastIsOut (Done : ℕ → Type 0) (marks : List Mark) (c : Channel) (number : ℕ) (made : List (ℕ × ℕ)) (stamps : List ℕ) : Type 0 where
+pub record LastIsOut (Done : ℕ → Type 0) (marks : List Mark) (c : ChannelIdentity) (number : ℕ) (made : List (ℕ × ℕ)) (stamps : List ℕ) : Type 0 where
   pub earlier : List (ℕ × ℕ)
   pub last : ℕ × ℕ
   pub split : made ≡ earlier ++ last ∷ []
@@ -49,30 +49,30 @@ pub record LastIsOut (Done : ℕ → Type 0) (marks : List Mark) (c : Channel) (
   pub out : slice_get marks last.0 ≡ Some (Calling c number last.1)
 
 -- by what the turn waits for; the argument: its timestamp, where its call waits for its bind
-abbrev pub AreFarBy : (ℕ → Type 0) → List Mark → Channel → ℕ → Step → ℕ → List (ℕ × ℕ) → List ℕ → Type 0
+abbrev pub AreFarBy : (ℕ → Type 0) → List Mark → ChannelIdentity → ℕ → Step → ℕ → List (ℕ × ℕ) → List ℕ → Type 0
 AreFarBy Done marks c number (step.Bind what) bound made stamps = (stamps ≡ stamps_of made ++ bound ∷ []) × AllDone Done made
 AreFarBy Done marks c number (step.Reply q) bound made stamps = LastIsOut Done marks c number made stamps
 
-abbrev pub AreFar : (ℕ → Type 0) → List Mark → Channel → Option Pending → ℕ → List (ℕ × ℕ) → List ℕ → Type 0
+abbrev pub AreFar : (ℕ → Type 0) → List Mark → ChannelIdentity → Option Pending → ℕ → List (ℕ × ℕ) → List ℕ → Type 0
 AreFar Done marks c None bound made stamps = (stamps ≡ stamps_of made) × AllDone Done made
 AreFar Done marks c (Some p) bound made stamps = AreFarBy Done marks c p.number p.step bound made stamps
 
-pub record CallsMade (Done : ℕ → Type 0) (marks : List Mark) (own : List LogonTurn) (c : Channel) (turn : Option Pending) : Type 0 where
+pub record CallsMade (Done : ℕ → Type 0) (marks : List Mark) (own : List LogonTurn) (c : ChannelIdentity) (turn : Option Pending) : Type 0 where
   pub made : List (ℕ × ℕ)
   pub each : AllByRecursion (IsCalled marks c) made
   pub apart : AreUnitsApart made
-  pub every : (n number timestamp : ℕ) (d : Channel) → slice_get marks n ≡ Some (Calling d number timestamp) → d.client ≡ c.client → OneOf (λ (one : ℕ × ℕ). one.0 ≡ n) made
+  pub every : (n number timestamp : ℕ) (d : ChannelIdentity) → slice_get marks n ≡ Some (Calling d number timestamp) → d.client ≡ c.client → OneOf (λ (one : ℕ × ℕ). one.0 ≡ n) made
   pub far : AreFar Done marks c turn (timestamp_bound (step_in turn)) made (stamps_on c own)
 
 -- of the channel that stands, if one does
 abbrev pub KnowsCalls : (ℕ → Type 0) → List Mark → List LogonTurn → ℕ → Requester → Type 0
-KnowsCalls Done marks own controller s = (c : Channel) → stands_in controller s.caller.computer s.standing ≡ Some c → CallsMade Done marks own c s.turn
+KnowsCalls Done marks own controller s = (c : ChannelIdentity) → stands_in controller s.caller.computer s.standing ≡ Some c → CallsMade Done marks own c s.turn
 
 -- ---- units are written down that are no calls on the channel, and more are answered
 
-module _ (Done Later : ℕ → Type 0) (so : (n : ℕ) → Done n → Later n) (marks later : List Mark) (own : List LogonTurn) (c : Channel)
+module _ (Done Later : ℕ → Type 0) (so : (n : ℕ) → Done n → Later n) (marks later : List Mark) (own : List LogonTurn) (c : ChannelIdentity)
     (still : (k : ℕ) (mark : Mark) → slice_get marks k ≡ Some mark → slice_get later k ≡ Some mark)
-    (new : (n number timestamp : ℕ) (d : Channel) → slice_get later n ≡ Some (Calling d number timestamp) → d.client ≡ c.client → slice_get marks n ≡ Some (Calling d number timestamp)) where
+    (new : (n number timestamp : ℕ) (d : ChannelIdentity) → slice_get later n ≡ Some (Calling d number timestamp) → d.client ≡ c.client → slice_get marks n ≡ Some (Calling d number timestamp)) where
   each_still : (made : List (ℕ × ℕ)) → AllByRecursion (IsCalled marks c) made → AllByRecursion (IsCalled later c) made
   each_still [] each = tt
   each_still (one ∷ made) each = (record { number = each.0.number; there = still one.0 (Calling c each.0.number one.1) each.0.there }, each_still made each.1)
@@ -112,7 +112,7 @@ module _ (Done : ℕ → Type 0) (marks : List Mark) (own : List LogonTurn) (con
   calls_same s t caller standing turn knows = λ c is.
       subst (λ (p : Option Pending). CallsMade Done marks own c p) (sym turn) (knows c (sym (stands_same controller s t caller standing) ∙ is))
 
-  none_knows : (s : Requester) → ((c : Channel) → stands_in controller s.caller.computer s.standing ≡ Some c → ⊥) → KnowsCalls Done marks own controller s
+  none_knows : (s : Requester) → ((c : ChannelIdentity) → stands_in controller s.caller.computer s.standing ≡ Some c → ⊥) → KnowsCalls Done marks own controller s
   none_knows s none = λ c is. absurd (none c is)
 
   asked_knows : (full : Bool) (s : Requester) (info : _) → KnowsCalls Done marks own controller s → KnowsCalls Done marks own controller (ask_by full s info).state
@@ -129,7 +129,7 @@ module _ (Done : ℕ → Type 0) (marks : List Mark) (own : List LogonTurn) (con
 
   -- ---- a turn starts
 
-  started_far : (c : Channel) (turn : LogonTurn) → turn.channel ≡ c → CallsMade Done marks own c None → (number place : ℕ) (what : Call) → timestamp_bound (Some (step.Bind what)) ≡ turn.timestamp →
+  started_far : (c : ChannelIdentity) (turn : LogonTurn) → turn.channel ≡ c → CallsMade Done marks own c None → (number place : ℕ) (what : Call) → timestamp_bound (Some (step.Bind what)) ≡ turn.timestamp →
       CallsMade Done marks (own ++ turn ∷ []) c (Some (record { number = number; place = place; step = step.Bind what }))
   started_far c turn on calls number place what is = record {
     made = calls.made;
@@ -165,7 +165,7 @@ got_within [] k mark there = absurd (got_nothing k mark there)
 got_within (first ∷ marks) zero mark there = omega arith
 got_within (first ∷ marks) (suc k) mark there = omega (arith, got_within marks k mark there)
 
-module _ (Done : ℕ → Type 0) (marks more : List Mark) (own : List LogonTurn) (c : Channel) (number timestamp : ℕ) (placed : IsPlaced more (Calling c number timestamp)) where
+module _ (Done : ℕ → Type 0) (marks more : List Mark) (own : List LogonTurn) (c : ChannelIdentity) (number timestamp : ℕ) (placed : IsPlaced more (Calling c number timestamp)) where
   abbrev at : ℕ
   at = length (marks ++ placed.front)
 
@@ -177,7 +177,7 @@ module _ (Done : ℕ → Type 0) (marks more : List Mark) (own : List LogonTurn)
       subst (λ (all : List Mark). slice_get all at ≡ Some its) (placed_as marks more its placed)
       (got_append ((marks ++ placed.front) ++ its ∷ []) placed.rest at its (got_last (marks ++ placed.front) its))
 
-  old_or_it : (n other stamp : ℕ) (d : Channel) → slice_get (marks ++ more) n ≡ Some (Calling d other stamp) → (slice_get marks n ≡ Some (Calling d other stamp)) ⊎ (n ≡ at)
+  old_or_it : (n other stamp : ℕ) (d : ChannelIdentity) → slice_get (marks ++ more) n ≡ Some (Calling d other stamp) → (slice_get marks n ≡ Some (Calling d other stamp)) ⊎ (n ≡ at)
   old_or_it n other stamp d there =
       let front : slice_get ((marks ++ placed.front) ++ its ∷ []) n ≡ Some (Calling d other stamp) =
       calls_before ((marks ++ placed.front) ++ its ∷ []) placed.rest placed.behind n other stamp d
@@ -231,7 +231,7 @@ done_last : (Done : ℕ → Type 0) (made : List (ℕ × ℕ)) (last : ℕ × �
 done_last Done [] last all is = (is, tt)
 done_last Done (one ∷ made) last all is = (all.0, done_last Done made last all.1 is)
 
-pub answered_knows : (Done : ℕ → Type 0) (marks : List Mark) (own : List LogonTurn) (c : Channel) (turn : Option Pending) (number place : ℕ) (q : Question) →
+pub answered_knows : (Done : ℕ → Type 0) (marks : List Mark) (own : List LogonTurn) (c : ChannelIdentity) (turn : Option Pending) (number place : ℕ) (q : Question) →
     turn ≡ Some (record { number = number; place = place; step = step.Reply q }) → ((n timestamp : ℕ) → slice_get marks n ≡ Some (Calling c number timestamp) → Done n) →
     CallsMade Done marks own c turn → CallsMade Done marks own c None
 answered_knows Done marks own c turn number place q is done calls =
@@ -250,7 +250,7 @@ answered_knows Done marks own c turn number place q is done calls =
 
 -- ---- a channel opens
 
-pub opened_knows : (Done : ℕ → Type 0) (marks : List Mark) (own : List LogonTurn) (c : Channel) → ((n number timestamp : ℕ) (d : Channel) → slice_get marks n ≡ Some (Calling d number timestamp) → d.client ≡ c.client → ⊥) →
+pub opened_knows : (Done : ℕ → Type 0) (marks : List Mark) (own : List LogonTurn) (c : ChannelIdentity) → ((n number timestamp : ℕ) (d : ChannelIdentity) → slice_get marks n ≡ Some (Calling d number timestamp) → d.client ≡ c.client → ⊥) →
     stamps_on c own ≡ [] → CallsMade Done marks own c None
 opened_knows Done marks own c none stamps =
     record { made = []; each = tt; apart = tt; every = λ n number timestamp d there same. absurd (none n number timestamp d there same); far = (stamps, tt) }

@@ -2,7 +2,7 @@
 -- It serves `sequences_are_shared`.
 use Rattle.std.proofs.Common.{◌≡◌, ◌⊎◌, ℕ, zero, suc, List, [], ◌∷◌, inl, inr, Option, Some, None, slice_get, refl, sym, ap, subst, ◌∙◌}
 use Rattle.std.specs.List.{AllByRecursion}
-use Rattle.authenticators.specs.Channels.{Channel}
+use Rattle.authenticators.specs.Channels.{ChannelIdentity}
 use Rattle.authenticators.specs.SecureChannels.{SecureChannelState}
 use Rattle.channel_client.specs.Effects.{stands_in, step_in}
 use Rattle.channel_client.specs.declared.state.Pending.{Pending}
@@ -49,27 +49,27 @@ module _ (p : Past) (Done : ℕ → Type 0) (passed : (n : ℕ) → Done n → H
   have_passed [] all = tt
   have_passed (one ∷ made) all = (passed one.0 all.0, have_passed made all.1)
 
-  made_one : (c : Channel) (one : ℕ × ℕ) → IsCalled marks c one → IsMadeOn p c one.0 one.1
+  made_one : (c : ChannelIdentity) (one : ℕ × ℕ) → IsCalled marks c one → IsMadeOn p c one.0 one.1
   made_one c one is =
       let found = got_map (λ (sent : Sent). sent.mark) p.book.sent one.0 (Calling c is.number one.1) is.there in
       record { sent = found.0; there = found.1; number = is.number; mark = found.2 }
 
-  made_each : (c : Channel) (made : List (ℕ × ℕ)) → AllByRecursion (IsCalled marks c) made → AllByRecursion (λ (one : ℕ × ℕ). IsMadeOn p c one.0 one.1) made
+  made_each : (c : ChannelIdentity) (made : List (ℕ × ℕ)) → AllByRecursion (IsCalled marks c) made → AllByRecursion (λ (one : ℕ × ℕ). IsMadeOn p c one.0 one.1) made
   made_each c [] each = tt
   made_each c (one ∷ made) each = (made_one c one each.0, made_each c made each.1)
 
-  far_step : (c : Channel) (turn : Option Pending) (pending : Pending) (number : ℕ) (st : Step) (bound : ℕ) (made : List (ℕ × ℕ)) (stamps : List ℕ) → turn ≡ Some pending →
+  far_step : (c : ChannelIdentity) (turn : Option Pending) (pending : Pending) (number : ℕ) (st : Step) (bound : ℕ) (made : List (ℕ × ℕ)) (stamps : List ℕ) → turn ≡ Some pending →
       AreFarBy Done marks c number st bound made stamps → AreSoFar p turn made stamps
   far_step c turn pending number (step.Bind what) bound made stamps is far =
       inr (inl (record { pending = pending; is_out = is; last = bound; all = far.0; passed = have_passed made far.1 }))
   far_step c turn pending number (step.Reply q) bound made stamps is far =
       inr (inr (record { pending = pending; is_out = is; earlier = far.earlier; last = far.last; split = far.split; all = far.all; passed = have_passed far.earlier far.answered }))
 
-  so_far : (c : Channel) (turn : Option Pending) (bound : ℕ) (made : List (ℕ × ℕ)) (stamps : List ℕ) → AreFar Done marks c turn bound made stamps → AreSoFar p turn made stamps
+  so_far : (c : ChannelIdentity) (turn : Option Pending) (bound : ℕ) (made : List (ℕ × ℕ)) (stamps : List ℕ) → AreFar Done marks c turn bound made stamps → AreSoFar p turn made stamps
   so_far c None bound made stamps far = inl (far.0, have_passed made far.1)
   so_far c (Some pending) bound made stamps far = far_step c (Some pending) pending pending.number pending.step bound made stamps refl far
 
-  of_turns : (c : Channel) (turn : Option Pending) (own : List LogonTurn) (timestamps : List ℕ) → stamps_on c own ≡ timestamps → CallsMade Done marks own c turn → CallsOfTurns p c turn timestamps
+  of_turns : (c : ChannelIdentity) (turn : Option Pending) (own : List LogonTurn) (timestamps : List ℕ) → stamps_on c own ≡ timestamps → CallsMade Done marks own c turn → CallsOfTurns p c turn timestamps
   of_turns c turn own timestamps same calls = record {
     made = calls.made;
     each = made_each c calls.made calls.each;

@@ -13,7 +13,7 @@ use Rattle.world_moves.specs.declared.links.LinkKind.{LinkKind}
 use Rattle.world_moves.specs.declared.links.LinkKind.TheVariants as kind
 use Rattle.world_moves.specs.declared.links.Route.{Route}
 use Rattle.world_moves.specs.declared.state.State.{State}
-use Rattle.world_moves.specs.declared.state.Waiting.{Waiting}
+use Rattle.world_moves.specs.declared.state.WaitingDial.{WaitingDial}
 use Rattle.world_moves.specs.Acting.{Given, bag_unit, given_by, is_of_other, perform_quietly, send_on}
 use Rattle.world_moves.specs.Links.{is_accepted_by, kind_of, same_end}
 
@@ -36,7 +36,7 @@ abbrev pub given_dials : ℕ → Given → ℕ
 given_dials k [] = 0
 given_dials k (one ∷ given) = counted (is_member k one.0) one.1 + given_dials k given
 
-abbrev pub waiting_dials : ℕ → List Waiting → ℕ
+abbrev pub waiting_dials : ℕ → List WaitingDial → ℕ
 waiting_dials k [] = 0
 waiting_dials k (dial ∷ dials) = one_if (is_member k dial.end) + waiting_dials k dials
 
@@ -46,7 +46,7 @@ answered_dials k (Some end) = one_if (is_member k end)
 
 -- the dials of that member that weren't answered yet: the one that is answered just now, those that were given and
 -- aren't done, and those that wait
-abbrev pub dials_out : ℕ → Option EndId → Given → List Waiting → ℕ
+abbrev pub dials_out : ℕ → Option EndId → Given → List WaitingDial → ℕ
 dials_out k d rest dials = answered_dials k d + given_dials k rest + waiting_dials k dials
 
 -- ---- what was given
@@ -73,21 +73,21 @@ is_that k (Client at) is = absurd (let x = is in cc)
 
 -- ---- dials that wait
 
-pub waiting_append : (k : ℕ) (dials more : List Waiting) → waiting_dials k (dials ++ more) ≡ waiting_dials k dials + waiting_dials k more
+pub waiting_append : (k : ℕ) (dials more : List WaitingDial) → waiting_dials k (dials ++ more) ≡ waiting_dials k dials + waiting_dials k more
 waiting_append k [] more = omega arith
 waiting_append k (dial ∷ dials) more = omega (arith, waiting_append k dials more)
 
-forgotten_one : (keep : Bool) (k : ℕ) (end : EndId) (dial : Waiting) (dials : List Waiting) → waiting_dials k (filter (is_of_other end) dials) ≤ waiting_dials k dials →
+forgotten_one : (keep : Bool) (k : ℕ) (end : EndId) (dial : WaitingDial) (dials : List WaitingDial) → waiting_dials k (filter (is_of_other end) dials) ≤ waiting_dials k dials →
     waiting_dials k (if keep then dial ∷ filter (is_of_other end) dials else filter (is_of_other end) dials) ≤ waiting_dials k (dial ∷ dials)
 forgotten_one true k end dial dials few = omega (arith, few)
 forgotten_one false k end dial dials few = omega (arith, few)
 
-pub forgotten_few : (k : ℕ) (end : EndId) (dials : List Waiting) → waiting_dials k (filter (is_of_other end) dials) ≤ waiting_dials k dials
+pub forgotten_few : (k : ℕ) (end : EndId) (dials : List WaitingDial) → waiting_dials k (filter (is_of_other end) dials) ≤ waiting_dials k dials
 forgotten_few k end [] = omega arith
 forgotten_few k end (dial ∷ dials) = forgotten_one (is_of_other end dial) k end dial dials (forgotten_few k end dials)
 
 -- the argument: whether it is of that member
-gone_one : (hit : Bool) (k : ℕ) (dial : Waiting) (dials : List Waiting) → same_end dial.end (Member k) ≡ hit → is_member k dial.end ≡ hit →
+gone_one : (hit : Bool) (k : ℕ) (dial : WaitingDial) (dials : List WaitingDial) → same_end dial.end (Member k) ≡ hit → is_member k dial.end ≡ hit →
     waiting_dials k (filter (is_of_other (Member k)) dials) ≡ 0 → waiting_dials k (filter (is_of_other (Member k)) (dial ∷ dials)) ≡ 0
 gone_one true k dial dials is own none =
     ap (λ (hit : Bool). waiting_dials k (if not hit then dial ∷ filter (is_of_other (Member k)) dials else filter (is_of_other (Member k)) dials)) is ∙ none
@@ -100,7 +100,7 @@ same_so k (Controller at) = refl
 same_so k (Member at) = refl
 same_so k (Client at) = refl
 
-pub gone_all : (k : ℕ) (dials : List Waiting) → waiting_dials k (filter (is_of_other (Member k)) dials) ≡ 0
+pub gone_all : (k : ℕ) (dials : List WaitingDial) → waiting_dials k (filter (is_of_other (Member k)) dials) ≡ 0
 gone_all k [] = refl
 gone_all k (dial ∷ dials) = gone_one (is_member k dial.end) k dial dials (same_so k dial.end) refl (gone_all k dials)
 
@@ -123,9 +123,9 @@ one_counted : (hit : Bool) (peer : List ℕ) → counted hit (Dial peer) ≡ one
 one_counted false peer = refl
 one_counted true peer = refl
 
-quiet_done : (k : ℕ) (d : Option EndId) (rest : Given) (end : EndId) (what : Action) (dials later : List Waiting) → dial_of what ≡ 0 → later ≡ dials →
+quiet_done : (k : ℕ) (d : Option EndId) (rest : Given) (end : EndId) (what : Action) (dials later : List WaitingDial) → dial_of what ≡ 0 → later ≡ dials →
     dials_out k d rest later ≡ dials_out k d ((end, what) ∷ rest) dials
-quiet_done k d rest end what dials later none same = omega (arith, none_counted (is_member k end) what none, ap (λ (l : List Waiting). waiting_dials k l) same)
+quiet_done k d rest end what dials later none same = omega (arith, none_counted (is_member k end) what none, ap (λ (l : List WaitingDial). waiting_dials k l) same)
 
 -- it was out as much before
 pub done_same : (k : ℕ) (d : Option EndId) (rest : Given) (end : EndId) (what : Action) (s : State) →

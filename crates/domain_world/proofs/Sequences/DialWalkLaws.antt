@@ -13,8 +13,8 @@ use Rattle.world_moves.specs.declared.links.EndId.{EndId}
 use Rattle.world_moves.specs.declared.links.EndId.TheVariants.{Client}
 use Rattle.world_moves.specs.declared.moves.Move.{Move}
 use Rattle.world_moves.specs.declared.state.State.{State}
-use Rattle.world_moves.specs.declared.state.Waiting.{Waiting}
-use Rattle.world_moves.specs.Acting.{Given, Heard, forget, given_by, hear, hears, perform_quietly}
+use Rattle.world_moves.specs.declared.state.WaitingDial.{WaitingDial}
+use Rattle.world_moves.specs.Acting.{Given, Heard, forget, given_by, hear, hear_and_act, perform_quietly}
 use Rattle.world_moves.specs.Ends.{EndStates}
 use Rattle.world_moves.specs.Links.{acceptor_of}
 use Rattle.world_moves.specs.Moving.{begun, renewed, with_link, without_first}
@@ -27,7 +27,7 @@ use Rattle.world_moves.specs.declared.plan.Plan.{Plan}
 -- What is to hold: of whose dial is answered, and of what was given and isn't done yet; of the members' plans, the
 -- ends, the dials and the draws; and of what was given in this move, and the turns that are written down.
 abbrev pub DialFact : Type 1
-DialFact = Option EndId → Given → List MemberPlan → EndStates → List Waiting → Drawing → Given → List LogonTurn → Type 0
+DialFact = Option EndId → Given → List MemberPlan → EndStates → List WaitingDial → Drawing → Given → List LogonTurn → Type 0
 
 abbrev pub AtState : DialFact → Option EndId → Given → State → Given → List LogonTurn → Type 0
 AtState Holds d rest s given turns = Holds d rest s.member_plans s.ends s.dials s.chances given turns
@@ -53,7 +53,7 @@ pub record KeepsDials (Holds : DialFact) : Type 0 where
   pub acts : (d : Option EndId) (rest : Given) (end : EndId) (what : Action) (s : State) (given : Given) (turns : List LogonTurn) → AtState Holds d ((end, what) ∷ rest) s given turns →
       AtState Holds d rest (perform_quietly end what s) given turns
   -- the first dial waits no more
-  pub first : (dial : Waiting) (s : State) (turns : List LogonTurn) → slice_get s.dials 0 ≡ Some dial → AtState Holds None [] s [] turns →
+  pub first : (dial : WaitingDial) (s : State) (turns : List LogonTurn) → slice_get s.dials 0 ≡ Some dial → AtState Holds None [] s [] turns →
       AtState Holds (Some dial.end) [] (without_first s) [] turns
   pub forgets : (end : EndId) (s : State) (turns : List LogonTurn) → AtState Holds None [] s [] turns → AtState Holds None [] (forget end s) [] turns
   pub renews : (end : EndId) (s : State) (turns : List LogonTurn) → AtState Holds None [] s [] turns → AtState Holds None [] (renewed end (forget end s)) [] turns
@@ -75,7 +75,7 @@ module _ (Holds : DialFact) (keeps : KeepsDials Holds) where
     begins = λ n at client plan s b is none holds. keeps.begins client plan s b.turns holds;
     comes = λ n end w piece s given b side came bytes none holds.
         subst (λ (turns : List LogonTurn). IsHeard Holds None [] end (hear end (event.Bytes w.link piece) s) given turns)
-        (sym (bytes_turns end w piece s (hears end (event.Bytes w.link piece) s).state b)) (keeps.comes end w.link piece s given b.turns holds);
+        (sym (bytes_turns end w piece s (hear_and_act end (event.Bytes w.link piece) s).state b)) (keeps.comes end w.link piece s given b.turns holds);
     reaches = λ n w s given b none holds. holds;
     acts = λ n p end what s given b work none holds. keeps.acts p.dial p.rest end what s given b.turns holds;
     shuts = λ n p link s given b work none holds. holds;

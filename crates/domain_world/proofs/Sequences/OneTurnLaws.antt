@@ -9,7 +9,7 @@ use Rattle.world_moves.specs.declared.links.EndId.TheVariants.{Controller, Membe
 use Rattle.world_moves.specs.declared.moves.Move.{Move}
 use Rattle.world_moves.specs.declared.plan.Plan.{Plan}
 use Rattle.world_moves.specs.declared.state.State.{State}
-use Rattle.world_moves.specs.declared.state.Waiting.{Waiting}
+use Rattle.world_moves.specs.declared.state.WaitingDial.{WaitingDial}
 use Rattle.world_moves.specs.Links.{same_end}
 use Rattle.domain_world.specs.Claims.SharedSequences.{OneTurnIsOut, dials_of}
 use Rattle.domain_world.specs.Past.{controller_of, past}
@@ -27,11 +27,11 @@ same_is k (Controller at) = refl
 same_is k (Member at) = refl
 same_is k (Client at) = refl
 
-one_more : (hit : Bool) (dial : Waiting) (dials : List Waiting) (n : ℕ) → length dials ≡ n → length (if hit then dial ∷ dials else dials) ≡ one_if hit + n
+one_more : (hit : Bool) (dial : WaitingDial) (dials : List WaitingDial) (n : ℕ) → length dials ≡ n → length (if hit then dial ∷ dials else dials) ≡ one_if hit + n
 one_more true dial dials n is = omega (arith, is)
 one_more false dial dials n is = omega (arith, is)
 
-dials_count : (k : ℕ) (dials : List Waiting) → length (dials_of k dials) ≡ waiting_dials k dials
+dials_count : (k : ℕ) (dials : List WaitingDial) → length (dials_of k dials) ≡ waiting_dials k dials
 dials_count k [] = refl
 dials_count k (dial ∷ dials) =
     ap (λ (hit : Bool). length (if hit then dial ∷ dials_of k dials else dials_of k dials)) (same_is k dial.end)

@@ -5,7 +5,7 @@ use Rattle.std.proofs.Common.{◌≡◌, ℕ, ◌+◌, Bool, true, false, List, 
 use Rattle.std.specs.List.{AllByRecursion}
 use Rattle.std.proofs.lemmas.List.{append-nil, map-append}
 use Rattle.std.proofs.lemmas.List.Elements.{filter-append}
-use Rattle.authenticators.specs.Channels.{Channel, same_channel}
+use Rattle.authenticators.specs.Channels.{ChannelIdentity, same_channel}
 use Rattle.authenticators.specs.Sequences.{moved_by}
 use Rattle.authenticators.specs.SecureChannels.{channel_of}
 use Rattle.channel_client.specs.declared.caller.Caller.{Caller}
@@ -35,10 +35,10 @@ use Rattle.step_notes.specs.Records.{LogonTurn}
 -- ---- turns
 
 -- the timestamps of those on the channel, among the turns of one member
-abbrev pub on_channel : Channel → LogonTurn → Bool
+abbrev pub on_channel : ChannelIdentity → LogonTurn → Bool
 on_channel channel turn = same_channel turn.channel channel
 
-abbrev pub stamps_on : Channel → List LogonTurn → List ℕ
+abbrev pub stamps_on : ChannelIdentity → List LogonTurn → List ℕ
 stamps_on channel turns = map (λ (turn : LogonTurn). turn.timestamp) (filter (on_channel channel) turns)
 
 -- What is known of a requester and of the turns of its member: the challenges that it holds were drawn, no turn was on
@@ -46,7 +46,7 @@ stamps_on channel turns = map (λ (turn : LogonTurn). turn.timestamp) (filter (o
 pub record Turned (v : View) (own : List LogonTurn) (drawn : List (List ℕ)) : Type 0 where
   pub held : (challenge : List ℕ) → Holds v challenge → IsDrawn challenge drawn
   pub fresh : (challenge : List ℕ) → v.opening ≡ Some challenge → AllByRecursion (λ (turn : LogonTurn). turn.channel.client ≡ challenge → ⊥) own
-  pub seed : (c : Channel) → v.stands ≡ Some c → v.seed ≡ Some (channel_seed c (stamps_on c own))
+  pub seed : (c : ChannelIdentity) → v.stands ≡ Some c → v.seed ≡ Some (channel_seed c (stamps_on c own))
 
 -- of another that is seen so, as far as it matters
 pub turned_alike : (u v : View) (own : List LogonTurn) (drawn : List (List ℕ)) → v.stands ≡ u.stands → v.seed ≡ u.seed → v.opening ≡ u.opening → Turned u own drawn → Turned v own drawn
@@ -112,18 +112,18 @@ heard_unstarted controller (hearing.Reply q r) s = judged_unstarted controller (
 heard_unstarted controller (hearing.Drop cause) s = tt
 
 -- a channel that opens has no turn
-none_by : (hit : Bool) (c : Channel) (turn : LogonTurn) (own : List LogonTurn) → same_channel turn.channel c ≡ hit → (turn.channel.client ≡ c.client → ⊥) → stamps_on c own ≡ [] →
+none_by : (hit : Bool) (c : ChannelIdentity) (turn : LogonTurn) (own : List LogonTurn) → same_channel turn.channel c ≡ hit → (turn.channel.client ≡ c.client → ⊥) → stamps_on c own ≡ [] →
     stamps_on c (turn ∷ own) ≡ []
 none_by true c turn own is differs none = absurd (differs (one_channel turn.channel c is).client)
 none_by false c turn own is differs none =
     ap (λ (hit : Bool). map (λ (t : LogonTurn). t.timestamp) (if hit then turn ∷ filter (on_channel c) own else filter (on_channel c) own)) is ∙ none
 
-pub none_on : (c : Channel) (own : List LogonTurn) → AllByRecursion (λ (turn : LogonTurn). turn.channel.client ≡ c.client → ⊥) own → stamps_on c own ≡ []
+pub none_on : (c : ChannelIdentity) (own : List LogonTurn) → AllByRecursion (λ (turn : LogonTurn). turn.channel.client ≡ c.client → ⊥) own → stamps_on c own ≡ []
 none_on c [] all = refl
 none_on c (turn ∷ own) all = none_by (same_channel turn.channel c) c turn own refl all.0 (none_on c own all.1)
 
 module _ (own : List LogonTurn) (drawn : List (List ℕ)) where
-  opens_turned : (c : Channel) (u v : View) → Changes (Opens c) u v → Turned u own drawn → Turned v own drawn
+  opens_turned : (c : ChannelIdentity) (u v : View) → Changes (Opens c) u v → Turned u own drawn → Turned v own drawn
   opens_turned c u v change turned =
       let stands : v.stands ≡ Some c = ap (λ (w : View). w.stands) change.1 in
       let opening : v.opening ≡ None = ap (λ (w : View). w.opening) change.1 in
@@ -133,7 +133,7 @@ module _ (own : List LogonTurn) (drawn : List (List ℕ)) where
               | inl is ↦ absurd (let x : None ≡ Some challenge = sym opening ∙ is in cc)
               | inr on ↦
                   let same : c ≡ on.0 = some_is c on.0 (sym stands ∙ on.1) in
-                  turned.held challenge (record { how = inl (change.0 ∙ ap (λ (x : Channel). Some x.client) same ∙ ap Some on.2) })
+                  turned.held challenge (record { how = inl (change.0 ∙ ap (λ (x : ChannelIdentity). Some x.client) same ∙ ap Some on.2) })
             ];
         fresh = λ challenge is. absurd (let x : None ≡ Some challenge = sym opening ∙ is in cc);
         seed = λ d is.
@@ -141,7 +141,7 @@ module _ (own : List LogonTurn) (drawn : List (List ℕ)) where
             let none : stamps_on c own ≡ [] = none_on c own (turned.fresh c.client change.0) in
             ap (λ (w : View). w.seed) change.1
             ∙ ap Some (first_seed c (stamps_on c own) none)
-            ∙ ap (λ (x : Channel). Some (channel_seed x (stamps_on x own))) same;
+            ∙ ap (λ (x : ChannelIdentity). Some (channel_seed x (stamps_on x own))) same;
       }
 
   alike : (u v w : View) → v ≡ w → w.stands ≡ u.stands → w.seed ≡ u.seed → w.opening ≡ u.opening → Turned u own drawn → Turned v own drawn
@@ -209,9 +209,9 @@ module _ (own : List LogonTurn) (drawn : List (List ℕ)) where
   moved_last [] timestamp = omega (arith, moved_one timestamp [], moved_none)
   moved_last (first ∷ stamps) timestamp = omega (arith, moved_one first (stamps ++ timestamp ∷ []), moved_one first stamps, moved_last stamps timestamp)
 
-  pub stamps_last : (c : Channel) (turn : LogonTurn) → turn.channel ≡ c → stamps_on c (own ++ turn ∷ []) ≡ stamps_on c own ++ turn.timestamp ∷ []
+  pub stamps_last : (c : ChannelIdentity) (turn : LogonTurn) → turn.channel ≡ c → stamps_on c (own ++ turn ∷ []) ≡ stamps_on c own ++ turn.timestamp ∷ []
   stamps_last c turn is =
-      let hit : same_channel turn.channel c ≡ true = ap (λ (x : Channel). same_channel x c) is ∙ itself c in
+      let hit : same_channel turn.channel c ≡ true = ap (λ (x : ChannelIdentity). same_channel x c) is ∙ itself c in
       ap (λ (turns : List LogonTurn). map (λ (t : LogonTurn). t.timestamp) turns) (filter-append (on_channel c) own (turn ∷ []))
       ∙ map-append (λ (t : LogonTurn). t.timestamp) (filter (on_channel c) own) (filter (on_channel c) (turn ∷ []))
       ∙ ap (λ (b : Bool). stamps_on c own ++ map (λ (t : LogonTurn). t.timestamp) (if b then turn ∷ [] else [])) hit
@@ -219,7 +219,7 @@ module _ (own : List LogonTurn) (drawn : List (List ℕ)) where
   -- a turn on the channel that stands
   moves_turned : (turn : LogonTurn) (u v : View) → Changes (Moves turn.channel turn.timestamp) u v → u.opening ≡ None → Turned u own drawn → Turned v (own ++ turn ∷ []) drawn
   moves_turned turn u v change none turned =
-      let c : Channel = turn.channel in
+      let c : ChannelIdentity = turn.channel in
       let opening : v.opening ≡ None = ap (λ (w : View). w.opening) change.4 ∙ none in
       let stands : v.stands ≡ u.stands = ap (λ (w : View). w.stands) change.4 in
       record {
@@ -236,7 +236,7 @@ module _ (own : List LogonTurn) (drawn : List (List ℕ)) where
             ap (λ (w : View). w.seed) change.4
             ∙ ap Some (next_is c change.0 turn.timestamp stamps (stamps_on c (own ++ turn ∷ [])) before
             (omega (arith, ap moved_by (stamps_last c turn refl), moved_last stamps turn.timestamp)))
-            ∙ ap (λ (x : Channel). Some (channel_seed x (stamps_on x (own ++ turn ∷ [])))) same;
+            ∙ ap (λ (x : ChannelIdentity). Some (channel_seed x (stamps_on x (own ++ turn ∷ [])))) same;
       }
 
   -- where one can start, by how far the channel is

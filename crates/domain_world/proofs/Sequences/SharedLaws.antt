@@ -7,7 +7,7 @@ use Rattle.std.specs.List.{AllByRecursion}
 use Rattle.std.specs.Prelude.{◌||◌}
 use Rattle.std.proofs.lemmas.List.{map-append}
 use Rattle.rpc_units.specs.declared.unit.Unit.{Unit as RpcUnit}
-use Rattle.authenticators.specs.Channels.{Channel, SameChannel}
+use Rattle.authenticators.specs.Channels.{ChannelIdentity, SameChannel}
 use Rattle.authenticators.specs.Sequences.{add_to, moved_by}
 use Rattle.authenticators.specs.SecureChannels.{SecureChannelState, channel_of}
 use Rattle.authenticators.proofs.ChannelLaws.{same_channel-Decides}
@@ -33,7 +33,7 @@ use Rattle.domain_world.proofs.Judgements.UnclashedLaws.{passes_unclashed}
 use Rattle.domain_world.proofs.Requests.MarkWayLaws.{marks_have_their_way}
 use Rattle.domain_world.specs.Accepting.Carried.{IsAsMarked, IsJudgedAsCarried, IsNoLogon, IsPlain, IsWholeAsMarked, JudgedAsCarried, MarkedUnitsAreWhole, call_carried}
 use Rattle.domain_world.specs.Accepting.Sequences.{HavePassed, CallsAreStamped, CallsOfTurns, HasPassed, IsMadeOn, IsPassedIn, SequencesFollow, TakenCallsPass, TurnsAreCalled, stamps_of}
-use Rattle.domain_world.specs.Claims.{IsClear, moved_on, passed_on, same_unit, timestamp_of}
+use Rattle.domain_world.specs.Claims.{IsClear, moved_on, passed_on, same_unit, judged_timestamp}
 use Rattle.domain_world.specs.Claims.SharedSequences.{IsBeforeTurn, Keeps, SequencesAreOwn, SequencesAreShared, any_foreign, is_foreign, timestamps_on}
 use Rattle.domain_world.specs.Past.{Past, past}
 use Rattle.domain_world.proofs.Accepting.AnsweredLaws.{AreInUnit, IsMade, StandsFor, both_true, channel_there, in_unit, made_at, no_twice, passed_of, right_at, unit_same}
@@ -50,7 +50,7 @@ use Rattle.domain_world.proofs.Sequences.SumLaws.{CameIn, is_hit, moved_total, t
 
 -- ---- nothing from outside passed
 
-none_foreign : (channel : Channel) (judgings : List Judging) (k : ℕ) (j : Judging) → any_foreign channel judgings ≡ false → slice_get judgings k ≡ Some j → is_foreign channel j.unit j ≡ false
+none_foreign : (channel : ChannelIdentity) (judgings : List Judging) (k : ℕ) (j : Judging) → any_foreign channel judgings ≡ false → slice_get judgings k ≡ Some j → is_foreign channel j.unit j ≡ false
 none_foreign channel [] k j none there = absurd (let x = there in cc)
 none_foreign channel (first ∷ judgings) zero j none there =
     subst (λ (x : Judging). is_foreign channel x.unit x ≡ false) (some_is first j there) (neither (is_foreign channel first.unit first) (any_foreign channel judgings) none).0
@@ -67,16 +67,16 @@ none_foreign channel (first ∷ judgings) (suc k) j none there =
 
 -- ---- the channel on which a call passed
 
-record PassedOn (found : Option Channel) (channel : Channel) : Type 0 where
-  other : Channel
+record PassedOn (found : Option ChannelIdentity) (channel : ChannelIdentity) : Type 0 where
+  other : ChannelIdentity
   is : found ≡ Some other
   same : SameChannel other channel
 
-passed_by : (found : Option Channel) (channel : Channel) → is_channel found channel ≡ true → PassedOn found channel
+passed_by : (found : Option ChannelIdentity) (channel : ChannelIdentity) → is_channel found channel ≡ true → PassedOn found channel
 passed_by None channel is = absurd (let x = is in cc)
 passed_by (Some other) channel is = record { other = other; is = refl; same = one_channel other channel is }
 
-calls_alike : (one other : Channel) (number more timestamp later : ℕ) → Calling one number timestamp ≡ Calling other more later → timestamp ≡ later
+calls_alike : (one other : ChannelIdentity) (number more timestamp later : ℕ) → Calling one number timestamp ≡ Calling other more later → timestamp ≡ later
 calls_alike one other number more timestamp later is = cc
 
 both_so : (one other : Bool) → one ≡ true → other ≡ true → (one && other) ≡ true
@@ -85,7 +85,7 @@ both_so false other is also = absurd (let x = is in cc)
 both_so true false is also = absurd (let x = also in cc)
 
 module _ (past : Past) (known : IsProved past) (heard : AnswersAreHeard past) (clear : IsClear past.book) (units : MarkedUnitsAreWhole past) (judged : JudgedAsCarried past)
-    (stamped : CallsAreStamped past) (channel : Channel) (turn : Option Pending) (timestamps : List ℕ) (calls : CallsOfTurns past channel turn timestamps)
+    (stamped : CallsAreStamped past) (channel : ChannelIdentity) (turn : Option Pending) (timestamps : List ℕ) (calls : CallsOfTurns past channel turn timestamps)
     (own : any_foreign channel past.book.judged ≡ false) where
   abbrev all_judged : List Judging
   all_judged = past.book.judged
@@ -93,7 +93,7 @@ module _ (past : Past) (known : IsProved past) (heard : AnswersAreHeard past) (c
   -- ---- what passed are calls that were made
 
   abbrev IsItsUnit : ℕ → Judging → Type 0
-  IsItsUnit n j = OneOf (λ (one : ℕ × ℕ). (one.0 ≡ n) × (one.1 ≡ timestamp_of j)) calls.made
+  IsItsUnit n j = OneOf (λ (one : ℕ × ℕ). (one.0 ≡ n) × (one.1 ≡ judged_timestamp j)) calls.made
 
   -- a unit that carries a Logon call was made for none, or as one
   no_logon : (n : ℕ) (j : Judging) (sent : Sent) (mark : Mark) → IsJudgedAsCarried past j n → slice_get past.book.sent n ≡ Some sent → sent.mark ≡ mark → (IsPlain mark → ⊥) →
@@ -103,7 +103,7 @@ module _ (past : Past) (known : IsProved past) (heard : AnswersAreHeard past) (c
       let same : whole.whole.unit ≡ carried.whole.unit = one_unit carried.carrier.bytes whole.whole carried.whole in
       never whole.whole.unit (subst (λ (m : Mark). IsAsMarked m whole.whole.unit) is whole.marked) j.logon (ap (λ (u : RpcUnit). call_carried u.body) same ∙ carried.carried)
 
-  by_mark : (mark : Mark) (n : ℕ) (j : Judging) (sent : Sent) (named : Channel) → IsJudgedAsCarried past j n → slice_get past.book.sent n ≡ Some sent → sent.mark ≡ mark →
+  by_mark : (mark : Mark) (n : ℕ) (j : Judging) (sent : Sent) (named : ChannelIdentity) → IsJudgedAsCarried past j n → slice_get past.book.sent n ≡ Some sent → sent.mark ≡ mark →
       mark_channel mark ≡ Some named → named.client ≡ channel.client → IsItsUnit n j
   by_mark Plain n j sent named carried there is made client = absurd (let x = made in cc)
   by_mark (Opening other number) n j sent named carried there is made client =
@@ -113,16 +113,16 @@ module _ (past : Past) (known : IsProved past) (heard : AnswersAreHeard past) (c
   by_mark (ReplyTo other number request) n j sent named carried there is made client =
       absurd (no_logon n j sent (ReplyTo other number request) carried there is (λ plain. plain) (λ unit marked. marked.0))
   by_mark (Calling other number timestamp) n j sent named carried there is made client =
-      let same : other.client ≡ channel.client = ap (λ (c : Channel). c.client) (some_is other named made) ∙ client in
-      let stamp : timestamp_of j ≡ timestamp = stamped n carried.carrier sent other number timestamp j.logon carried.there there is carried.whole carried.carried in
-      one_with (λ (one : ℕ × ℕ). IsMadeOn past channel one.0 one.1) (λ (one : ℕ × ℕ). one.0 ≡ n) (λ (one : ℕ × ℕ). (one.0 ≡ n) × (one.1 ≡ timestamp_of j)) calls.made
+      let same : other.client ≡ channel.client = ap (λ (c : ChannelIdentity). c.client) (some_is other named made) ∙ client in
+      let stamp : judged_timestamp j ≡ timestamp = stamped n carried.carrier sent other number timestamp j.logon carried.there there is carried.whole carried.carried in
+      one_with (λ (one : ℕ × ℕ). IsMadeOn past channel one.0 one.1) (λ (one : ℕ × ℕ). one.0 ≡ n) (λ (one : ℕ × ℕ). (one.0 ≡ n) × (one.1 ≡ judged_timestamp j)) calls.made
       (λ one on at. (
         at,
         let sent_same : on.sent ≡ sent = some_is on.sent sent (sym on.there ∙ ap (λ (m : ℕ). slice_get past.book.sent m) at ∙ there) in
             calls_alike channel other on.number number one.1 timestamp (sym on.mark ∙ ap (λ (s : Sent). s.mark) sent_same ∙ is) ∙ sym stamp,
       )) calls.each (calls.every n number timestamp sent other there is same)
 
-  by_sent : (found : Option Sent) (n : ℕ) (j : Judging) (named : Channel) → IsJudgedAsCarried past j n → slice_get past.book.sent n ≡ found → sent_channel found ≡ Some named →
+  by_sent : (found : Option Sent) (n : ℕ) (j : Judging) (named : ChannelIdentity) → IsJudgedAsCarried past j n → slice_get past.book.sent n ≡ found → sent_channel found ≡ Some named →
       named.client ≡ channel.client → IsItsUnit n j
   by_sent None n j named carried there made client = absurd (let x = made in cc)
   by_sent (Some sent) n j named carried there made client = by_mark sent.mark n j sent named carried there refl made client
@@ -166,8 +166,8 @@ module _ (past : Past) (known : IsProved past) (heard : AnswersAreHeard past) (c
       let made : IsMade (sent_channel (slice_get past.book.sent n)) stands.channel = made_at past known heard clear at.place j stands.channel n at.there stands.passed came in
       let named : channel ≡ made.named =
       some_is channel made.named (sym (ap mark_channel on.mark) ∙ sym (ap sent_channel on.there) ∙ made.is) in
-      let same : SameChannel stands.channel channel = same_back channel stands.channel (subst (λ (c : Channel). SameChannel c stands.channel) (sym named) made.same) in
-      let passed : passed_on channel j ≡ true = ap (λ (c : Option Channel). is_channel c channel) stands.passed ∙ (same_channel-Decides stands.channel channel).1 same in
+      let same : SameChannel stands.channel channel = same_back channel stands.channel (subst (λ (c : ChannelIdentity). SameChannel c stands.channel) (sym named) made.same) in
+      let passed : passed_on channel j ≡ true = ap (λ (c : Option ChannelIdentity). is_channel c channel) stands.passed ∙ (same_channel-Decides stands.channel channel).1 same in
       let hit : is_hit channel n j ≡ true = both_so (passed_on channel j) (same_unit (Some n) j.unit) passed (ap (same_unit (Some n)) came ∙ unit_same n) in
       elim (once n one.1) [
         | inl none ↦ absurd (omega (arith, none, weight_some channel n one.1 all_judged at.place j at.there hit))
@@ -252,7 +252,7 @@ pub sequence_shared : (p : Past) → IsProved p → AnswersAreHeard p → IsClea
 sequence_shared p known heard clear units judged stamped called own left follow member = record {
   own = λ channel o stands. own member channel o stands;
   other = λ channel o c stands keeps same none.
-      let kept : Channel = channel_of channel.controller channel.computer c in
+      let kept : ChannelIdentity = channel_of channel.controller channel.computer c in
       let seed : c.seed ≡ add_to (client_credential channel) (moved_on channel p.book.judged) =
       kept_seed p channel.controller channel.computer c left follow keeps
       ∙ ap₂ add_to (same_credential kept channel same) (moved_same kept channel same p.book.judged) in

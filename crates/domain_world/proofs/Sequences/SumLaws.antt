@@ -4,16 +4,16 @@
 use Rattle.std.proofs.Common.{◌≡◌, ◌≢◌, ◌⊎◌, ℕ, zero, suc, ◌+◌, ◌<◌, ◌≤◌, ◌==◌, ◌&&◌, Bool, true, false, List, [], ◌∷◌, ◌++◌, inl, inr, Option, Some, slice_get, refl, sym, ap, ap₂, subst, ◌∙◌, arith}
 use Rattle.std.specs.List.{AllByRecursion}
 use Rattle.std.proofs.lemmas.Bool.Decides.{Decides-eqb}
-use Rattle.authenticators.specs.Channels.{Channel}
+use Rattle.authenticators.specs.Channels.{ChannelIdentity}
 use Rattle.authenticators.specs.Sequences.{moved_by}
 use Rattle.channel_events.specs.Marks.{OneOf}
 use Rattle.channel_events.proofs.ListLaws.{got_nothing, moved_none, moved_one, some_is}
 use Rattle.step_notes.specs.Records.{Judging}
 use Rattle.domain_world.specs.Accepting.Sequences.{AreUnitsApart, stamps_of}
-use Rattle.domain_world.specs.Claims.{moved_if, moved_on, passed_on, same_unit, timestamp_of}
+use Rattle.domain_world.specs.Claims.{moved_if, moved_on, passed_on, same_unit, judged_timestamp}
 
 -- the call passed on the channel, in that unit
-abbrev pub is_hit : Channel → ℕ → Judging → Bool
+abbrev pub is_hit : ChannelIdentity → ℕ → Judging → Bool
 is_hit channel m j = passed_on channel j && same_unit (Some m) j.unit
 
 abbrev pub stamp_if : Bool → ℕ → ℕ
@@ -21,16 +21,16 @@ stamp_if false timestamp = 0
 stamp_if true timestamp = timestamp + 1
 
 -- a unit with that timestamp
-abbrev pub weight : Channel → ℕ → ℕ → List Judging → ℕ
+abbrev pub weight : ChannelIdentity → ℕ → ℕ → List Judging → ℕ
 weight channel m timestamp [] = 0
 weight channel m timestamp (j ∷ js) = stamp_if (is_hit channel m j) timestamp + weight channel m timestamp js
 
-abbrev pub total : Channel → List (ℕ × ℕ) → List Judging → ℕ
+abbrev pub total : ChannelIdentity → List (ℕ × ℕ) → List Judging → ℕ
 total channel [] js = 0
 total channel (one ∷ made) js = weight channel one.0 one.1 js + total channel made js
 
 -- by one call
-abbrev added : Channel → List (ℕ × ℕ) → Judging → ℕ
+abbrev added : ChannelIdentity → List (ℕ × ℕ) → Judging → ℕ
 added channel [] j = 0
 added channel (one ∷ made) j = stamp_if (is_hit channel one.0 j) one.1 + added channel made j
 
@@ -38,9 +38,9 @@ added channel (one ∷ made) j = stamp_if (is_hit channel one.0 j) one.1 + added
 pub record CameIn (made : List (ℕ × ℕ)) (j : Judging) : Type 0 where
   pub unit : ℕ
   pub came : j.unit ≡ Some unit
-  pub one : OneOf (λ (one : ℕ × ℕ). (one.0 ≡ unit) × (one.1 ≡ timestamp_of j)) made
+  pub one : OneOf (λ (one : ℕ × ℕ). (one.0 ≡ unit) × (one.1 ≡ judged_timestamp j)) made
 
-module _ (channel : Channel) where
+module _ (channel : ChannelIdentity) where
   total_none : (made : List (ℕ × ℕ)) → total channel made [] ≡ 0
   total_none [] = refl
   total_none (one ∷ made) = omega (arith, total_none made)
@@ -102,11 +102,11 @@ module _ (channel : Channel) where
   -- ---- all calls
 
   step_by : (passed : Bool) (made : List (ℕ × ℕ)) (j : Judging) (js : List Judging) → passed_on channel j ≡ passed → AreUnitsApart made → (passed_on channel j ≡ true → CameIn made j) →
-      moved_on channel js ≡ total channel made js → moved_if passed (timestamp_of j) (moved_on channel js) ≡ total channel made (j ∷ js)
+      moved_on channel js ≡ total channel made js → moved_if passed (judged_timestamp j) (moved_on channel js) ≡ total channel made (j ∷ js)
   step_by false made j js passed apart came same = omega (arith, total_more made j js, added_not made j passed, same)
   step_by true made j js passed apart came same =
       let in_one : CameIn made j = came passed in
-      omega (arith, total_more made j js, added_one made j in_one.unit (timestamp_of j) passed in_one.came apart in_one.one, same)
+      omega (arith, total_more made j js, added_one made j in_one.unit (judged_timestamp j) passed in_one.came apart in_one.one, same)
 
   -- the seed moved by what passed in these units
   pub moved_total : (made : List (ℕ × ℕ)) (js : List Judging) → AreUnitsApart made →

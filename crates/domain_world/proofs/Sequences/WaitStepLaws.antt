@@ -14,7 +14,7 @@ use Rattle.member_server.specs.Dials.{IsDialledBy, IsNoAnswer, IsWaiting, StaysO
 use Rattle.member_server.specs.Laws.{IsInOrder, is_dialled}
 use Rattle.member_server.specs.Machine.{after_turn, after_units, at_turn, by_event, bytes_by, bytes_on_link, close_turn, event_part, keep_turn, work_of}
 use Rattle.member_server.specs.Outcomes.{at_link, without_link}
-use Rattle.member_server.specs.Turns.{Desk, turn_server}
+use Rattle.member_server.specs.Turns.{DialWork, turn_server}
 use Rattle.member_server.specs.Units.{link_server}
 use Rattle.member_server.specs.declared.state.AtLink.{AtLink}
 use Rattle.member_server.specs.declared.state.AtTurn.{AtTurn}
@@ -30,7 +30,7 @@ use Rattle.domain_world.proofs.Sequences.Own.OwnTurnLaws.{turn_same, waits_diall
 -- ---- the dial after an event
 
 -- no dial waits after it
-abbrev NotAfter : Result (Part Desk) StepRefused → Type 0
+abbrev NotAfter : Result (Part DialWork) StepRefused → Type 0
 NotAfter (Err why) = Unit {0}
 NotAfter (Ok part) = IsWaiting part.value.1 → ⊥
 
@@ -90,20 +90,20 @@ answer_not event.DialFailed dialling.Nothing w left none = λ waits. waits
 answer_not event.DialFailed (dialling.Waits turn frames) w left none = λ waits. waits
 answer_not event.DialFailed (dialling.On on said) w left none = λ waits. waits
 
-never_after : (first : Result (Part Desk) StepRefused) (part : Part Desk) → first ≡ Ok part → NotAfter first → IsWaiting part.value.1 → ⊥
+never_after : (first : Result (Part DialWork) StepRefused) (part : Part DialWork) → first ≡ Ok part → NotAfter first → IsWaiting part.value.1 → ⊥
 never_after first part is none = subst NotAfter is none
 
 -- ---- a step
 
 -- no turn started, so the dial is as the event left it
-as_left : (starts : Bool) (how : Dialling) (desk : Desk) → IsDialledBy starts how desk → dials_in desk.0.actions ≡ 0 → desk.1 ≡ how
-as_left false how desk dials none = dials.1
-as_left true how desk dials none = absurd (omega (arith, dials.0, none))
+as_left : (starts : Bool) (how : Dialling) (dial_work : DialWork) → IsDialledBy starts how dial_work → dials_in dial_work.0.actions ≡ 0 → dial_work.1 ≡ how
+as_left false how dial_work dials none = dials.1
+as_left true how dial_work dials none = absurd (omega (arith, dials.0, none))
 
-same_by : (controller k : ℕ) (running : Running) (part : Result (Part Desk) StepRefused) (after : Part Desk) → part ≡ Ok after → StaysOutIfTaken running.logons.channel running.dialling part →
+same_by : (controller k : ℕ) (running : Running) (part : Result (Part DialWork) StepRefused) (after : Part DialWork) → part ≡ Ok after → StaysOutIfTaken running.logons.channel running.dialling part →
     turn_of controller k after.value.0.logons.channel ≡ turn_of controller k running.logons.channel
 same_by controller k running part after is stays =
-    let out : StaysOut running.logons.channel running.dialling after.value = subst (λ (p : Result (Part Desk) StepRefused). StaysOutIfTaken running.logons.channel running.dialling p) is stays in
+    let out : StaysOut running.logons.channel running.dialling after.value = subst (λ (p : Result (Part DialWork) StepRefused). StaysOutIfTaken running.logons.channel running.dialling p) is stays in
     turn_same controller k running.logons.channel after.value.0.logons.channel out.caller out.standing out.turn
 
 waits_or : (how : Dialling) (P : Type 0) → (IsWaiting how → P) → ((IsWaiting how → ⊥) → P) → P
@@ -119,11 +119,11 @@ answer_or (event.Dialled link) P first later = later (λ none. none)
 answer_or event.DialFailed P first later = later (λ none. none)
 answer_or event.Stop P first later = first tt
 
-pub same_turn : TurnsAreDialled → (controller k : ℕ) (running : Running) (what : Event) (now : ℕ) (left : List (List ℕ)) (after : Part Desk) → event_part running what now left ≡ Ok after →
+pub same_turn : TurnsAreDialled → (controller k : ℕ) (running : Running) (what : Event) (now : ℕ) (left : List (List ℕ)) (after : Part DialWork) → event_part running what now left ≡ Ok after →
     TurnSteps running.logons.channel (by_event what running.dialling (work_of running) left) now after → IsInOrder (is_dialled running.dialling) running.logons → dials_in after.value.0.actions ≡ 0 →
     IsWaiting after.value.1 → IsWaiting running.dialling × (turn_of controller k after.value.0.logons.channel ≡ turn_of controller k running.logons.channel)
 same_turn dialled controller k running what now left after is steps order none waits =
-    let first : Result (Part Desk) StepRefused = by_event what running.dialling (work_of running) left in
+    let first : Result (Part DialWork) StepRefused = by_event what running.dialling (work_of running) left in
     let mid = steps.part.value.0.logons.channel in
     let left_so : IsWaiting steps.part.value.1 = subst IsWaiting (as_left (can_start mid.turn mid.waiting) steps.part.value.1 after.value steps.dials none) waits in
     waits_or running.dialling (IsWaiting running.dialling × (turn_of controller k after.value.0.logons.channel ≡ turn_of controller k running.logons.channel))

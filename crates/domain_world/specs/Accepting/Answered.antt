@@ -4,7 +4,7 @@
 use Rattle.std.specs.Prelude.{ℕ, ◌≡◌, ◌≢◌, Bool, true, false, List, Some, slice_get, AllPairs}
 use Rattle.std.specs.List.{AllByRecursion}
 use Rattle.channel_keys.specs.Hidden.{crypt_key}
-use Rattle.authenticators.specs.Channels.{Channel, channel_key}
+use Rattle.authenticators.specs.Channels.{ChannelIdentity, channel_key}
 use Rattle.outside.specs.declared.action.Outcome.{Outcome}
 use Rattle.logon_stubs.specs.declared.info.SamInfo.{SamInfo}
 use Rattle.logon_stubs.specs.declared.info.Verdict.{Verdict}
@@ -71,7 +71,7 @@ CallsAskForMessages past =
 
 -- the unit was made as the reply to the call of the message, on a channel with the controller of its member's plan
 pub record IsAnsweredIn (past : Past) (message : MessageTaken) (unit : ℕ) : Type 0 where
-  pub channel : Channel
+  pub channel : ChannelIdentity
   pub number : ℕ
   pub request : ℕ
   pub sent : Sent
@@ -92,10 +92,10 @@ abbrev pub verdict_read : List ℕ → Verdict → Verdict
 verdict_read key (Granted info) = Granted (record info { key = crypt_key key (crypt_key key info.key) })
 verdict_read key (Status status) = Status status
 
-abbrev pub outcome_read : Channel → Judging → MessageTaken → Outcome
+abbrev pub outcome_read : ChannelIdentity → Judging → MessageTaken → Outcome
 outcome_read channel j message = outcome_of (ending_of (verdict_read (channel_key channel) (verdict_passed j))) message.logon
 
-pub record IsToldAsRead (channel : Channel) (message : MessageTaken) (j : Judging) (told : OutcomeTold) : Type 0 where
+pub record IsToldAsRead (channel : ChannelIdentity) (message : MessageTaken) (j : Judging) (told : OutcomeTold) : Type 0 where
   pub link : told.link ≡ message.link
   pub member : told.member ≡ message.member
   pub outcome : told.outcome ≡ outcome_read channel j message
@@ -104,7 +104,7 @@ pub record IsToldAsRead (channel : Channel) (message : MessageTaken) (j : Judgin
 abbrev pub AnswersAreTold : Past → Type 0
 AnswersAreTold past =
     past.book.clash ≡ false → AllByRecursion (λ (message : MessageTaken). (unit : ℕ) → message.reply ≡ Some unit → (carrier : BagUnit) (sent : Sent)
-    (channel : Channel) (number request place : ℕ) (j : Judging) → slice_get past.world.state.bag unit ≡ Some carrier → slice_get past.book.sent unit ≡ Some sent →
+    (channel : ChannelIdentity) (number request place : ℕ) (j : Judging) → slice_get past.world.state.bag unit ≡ Some carrier → slice_get past.book.sent unit ≡ Some sent →
     slice_get past.book.judged place ≡ Some j → sent.mark ≡ ReplyTo channel number request → IsReplyOfCall channel number request j carrier.bytes →
     OneOf (IsToldAsRead channel message j) past.book.told) past.book.messages
 
@@ -115,7 +115,7 @@ pub record IsLetInAsRead (past : Past) (told : OutcomeTold) (message : MessageTa
   pub member : message.member ≡ told.member
   pub unit : ℕ
   pub reply : message.reply ≡ Some unit
-  pub outcome : (carrier : BagUnit) (sent : Sent) (channel : Channel) (number request place : ℕ) (j : Judging) →
+  pub outcome : (carrier : BagUnit) (sent : Sent) (channel : ChannelIdentity) (number request place : ℕ) (j : Judging) →
       slice_get past.world.state.bag unit ≡ Some carrier → slice_get past.book.sent unit ≡ Some sent → slice_get past.book.judged place ≡ Some j →
       sent.mark ≡ ReplyTo channel number request → IsReplyOfCall channel number request j carrier.bytes → told.outcome ≡ outcome_read channel j message
 

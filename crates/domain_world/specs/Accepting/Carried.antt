@@ -4,7 +4,7 @@
 use Rattle.std.specs.Prelude.{ℕ, ◌≡◌, true, false, List, Option, Some, None, Result, Ok, Err, slice_get}
 use Rattle.std.specs.List.{AllByRecursion}
 use Rattle.wire_base.specs.declared.authenticator.Authenticator.{Authenticator}
-use Rattle.authenticators.specs.Channels.{Channel, SameChannel}
+use Rattle.authenticators.specs.Channels.{ChannelIdentity, SameChannel}
 use Rattle.rpc_units.specs.Calls.{IsHeard}
 use Rattle.rpc_units.specs.Joining.{stub_of}
 use Rattle.rpc_units.specs.declared.unit.Body.{Body}
@@ -110,7 +110,7 @@ MessagesAreCalled past =
 -- member's plan, on which the call of the message had gone out with that number; and it came back on the turn's link,
 -- has the number, can be read as a reply that has an authenticator, and was made for that channel.
 pub record IsTakenInTurn (past : Past) (message : MessageTaken) (u : ℕ) : Type 0 where
-  pub channel : Channel
+  pub channel : ChannelIdentity
   pub number : ℕ
   pub timestamp : ℕ
   pub request : ℕ
@@ -130,7 +130,7 @@ pub record IsTakenInTurn (past : Past) (message : MessageTaken) (u : ℕ) : Type
   pub returned : read.returned ≡ Some given
   pub sent : Sent
   pub noted : slice_get past.book.sent u ≡ Some sent
-  pub named : Channel
+  pub named : ChannelIdentity
   pub made : sent_channel (Some sent) ≡ Some named
   pub same : SameChannel named channel
 
@@ -142,7 +142,7 @@ AnswersAreInTurn past =
 -- the calls that were made with one client's challenge have different numbers (`Requests`)
 abbrev pub CallsHaveNumbers : Past → Type 0
 CallsHaveNumbers past =
-    (n m number timestamp later : ℕ) (c d : Channel) (one other : Sent) → slice_get past.book.sent n ≡ Some one → slice_get past.book.sent m ≡ Some other →
+    (n m number timestamp later : ℕ) (c d : ChannelIdentity) (one other : Sent) → slice_get past.book.sent n ≡ Some one → slice_get past.book.sent m ≡ Some other →
     one.mark ≡ Calling c number timestamp → other.mark ≡ Calling d number later → c.client ≡ d.client → n ≡ m
 
 -- ---- the law

@@ -2,7 +2,7 @@
 -- `LetsInAsRead` of `Answered`, which follow from it (`OutcomesAreReadBack`).
 use Rattle.std.specs.Prelude.{ℕ, ◌≡◌, ◌==◌, true, false, Some, Ok, slice_get}
 use Rattle.std.specs.List.{AllByRecursion}
-use Rattle.authenticators.specs.Channels.{Channel, SameChannel, channel_key}
+use Rattle.authenticators.specs.Channels.{ChannelIdentity, SameChannel, channel_key}
 use Rattle.authenticators.specs.SecureChannels.{SecureChannelState, key_of_channel}
 use Rattle.outside.specs.declared.action.Outcome.{Outcome}
 use Rattle.rpc_units.specs.Joining.{stub_of}
@@ -31,14 +31,14 @@ use Rattle.domain_world.specs.Past.{Past}
 abbrev pub RepliesAreReadBack : Past → Type 0
 RepliesAreReadBack past =
     (n : ℕ) (unit : BagUnit) (one : Sent) → slice_get past.world.state.bag n ≡ Some unit → slice_get past.book.sent n ≡ Some one →
-    (channel : Channel) (number request place : ℕ) (j : Judging) → slice_get past.book.judged place ≡ Some j → one.mark ≡ ReplyTo channel number request →
+    (channel : ChannelIdentity) (number request place : ℕ) (j : Judging) → slice_get past.book.judged place ≡ Some j → one.mark ≡ ReplyTo channel number request →
     (is : IsReplyOfCall channel number request j unit.bytes) →
     (whole : IsWholeUnit unit.bytes) → reply_of 2 (stub_of whole.unit.body) ≡ Ok (reply_passed j is.carries.next.channel is.carries.next.given)
 
 -- The outcome is what the member read in that unit, on a channel that stood, by the logon of a message; and the unit
 -- was made for that channel.
 pub record IsReadIn (past : Past) (message : MessageTaken) (u : ℕ) (result : Outcome) : Type 0 where
-  pub channel : Channel
+  pub channel : ChannelIdentity
   pub stood : SecureChannelState
   pub key : key_of_channel stood ≡ channel_key channel
   pub carrier : BagUnit
@@ -52,7 +52,7 @@ pub record IsReadIn (past : Past) (message : MessageTaken) (u : ℕ) (result : O
   pub is : result ≡ outcome_of (ending_of verdict) message.logon
   pub sent : Sent
   pub noted : slice_get past.book.sent u ≡ Some sent
-  pub named : Channel
+  pub named : ChannelIdentity
   pub made : sent_channel (Some sent) ≡ Some named
   pub same : SameChannel named channel
 

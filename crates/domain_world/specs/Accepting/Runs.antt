@@ -3,7 +3,7 @@
 use Rattle.std.specs.Prelude.{ℕ, ◌≡◌, ◌≤◌, ◌<◌, ◌+◌, ◌*◌, ◌^◌, List, [], length, Option, Some, None, slice_get}
 use Rattle.std.specs.List.{AllByRecursion}
 use Rattle.wire_base.specs.Maps.{lookup, same_number}
-use Rattle.authenticators.specs.Channels.{Channel}
+use Rattle.authenticators.specs.Channels.{ChannelIdentity}
 use Rattle.end_links.specs.Links.{LinkState}
 use Rattle.channel_client.specs.Effects.{View, view_of}
 use Rattle.channel_client.specs.declared.state.Pending.{Pending}
@@ -86,14 +86,14 @@ pub record Shows (r : Requests ℕ) (past : Past) (moves : ℕ) : Type 0 where
   pub few : r.uses + 4 * length past.world.state.open_links ≤ 40 * moves
 
 -- the message of that logon has its call out, with that number, on the channel that stands
-pub record IsOut (past : Past) (member : ℕ) (pending : Pending) (logon : Logon) (standing : Option Channel) (message : MessageTaken) : Type 0 where
+pub record IsOut (past : Past) (member : ℕ) (pending : Pending) (logon : Logon) (standing : Option ChannelIdentity) (message : MessageTaken) : Type 0 where
   pub link : message.link ≡ logon.link
   pub by : message.member ≡ member
   pub request : ℕ
   pub call : message.call ≡ Some request
   pub sent : Sent
   pub there : slice_get past.book.sent request ≡ Some sent
-  pub channel : Channel
+  pub channel : ChannelIdentity
   pub timestamp : ℕ
   pub stands : standing ≡ Some channel
   pub mark : sent.mark ≡ Calling channel pending.number timestamp

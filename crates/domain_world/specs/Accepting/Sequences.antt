@@ -2,7 +2,7 @@
 -- for it: the calls of a requester's turns, and that each has the timestamp of its turn.
 use Rattle.std.specs.Prelude.{ℕ, ◌≡◌, ◌≢◌, ◌⊎◌, true, false, List, [], ◌∷◌, ◌++◌, map, Option, Some, slice_get}
 use Rattle.std.specs.List.{AllByRecursion}
-use Rattle.authenticators.specs.Channels.{Channel, SameChannel}
+use Rattle.authenticators.specs.Channels.{ChannelIdentity, SameChannel}
 use Rattle.authenticators.specs.SecureChannels.{SecureChannelState}
 use Rattle.channel_client.specs.declared.state.Pending.{Pending}
 use Rattle.channel_events.specs.Marks.{Calling, OneOf, ReplyTo}
@@ -24,14 +24,14 @@ use Rattle.domain_world.specs.Past.{Past, past}
 -- a unit that was made as a call carries one with that timestamp
 abbrev pub CallsAreStamped : Past → Type 0
 CallsAreStamped past =
-    (n : ℕ) (unit : BagUnit) (one : Sent) (channel : Channel) (number timestamp : ℕ) (c : LogonCall) → slice_get past.world.state.bag n ≡ Some unit →
+    (n : ℕ) (unit : BagUnit) (one : Sent) (channel : ChannelIdentity) (number timestamp : ℕ) (c : LogonCall) → slice_get past.world.state.bag n ≡ Some unit →
     slice_get past.book.sent n ≡ Some one → one.mark ≡ Calling channel number timestamp → (whole : IsWholeUnit unit.bytes) →
     call_carried whole.unit.body ≡ Some (call.Logon c) → timestamp_in c.authenticator ≡ timestamp
 
 -- ---- the calls of turns
 
 -- the unit was made as a call on the channel, with that timestamp
-pub record IsMadeOn (past : Past) (channel : Channel) (n timestamp : ℕ) : Type 0 where
+pub record IsMadeOn (past : Past) (channel : ChannelIdentity) (n timestamp : ℕ) : Type 0 where
   pub sent : Sent
   pub there : slice_get past.book.sent n ≡ Some sent
   pub number : ℕ
@@ -87,29 +87,29 @@ AreSoFar past turn made timestamps =
 
 -- The calls that were made on a channel, in order, are those of its requester's turns; each passed but for one that is
 -- out.
-pub record CallsOfTurns (past : Past) (channel : Channel) (turn : Option Pending) (timestamps : List ℕ) : Type 0 where
+pub record CallsOfTurns (past : Past) (channel : ChannelIdentity) (turn : Option Pending) (timestamps : List ℕ) : Type 0 where
   pub made : List (ℕ × ℕ)
   pub each : AllByRecursion (λ (one : ℕ × ℕ). IsMadeOn past channel one.0 one.1) made
   pub apart : AreUnitsApart made
   -- no other call was made on a channel with its client's challenge
-  pub every : (n number timestamp : ℕ) (sent : Sent) (other : Channel) → slice_get past.book.sent n ≡ Some sent → sent.mark ≡ Calling other number timestamp →
+  pub every : (n number timestamp : ℕ) (sent : Sent) (other : ChannelIdentity) → slice_get past.book.sent n ≡ Some sent → sent.mark ≡ Calling other number timestamp →
       other.client ≡ channel.client → OneOf (λ (one : ℕ × ℕ). one.0 ≡ n) made
   pub far : AreSoFar past turn made timestamps
 
 -- so it is of each channel that stands at a member
 abbrev pub TurnsAreCalled : Past → Type 0
 TurnsAreCalled past =
-    (member : ℕ) (channel : Channel) (o : SecureChannelState) → (stands : Stands past.world.state member channel o) →
+    (member : ℕ) (channel : ChannelIdentity) (o : SecureChannelState) → (stands : Stands past.world.state member channel o) →
     CallsOfTurns past channel stands.turn (timestamps_on member channel past.book.turns)
 
 -- ---- replies
 
 -- The unit `request` was made as a call on the channel, with that number; and it passed at the step that sent unit n as
 -- its reply.
-pub record AnswersCall (past : Past) (channel : Channel) (number request n : ℕ) : Type 0 where
+pub record AnswersCall (past : Past) (channel : ChannelIdentity) (number request n : ℕ) : Type 0 where
   pub sent : Sent
   pub there : slice_get past.book.sent request ≡ Some sent
-  pub named : Channel
+  pub named : ChannelIdentity
   pub timestamp : ℕ
   pub mark : sent.mark ≡ Calling named number timestamp
   pub same : SameChannel named channel
@@ -118,7 +118,7 @@ pub record AnswersCall (past : Past) (channel : Channel) (number request n : ℕ
 -- so it is of each unit that was made as the reply to a call
 abbrev pub RepliesAnswerCalls : Past → Type 0
 RepliesAnswerCalls past =
-    (n : ℕ) (unit : BagUnit) (one : Sent) (channel : Channel) (number request : ℕ) → slice_get past.world.state.bag n ≡ Some unit →
+    (n : ℕ) (unit : BagUnit) (one : Sent) (channel : ChannelIdentity) (number request : ℕ) → slice_get past.world.state.bag n ≡ Some unit →
     slice_get past.book.sent n ≡ Some one → one.mark ≡ ReplyTo channel number request → AnswersCall past channel number request n
 
 -- ---- the laws

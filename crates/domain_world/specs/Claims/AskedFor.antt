@@ -2,7 +2,7 @@
 -- 3.5.4.5.3, MS-NLMP 3.2.5.1.2). What is claimed is this project's own choice.
 use Rattle.std.specs.Prelude.{ℕ, ◌≡◌, List, map, Option, Some, Ok, slice_get}
 use Rattle.std.specs.List.{AllByRecursion}
-use Rattle.authenticators.specs.Channels.{Channel}
+use Rattle.authenticators.specs.Channels.{ChannelIdentity}
 use Rattle.outside.specs.declared.action.Action.{Action}
 use Rattle.outside.specs.declared.event.Event.TheVariants as event
 use Rattle.end_links.specs.Sending.{joined_frames}
@@ -40,7 +40,7 @@ pub record IsOfMessage (member place : ℕ) (logon : Logon) (message : MessageTa
 
 -- such a request goes out, and what is asked is what a message asks
 pub record IsForItsMessage
-    (member : ℕ) (messages : List MessageTaken) (controller : ℕ) (before : AtTurn) (later : Option AtTurn) (called : Option ℕ) (channel : Channel)
+    (member : ℕ) (messages : List MessageTaken) (controller : ℕ) (before : AtTurn) (later : Option AtTurn) (called : Option ℕ) (channel : ChannelIdentity)
     (number timestamp : ℕ) : Type 0 where
   pub carries : IsForItsLogon controller before later called channel number timestamp
   pub message : OneOf (IsOfMessage member carries.asks.place carries.asks.logon) messages
@@ -63,7 +63,7 @@ MembersAskForMessages past =
 -- bytes that a member sends are such a request, by its plan, the logons that it keeps and the channel that stands as
 -- they were before the step, and what is asked is what a message asks
 pub record AreSentForMessage
-    (member : ℕ) (m : MemberState) (messages : List MessageTaken) (controller : ℕ) (bytes : List ℕ) (channel : Channel) (number timestamp : ℕ) : Type 0 where
+    (member : ℕ) (m : MemberState) (messages : List MessageTaken) (controller : ℕ) (bytes : List ℕ) (channel : ChannelIdentity) (number timestamp : ℕ) : Type 0 where
   pub running : Running
   pub runs : m.running ≡ Some running
   pub frames : List (List ℕ)

@@ -4,7 +4,7 @@ use Rattle.std.specs.Prelude.{ℕ, ◌≡◌, ◌≤◌, ◌⊎◌, ◌==◌, �
 use Rattle.std.specs.List.{list_any}
 use Rattle.wire_base.specs.Maps.{lookup}
 use Rattle.wire_base.specs.Names.{same_name}
-use Rattle.authenticators.specs.Channels.{Channel, SameChannel, same_channel}
+use Rattle.authenticators.specs.Channels.{ChannelIdentity, SameChannel, same_channel}
 use Rattle.authenticators.specs.SecureChannels.{channel_of, SecureChannelState}
 use Rattle.channel_client.specs.Turns.{is_out}
 use Rattle.channel_client.specs.declared.state.Standing.TheVariants as standing
@@ -19,7 +19,7 @@ use Rattle.member_server.specs.declared.state.Running.{Running as MemberRunning}
 use Rattle.step_notes.specs.Records.{Judging, LogonTurn}
 use Rattle.world_moves.specs.declared.links.EndId.TheVariants.{Member}
 use Rattle.world_moves.specs.declared.state.State.{State}
-use Rattle.world_moves.specs.declared.state.Waiting.{Waiting}
+use Rattle.world_moves.specs.declared.state.WaitingDial.{WaitingDial}
 use Rattle.world_moves.specs.Links.{same_end}
 use Rattle.domain_world.specs.Claims.{passed_on}
 use Rattle.domain_world.specs.Past.{Past, controller_of}
@@ -27,8 +27,8 @@ use Rattle.domain_world.specs.Past.{Past, controller_of}
 -- ---- one turn at a time
 
 -- the dials of that member that wait
-abbrev pub dials_of : ℕ → List Waiting → List Waiting
-dials_of member dials = filter (λ (dial : Waiting). same_end dial.end (Member member)) dials
+abbrev pub dials_of : ℕ → List WaitingDial → List WaitingDial
+dials_of member dials = filter (λ (dial : WaitingDial). same_end dial.end (Member member)) dials
 
 -- A turn is out exactly where its dial waits or its link is open. One dial of the member waits at most, which is that
 -- of its turn: no link of a turn is open then.
@@ -46,15 +46,15 @@ OneTurnIsOut past =
 -- ---- the member's side
 
 -- the turn is one of that member on that channel
-abbrev pub is_turn_on : ℕ → Channel → LogonTurn → Bool
+abbrev pub is_turn_on : ℕ → ChannelIdentity → LogonTurn → Bool
 is_turn_on member channel turn = (turn.member == member) && same_channel turn.channel channel
 
 -- the timestamps of its turns on the channel, in order
-abbrev pub timestamps_on : ℕ → Channel → List LogonTurn → List ℕ
+abbrev pub timestamps_on : ℕ → ChannelIdentity → List LogonTurn → List ℕ
 timestamps_on member channel turns = map (λ (turn : LogonTurn). turn.timestamp) (filter (is_turn_on member channel) turns)
 
 -- a turn is out, and this is the seed before its timestamp, the last one
-pub record IsBeforeTurn (turn : Option Pending) (seed : List ℕ) (channel : Channel) (timestamps : List ℕ) : Type 0 where
+pub record IsBeforeTurn (turn : Option Pending) (seed : List ℕ) (channel : ChannelIdentity) (timestamps : List ℕ) : Type 0 where
   pub pending : Pending
   pub is_out : turn ≡ Some pending
   pub earlier : List ℕ
@@ -63,7 +63,7 @@ pub record IsBeforeTurn (turn : Option Pending) (seed : List ℕ) (channel : Cha
   pub seed_before : seed ≡ channel_seed channel earlier
 
 -- the channel that stands at a member, and its state there
-pub record Stands (s : State) (member : ℕ) (channel : Channel) (o : SecureChannelState) : Type 0 where
+pub record Stands (s : State) (member : ℕ) (channel : ChannelIdentity) (o : SecureChannelState) : Type 0 where
   pub state : MemberState
   pub running : MemberRunning
   pub at : slice_get s.ends.members member ≡ Some state
@@ -84,11 +84,11 @@ pub record Keeps (s : State) (controller : ℕ) (computer : List ℕ) (c : Secur
   pub kept : lookup same_name computer running.computers.channels ≡ Some c
 
 -- an authenticator of bytes from outside passed on the channel
-abbrev pub is_foreign : Channel → Option ℕ → Judging → Bool
+abbrev pub is_foreign : ChannelIdentity → Option ℕ → Judging → Bool
 is_foreign channel None j = passed_on channel j
 is_foreign channel (Some unit) j = false
 
-abbrev pub any_foreign : Channel → List Judging → Bool
+abbrev pub any_foreign : ChannelIdentity → List Judging → Bool
 any_foreign channel judgings = list_any (λ (j : Judging). is_foreign channel j.unit j) judgings
 
 -- ---- the claim
@@ -97,7 +97,7 @@ any_foreign channel judgings = list_any (λ (j : Judging). is_foreign channel j.
 -- channel, each plus one: the first part of the claim, which speaks of the member alone.
 abbrev pub SequenceIsOwn : Past → ℕ → Type 0
 SequenceIsOwn past member =
-    (channel : Channel) (o : SecureChannelState) → Stands past.world.state member channel o →
+    (channel : ChannelIdentity) (o : SecureChannelState) → Stands past.world.state member channel o →
     o.seed ≡ channel_seed channel (timestamps_on member channel past.book.turns)
 
 -- each member's is
@@ -108,7 +108,7 @@ SequencesAreOwn past = (member : ℕ) → SequenceIsOwn past member
 -- passed on it, the controller's seed is the member's, or with a turn out the one before that turn.
 pub record SequenceIsShared (past : Past) (member : ℕ) : Type 0 where
   pub own : SequenceIsOwn past member
-  pub other : (channel : Channel) (o c : SecureChannelState) → (stands : Stands past.world.state member channel o) →
+  pub other : (channel : ChannelIdentity) (o c : SecureChannelState) → (stands : Stands past.world.state member channel o) →
       Keeps past.world.state channel.controller channel.computer c →
       SameChannel (channel_of channel.controller channel.computer c) channel →
       any_foreign channel past.book.judged ≡ false →

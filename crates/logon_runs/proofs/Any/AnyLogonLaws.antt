@@ -24,7 +24,7 @@ use Rattle.logon_runs.specs.Seen.Others.{IsStepOn}
 use Rattle.logon_runs.specs.Passing.{HasEnough}
 use Rattle.logon_runs.specs.Rests.{AtRest, moved_by}
 use Rattle.logon_runs.specs.Seen.Staying.{HasSameEnds}
-use Rattle.logon_runs.specs.Seen.Waiting.{waiting}
+use Rattle.logon_runs.specs.Seen.WaitingUnits.{waiting}
 use Rattle.logon_runs.specs.Any.AnyStarts.{AreThree, IsReachedOrNot}
 use Rattle.logon_runs.proofs.Any.AnyRunLaws.{reached_rests}
 use Rattle.logon_runs.proofs.Any.RestAgainLaws.{HasItem, item_at}

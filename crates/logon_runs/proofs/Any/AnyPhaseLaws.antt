@@ -13,7 +13,7 @@ use Rattle.logon_runs.specs.Seen.Others.{IsStepOn}
 use Rattle.logon_runs.specs.Phases.{Acked, Answers, Binds, BindsBefore, BindsHeld, Calls, Challenged, Coming, Dials, DialsBefore, DialsHeld, Echoed, Echoes, Granted, Halved, LogonPhase, Named, Proved, scene_of}
 use Rattle.logon_runs.specs.Scenes.{Scene, Shows}
 use Rattle.logon_runs.specs.Failing.TurnedAway.{AwayPhase, Faulted, Refused, Unheard, away_scene, settled_in}
-use Rattle.logon_runs.specs.Seen.Waiting.{waiting}
+use Rattle.logon_runs.specs.Seen.WaitingUnits.{waiting}
 use Rattle.logon_runs.specs.Any.AnyPhases.{AnyPhase, AnyPhasesGoOn, Away, IsAble, IsAnywhere, IsDone, IsLetIn, IsOnward, IsReadyBy, Judged, MayFit, MayFitOn, On, Told, any_scene}
 use Rattle.logon_runs.proofs.Phases.PhaseLaws.{at_moment, one_waits, same_scene, waits_so}
 use Rattle.logon_runs.proofs.Seen.StartLaws.{starts_are_seen}

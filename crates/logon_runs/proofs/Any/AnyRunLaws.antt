@@ -13,7 +13,7 @@ use Rattle.world_moves.specs.declared.moves.Move.{Move}
 use Rattle.world_moves.specs.declared.moves.Move.TheVariants as move
 use Rattle.world_moves.specs.declared.plan.Plan.{Plan}
 use Rattle.world_moves.specs.declared.state.State.{State}
-use Rattle.world_moves.specs.declared.state.Waiting.{Waiting}
+use Rattle.world_moves.specs.declared.state.WaitingDial.{WaitingDial}
 use Rattle.world_moves.specs.Choosing.{chosen_place}
 use Rattle.world_moves.specs.Forms.{HasForms}
 use Rattle.world_moves.specs.Moving.{act, end_of_peer, onward, route_to, start}
@@ -24,7 +24,7 @@ use Rattle.logon_runs.specs.Passing.{HasEnough}
 use Rattle.logon_runs.specs.Phases.{Acked, Answers, Binds, BindsBefore, BindsHeld, Calls, Challenged, Coming, Dials, DialsBefore, DialsHeld, DrawsFew, Echoed, Echoes, Granted, Halved, HasThree, LogonPhase, Named, Proved, Third, scene_of}
 use Rattle.logon_runs.specs.Rests.{AtRest, moved_by, three_in}
 use Rattle.logon_runs.specs.Seen.Staying.{HasSameEnds}
-use Rattle.logon_runs.specs.Seen.Waiting.{waiting}
+use Rattle.logon_runs.specs.Seen.WaitingUnits.{waiting}
 use Rattle.logon_runs.specs.Any.AnyPhases.{AnyPhase, Away, IsAble, IsAnywhere, IsDone, IsHeard, IsLetIn, IsOnward, Judged, On, Told, any_scene}
 use Rattle.logon_runs.specs.Any.AnyStarts.{AreThree, HasStarted, IsReachedOrNot, coming_from}
 use Rattle.logon_runs.specs.Any.GrantRests.{HasSettled, judged_rest}
@@ -93,8 +93,8 @@ module _ (plan : Plan) (p : Coming) (s : State) where
   on_dials (Echoes a e on one asks) left moment heard = tt
   on_dials (Echoed a e talk one other back) left moment heard = tt
 
-  dials_so : (dials : List Waiting) → dials ≡ [] → IsDialAmong (three_in p) s (slice_get dials 0)
-  dials_so dials none = subst (λ (dials : List Waiting). IsDialAmong (three_in p) s (slice_get dials 0)) (sym none) tt
+  dials_so : (dials : List WaitingDial) → dials ≡ [] → IsDialAmong (three_in p) s (slice_get dials 0)
+  dials_so dials none = subst (λ (dials : List WaitingDial). IsDialAmong (three_in p) s (slice_get dials 0)) (sym none) tt
 
   any_dials : (phase : AnyPhase p) (left : List (List ℕ)) (moment : ℕ) → IsHeard plan p s → IsDialAmong (three_in p) s (slice_get (any_scene p phase left moment).dials 0)
   any_dials (On phase) left moment heard = on_dials phase left moment heard
@@ -106,7 +106,7 @@ module _ (plan : Plan) (p : Coming) (s : State) where
   moves_alone : (what : Move) → IsStepOn what → IsHeard plan p s → IsAnywhere plan p s ⊎ IsDone plan p s → OthersStay (three_in p) s (act s what).state
   moves_alone what steps heard (inl at) =
       others_are_left.steps (three_in p) s what steps (subst (AreAmong (three_in p)) (sym at.shows.opened) (any_among at.phase at.left at.moment))
-      (subst (λ (dials : List Waiting). IsDialAmong (three_in p) s (slice_get dials 0)) (sym at.shows.dials) (any_dials at.phase at.left at.moment heard))
+      (subst (λ (dials : List WaitingDial). IsDialAmong (three_in p) s (slice_get dials 0)) (sym at.shows.dials) (any_dials at.phase at.left at.moment heard))
   moves_alone what steps heard (inr over) =
       others_are_left.steps (three_in p) s what steps (subst (AreAmong (three_in p)) (sym over.shows.opened) tt) (no_dial_among p s over.shows.dials)
 

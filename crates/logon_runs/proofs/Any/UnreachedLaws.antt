@@ -13,7 +13,7 @@ use Rattle.world_moves.specs.declared.moves.Move.{Move}
 use Rattle.world_moves.specs.declared.moves.Move.TheVariants as move
 use Rattle.world_moves.specs.declared.plan.Plan.{Plan}
 use Rattle.world_moves.specs.declared.state.State.{State}
-use Rattle.world_moves.specs.declared.state.Waiting.{Waiting}
+use Rattle.world_moves.specs.declared.state.WaitingDial.{WaitingDial}
 use Rattle.world_moves.specs.Choosing.{chosen_place}
 use Rattle.world_moves.specs.Moving.{act, end_of_peer, moment_after, route_to, start}
 use Rattle.world_moves.specs.World.{first_ends, first_world}
@@ -75,11 +75,11 @@ module _ (p : Coming) (left : List (List ℕ)) (s : State) (nobody : route_to (C
       OthersStay (three_in p) now (act now what).state
   moves_alone now moment what steps same (inl shows) =
       others_are_left.steps (three_in p) now what steps (subst (AreAmong (three_in p)) (sym shows.opened) tt)
-      (subst (λ (dials : List Waiting). IsDialAmong (three_in p) now (slice_get dials 0)) (sym shows.dials)
+      (subst (λ (dials : List WaitingDial). IsDialAmong (three_in p) now (slice_get dials 0)) (sym shows.dials)
       (refl, subst (λ (route : Option Route). IsRoutedAmong (three_in p) route) (sym (nobody_now now same)) tt))
   moves_alone now moment what steps same (inr shows) =
       others_are_left.steps (three_in p) now what steps (subst (AreAmong (three_in p)) (sym shows.opened) tt)
-      (subst (λ (dials : List Waiting). IsDialAmong (three_in p) now (slice_get dials 0)) (sym shows.dials) tt)
+      (subst (λ (dials : List WaitingDial). IsDialAmong (three_in p) now (slice_get dials 0)) (sym shows.dials) tt)
 
   calls_on : (moves : List Move) (now : State) → AllByRecursion IsStepOn moves → IsCalling p left s now → IsCalling p left s (moved_by moves now)
   calls_on [] now steps calling = calling

@@ -27,7 +27,7 @@ use Rattle.world_moves.specs.declared.links.EndId.{EndId}
 use Rattle.world_moves.specs.declared.links.EndId.TheVariants.{Client, Member}
 use Rattle.world_moves.specs.declared.links.Route.{Route}
 use Rattle.world_moves.specs.declared.state.State.{State}
-use Rattle.world_moves.specs.declared.state.Waiting.{Waiting}
+use Rattle.world_moves.specs.declared.state.WaitingDial.{WaitingDial}
 use Rattle.world_moves.specs.Acting.{Heard, done, hear, perform_all_quietly}
 use Rattle.world_moves.specs.Ends.{EndStates}
 use Rattle.world_moves.specs.Links.{OpenMap}
@@ -44,7 +44,7 @@ use Rattle.logon_runs.specs.Failing.Failings.{FailingsAreSeen, failing_turn, set
 use Rattle.logon_runs.specs.Seen.LinkScenes.{Meeting, meeting_scene, rest_scene, unit_down, unit_up}
 use Rattle.logon_runs.specs.Scenes.{IsNoClose, Scene, Shows, dials_made, units_sent, with_actions}
 use Rattle.logon_runs.specs.Seen.TurnScenes.{Turn, unit_back}
-use Rattle.logon_runs.specs.Seen.Waiting.{after_hearing, with_client_at, with_member_at}
+use Rattle.logon_runs.specs.Seen.WaitingUnits.{after_hearing, with_client_at, with_member_at}
 use Rattle.logon_runs.proofs.Failing.FailingStepLaws.{failings_step, fault_sends}
 use Rattle.logon_runs.proofs.Seen.LinkSceneLaws.{closes_own, heard_down, heard_up, none_left, sent_down}
 use Rattle.logon_runs.proofs.Seen.SceneLaws.{Leaves, got_same, performed_quietly, quietly_leave, scenes_go_on}
@@ -54,7 +54,7 @@ use Rattle.logon_runs.proofs.Seen.WaitingLaws.{waiting_comes}
 
 -- ---- a dial that reaches nobody
 
-lands_failed : (s : State) (v : Scene) (end : EndId) (peer : List ℕ) (dials : List Waiting) (ends : EndStates) (actions : List Action)
+lands_failed : (s : State) (v : Scene) (end : EndId) (peer : List ℕ) (dials : List WaitingDial) (ends : EndStates) (actions : List Action)
     (client : ClientState) (member : MemberState) (controller : ControllerState) → Shows s v → v.dials ≡ record { end = end; peer = peer } ∷ dials →
     route_to end (end_of_peer peer s.ends) ≡ None → AllByRecursion IsNoClose actions →
     hear end event.DialFailed (without_first s) ≡ after_hearing ends v.left actions (without_first s) →
@@ -66,7 +66,7 @@ lands_failed s v end peer dials ends actions client member controller shows wait
     let s3 : State = perform_all_quietly end actions s2 in
     let leaves : Leaves end actions s2 s3 = quietly_leave end actions s2 none_close in
     let is : (connect s).state ≡ s3 =
-    ap (λ (d : List Waiting). (connect_first (slice_get d 0) (without_first s)).state) (shows.dials ∙ waits)
+    ap (λ (d : List WaitingDial). (connect_first (slice_get d 0) (without_first s)).state) (shows.dials ∙ waits)
     ∙ ap (λ (r : Option Route). (connect_by r end (without_first s)).state) reaches
     ∙ ap (λ (h : Heard). (done end h).state) heard
     ∙ performed_quietly end actions s2 none_close in
@@ -77,12 +77,12 @@ lands_failed s v end peer dials ends actions client member controller shows wait
       links = leaves.links ∙ shows.links;
       opened = leaves.opened ∙ shows.opened;
       units = leaves.units ∙ ap₂ (λ (u : List BagUnit) (l : List Route). u ++ units_sent l end actions) shows.units shows.links;
-      dials = leaves.dials ∙ ap (λ (d : List Waiting). drop 1 d ++ dials_made end actions) (shows.dials ∙ waits);
+      dials = leaves.dials ∙ ap (λ (d : List WaitingDial). drop 1 d ++ dials_made end actions) (shows.dials ∙ waits);
       left = ap (λ (c : Drawing). c.left) leaves.left;
       moment = leaves.moment ∙ shows.moment;
     })
 
-client_fails : (s : State) (v : Scene) (peer : List ℕ) (dials : List Waiting) (after : ClientState) (actions : List Action) → Shows s v →
+client_fails : (s : State) (v : Scene) (peer : List ℕ) (dials : List WaitingDial) (after : ClientState) (actions : List Action) → Shows s v →
     v.dials ≡ record { end = Client v.at_client; peer = peer } ∷ dials → route_to (Client v.at_client) (end_of_peer peer s.ends) ≡ None → AllByRecursion IsNoClose actions →
     client_step_of v.client event.DialFailed v.moment v.left ≡ whole_step v.left v.left actions after →
     Shows (connect s).state (with_actions (Client v.at_client) actions v.left (record v { client = after; dials = dials }))
@@ -93,7 +93,7 @@ client_fails s v peer dials after actions shows waits reaches none_close step =
     ∙ ap (λ (l : List (List ℕ)). whole_step l v.left actions after) (sym shows.left)))
     (got_same s.ends.clients v.at_client v.client after shows.client) shows.member shows.controller
 
-member_fails : (s : State) (v : Scene) (peer : List ℕ) (dials : List Waiting) (after : MemberState) (actions : List Action) → Shows s v →
+member_fails : (s : State) (v : Scene) (peer : List ℕ) (dials : List WaitingDial) (after : MemberState) (actions : List Action) → Shows s v →
     v.dials ≡ record { end = Member v.at_member; peer = peer } ∷ dials → route_to (Member v.at_member) (end_of_peer peer s.ends) ≡ None → AllByRecursion IsNoClose actions →
     member_step_of v.member event.DialFailed v.moment v.left ≡ whole_step v.left v.left actions after →
     Shows (connect s).state (with_actions (Member v.at_member) actions v.left (record v { member = after; dials = dials }))

@@ -38,7 +38,7 @@ use Rattle.member_server.specs.declared.state.Phase.TheVariants as phase
 use Rattle.member_server.specs.declared.state.Talk.{Talk}
 use Rattle.member_server.specs.declared.state.Work.{Work}
 use Rattle.member_server.specs.Machine.{actions_in, at_turn, halted_state, keep_turn, state_in}
-use Rattle.member_server.specs.Outcomes.{after_served, at_link, end_found, end_logon, outcome_of, phase_after, reach_link, turn_link, turn_waiting, waiting_if}
+use Rattle.member_server.specs.Outcomes.{after_served, at_link, end_found, end_logon, outcome_of, phase_after, reach_link, reach_in_map, reach_waiting, waiting_if}
 use Rattle.member_server.specs.Requests.{body_out, unit_out}
 use Rattle.member_server.specs.Turns.{next_turn, take_by}
 use Rattle.member_server.specs.Units.{serve_held, then_held}
@@ -81,8 +81,8 @@ ended_work plan channel task how logon place far held first is =
     let alone : Work = waiting_work plan channel [] [] told in
     ap (λ (f : Bool). end_found (if f then Some logon else None) place how (waiting_work plan channel (if f then [] else (place, logon) ∷ []) links first)) (same place)
     ∙ ap (λ (f : Bool). reach_link (if f then Some here else None) place how logon (waiting_work plan channel [] links told)) (same logon.link)
-    ∙ ap (λ (f : Bool). turn_link (waiting_if f (bound_for task) held) here how logon (waiting_work plan channel [] links told)) (same place)
-    ∙ ap (λ (f : Bool). turn_waiting (bound_for task, held) here how logon (waiting_work plan channel [] (if f then [] else links) told)) (same logon.link)
+    ∙ ap (λ (f : Bool). reach_in_map (waiting_if f (bound_for task) held) here how logon (waiting_work plan channel [] links told)) (same place)
+    ∙ ap (λ (f : Bool). reach_waiting (bound_for task, held) here how logon (waiting_work plan channel [] (if f then [] else links) told)) (same logon.link)
     ∙ ap (λ (p : Phase). after_served (serve_held held (at_link logon.link alone) (record { joiner = None; phase = p })) [] logon.link alone) is
 
 held_work : (plan : MemberPlan) (channel : Requester) (task : ClientPlan) (how : Ending) (logon : Logon) (place status most : ℕ) (one other : Option SessionState) (first : List Action) →

@@ -63,7 +63,7 @@ use Rattle.logon_runs.specs.Runs.{Asked, info_asked, message_for, with_moved}
 use Rattle.logon_runs.specs.Scenes.{Shows}
 use Rattle.logon_runs.specs.Seen.TurnScenes.{Turn}
 use Rattle.logon_runs.specs.Failing.TurnedAway.{AwayPhase, Faulted, FitsAway, IsAway, IsRefusal, IsSettled, HasEnded, LogonsAreTurnedAway, Refused, Settled, Unheard, away_scene, refusing, settled_in}
-use Rattle.logon_runs.specs.Seen.Waiting.{waiting}
+use Rattle.logon_runs.specs.Seen.WaitingUnits.{waiting}
 use Rattle.logon_runs.proofs.Failing.FailingLaws.{failings_are_seen}
 use Rattle.logon_runs.proofs.First.FirstTraceLaws.{after_below}
 use Rattle.logon_runs.proofs.RunLaws.{between_still, same_computer}

@@ -26,7 +26,7 @@ use Rattle.world_moves.specs.Links.{OpenMap}
 use Rattle.world_moves.specs.Moving.{onward, settle}
 use Rattle.logon_runs.specs.Scenes.{HasFirst, IsNoClose, Scene, Shows, with_actions}
 use Rattle.logon_runs.specs.Seen.Turnings.{ClosesTo, shut_in}
-use Rattle.logon_runs.specs.Seen.Waiting.{Comes, after_hearing, with_client_at, with_controller_at, with_member_at}
+use Rattle.logon_runs.specs.Seen.WaitingUnits.{Comes, after_hearing, with_client_at, with_controller_at, with_member_at}
 use Rattle.logon_runs.proofs.Seen.SceneLaws.{first_comes, got_same}
 use Rattle.logon_runs.proofs.Seen.TurningSceneLaws.{lands_closing}
 use Rattle.logon_runs.proofs.Seen.WaitingLaws.{waiting_comes}

@@ -27,7 +27,7 @@ use Rattle.logon_runs.specs.Runs.{Asked, message_for}
 use Rattle.logon_runs.specs.Scenes.{Shows}
 use Rattle.logon_runs.specs.Failing.TurnedAway.{Settled, settled_in}
 use Rattle.logon_runs.specs.Seen.TurnScenes.{Turn}
-use Rattle.logon_runs.specs.Seen.Waiting.{waiting}
+use Rattle.logon_runs.specs.Seen.WaitingUnits.{waiting}
 use Rattle.logon_runs.proofs.ComeInLaws.{turn_among}
 use Rattle.logon_runs.proofs.Keys.LetInLaws.{grants_go_on}
 use Rattle.logon_runs.proofs.Seen.OtherLaws.{others_are_left}

@@ -70,7 +70,7 @@ use Rattle.logon_runs.specs.Runs.{Asked}
 use Rattle.logon_runs.specs.Scenes.{Shows}
 use Rattle.logon_runs.specs.Seen.TurnScenes.{IsBetween, Turn, turn_scene, unit_back}
 use Rattle.logon_runs.specs.Seen.Turnings.{ClosesTo, shut_in}
-use Rattle.logon_runs.specs.Seen.Waiting.{waiting}
+use Rattle.logon_runs.specs.Seen.WaitingUnits.{waiting}
 use Rattle.logon_runs.proofs.Keys.ClosingLaws.{member_shuts, member_shuts_both}
 use Rattle.logon_runs.proofs.Keys.DifferingLaws.{Asks as AsksBy, asks_by, keys_may_differ}
 use Rattle.logon_runs.proofs.Keys.LetInStepLaws.{granted_replies, granted_shuts, let_in_replies, let_in_shuts}

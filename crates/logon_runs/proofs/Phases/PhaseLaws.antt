@@ -10,7 +10,7 @@ use Rattle.logon_runs.specs.Phases.{Acked, Answers, Binds, BindsBefore, BindsHel
 use Rattle.logon_runs.specs.Seen.Others.{IsStepOn}
 use Rattle.logon_runs.specs.Runs.{Asked}
 use Rattle.logon_runs.specs.Scenes.{Scene, Shows}
-use Rattle.logon_runs.specs.Seen.Waiting.{waiting}
+use Rattle.logon_runs.specs.Seen.WaitingUnits.{waiting}
 use Rattle.logon_runs.proofs.Seen.StartLaws.{starts_are_seen}
 use Rattle.logon_runs.proofs.Seen.TurningSceneLaws.{scenes_turn}
 use Rattle.logon_runs.proofs.Phases.PhaseStartLaws.{ComesBy, left_seen, answers_on, binds_on, challenged_on, connects_on, under}

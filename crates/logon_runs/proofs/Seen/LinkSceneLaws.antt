@@ -10,7 +10,7 @@ use Rattle.logon_client.specs.declared.answering.Drawn.{Drawn}
 use Rattle.logon_client.specs.declared.state.Phase.{Phase as ClientPhase}
 use Rattle.logon_client.specs.declared.state.Phase.TheVariants as client_phase
 use Rattle.logon_client.specs.declared.state.Question.TheVariants as client_question
-use Rattle.logon_client.specs.declared.state.Standing.TheVariants as client_standing
+use Rattle.logon_client.specs.declared.state.ClientLink.TheVariants as client_standing
 use Rattle.logon_client.specs.declared.state.Terms.{Terms}
 use Rattle.logon_client.specs.Answering.{bind_for}
 use Rattle.logon_client.specs.declared.outcome.ClientOutcome.TheVariants.{In}

@@ -24,8 +24,8 @@ use Rattle.world_moves.specs.declared.links.Route.TheVariants.{Stranger, ToContr
 use Rattle.world_moves.specs.declared.moves.Move.{Move}
 use Rattle.world_moves.specs.declared.moves.Move.TheVariants as move
 use Rattle.world_moves.specs.declared.state.State.{State}
-use Rattle.world_moves.specs.declared.state.Waiting.{Waiting}
-use Rattle.world_moves.specs.Acting.{Heard, bag_unit, close_open, closed_at, forget, hear, heard_by, hears, hears_if, perform, perform_all, perform_all_quietly, perform_quietly, piece_comes, pieces_come, send_on, shut_link}
+use Rattle.world_moves.specs.declared.state.WaitingDial.{WaitingDial}
+use Rattle.world_moves.specs.Acting.{Heard, bag_unit, close_open, closed_at, forget, hear, heard_by, hear_and_act, hear_and_act_if, perform, perform_all, perform_all_quietly, perform_quietly, piece_comes, pieces_come, send_on, shut_link}
 use Rattle.world_moves.specs.Bag.{first_waiting, pieces_of}
 use Rattle.world_moves.specs.Ends.{client_step, controller_step, member_step}
 use Rattle.world_moves.specs.Links.{OpenMap, accepted, acceptor_of, answered, dialler_of, end_if, forget_end, hearer_of, hearer_on, is_accepted_by, kind_of, other_hearer}
@@ -216,13 +216,13 @@ actions_stay t end (what ∷ actions) s are =
     let first = perform_stays t end what s are in
     both_stay t s (perform end what s).state _ first (actions_stay t end actions (perform end what s).state first.links)
 
-hears_stay : (t : Three) (end : EndId) (what : Event) (s : State) → IsOneOf t end → AreAmong t s.open_links → OthersStay t s (hears end what s).state
+hears_stay : (t : Three) (end : EndId) (what : Event) (s : State) → IsOneOf t end → AreAmong t s.open_links → OthersStay t s (hear_and_act end what s).state
 hears_stay t end what s is are =
     let heard : Heard = hear end what s in
     let first : OthersStay t s heard.state = heard_stays t what s are end is in
     both_stay t s heard.state _ first (actions_stay t end heard.actions heard.state first.links)
 
-hears_if_stay : (t : Three) (end : Option EndId) (what : Event) (s : State) → IsOneIf t end → AreAmong t s.open_links → OthersStay t s (hears_if end what s).state
+hears_if_stay : (t : Three) (end : Option EndId) (what : Event) (s : State) → IsOneIf t end → AreAmong t s.open_links → OthersStay t s (hear_and_act_if end what s).state
 unfolding IsOneIf
 hears_if_stay t None what s is are = staying t s are
 hears_if_stay t (Some end) what s is are = hears_stay t end what s is are
@@ -266,7 +266,7 @@ answer_stays : (t : Three) (there : Option OpenLink) (end : EndId) (link : ℕ) 
 unfolding IsAmongIf IsOneIf
 answer_stays t None end link s is one are =
     let first = hears_stay t end (event.Dialled link) s one are in
-    both_stay t s (hears end (event.Dialled link) s).state _ first (closed_stays t (Some end) link (hears end (event.Dialled link) s).state one first.links)
+    both_stay t s (hear_and_act end (event.Dialled link) s).state _ first (closed_stays t (Some end) link (hear_and_act end (event.Dialled link) s).state one first.links)
 answer_stays t (Some there) end link s is one are =
     let more : AreAmong t (answered_link link there s).open_links = put_so t link (answered there) s.open_links is are in
     both_stay t s (answered_link link there s) _ (of_same t s _ refl more) (hears_stay t end (event.Dialled link) (answered_link link there s) one more)
@@ -279,11 +279,11 @@ connect_stays t (Some route) end s one is are =
     both_stay t s later _ first
     (answer_stays t (lookup same_number (length s.links) later.open_links) end (length s.links) later (found t (length s.links) later.open_links first.links) one first.links)
 
-connect_first_stays : (t : Three) (first : Option Waiting) (s : State) → IsDialAmong t s first → AreAmong t s.open_links → OthersStay t s (connect_first first s).state
+connect_first_stays : (t : Three) (first : Option WaitingDial) (s : State) → IsDialAmong t s first → AreAmong t s.open_links → OthersStay t s (connect_first first s).state
 connect_first_stays t None s is are = staying t s are
 connect_first_stays t (Some first) s is are = connect_stays t (route_to first.end (end_of_peer first.peer s.ends)) first.end s is.0 is.1 are
 
-without_first_is : (t : Three) (s : State) (first : Option Waiting) → IsDialAmong t s first → IsDialAmong t (without_first s) first
+without_first_is : (t : Three) (s : State) (first : Option WaitingDial) → IsDialAmong t s first → IsDialAmong t (without_first s) first
 without_first_is t s None is = tt
 without_first_is t s (Some first) is = is
 

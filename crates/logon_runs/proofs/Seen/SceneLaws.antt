@@ -20,13 +20,13 @@ use Rattle.world_moves.specs.declared.links.EndId.TheVariants.{Controller, Membe
 use Rattle.world_moves.specs.declared.links.Route.{Route}
 use Rattle.world_moves.specs.declared.links.Route.TheVariants.{ToMember, ToController, Stranger}
 use Rattle.world_moves.specs.declared.state.State.{State}
-use Rattle.world_moves.specs.declared.state.Waiting.{Waiting}
+use Rattle.world_moves.specs.declared.state.WaitingDial.{WaitingDial}
 use Rattle.world_moves.specs.Acting.{Heard, done, hear, perform_all, perform_all_quietly, perform_quietly, send_on}
 use Rattle.world_moves.specs.Ends.{EndStates}
 use Rattle.world_moves.specs.Links.{OpenMap}
 use Rattle.world_moves.specs.Moving.{onward, settle}
 use Rattle.logon_runs.specs.Scenes.{HasFirst, IsNoClose, Scene, ScenesGoOn, Shows, dials_made, dials_of_action, sent_if, units_of_action, units_sent, with_actions}
-use Rattle.logon_runs.specs.Seen.Waiting.{Comes, after_hearing, unit_on, waiting, with_client_at, with_controller_at, with_member_at}
+use Rattle.logon_runs.specs.Seen.WaitingUnits.{Comes, after_hearing, unit_on, waiting, with_client_at, with_controller_at, with_member_at}
 use Rattle.logon_runs.proofs.Seen.WaitingLaws.{waiting_comes}
 
 -- ---- lists of ends
@@ -74,7 +74,7 @@ more_leave end what actions s next after ends links opened units dials left mome
   opened = leaves.opened ∙ opened;
   units = leaves.units ∙ ap₂ (λ (u : List BagUnit) (l : List Route). u ++ units_sent l end actions) units links
       ∙ append_assoc (waiting s.bag) (units_of_action s.links end what) (units_sent s.links end actions);
-  dials = leaves.dials ∙ ap (λ (d : List Waiting). d ++ dials_made end actions) dials ∙ append_assoc s.dials (dials_of_action end what) (dials_made end actions);
+  dials = leaves.dials ∙ ap (λ (d : List WaitingDial). d ++ dials_made end actions) dials ∙ append_assoc s.dials (dials_of_action end what) (dials_made end actions);
   left = leaves.left ∙ left;
   moment = leaves.moment ∙ moment;
 }
@@ -140,7 +140,7 @@ lands s v unit later end ends left actions client member controller shows comes 
       links = leaves.links ∙ shows.links;
       opened = leaves.opened ∙ shows.opened;
       units = leaves.units ∙ ap₂ (λ (u : List BagUnit) (l : List Route). u ++ units_sent l end actions) comes.behind shows.links;
-      dials = leaves.dials ∙ ap (λ (d : List Waiting). d ++ dials_made end actions) shows.dials;
+      dials = leaves.dials ∙ ap (λ (d : List WaitingDial). d ++ dials_made end actions) shows.dials;
       left = ap (λ (c : Drawing). c.left) leaves.left;
       moment = leaves.moment ∙ shows.moment;
     })

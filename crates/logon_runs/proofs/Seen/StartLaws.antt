@@ -3,11 +3,11 @@
 use Rattle.std.proofs.Common.{◌≡◌, ℕ, List, [], ◌∷◌, ◌++◌, drop, filter, Option, Some, sym, ap, subst, ◌∙◌, slice_get}
 use Rattle.outside.specs.declared.action.Action.TheVariants as action
 use Rattle.logon_client.specs.declared.plan.ClientPlan.{ClientPlan}
-use Rattle.logon_client.specs.declared.state.Standing.TheVariants as client_standing
+use Rattle.logon_client.specs.declared.state.ClientLink.TheVariants as client_standing
 use Rattle.logon_client.specs.Machine.{Beginning}
 use Rattle.world_moves.specs.declared.links.EndId.TheVariants.{Client}
 use Rattle.world_moves.specs.declared.state.State.{State}
-use Rattle.world_moves.specs.declared.state.Waiting.{Waiting}
+use Rattle.world_moves.specs.declared.state.WaitingDial.{WaitingDial}
 use Rattle.world_moves.specs.Acting.{Acted, Heard, done, forget, is_of_other}
 use Rattle.world_moves.specs.Counting.{add_counts, counts_of}
 use Rattle.world_moves.specs.Ends.{with_client}
@@ -47,13 +47,13 @@ starts_are_seen = record {
         links = shows.links;
         opened = ap (λ (o : OpenMap). forget_end (Client g.at_client) o) shows.opened;
         units = shows.units;
-        dials = ap (λ (dials : List Waiting). filter (is_of_other (Client g.at_client)) dials ++ record { end = Client g.at_client; peer = g.task.server } ∷ []) shows.dials;
+        dials = ap (λ (dials : List WaitingDial). filter (is_of_other (Client g.at_client)) dials ++ record { end = Client g.at_client; peer = g.task.server } ∷ []) shows.dials;
         left = shows.left;
         moment = shows.moment;
       });
   no_dial = λ s v none shows.
       subst (λ (later : State). Shows later v)
-      (sym (ap (λ (first : Option Waiting). (connect_first first (without_first s)).state) (ap (λ (dials : List Waiting). slice_get dials 0) (shows.dials ∙ none))))
+      (sym (ap (λ (first : Option WaitingDial). (connect_first first (without_first s)).state) (ap (λ (dials : List WaitingDial). slice_get dials 0) (shows.dials ∙ none))))
       (record {
         client = shows.client;
         member = shows.member;
@@ -61,7 +61,7 @@ starts_are_seen = record {
         links = shows.links;
         opened = shows.opened;
         units = shows.units;
-        dials = ap (λ (dials : List Waiting). drop 1 dials) (shows.dials ∙ none) ∙ sym none;
+        dials = ap (λ (dials : List WaitingDial). drop 1 dials) (shows.dials ∙ none) ∙ sym none;
         left = shows.left;
         moment = shows.moment;
       });

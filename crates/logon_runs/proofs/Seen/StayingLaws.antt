@@ -26,8 +26,8 @@ use Rattle.world_moves.specs.declared.links.Route.TheVariants.{Stranger}
 use Rattle.world_moves.specs.declared.moves.Move.{Move}
 use Rattle.world_moves.specs.declared.moves.Move.TheVariants as move
 use Rattle.world_moves.specs.declared.state.State.{State}
-use Rattle.world_moves.specs.declared.state.Waiting.{Waiting}
-use Rattle.world_moves.specs.Acting.{Heard, bag_unit, close_open, closed_at, forget, hear, heard_by, hears, hears_if, perform, perform_all, perform_all_quietly, perform_quietly, piece_comes, pieces_come, send_on, shut_link}
+use Rattle.world_moves.specs.declared.state.WaitingDial.{WaitingDial}
+use Rattle.world_moves.specs.Acting.{Heard, bag_unit, close_open, closed_at, forget, hear, heard_by, hear_and_act, hear_and_act_if, perform, perform_all, perform_all_quietly, perform_quietly, piece_comes, pieces_come, send_on, shut_link}
 use Rattle.world_moves.specs.Bag.{first_waiting, pieces_of}
 use Rattle.world_moves.specs.Choosing.{chosen_in, chosen_place}
 use Rattle.world_moves.specs.Ends.{EndStates, acceptors_in, client_step, controller_step, count_of, end_at, end_in, member_step, renew_client, renew_controller, renew_member}
@@ -137,12 +137,12 @@ actions_same end [] s = same_ends s
 actions_same end (what ∷ actions) s =
     both_same s (perform end what s).state _ (perform_same end what s) (actions_same end actions (perform end what s).state)
 
-hears_same : (end : EndId) (what : Event) (s : State) → HasSameEnds s (hears end what s).state
+hears_same : (end : EndId) (what : Event) (s : State) → HasSameEnds s (hear_and_act end what s).state
 hears_same end what s =
     let heard : Heard = hear end what s in
     both_same s heard.state _ (heard_same end what s) (actions_same end heard.actions heard.state)
 
-hears_if_same : (end : Option EndId) (what : Event) (s : State) → HasSameEnds s (hears_if end what s).state
+hears_if_same : (end : Option EndId) (what : Event) (s : State) → HasSameEnds s (hear_and_act_if end what s).state
 hears_if_same None what s = same_ends s
 hears_if_same (Some end) what s = hears_same end what s
 
@@ -218,7 +218,7 @@ stranger_same (Some number) s = stranger_by_same (end_at number s.ends) s
 
 answer_same : (there : Option OpenLink) (end : EndId) (link : ℕ) (s : State) → HasSameEnds s (answer_by there end link s).state
 answer_same None end link s =
-    both_same s (hears end (event.Dialled link) s).state _ (hears_same end (event.Dialled link) s) (closed_same (Some end) link (hears end (event.Dialled link) s).state)
+    both_same s (hear_and_act end (event.Dialled link) s).state _ (hears_same end (event.Dialled link) s) (closed_same (Some end) link (hear_and_act end (event.Dialled link) s).state)
 answer_same (Some there) end link s =
     both_same s (answered_link link there s) _ (of_ends s _ refl refl (as_many s.ends)) (hears_same end (event.Dialled link) (answered_link link there s))
 
@@ -228,11 +228,11 @@ connect_by_same (Some route) end s =
     let later : State = (open_link route s).state in
     both_same s later _ (open_same route s) (answer_same (lookup same_number (length s.links) later.open_links) end (length s.links) later)
 
-connect_first_same : (first : Option Waiting) (s : State) → HasSameEnds s (connect_first first s).state
+connect_first_same : (first : Option WaitingDial) (s : State) → HasSameEnds s (connect_first first s).state
 connect_first_same None s = same_ends s
 connect_first_same (Some first) s = connect_by_same (route_to first.end (end_of_peer first.peer s.ends)) first.end s
 
-fail_first_same : (first : Option Waiting) (s : State) → HasSameEnds s (fail_first first s).state
+fail_first_same : (first : Option WaitingDial) (s : State) → HasSameEnds s (fail_first first s).state
 fail_first_same None s = same_ends s
 fail_first_same (Some first) s = hears_same first.end event.DialFailed s
 

@@ -22,14 +22,14 @@ use Rattle.world_moves.specs.declared.links.OpenLink.{OpenLink}
 use Rattle.world_moves.specs.declared.links.Route.{Route}
 use Rattle.world_moves.specs.declared.links.Route.TheVariants.{ToMember, ToController}
 use Rattle.world_moves.specs.declared.state.State.{State}
-use Rattle.world_moves.specs.declared.state.Waiting.{Waiting}
+use Rattle.world_moves.specs.declared.state.WaitingDial.{WaitingDial}
 use Rattle.world_moves.specs.Acting.{Heard, close_open, closed_at, done, done_quietly, hear, perform_all, perform_all_quietly, shut_link}
 use Rattle.world_moves.specs.Ends.{EndStates}
 use Rattle.world_moves.specs.Links.{OpenMap, accepted, acceptor_of, answered}
 use Rattle.world_moves.specs.Moving.{answer, answer_by, answered_link, connect, connect_by, connect_first, end_of_peer, moment_after, onward, route_to, settle, with_link, without_first}
 use Rattle.logon_runs.specs.Scenes.{IsNoClose, Scene, Shows, dials_made, units_sent, with_actions}
 use Rattle.logon_runs.specs.Seen.Turnings.{ClosesTo, IsFound, ScenesTurn, connected, shut_in}
-use Rattle.logon_runs.specs.Seen.Waiting.{Comes, after_hearing, with_client_at, with_controller_at, with_member_at}
+use Rattle.logon_runs.specs.Seen.WaitingUnits.{Comes, after_hearing, with_client_at, with_controller_at, with_member_at}
 use Rattle.logon_runs.proofs.Seen.SceneLaws.{Leaves, first_comes, got_same, performed_quietly, quietly_leave}
 use Rattle.logon_runs.proofs.Seen.WaitingLaws.{waiting_comes}
 
@@ -68,14 +68,14 @@ lands_closing s v unit later end other ends others left link cause actions clien
       links = leaves.links ∙ shows.links;
       opened = leaves.opened ∙ ap (λ (o : OpenMap). take_out same_number link o) shows.opened;
       units = leaves.units ∙ ap₂ (λ (u : List BagUnit) (l : List Route). u ++ units_sent l end actions) comes.behind shows.links;
-      dials = leaves.dials ∙ ap (λ (d : List Waiting). d ++ dials_made end actions) shows.dials;
+      dials = leaves.dials ∙ ap (λ (d : List WaitingDial). d ++ dials_made end actions) shows.dials;
       left = ap (λ (c : Drawing). c.left) leaves.left;
       moment = leaves.moment ∙ shows.moment;
     })
 
 -- ---- a dial is answered
 
-lands_dialled : (s : State) (v : Scene) (end : EndId) (peer : List ℕ) (dials : List Waiting) (route : Route) (acceptors ends : EndStates) (actions : List Action)
+lands_dialled : (s : State) (v : Scene) (end : EndId) (peer : List ℕ) (dials : List WaitingDial) (route : Route) (acceptors ends : EndStates) (actions : List Action)
     (client : ClientState) (member : MemberState) (controller : ControllerState) → Shows s v → v.dials ≡ record { end = end; peer = peer } ∷ dials →
     route_to end (end_of_peer peer s.ends) ≡ Some route → IsFound route v → AllByRecursion IsNoClose actions →
     let s1 : State = with_link route (without_first s) in
@@ -96,7 +96,7 @@ lands_dialled s v end peer dials route acceptors ends actions client member cont
     let open_is : s2.open_links ≡ v.opened ++ (length v.links, accepted route) ∷ [] =
     ap₂ (λ (o : OpenMap) (l : List Route). o ++ (length l, accepted route) ∷ []) shows.opened shows.links in
     let is : (connect s).state ≡ s5 =
-    ap (λ (d : List Waiting). (connect_first (slice_get d 0) (without_first s)).state) (shows.dials ∙ waits)
+    ap (λ (d : List WaitingDial). (connect_first (slice_get d 0) (without_first s)).state) (shows.dials ∙ waits)
     ∙ ap (λ (r : Option Route). (connect_by r end (without_first s)).state) reaches
     ∙ ap (λ (h : Heard). (answer end n (done (acceptor_of route) h).state).state) opens
     ∙ ap (λ (o : Option OpenLink). (answer_by o end n s2).state)
@@ -110,7 +110,7 @@ lands_dialled s v end peer dials route acceptors ends actions client member cont
       links = leaves.links ∙ ap (λ (l : List Route). l ++ route ∷ []) shows.links;
       opened = leaves.opened ∙ ap₂ (λ (l : List Route) (o : OpenMap). put same_number (length l) (answered (accepted route)) o) shows.links open_is;
       units = leaves.units ∙ ap₂ (λ (u : List BagUnit) (l : List Route). u ++ units_sent (l ++ route ∷ []) end actions) shows.units shows.links;
-      dials = leaves.dials ∙ ap (λ (d : List Waiting). drop 1 d ++ dials_made end actions) (shows.dials ∙ waits);
+      dials = leaves.dials ∙ ap (λ (d : List WaitingDial). drop 1 d ++ dials_made end actions) (shows.dials ∙ waits);
       left = ap (λ (c : Drawing). c.left) leaves.left;
       moment = leaves.moment ∙ shows.moment;
     })

@@ -17,12 +17,12 @@ use Rattle.world_moves.specs.declared.links.EndId.{EndId}
 use Rattle.world_moves.specs.declared.links.OpenLink.{OpenLink}
 use Rattle.world_moves.specs.declared.links.Route.{Route}
 use Rattle.world_moves.specs.declared.state.State.{State}
-use Rattle.world_moves.specs.Acting.{Acted, heard_by, hears, hears_if, nothing_done, pieces_come, send_on, then_act}
+use Rattle.world_moves.specs.Acting.{Acted, heard_by, hear_and_act, hear_and_act_if, nothing_done, pieces_come, send_on, then_act}
 use Rattle.world_moves.specs.Bag.{first_waiting, is_waiting, pieces_in, pieces_of, settle_at, settle_by, settled}
 use Rattle.world_moves.specs.Ends.{client_done, client_step, controller_done, controller_step, member_done, member_step}
 use Rattle.world_moves.specs.Links.{hearer_of, hearer_on}
 use Rattle.world_moves.specs.Moving.{come_by, come_on_own, onward, onward_by, settle}
-use Rattle.logon_runs.specs.Seen.Waiting.{Comes, IsOldest, WaitingComes, waiting}
+use Rattle.logon_runs.specs.Seen.WaitingUnits.{Comes, IsOldest, WaitingComes, waiting}
 
 -- ---- the bag
 
@@ -134,15 +134,15 @@ one_piece (byte ∷ bytes) some short =
 -- what it comes to, once it counts as delivered
 pub comes_by : (s : State) (unit : BagUnit) (end : EndId) (there : OpenLink) (number : ℕ) → 0 < length unit.bytes → length unit.bytes ≤ 65536 → first_waiting s.bag ≡ Some number →
     slice_get s.bag number ≡ Some unit → lookup same_number unit.link s.open_links ≡ Some there → hearer_on unit.back there ≡ Some end →
-    onward s ≡ then_act (hears end (event.Bytes unit.link unit.bytes) (settle number s)) nothing_done
+    onward s ≡ then_act (hear_and_act end (event.Bytes unit.link unit.bytes) (settle number s)) nothing_done
 comes_by s unit end there number some short first found opened hearer =
     ap (λ (f : Option ℕ). onward_by f s) first
     ∙ ap (λ (u : Option BagUnit). come_on_own u number s) found
     ∙ ap (λ (u : Option BagUnit). come_by u unit.link (settle number s))
     (ap (λ (bag : List BagUnit). slice_get bag number) (settled_by s.bag number unit found) ∙ set_there s.bag number unit (settled unit) found)
     ∙ ap (λ (pieces : List (List ℕ)). pieces_come unit.back unit.link pieces (settle number s)) (one_piece unit.bytes some short)
-    ∙ ap (λ (o : Option OpenLink). then_act (hears_if (hearer_of unit.back o) (event.Bytes unit.link unit.bytes) (settle number s)) nothing_done) opened
-    ∙ ap (λ (h : Option EndId). then_act (hears_if h (event.Bytes unit.link unit.bytes) (settle number s)) nothing_done) hearer
+    ∙ ap (λ (o : Option OpenLink). then_act (hear_and_act_if (hearer_of unit.back o) (event.Bytes unit.link unit.bytes) (settle number s)) nothing_done) opened
+    ∙ ap (λ (h : Option EndId). then_act (hear_and_act_if h (event.Bytes unit.link unit.bytes) (settle number s)) nothing_done) hearer
 
 oldest_comes : (s : State) (unit : BagUnit) (later : List BagUnit) (there : OpenLink) (end : EndId) → IsOldest s.bag unit later → 0 < length unit.bytes →
     length unit.bytes ≤ 65536 → lookup same_number unit.link s.open_links ≡ Some there → hearer_on unit.back there ≡ Some end → Comes s unit later end
@@ -151,7 +151,7 @@ oldest_comes s unit later there end oldest some short opened hearer =
     record {
       number = oldest.number;
       state = ap Acted.state is;
-      given = ap Acted.given is ∙ append-nil (hears end (event.Bytes unit.link unit.bytes) (settle oldest.number s)).given;
+      given = ap Acted.given is ∙ append-nil (hear_and_act end (event.Bytes unit.link unit.bytes) (settle oldest.number s)).given;
       behind = oldest.behind;
     }
 

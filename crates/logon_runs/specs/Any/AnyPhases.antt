@@ -47,7 +47,7 @@ use Rattle.logon_runs.specs.Runs.{Asked}
 use Rattle.logon_runs.specs.Scenes.{Scene, Shows}
 use Rattle.logon_runs.specs.Failing.TurnedAway.{AwayPhase, Faulted, Refused, Settled, Unheard, away_scene, settled_in}
 use Rattle.logon_runs.specs.Seen.TurnScenes.{turn_scene, unit_back}
-use Rattle.logon_runs.specs.Seen.Waiting.{waiting}
+use Rattle.logon_runs.specs.Seen.WaitingUnits.{waiting}
 use Rattle.logon_runs.specs.Any.ControllerAnswers.{TellsShort}
 use Rattle.logon_runs.specs.Any.GrantRests.{judged_scene}
 

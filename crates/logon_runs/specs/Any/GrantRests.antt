@@ -32,7 +32,7 @@ use Rattle.logon_runs.specs.Runs.{Asked}
 use Rattle.logon_runs.specs.Scenes.{Scene, Shows}
 use Rattle.logon_runs.specs.Failing.TurnedAway.{Settled, settled_in}
 use Rattle.logon_runs.specs.Seen.TurnScenes.{Turn, turn_scene, unit_back, with_accounts}
-use Rattle.logon_runs.specs.Seen.Waiting.{waiting}
+use Rattle.logon_runs.specs.Seen.WaitingUnits.{waiting}
 
 -- the turn of the logon's own call, whose controller has these accounts by then; the channel's state at the controller
 -- isn't used

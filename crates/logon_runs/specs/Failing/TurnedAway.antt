@@ -37,7 +37,7 @@ use Rattle.logon_runs.specs.Phases.{Aim, Calls, Coming, DialsBefore, DialsHeld, 
 use Rattle.logon_runs.specs.Runs.{Asked, StandsInStep, info_asked}
 use Rattle.logon_runs.specs.Scenes.{Scene, Shows}
 use Rattle.logon_runs.specs.Seen.TurnScenes.{turn_scene, unit_back, with_accounts}
-use Rattle.logon_runs.specs.Seen.Waiting.{waiting}
+use Rattle.logon_runs.specs.Seen.WaitingUnits.{waiting}
 
 -- what is left when it is over: the member's channel, its next number, all links, and what the controller keeps
 pub record Settled : Type 0 where

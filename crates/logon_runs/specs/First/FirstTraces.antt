@@ -23,7 +23,7 @@ use Rattle.logon_client.specs.State.{State as ClientState}
 use Rattle.logon_client.specs.declared.state.Phase.{Phase as ClientPhase}
 use Rattle.logon_client.specs.declared.state.Phase.TheVariants as client_phase
 use Rattle.logon_client.specs.declared.state.Question.TheVariants as client_question
-use Rattle.logon_client.specs.declared.state.Standing.TheVariants as client_standing
+use Rattle.logon_client.specs.declared.state.ClientLink.TheVariants as client_standing
 use Rattle.logon_client.specs.declared.state.Terms.{Terms}
 use Rattle.member_server.specs.Messages.{info_of}
 use Rattle.member_server.specs.Outcomes.{name_in}

@@ -46,7 +46,7 @@ use Rattle.logon_runs.specs.Rests.{three_of}
 use Rattle.logon_runs.specs.Runs.{Asked}
 use Rattle.logon_runs.specs.Scenes.{Scene, Shows}
 use Rattle.logon_runs.specs.Seen.TurnScenes.{IsBetween, Turn, turn_scene, unit_back}
-use Rattle.logon_runs.specs.Seen.Waiting.{waiting}
+use Rattle.logon_runs.specs.Seen.WaitingUnits.{waiting}
 
 -- the phases once somebody is let in on the client's link: its request waits, or the member's reply does
 pub data LetInPhase : Type 0 where

@@ -19,7 +19,7 @@ use Rattle.logon_client.specs.declared.securing.Sending.{Sending}
 use Rattle.logon_client.specs.declared.state.Phase.{Phase as ClientPhase}
 use Rattle.logon_client.specs.declared.state.Phase.TheVariants as client_phase
 use Rattle.logon_client.specs.declared.state.Question.TheVariants as client_question
-use Rattle.logon_client.specs.declared.state.Standing.TheVariants as client_standing
+use Rattle.logon_client.specs.declared.state.ClientLink.TheVariants as client_standing
 use Rattle.logon_client.specs.declared.state.Terms.{Terms}
 use Rattle.logon_client.specs.Answering.{bind_for}
 use Rattle.logon_client.specs.Machine as client
@@ -37,7 +37,7 @@ use Rattle.world_moves.specs.declared.links.LinkKind.TheVariants as kind
 use Rattle.world_moves.specs.declared.links.Route.{Route}
 use Rattle.world_moves.specs.declared.links.Route.TheVariants.{ToMember}
 use Rattle.world_moves.specs.declared.state.State.{State}
-use Rattle.world_moves.specs.declared.state.Waiting.{Waiting}
+use Rattle.world_moves.specs.declared.state.WaitingDial.{WaitingDial}
 use Rattle.world_moves.specs.Links.{OpenMap}
 use Rattle.world_moves.specs.Moving.{connect, end_of_peer, onward}
 use Rattle.logon_steps.specs.Answers.{AreDraws, answer_for, auth3_for, drawn_of, terms_for}
@@ -96,7 +96,7 @@ meeting_scene g how talk units left moment = record {
 }
 
 -- no link is open; the client's state and the dials
-abbrev pub rest_scene : Meeting → ClientState → List Route → List (List ℕ) → ℕ → List Waiting → Scene
+abbrev pub rest_scene : Meeting → ClientState → List Route → List (List ℕ) → ℕ → List WaitingDial → Scene
 rest_scene g state links left moment dials = record {
   at_client = g.at_client;
   at_member = g.at_member;

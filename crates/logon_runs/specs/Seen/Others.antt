@@ -9,7 +9,7 @@ use Rattle.world_moves.specs.declared.links.Route.TheVariants.{ToMember, ToContr
 use Rattle.world_moves.specs.declared.moves.Move.{Move}
 use Rattle.world_moves.specs.declared.moves.Move.TheVariants as move
 use Rattle.world_moves.specs.declared.state.State.{State}
-use Rattle.world_moves.specs.declared.state.Waiting.{Waiting}
+use Rattle.world_moves.specs.declared.state.WaitingDial.{WaitingDial}
 use Rattle.world_moves.specs.Choosing.{chosen_place}
 use Rattle.world_moves.specs.Links.{OpenMap}
 use Rattle.world_moves.specs.Moving.{act, end_of_peer, route_to, start}
@@ -41,7 +41,7 @@ IsRoutedAmong t None = Unit {0}
 IsRoutedAmong t (Some route) = IsAmong t route
 
 -- the dial that is answered first is one of theirs, to one of them or to none
-abbrev pub IsDialAmong : Three → State → Option Waiting → Type 0
+abbrev pub IsDialAmong : Three → State → Option WaitingDial → Type 0
 IsDialAmong t s None = Unit {0}
 IsDialAmong t s (Some first) = IsOneOf t first.end × IsRoutedAmong t (route_to first.end (end_of_peer first.peer s.ends))
 

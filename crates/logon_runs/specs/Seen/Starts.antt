@@ -2,7 +2,7 @@
 -- scene (this project's own choice).
 use Rattle.std.specs.Prelude.{ℕ, ◌≡◌, List, [], ◌∷◌, length, Some, slice_get}
 use Rattle.logon_client.specs.State.{State as ClientState}
-use Rattle.logon_client.specs.declared.state.Standing.TheVariants as client_standing
+use Rattle.logon_client.specs.declared.state.ClientLink.TheVariants as client_standing
 use Rattle.world_moves.specs.declared.links.EndId.TheVariants.{Client}
 use Rattle.world_moves.specs.declared.links.Route.{Route}
 use Rattle.world_moves.specs.declared.state.State.{State}

@@ -21,7 +21,7 @@ use Rattle.world_moves.specs.declared.links.OpenLink.{OpenLink}
 use Rattle.world_moves.specs.declared.links.Route.{Route}
 use Rattle.world_moves.specs.declared.links.Route.TheVariants.{ToMember, ToController}
 use Rattle.world_moves.specs.declared.state.State.{State}
-use Rattle.world_moves.specs.declared.state.Waiting.{Waiting}
+use Rattle.world_moves.specs.declared.state.WaitingDial.{WaitingDial}
 use Rattle.world_moves.specs.Links.{accepted, answered, other_hearer}
 use Rattle.world_moves.specs.Moving.{connect, end_of_peer, onward, tick, moment_after}
 use Rattle.logon_runs.specs.Scenes.{HasFirst, IsNoClose, Scene, Shows, with_actions}
@@ -37,7 +37,7 @@ abbrev pub shut_in : ℕ → Scene → Scene
 shut_in link v = record v { opened = take_out same_number link v.opened }
 
 -- the scene without its first dial, and with a new link on which that route was taken
-abbrev pub connected : Route → List Waiting → Scene → Scene
+abbrev pub connected : Route → List WaitingDial → Scene → Scene
 connected route dials v = record v {
   links = v.links ++ route ∷ [];
   opened = put same_number (length v.links) (answered (accepted route)) (v.opened ++ (length v.links, accepted route) ∷ []);
@@ -63,13 +63,13 @@ pub record ScenesTurn : Type 0 where
       member_step_of v.member (event.Closed link) v.moment left ≡ whole_step left left [] member →
       Shows (onward s).state (with_actions (Client v.at_client) actions left (shut_in link (record v { client = after; member = member; units = later })))
   -- a dial is answered: of a client by its member, and of a member by its controller
-  pub client_dials : (s : State) (v : Scene) (peer : List ℕ) (dials : List Waiting) (after : ClientState) (member : MemberState) (actions : List Action) → Shows s v →
+  pub client_dials : (s : State) (v : Scene) (peer : List ℕ) (dials : List WaitingDial) (after : ClientState) (member : MemberState) (actions : List Action) → Shows s v →
       v.dials ≡ record { end = Client v.at_client; peer = peer } ∷ dials → end_of_peer peer s.ends ≡ Some (Member v.at_member) →
       IsFound (ToMember v.at_client v.at_member) v → AllByRecursion IsNoClose actions →
       member_step_of v.member (event.Opened (length v.links)) v.moment v.left ≡ whole_step v.left v.left [] member →
       client_step_of v.client (event.Dialled (length v.links)) v.moment v.left ≡ whole_step v.left v.left actions after →
       Shows (connect s).state (with_actions (Client v.at_client) actions v.left (connected (ToMember v.at_client v.at_member) dials (record v { client = after; member = member })))
-  pub member_dials : (s : State) (v : Scene) (peer : List ℕ) (dials : List Waiting) (after : MemberState) (controller : ControllerState) (actions : List Action) → Shows s v →
+  pub member_dials : (s : State) (v : Scene) (peer : List ℕ) (dials : List WaitingDial) (after : MemberState) (controller : ControllerState) (actions : List Action) → Shows s v →
       v.dials ≡ record { end = Member v.at_member; peer = peer } ∷ dials → end_of_peer peer s.ends ≡ Some (Controller v.at_controller) →
       IsFound (ToController v.at_member v.at_controller) v → AllByRecursion IsNoClose actions →
       controller_step_of v.controller (event.Opened (length v.links)) v.moment v.left ≡ whole_step v.left v.left [] controller →

@@ -9,7 +9,7 @@ use Rattle.wire_base.specs.Names.{same_name}
 use Rattle.wire_base.specs.declared.authenticator.Authenticator.{Authenticator}
 use Rattle.wire_base.proofs.MapLaws.{lookup-put_same, put_others, taken_others}
 use Rattle.wire_base.proofs.NameLaws.{IsSameness-same_name}
-use Rattle.authenticators.specs.Channels.{Channel}
+use Rattle.authenticators.specs.Channels.{ChannelIdentity}
 use Rattle.authenticators.proofs.ChannelLaws.{same_channel-Decides}
 use Rattle.ntlm_flags.specs.Flags.{has_flag}
 use Rattle.channel_keys.specs.Credentials.{cred_of}
@@ -112,15 +112,15 @@ starts_half None (logon ∷ logons) s timestamp challenge client server half can
 abbrev pub HasLogon : Call → List ℕ → Type 0
 HasLogon c computer = (logon : LogonCall) × (c ≡ call.Logon logon) × (logon.computer ≡ Some computer)
 
-begins_open : (controller : ℕ) (how : Standing) (caller : Caller) (info : NetworkInfo) (timestamp : ℕ) (challenge : List ℕ) (channel : Channel) → stands_in controller caller.computer how ≡ Some channel →
+begins_open : (controller : ℕ) (how : Standing) (caller : Caller) (info : NetworkInfo) (timestamp : ℕ) (challenge : List ℕ) (channel : ChannelIdentity) → stands_in controller caller.computer how ≡ Some channel →
     HasLogon (begin_with how caller info timestamp challenge).call channel.computer
 begins_open controller standing.Nothing caller info timestamp challenge channel stands = absurd cc
 begins_open controller (standing.Half client server) caller info timestamp challenge channel stands = absurd cc
 begins_open controller (standing.Open o) caller info timestamp challenge channel stands =
     let is : channel_of controller caller.computer o ≡ channel = cc in
-    (_, refl, ap (λ (c : Channel). Some c.computer) is)
+    (_, refl, ap (λ (c : ChannelIdentity). Some c.computer) is)
 
-starts_open : (controller : ℕ) (turn : Option Pending) (logons : List Waiting) (s : Requester) (timestamp : ℕ) (challenge : List ℕ) (channel : Channel) → standing_channel controller s ≡ Some channel →
+starts_open : (controller : ℕ) (turn : Option Pending) (logons : List Waiting) (s : Requester) (timestamp : ℕ) (challenge : List ℕ) (channel : ChannelIdentity) → standing_channel controller s ≡ Some channel →
     can_start turn logons ≡ true → WillCall (start_by turn logons s timestamp challenge).state channel.computer
 starts_open controller (Some p) logons s timestamp challenge channel stands can = absurd cc
 starts_open controller None [] s timestamp challenge channel stands can = absurd cc
@@ -230,7 +230,7 @@ opening_asked (hearing.Drop cause) controller s client server frames out half se
 
 -- ---- a Logon call goes out
 
-note_calling : (q : Question) (how : Standing) (controller : ℕ) (before later : Requester) (channel : Channel) → q ≡ question.Logon → stands_in controller later.caller.computer how ≡ Some channel →
+note_calling : (q : Question) (how : Standing) (controller : ℕ) (before later : Requester) (channel : ChannelIdentity) → q ≡ question.Logon → stands_in controller later.caller.computer how ≡ Some channel →
     asked_note (Some (step.Reply q)) how controller before later
     ≡ request_note (Calling channel before.next_call (timestamp_bound (step_in before.turn))) (Some (place_of later.turn))
 note_calling q standing.Nothing controller before later channel is stands = absurd cc
@@ -238,9 +238,9 @@ note_calling q (standing.Half client server) controller before later channel is 
 note_calling q (standing.Open o) controller before later channel is stands =
     let same : channel_of controller later.caller.computer o ≡ channel = cc in
     ap (λ (asked : Question). asked_note (Some (step.Reply asked)) (standing.Open o) controller before later) is
-    ∙ ap (λ (c : Channel). request_note (Calling c before.next_call (timestamp_bound (step_in before.turn))) (Some (place_of later.turn))) same
+    ∙ ap (λ (c : ChannelIdentity). request_note (Calling c before.next_call (timestamp_bound (step_in before.turn))) (Some (place_of later.turn))) same
 
-calling_asked : (what : Hearing) (controller : ℕ) (s : Requester) (channel : Channel) (logon : LogonCall) (number place : ℕ) (frames : List (List ℕ)) → IsBindHeard (call.Logon logon) s.next_call what →
+calling_asked : (what : Hearing) (controller : ℕ) (s : Requester) (channel : ChannelIdentity) (logon : LogonCall) (number place : ℕ) (frames : List (List ℕ)) → IsBindHeard (call.Logon logon) s.next_call what →
     standing_channel controller s ≡ Some channel → s.turn ≡ bound_at number place (call.Logon logon) → frames_sent (act what s).taken ≡ Some frames →
     AreFramesOf s.next_call (call.Logon logon) frames
     × (taking_note (Some (act what s)) controller s ≡ request_note (Calling channel s.next_call (timestamp_in logon.authenticator)) (Some place))
@@ -347,14 +347,14 @@ opened_acts (hearing.Drop cause) controller s is = absurd cc
 
 -- ---- it stands, or goes
 
-still : (channel : Channel) (found : Option Channel) → found ≡ Some channel → StandsOrGoes channel found
-still channel found is = subst (λ (f : Option Channel). StandsOrGoes channel f) (sym is) refl
+still : (channel : ChannelIdentity) (found : Option ChannelIdentity) → found ≡ Some channel → StandsOrGoes channel found
+still channel found is = subst (λ (f : Option ChannelIdentity). StandsOrGoes channel f) (sym is) refl
 
-no_half : (controller : ℕ) (computer : List ℕ) (how : Standing) (channel : Channel) (client server : List ℕ) → stands_in controller computer how ≡ Some channel → how ≡ standing.Half client server → ⊥
+no_half : (controller : ℕ) (computer : List ℕ) (how : Standing) (channel : ChannelIdentity) (client server : List ℕ) → stands_in controller computer how ≡ Some channel → how ≡ standing.Half client server → ⊥
 no_half controller computer how channel client server stands half =
     absurd (let none : None ≡ Some channel = sym (ap (stands_in controller computer) half) ∙ stands in cc)
 
-settled_stands : (j : Judgement) (controller : ℕ) (s : Requester) (channel : Channel) → Fits j s.standing s.caller.secret → standing_channel controller s ≡ Some channel →
+settled_stands : (j : Judgement) (controller : ℕ) (s : Requester) (channel : ChannelIdentity) → Fits j s.standing s.caller.secret → standing_channel controller s ≡ Some channel →
     StandsOrGoes channel (standing_channel controller (settle j s).state)
 settled_stands (judgement.Half client server) controller s channel fit stands = tt
 settled_stands (judgement.Opened o) controller s channel fit stands = absurd (no_half controller s.caller.computer s.standing channel fit.0 fit.1 stands fit.2)
@@ -363,7 +363,7 @@ settled_stands (judgement.Answer o v) controller s channel fit stands =
     still channel (Some (channel_of controller s.caller.computer o)) (ap (λ (x : SecureChannelState). Some (channel_of controller s.caller.computer x)) fit.2 ∙ before)
 settled_stands (judgement.Drop cause) controller s channel fit stands = tt
 
-acted_stands : (what : Hearing) (controller : ℕ) (s : Requester) (channel : Channel) → standing_channel controller s ≡ Some channel →
+acted_stands : (what : Hearing) (controller : ℕ) (s : Requester) (channel : ChannelIdentity) → standing_channel controller s ≡ Some channel →
     StandsOrGoes channel (standing_channel controller (act what s).state)
 acted_stands hearing.Skip controller s channel stands = still channel (standing_channel controller s) stands
 acted_stands (hearing.Next q frames) controller s channel stands = still channel (standing_channel controller s) stands
@@ -374,7 +374,7 @@ acted_stands (hearing.Drop cause) controller s channel stands = tt
 
 abbrev pub IsTakenOn : ℕ → Requester → ℕ → Taking → Type 0
 IsTakenOn controller s place taking =
-    (channel : Channel) × (standing_channel controller s ≡ Some channel)
+    (channel : ChannelIdentity) × (standing_channel controller s ≡ Some channel)
     × (standing_channel controller taking.state ≡ Some channel)
     × (taking_note (Some taking) controller s ≡ passed_note channel (Some place))
 
@@ -435,7 +435,7 @@ opened_known account s client server same =
     ∙ ap (λ (right : Bool). opened_if right (channel_opened account s client server)) (accepted account s client server same)
 
 -- a channel by its parts
-abbrev pub named : ℕ → List ℕ → List ℕ → List ℕ → List ℕ → ℕ → Channel
+abbrev pub named : ℕ → List ℕ → List ℕ → List ℕ → List ℕ → ℕ → ChannelIdentity
 named controller computer client server secret flags =
     record { controller = controller; computer = computer; secret = secret; client = client; server = server; flags = flags }
 
@@ -487,7 +487,7 @@ openings = record {
       opening_asked (hear s.turn unit s.next_call) controller s client server frames
       (bind_heard s.turn will.asks.number will.asks.place (auth_call s.caller client server) unit s.next_call will.asks.turn) will.half sent;
   opens = λ s client server w line before later expects.
-      ap (λ (channel : Option Channel). opening channel w line.call) (opens_named w.controller s client server before expects);
+      ap (λ (channel : Option ChannelIdentity). opening channel w line.call) (opens_named w.controller s client server before expects);
   keeps = λ controller s client server line talk name now before later left expects is. opening_kept controller s client server line before later expects is;
 }
 
@@ -502,7 +502,7 @@ standings = record {
 
 -- ---- a controller keeps a channel
 
-same_channels : (old new : Computers) (channel : Channel) → new.channels ≡ old.channels → HasChannel old channel → HasChannel new channel
+same_channels : (old new : Computers) (channel : ChannelIdentity) → new.channels ≡ old.channels → HasChannel old channel → HasChannel new channel
 same_channels old new channel same has =
     record { state = has.state; kept = ap (lookup same_name channel.computer) same ∙ has.kept; is = has.is }
 
@@ -511,17 +511,17 @@ pair_keeps false computer pair work = refl
 pair_keeps true computer pair work = refl
 
 -- the part keeps it, where it is whole
-abbrev pub PartHas : Channel → ServedPart Desk Talk → Type 0
+abbrev pub PartHas : ChannelIdentity → ServedPart Desk Talk → Type 0
 PartHas channel (Err why) = Unit {0}
 PartHas channel (Ok part) = HasChannel part.value.0.work.computers channel
 
-draw_has : (left : List (List ℕ)) (line : Line) (c : ChallengeCall) (talk : Talk) (d : Desk) (channel : Channel) → HasChannel d.work.computers channel → PartHas channel (draw_challenge left line c talk d)
+draw_has : (left : List (List ℕ)) (line : Line) (c : ChallengeCall) (talk : Talk) (d : Desk) (channel : ChannelIdentity) → HasChannel d.work.computers channel → PartHas channel (draw_challenge left line c talk d)
 draw_has [] line c talk d channel has = tt
 draw_has (server ∷ left) line c talk d channel has =
     same_channels d.work.computers _ channel (pair_keeps (knows_in d.table.accounts c.computer) c.computer (record { client = c.challenge; server = server }) d.work) has
 
 -- another opening leaves it, unless it is accepted for that computer
-open_has : (right : Bool) (controller : ℕ) (state : SecureChannelState) (line : Line) (c : AuthCall) (work : Work) (channel : Channel) → HasChannel work.computers channel →
+open_has : (right : Bool) (controller : ℕ) (state : SecureChannelState) (line : Line) (c : AuthCall) (work : Work) (channel : ChannelIdentity) → HasChannel work.computers channel →
     IsOfOther channel.computer (channel_by controller c.computer (opened_if right state)) → HasChannel (open_channel right state line c work).computers channel
 open_has false controller state line c work channel has other = same_channels work.computers _ channel refl has
 open_has true controller state line c work channel has other = record {
@@ -530,23 +530,23 @@ open_has true controller state line c work channel has other = record {
   is = has.is;
 }
 
-pair_has : (pair : Option ChallengePair) (controller : ℕ) (account : Account) (line : Line) (c : AuthCall) (work : Work) (channel : Channel) → HasChannel work.computers channel →
+pair_has : (pair : Option ChallengePair) (controller : ℕ) (account : Account) (line : Line) (c : AuthCall) (work : Work) (channel : ChannelIdentity) → HasChannel work.computers channel →
     IsOfOther channel.computer (channel_by controller c.computer (opened_pair pair account c)) → HasChannel (judge_pair pair account line c work).computers channel
 pair_has None controller account line c work channel has other = same_channels work.computers _ channel refl has
 pair_has (Some pair) controller account line c work channel has other =
     open_has (bytes_eq c.credential (cred_of (key_of_channel (channel_for account pair c)) pair.client)) controller (channel_for account pair c) line c work channel has other
 
-offer_has : (offered : Bool) (pair : Option ChallengePair) (controller : ℕ) (account : Account) (line : Line) (c : AuthCall) (work : Work) (channel : Channel) → HasChannel work.computers channel →
+offer_has : (offered : Bool) (pair : Option ChallengePair) (controller : ℕ) (account : Account) (line : Line) (c : AuthCall) (work : Work) (channel : ChannelIdentity) → HasChannel work.computers channel →
     IsOfOther channel.computer (channel_by controller c.computer (opened_offer offered pair account c)) → HasChannel (judge_offer offered pair account line c work).computers channel
 offer_has false pair controller account line c work channel has other = same_channels work.computers _ channel refl has
 offer_has true pair controller account line c work channel has other = pair_has pair controller account line c work channel has other
 
-account_has : (account : Option Account) (pair : Option ChallengePair) (controller : ℕ) (line : Line) (c : AuthCall) (work : Work) (channel : Channel) → HasChannel work.computers channel →
+account_has : (account : Option Account) (pair : Option ChallengePair) (controller : ℕ) (line : Line) (c : AuthCall) (work : Work) (channel : ChannelIdentity) → HasChannel work.computers channel →
     IsOfOther channel.computer (channel_by controller c.computer (opened_account account pair c)) → HasChannel (judge_account account pair line c work).computers channel
 account_has None pair controller line c work channel has other = same_channels work.computers _ channel refl has
 account_has (Some account) pair controller line c work channel has other = offer_has (has_flag c.flags rc4_flag) pair controller account line c work channel has other
 
-auth_has : (controller : ℕ) (line : Line) (c : AuthCall) (d : Desk) (channel : Channel) → HasChannel d.work.computers channel → IsOfOther channel.computer (opened_by controller c d) →
+auth_has : (controller : ℕ) (line : Line) (c : AuthCall) (d : Desk) (channel : ChannelIdentity) → HasChannel d.work.computers channel → IsOfOther channel.computer (opened_by controller c d) →
     HasChannel (answer_authenticate d.table line c d.work).computers channel
 auth_has controller line c d channel has other =
     account_has (account_for d.table c) (lookup same_name c.computer d.work.computers.pending) controller line c (take_pair c.computer d.work) channel
@@ -582,7 +582,7 @@ returned_same None key name now line info validation d = refl
 returned_same (Some credential) key name now line info validation d = refl
 
 -- the channel of another computer
-other_has : (found : Option SecureChannelState) (computer : List ℕ) (given : Authenticator) (name : List ℕ) (now : ℕ) (line : Line) (info : NetworkInfo) (validation : ℕ) (d : Desk) (channel : Channel) →
+other_has : (found : Option SecureChannelState) (computer : List ℕ) (given : Authenticator) (name : List ℕ) (now : ℕ) (line : Line) (info : NetworkInfo) (validation : ℕ) (d : Desk) (channel : ChannelIdentity) →
     same_name computer channel.computer ≡ false → HasChannel d.work.computers channel → HasChannel (judge_channel found computer given name now line info validation d).work.computers channel
 other_has None computer given name now line info validation d channel differs has = same_channels d.work.computers _ channel refl has
 other_has (Some state) computer given name now line info validation d channel differs has =
@@ -597,7 +597,7 @@ other_has (Some state) computer given name now line info validation d channel di
     }
 
 -- the channel itself, which was taken out
-own_has : (state : SecureChannelState) (computer : List ℕ) (given : Authenticator) (name : List ℕ) (now : ℕ) (line : Line) (info : NetworkInfo) (validation : ℕ) (d : Desk) (channel : Channel) →
+own_has : (state : SecureChannelState) (computer : List ℕ) (given : Authenticator) (name : List ℕ) (now : ℕ) (line : Line) (info : NetworkInfo) (validation : ℕ) (d : Desk) (channel : ChannelIdentity) →
     same_name computer channel.computer ≡ true → channel_of channel.controller channel.computer state ≡ channel →
     HasChannel (judge_channel (Some state) computer given name now line info validation d).work.computers channel
 own_has state computer given name now line info validation d channel same is =
@@ -612,7 +612,7 @@ own_has state computer given name now line info validation d channel same is =
       is = moved_named (passes_on state given) channel.controller channel.computer state given ∙ is;
     }
 
-named_has : (computer : List ℕ) (given : Authenticator) (name : List ℕ) (now : ℕ) (line : Line) (info : NetworkInfo) (validation : ℕ) (d : Desk) (channel : Channel) → HasChannel d.work.computers channel →
+named_has : (computer : List ℕ) (given : Authenticator) (name : List ℕ) (now : ℕ) (line : Line) (info : NetworkInfo) (validation : ℕ) (d : Desk) (channel : ChannelIdentity) → HasChannel d.work.computers channel →
     HasChannel (answer_logon (Some computer) (Some given) name now line info validation d).work.computers channel
 named_has computer given name now line info validation d channel has =
     let after_taking : Desk = desk d.table (take_channel computer d.work) in
@@ -630,7 +630,7 @@ named_has computer given name now line info validation d channel has =
           })
     ]
 
-logon_has : (computer : Option (List ℕ)) (given : Option Authenticator) (name : List ℕ) (now : ℕ) (line : Line) (info : NetworkInfo) (validation : ℕ) (d : Desk) (channel : Channel) → HasChannel d.work.computers channel →
+logon_has : (computer : Option (List ℕ)) (given : Option Authenticator) (name : List ℕ) (now : ℕ) (line : Line) (info : NetworkInfo) (validation : ℕ) (d : Desk) (channel : ChannelIdentity) → HasChannel d.work.computers channel →
     HasChannel (answer_logon computer given name now line info validation d).work.computers channel
 logon_has None given name now line info validation d channel has = same_channels d.work.computers _ channel refl has
 logon_has (Some computer) None name now line info validation d channel has = same_channels d.work.computers _ channel refl has
@@ -638,31 +638,31 @@ logon_has (Some computer) (Some given) name now line info validation d channel h
 
 -- ---- a unit leaves it
 
-call_has : (c : Call) (controller : ℕ) (line : Line) (talk : Talk) (name : List ℕ) (now : ℕ) (d : Desk) (left : List (List ℕ)) (channel : Channel) → HasChannel d.work.computers channel →
+call_has : (c : Call) (controller : ℕ) (line : Line) (talk : Talk) (name : List ℕ) (now : ℕ) (d : Desk) (left : List (List ℕ)) (channel : ChannelIdentity) → HasChannel d.work.computers channel →
     IsOfOther channel.computer (opened_call controller c d) → PartHas channel (by_call c line talk name now d left)
 call_has (call.Challenge c) controller line talk name now d left channel has other = draw_has left line c talk d channel has
 call_has (call.Authenticate c) controller line talk name now d left channel has other = auth_has controller line c d channel has other
 call_has (call.Logon c) controller line talk name now d left channel has other = logon_has c.computer c.authenticator name now line c.info c.validation d channel has
 call_has (call.Logoff c) controller line talk name now d left channel has other = same_channels d.work.computers _ channel refl has
 
-heard_has : (what : Heard) (controller link : ℕ) (name : List ℕ) (now : ℕ) (d : Desk) (left : List (List ℕ)) (channel : Channel) → HasChannel d.work.computers channel →
+heard_has : (what : Heard) (controller link : ℕ) (name : List ℕ) (now : ℕ) (d : Desk) (left : List (List ℕ)) (channel : ChannelIdentity) → HasChannel d.work.computers channel →
     IsOfOther channel.computer (opened_unit controller what d) → PartHas channel (by_heard what link name now d left)
 heard_has (heard.Close cause) controller link name now d left channel has other = same_channels d.work.computers _ channel refl has
 heard_has (heard.Answer bytes talk) controller link name now d left channel has other = same_channels d.work.computers _ channel refl has
 heard_has (heard.Waits talk) controller link name now d left channel has other = has
 heard_has (heard.Asked line c talk) controller link name now d left channel has other = call_has c controller line talk name now d left channel has other
 
-part_has : (part : ServedPart Desk Talk) (channel : Channel) (later : Desk) → PartHas channel part → work_after part ≡ Some later → HasChannel later.work.computers channel
+part_has : (part : ServedPart Desk Talk) (channel : ChannelIdentity) (later : Desk) → PartHas channel part → work_after part ≡ Some later → HasChannel later.work.computers channel
 part_has (Err why) channel later has is = absurd cc
 part_has (Ok part) channel later has is = subst (λ (d : Desk). HasChannel d.work.computers channel) (some_is _ _ is) has
 
 -- ---- a call passes on it
 
-passes_named : (j : Judging) (channel : Channel) → j.controller ≡ channel.controller → j.logon.computer ≡ Some channel.computer → HasChannel j.computers channel → has_passed j.how ≡ true →
+passes_named : (j : Judging) (channel : ChannelIdentity) → j.controller ≡ channel.controller → j.logon.computer ≡ Some channel.computer → HasChannel j.computers channel → has_passed j.how ≡ true →
     judging_by (has_passed j.how) j ≡ passing (Some channel) j
 passes_named j channel at names has passed =
     ap (λ (so : Bool). judging_by so j) passed
-    ∙ ap (λ (c : Option Channel). passing c j)
+    ∙ ap (λ (c : Option ChannelIdentity). passing c j)
     (ap₂ (λ (controller : ℕ) (computer : Option (List ℕ)). channel_in controller computer j.computers) at names
     ∙ ap (channel_by channel.controller channel.computer) has.kept ∙ ap Some has.is)
 
@@ -681,12 +681,12 @@ calls = record {
 
 own_units : OwnUnitsAreNoClash
 own_units channel other unit sent is same =
-    ap (λ (c : Option Channel). not (is_channel c channel)) is ∙ ap not ((same_channel-Decides other channel).1 same)
+    ap (λ (c : Option ChannelIdentity). not (is_channel c channel)) is ∙ ap not ((same_channel-Decides other channel).1 same)
 
 -- ---- no clash
 
 -- a credential passes on the channel that the unit was made for
-own_passes : (channel : Channel) (number : Option ℕ) (sent : List Sent) → channel_marked number sent ≡ Some channel → clashes (Some channel) number sent ≡ false
+own_passes : (channel : ChannelIdentity) (number : Option ℕ) (sent : List Sent) → channel_marked number sent ≡ Some channel → clashes (Some channel) number sent ≡ false
 own_passes channel None sent is = refl
 own_passes channel (Some unit) sent is = own_units channel channel unit sent is (same_self channel)
 
@@ -699,18 +699,18 @@ opened_clear controller s taking client server number sent half opened is =
     ap (λ (note : TurnNote). clashes note.checked number sent) opened.4
     ∙ own_passes (half_channel controller s opened.0 opened.1) number sent (is ∙ ap₂ (λ (c : List ℕ) (d : List ℕ). Some (half_channel controller s c d)) one other)
 
-answered_clear : (controller : ℕ) (s : Requester) (taking : Taking) (place : ℕ) (channel : Channel) (number : Option ℕ) (sent : List Sent) → standing_channel controller s ≡ Some channel → IsTakenOn controller s place taking →
+answered_clear : (controller : ℕ) (s : Requester) (taking : Taking) (place : ℕ) (channel : ChannelIdentity) (number : Option ℕ) (sent : List Sent) → standing_channel controller s ≡ Some channel → IsTakenOn controller s place taking →
     channel_marked number sent ≡ Some channel → clashes (taking_note (Some taking) controller s).checked number sent ≡ false
 answered_clear controller s taking place channel number sent stands on is =
     ap (λ (note : TurnNote). clashes note.checked number sent) on.3 ∙ own_passes on.0 number sent (is ∙ sym stands ∙ on.1)
 
-passing_clear : (j : Judging) (channel : Channel) (sent : List Sent) → channel_marked j.unit sent ≡ Some channel → clashes (passing (Some channel) j).checked j.unit sent ≡ false
+passing_clear : (j : Judging) (channel : ChannelIdentity) (sent : List Sent) → channel_marked j.unit sent ≡ Some channel → clashes (passing (Some channel) j).checked j.unit sent ≡ false
 passing_clear j channel sent is = own_passes channel j.unit sent is
 
 exchanges : ExchangesHaveNoClash
 exchanges = record {
   opening = λ s client server w line before later sent expects is.
-      ap (λ (channel : Option Channel). clashes (opening channel w line.call).checked w.unit sent) (opens_named w.controller s client server before expects)
+      ap (λ (channel : Option ChannelIdentity). clashes (opening channel w line.call).checked w.unit sent) (opens_named w.controller s client server before expects)
       ∙ own_passes (half_channel w.controller s client server) w.unit sent is;
   opened = λ controller s unit client server number sent half taken_so is.
       opened_clear controller s _ client server number sent half (opened_acts (hear s.turn unit s.next_call) controller s taken_so) is;

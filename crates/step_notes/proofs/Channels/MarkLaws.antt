@@ -9,7 +9,7 @@ use Rattle.wire_base.specs.declared.authenticator.Authenticator.{Authenticator}
 use Rattle.ntlm_flags.specs.Flags.{has_flag}
 use Rattle.channel_keys.specs.Credentials.{cred_of}
 use Rattle.channel_keys.specs.Flags.{rc4_flag}
-use Rattle.authenticators.specs.Channels.{Channel}
+use Rattle.authenticators.specs.Channels.{ChannelIdentity}
 use Rattle.authenticators.specs.SecureChannels.{SecureChannelState, channel_by as moved_by_call, key_of_channel, passes_on, return_by}
 use Rattle.outside.specs.declared.action.Action.{Action}
 use Rattle.outside.specs.declared.action.Action.TheVariants as action
@@ -211,11 +211,11 @@ call_one (call.Logoff c) line talk name now d left = one_more d.work.actions lin
 
 -- ---- and has one mark
 
-opening_sends : (channel : Option Channel) (w : Where) (number : ℕ) → (opening channel w number).sends ≡ true
+opening_sends : (channel : Option ChannelIdentity) (w : Where) (number : ℕ) → (opening channel w number).sends ≡ true
 opening_sends None w number = refl
 opening_sends (Some channel) w number = refl
 
-passing_sends : (channel : Option Channel) (j : Judging) → (passing channel j).sends ≡ true
+passing_sends : (channel : Option ChannelIdentity) (j : Judging) → (passing channel j).sends ≡ true
 passing_sends None j = refl
 passing_sends (Some channel) j = refl
 

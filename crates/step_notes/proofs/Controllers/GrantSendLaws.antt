@@ -10,7 +10,7 @@ use Rattle.logon_stubs.specs.declared.info.Verdict.TheVariants.{Granted}
 use Rattle.ntlm_responses.specs.Verification.{base_key_of}
 use Rattle.account_table.specs.AccountTable.{AccountTable}
 use Rattle.account_table.specs.declared.account.Account.{Account}
-use Rattle.sam_logon.specs.Granted.{granting_reply, sam_info_of}
+use Rattle.sam_logon.specs.Granting.{granting_reply, sam_info_of}
 use Rattle.channel_keys.specs.Hidden.{crypt_key}
 use Rattle.authenticators.specs.SecureChannels.{key_of_channel}
 use Rattle.domain_controller.specs.Machine.{Desk, status_of}

@@ -15,7 +15,7 @@ use Rattle.account_table.specs.declared.account.Account.{Account}
 use Rattle.account_table.specs.declared.account.Policy.{Policy}
 use Rattle.account_table.specs.declared.table.Route.{Route}
 use Rattle.account_table.specs.declared.table.Route.TheVariants.{Own, Trust, Elsewhere}
-use Rattle.sam_logon.specs.Granted.{sam_info_of}
+use Rattle.sam_logon.specs.Granting.{sam_info_of}
 use Rattle.sam_logon.specs.MayLogOn.{MayLogOn, ResponseVerifies}
 use Rattle.sam_logon.specs.Rules.{Rule, first_refusal, refusal_by, rules_of}
 use Rattle.sam_logon.specs.Verdict.{is_granted, judgement_of, verdict_at, verdict_by, verdict_of, verdict_on}

@@ -4,7 +4,7 @@ use Rattle.std.proofs.Common.{◌<◌, ◌^◌, ◌++◌, ℕ, Bool, true, false
 use Rattle.std.specs.List.{AllByRecursion}
 use Rattle.wire_base.specs.Maps.{lookup, same_number}
 use Rattle.wire_base.specs.Names.{IsName}
-use Rattle.authenticators.specs.Channels.{Channel}
+use Rattle.authenticators.specs.Channels.{ChannelIdentity}
 use Rattle.authenticators.specs.SecureChannels.{key_of_channel}
 use Rattle.outside.specs.declared.action.Action.{Action}
 use Rattle.outside.specs.declared.action.StepRefused.{StepRefused}
@@ -42,11 +42,11 @@ use Rattle.step_notes.specs.Served.{units_if_taken, work_after}
 abbrev AnswerFits : Answered → Type 0
 AnswerFits one = IfThere IsJudgedInRange one.judging
 
-opening_fits : (channel : Option Channel) (w : Where) (number : ℕ) → AnswerFits (opening channel w number)
+opening_fits : (channel : Option ChannelIdentity) (w : Where) (number : ℕ) → AnswerFits (opening channel w number)
 opening_fits None w number = tt
 opening_fits (Some channel) w number = tt
 
-passing_fits : (channel : Option Channel) (j : Judging) → IsJudgedInRange j → AnswerFits (passing channel j)
+passing_fits : (channel : Option ChannelIdentity) (j : Judging) → IsJudgedInRange j → AnswerFits (passing channel j)
 passing_fits None j is = is
 passing_fits (Some channel) j is = is
 

@@ -11,7 +11,7 @@ use Rattle.wire_base.proofs.NameLaws.{IsSameness-same_name, same_name-Decides}
 use Rattle.ntlm_flags.specs.Flags.{has_flag}
 use Rattle.channel_keys.specs.Credentials.{cred_of}
 use Rattle.channel_keys.specs.Flags.{rc4_flag}
-use Rattle.authenticators.specs.Channels.{Channel, SameChannel}
+use Rattle.authenticators.specs.Channels.{ChannelIdentity, SameChannel}
 use Rattle.authenticators.specs.SecureChannels.{SecureChannelState, channel_by as moved_by_call, key_of_channel, passes_on, return_by, channel_of}
 use Rattle.logon_stubs.specs.declared.calls.AuthCall.{AuthCall}
 use Rattle.logon_stubs.specs.declared.info.NetworkInfo.{NetworkInfo}
@@ -133,7 +133,7 @@ opening_kept (Some channel) controller computer work later map is =
       served = λ name challenge at. waited_other computer name challenge work.computers map at;
       kept = λ name c at. elim (found_put computer name channel work.computers.channels) [
         | inl here ↦ inl (
-            subst (λ (x : Channel). SameChannel (channel_of controller computer channel) x)
+            subst (λ (x : ChannelIdentity). SameChannel (channel_of controller computer channel) x)
             (some_is (channel_of controller name channel) c (sym (ap (channel_by controller name) here.1) ∙ at))
             (record { controller = refl; computer = sym here.0; secret = refl; client = refl; server = refl; flags = refl })
             )

@@ -9,7 +9,7 @@ use Rattle.wire_base.specs.Names.{same_name}
 use Rattle.ntlm_flags.specs.Flags.{has_flag}
 use Rattle.channel_keys.specs.Credentials.{cred_of}
 use Rattle.channel_keys.specs.Flags.{rc4_flag}
-use Rattle.authenticators.specs.Channels.{Channel}
+use Rattle.authenticators.specs.Channels.{ChannelIdentity}
 use Rattle.authenticators.specs.SecureChannels.{SecureChannelState, key_of_channel, channel_of}
 use Rattle.outside.specs.declared.action.Action.{Action}
 use Rattle.outside.specs.declared.action.Action.TheVariants as action
@@ -145,7 +145,7 @@ account_one (Some account) pair line c work = offer_one (has_flag c.flags rc4_fl
 
 -- and isn't marked as a reply to a Logon call
 
-opened_carries : (unit : Option ℕ) (channel : Channel) (number : ℕ) (bytes : List ℕ) → IsOpeningReply bytes → CarriesReply (opened_mark unit channel number) None bytes
+opened_carries : (unit : Option ℕ) (channel : ChannelIdentity) (number : ℕ) (bytes : List ℕ) → IsOpeningReply bytes → CarriesReply (opened_mark unit channel number) None bytes
 opened_carries None channel number bytes opens = tt
 opened_carries (Some unit) channel number bytes opens = opens
 
@@ -156,13 +156,13 @@ opening_sent (Some channel) w computer number bytes opens = (opened_carries w.un
 
 -- ---- a Logon call
 
-reply_carries : (unit : Option ℕ) (channel : Channel) (j : Judging) (bytes : List ℕ) → j.unit ≡ unit → channel_if true j ≡ Some channel → has_passed j.how ≡ true → IsItsReply j bytes →
+reply_carries : (unit : Option ℕ) (channel : ChannelIdentity) (j : Judging) (bytes : List ℕ) → j.unit ≡ unit → channel_if true j ≡ Some channel → has_passed j.how ≡ true → IsItsReply j bytes →
     CarriesReply (reply_mark unit channel j.number) (Some j) bytes
 reply_carries None channel j bytes came is passed carries = tt
 reply_carries (Some unit) channel j bytes came is passed carries =
     record { came = came; passed = ap (λ (b : Bool). channel_if b j) passed ∙ is; call = refl; carries = carries }
 
-passing_sent : (channel : Option Channel) (j : Judging) (bytes : List ℕ) → channel_if true j ≡ channel → has_passed j.how ≡ true → IsItsReply j bytes → AreSentFor (passing channel j ∷ []) (bytes ∷ [])
+passing_sent : (channel : Option ChannelIdentity) (j : Judging) (bytes : List ℕ) → channel_if true j ≡ channel → has_passed j.how ≡ true → IsItsReply j bytes → AreSentFor (passing channel j ∷ []) (bytes ∷ [])
 passing_sent None j bytes is passed carries = (tt, tt)
 passing_sent (Some channel) j bytes is passed carries = (reply_carries j.unit channel j bytes refl is passed carries, tt)
 

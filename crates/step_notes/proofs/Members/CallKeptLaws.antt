@@ -69,9 +69,9 @@ use Rattle.member_server.specs.Laws.{is_dialled}
 use Rattle.rpc_units.specs.Numbers.{ntlm_provider}
 use Rattle.member_server.specs.Machine.{actions_in, after_turn, after_units, answer_dial, at_turn, by_event, bytes_by, bytes_on, bytes_on_link, caller_of, close_link, close_turn, event_part, fail_dial, fresh_member, halted_state, keep_turn, open_by, state_in, step_of, step_on, work_of}
 use Rattle.member_server.specs.Messages.{ask_by, info_of, is_fit, take_auth3, take_message, take_trailer, wait_by, with_channel, with_logon}
-use Rattle.member_server.specs.Outcomes.{after_link, at_link, end_found, end_logon, keep_link, phase_after, reach_link, tell_outcome, turn_link, turn_waiting, waiting_at, without_link, without_logon}
+use Rattle.member_server.specs.Outcomes.{after_link, at_link, end_found, end_logon, keep_link, phase_after, reach_link, tell_outcome, reach_in_map, reach_waiting, waiting_at, without_link, without_logon}
 use Rattle.member_server.specs.State.{State as MemberState}
-use Rattle.member_server.specs.Turns.{Desk, TurnServed, break_turn, dial_for, do_taken, lose_turn, next_turn, tell_turn_closed, timestamp_of, turn_by, turn_by_join, turn_server, turn_unit, with_requester, with_work}
+use Rattle.member_server.specs.Turns.{DialWork, TurnServed, break_turn, dial_for, do_taken, lose_turn, next_turn, tell_turn_closed, timestamp_of, turn_by, turn_by_join, turn_server, turn_unit, with_requester, with_work}
 use Rattle.member_server.specs.Units.{body_challenged, bound_unit, first_unit, is_fresh, link_server, serve_held, unit_by, unit_challenged}
 use Rattle.member_server.specs.Work.{Served}
 use Rattle.step_notes.specs.CallLogons.{AsksForKept, AsksUnlessStopped, HasSecret, IsOfCaller, IsStampedStep, waiting_for}
@@ -296,14 +296,14 @@ put_back : (said : Option Talk) (rest : List ℕ) (number : ℕ) (at : AtLink) (
 put_back None rest number at w = refl
 put_back (Some talk) rest number at w = refl
 
-waiting_same : (x : Bound × List (List ℕ)) (link : LinkState Talk) (how : Ending) (logon : Logon) (w : Work) → (turn_waiting x link how logon w).logons ≡ w.logons
+waiting_same : (x : Bound × List (List ℕ)) (link : LinkState Talk) (how : Ending) (logon : Logon) (w : Work) → (reach_waiting x link how logon w).logons ≡ w.logons
 waiting_same x link how logon w =
     let at : AtLink = at_link logon.link w in
     let talk : Talk = record { joiner = link.talk.joiner; phase = phase_after how logon x.0 } in
     let served : Served = serve_held x.1 at talk in
     put_back served.1 link.rest logon.link served.0 w ∙ (held_idle x.1 at talk (ended_serves how logon x.0)).0
 
-link_same : (x : Option (Bound × List (List ℕ))) (link : LinkState Talk) (how : Ending) (logon : Logon) (w : Work) → (turn_link x link how logon w).logons ≡ w.logons
+link_same : (x : Option (Bound × List (List ℕ))) (link : LinkState Talk) (how : Ending) (logon : Logon) (w : Work) → (reach_in_map x link how logon w).logons ≡ w.logons
 link_same None link how logon w = refl
 link_same (Some x) link how logon w = waiting_same x link how logon (without_link logon.link w)
 
@@ -392,12 +392,12 @@ turns_stay = record {
 
 -- ---- an event
 
-abbrev pub DeskAsks : Desk → Type 0
-DeskAsks desk = AsksForKept (is_dialled desk.1) desk.0.logons
+abbrev pub DialWorkAsks : DialWork → Type 0
+DialWorkAsks desk = AsksForKept (is_dialled desk.1) desk.0.logons
 
-abbrev pub PartAsks : Result (Part Desk) StepRefused → Type 0
+abbrev pub PartAsks : Result (Part DialWork) StepRefused → Type 0
 PartAsks (Err why) = Unit {0}
-PartAsks (Ok part) = DeskAsks part.value
+PartAsks (Ok part) = DialWorkAsks part.value
 
 turn_kept : (said : Option TurnTalk) (rest : List ℕ) (number : ℕ) (logons : Logons) → TurnAsksBy said logons → AsksForKept (is_dialled (keep_turn said rest number)) logons
 turn_kept None rest number logons kept = kept
@@ -433,11 +433,11 @@ bytes_ask dialling.Nothing number piece w left kept = on_link (lookup same_numbe
 bytes_ask (dialling.Waits turn frames) number piece w left kept = on_link (lookup same_number number w.links) number piece (dialling.Waits turn frames) w left kept
 bytes_ask (dialling.On other said) number piece w left kept = bytes_if (other == number) said other number piece w left kept
 
-close_if : (hit : Bool) (link on : ℕ) (said : LinkState TurnTalk) (w : Work) → AsksForKept true w.logons → DeskAsks (close_turn hit link (dialling.On on said) w)
+close_if : (hit : Bool) (link on : ℕ) (said : LinkState TurnTalk) (w : Work) → AsksForKept true w.logons → DialWorkAsks (close_turn hit link (dialling.On on said) w)
 close_if false link on said w kept = kept
 close_if true link on said w kept = lost_asks drop_cause.LinkClosed w kept
 
-close_asks : (how : Dialling) (link : ℕ) (w : Work) → AsksForKept (is_dialled how) w.logons → DeskAsks (close_link how link w)
+close_asks : (how : Dialling) (link : ℕ) (w : Work) → AsksForKept (is_dialled how) w.logons → DialWorkAsks (close_link how link w)
 close_asks dialling.Nothing link w kept = kept
 close_asks (dialling.Waits turn frames) link w kept = kept
 close_asks (dialling.On on said) link w kept = close_if (on == link) link on said w kept
@@ -446,19 +446,19 @@ opens_ask : (dialled full : Bool) (link : ℕ) (w : Work) → AsksForKept dialle
 opens_ask dialled true link w kept = kept
 opens_ask dialled false link w kept = kept
 
-answer_asks : (how : Dialling) (link : ℕ) (w : Work) → AsksForKept (is_dialled how) w.logons → DeskAsks (answer_dial how link w)
+answer_asks : (how : Dialling) (link : ℕ) (w : Work) → AsksForKept (is_dialled how) w.logons → DialWorkAsks (answer_dial how link w)
 answer_asks dialling.Nothing link w kept = kept
 answer_asks (dialling.On number said) link w kept = kept
 answer_asks (dialling.Waits turn frames) link w kept = kept
 
-fail_asks : (how : Dialling) (w : Work) → AsksForKept (is_dialled how) w.logons → DeskAsks (fail_dial how w)
+fail_asks : (how : Dialling) (w : Work) → AsksForKept (is_dialled how) w.logons → DialWorkAsks (fail_dial how w)
 fail_asks dialling.Nothing w kept = kept
 fail_asks (dialling.On number said) w kept = kept
 fail_asks (dialling.Waits turn frames) w kept = lost_asks drop_cause.DialFailed w kept
 
 event_asks : (what : Event) (running : Running) (left : List (List ℕ)) → AsksForKept (is_dialled running.dialling) running.logons → PartAsks (by_event what running.dialling (work_of running) left)
 event_asks (event.Opened link) running left kept =
-    let closed : Desk = close_link running.dialling link (work_of running) in
+    let closed : DialWork = close_link running.dialling link (work_of running) in
     opens_ask (is_dialled closed.1) (nat_le 256 (length closed.0.links)) link closed.0 (close_asks running.dialling link (work_of running) kept)
 event_asks (event.Bytes link piece) running left kept = bytes_ask running.dialling link piece (work_of running) left kept
 event_asks (event.Closed link) running left kept = close_asks running.dialling link (work_of running) kept
@@ -469,7 +469,7 @@ event_asks event.Stop running left kept = kept
 -- ---- the next turn
 
 dial_asks : (answer : Option (Unit {0} × List (List ℕ))) (timestamp : ℕ) (challenge : List ℕ) (w : Work) (how : Dialling) → is_some answer ≡ true →
-    can_start w.logons.channel.turn w.logons.channel.waiting ≡ true → DeskAsks (w, how) → DeskAsks (dial_for answer (with_requester w (start_of w.logons.channel timestamp challenge).state) how)
+    can_start w.logons.channel.turn w.logons.channel.waiting ≡ true → DialWorkAsks (w, how) → DialWorkAsks (dial_for answer (with_requester w (start_of w.logons.channel timestamp challenge).state) how)
 dial_asks None timestamp challenge w how some can kept = absurd (let x = some in cc)
 dial_asks (Some start) timestamp challenge w how some can kept =
     let s : Requester = w.logons.channel in
@@ -481,7 +481,7 @@ dial_asks (Some start) timestamp challenge w how some can kept =
       own = started_own s.turn s.waiting s timestamp challenge kept.own;
     }
 
-turn_if : (starts needs : Bool) (now : ℕ) (w : Work) (how : Dialling) (left : List (List ℕ)) → can_start w.logons.channel.turn w.logons.channel.waiting ≡ starts → DeskAsks (w, how) →
+turn_if : (starts needs : Bool) (now : ℕ) (w : Work) (how : Dialling) (left : List (List ℕ)) → can_start w.logons.channel.turn w.logons.channel.waiting ≡ starts → DialWorkAsks (w, how) →
     PartAsks (turn_by starts needs now w how left)
 turn_if false needs now w how left can kept = kept
 turn_if true false now w how left can kept =
@@ -491,7 +491,7 @@ turn_if true true now w how [] can kept = tt
 turn_if true true now w how (challenge ∷ left) can kept =
     dial_asks (start_of w.logons.channel (timestamp_of now) challenge).answer (timestamp_of now) challenge w how (one_turn.start w.logons.channel (timestamp_of now) challenge ∙ can) can kept
 
-next_asks : (part : Result (Part Desk) StepRefused) (now : ℕ) → PartAsks part → PartAsks (then_part part (next_turn now))
+next_asks : (part : Result (Part DialWork) StepRefused) (now : ℕ) → PartAsks part → PartAsks (then_part part (next_turn now))
 next_asks (Err why) now kept = tt
 next_asks (Ok part) now kept =
     let w : Work = part.value.0 in
@@ -499,7 +499,7 @@ next_asks (Ok part) now kept =
 
 -- ---- a step
 
-stepped_asks : (left : List (List ℕ)) (part : Result (Part Desk) StepRefused) → PartAsks part → AsksUnlessStopped (step_by actions_in state_in halted_state left part).state.running
+stepped_asks : (left : List (List ℕ)) (part : Result (Part DialWork) StepRefused) → PartAsks part → AsksUnlessStopped (step_by actions_in state_in halted_state left part).state.running
 stepped_asks left (Err why) kept = tt
 stepped_asks left (Ok part) kept = kept
 

@@ -2,7 +2,7 @@
 -- It serves `calls_carry_their_logon`.
 use Rattle.std.proofs.Common.{◌≡◌, ℕ, ◌==◌, Bool, true, false, List, [], ◌∷◌, ◌++◌, Option, Some, None, Result, Ok, Err, refl, sym, ap, ap₂, subst, ◌∙◌}
 use Rattle.std.specs.List.{AllByRecursion}
-use Rattle.authenticators.specs.Channels.{Channel, channel_key}
+use Rattle.authenticators.specs.Channels.{ChannelIdentity, channel_key}
 use Rattle.authenticators.specs.Sequences.{authenticator_of, next_seed}
 use Rattle.authenticators.specs.SecureChannels.{channel_of, SecureChannelState, after_call, key_of_channel}
 use Rattle.outside.specs.declared.action.Action.{Action}
@@ -68,7 +68,7 @@ module _ (controller : ℕ) (at : AtTurn) (joiner : Option RpcUnit) (kept : Asks
   logon_goes c o stands turn goes =
       let s : Requester = at.work.logons.channel in
       let plan : MemberPlan = at.work.logons.plan in
-      let channel : Channel = channel_of controller s.caller.computer o in
+      let channel : ChannelIdentity = channel_of controller s.caller.computer o in
       let first : HasLogon place c at.work.logons.asked = first_logon at.work.logons.asked number place c
       (subst (λ (waiting : List Waiting). IsForFirst (bound_at number place (call.Logon c)) waiting) kept.waits
       (subst (λ (t : Option Pending). IsForFirst t s.waiting) turn kept.coherent.first)) in

@@ -56,9 +56,9 @@ use Rattle.member_server.specs.declared.state.Work.{Work}
 use Rattle.rpc_units.specs.Numbers.{ntlm_provider}
 use Rattle.member_server.specs.Machine.{actions_in, after_turn, after_units, answer_dial, at_turn, by_event, bytes_by, bytes_on, bytes_on_link, close_link, close_turn, event_part, fail_dial, halted_state, keep_turn, open_by, serve_dialled, state_in, step_of, step_on, work_of}
 use Rattle.member_server.specs.Messages.{ask_by, info_of, is_fit, take_auth3, take_message, take_trailer, wait_by, with_channel}
-use Rattle.member_server.specs.Outcomes.{after_link, at_link, end_found, end_logon, keep_link, phase_after, reach_link, tell_outcome, turn_link, turn_waiting, waiting_at, without_link, without_logon}
+use Rattle.member_server.specs.Outcomes.{after_link, at_link, end_found, end_logon, keep_link, phase_after, reach_link, tell_outcome, reach_in_map, reach_waiting, waiting_at, without_link, without_logon}
 use Rattle.member_server.specs.State.{State as MemberState}
-use Rattle.member_server.specs.Turns.{Desk, break_turn, dial_for, do_taken, ending_of, lose_turn, next_turn, tell_turn_closed, timestamp_of, turn_by, turn_by_join, turn_server, turn_unit, with_requester, with_work}
+use Rattle.member_server.specs.Turns.{DialWork, break_turn, dial_for, do_taken, ending_of, lose_turn, next_turn, tell_turn_closed, timestamp_of, turn_by, turn_by_join, turn_server, turn_unit, with_requester, with_work}
 use Rattle.member_server.specs.Units.{body_challenged, bound_unit, first_unit, is_fresh, link_server, serve_held, unit_by, unit_challenged}
 use Rattle.member_server.specs.Work.{Served}
 use Rattle.channel_events.specs.Marks.{OneOf}
@@ -150,12 +150,12 @@ abbrev pub TurnKeeps : (ℕ → Logon → Type 0) → ServedPart AtTurn TurnTalk
 TurnKeeps Fits (Err why) = Unit {0}
 TurnKeeps Fits (Ok part) = OfEach Fits part.value.0.work.logons.asked
 
-abbrev pub DeskKeeps : (ℕ → Logon → Type 0) → (ℕ → Type 0) → Desk → Type 0
-DeskKeeps Fits Own desk = OfEach Fits desk.0.logons.asked × IfDialled Own desk.1
+abbrev pub DialWorkKeeps : (ℕ → Logon → Type 0) → (ℕ → Type 0) → DialWork → Type 0
+DialWorkKeeps Fits Own desk = OfEach Fits desk.0.logons.asked × IfDialled Own desk.1
 
-abbrev pub PartKeeps : (ℕ → Logon → Type 0) → (ℕ → Type 0) → Result (Part Desk) StepRefused → Type 0
+abbrev pub PartKeeps : (ℕ → Logon → Type 0) → (ℕ → Type 0) → Result (Part DialWork) StepRefused → Type 0
 PartKeeps Fits Own (Err why) = Unit {0}
-PartKeeps Fits Own (Ok part) = DeskKeeps Fits Own part.value
+PartKeeps Fits Own (Ok part) = DialWorkKeeps Fits Own part.value
 
 module _ (Fits : ℕ → Logon → Type 0) (Own : ℕ → Type 0) where
   -- ---- an outcome
@@ -165,7 +165,7 @@ module _ (Fits : ℕ → Logon → Type 0) (Own : ℕ → Type 0) where
   put_back (Some talk) rest number at w all = all
 
   waiting_keeps : (x : Bound × List (List ℕ)) (link : LinkState Talk) (how : Ending) (logon : Logon) (w : Work) → OfEach Fits w.logons.asked →
-      OfEach Fits (turn_waiting x link how logon w).logons.asked
+      OfEach Fits (reach_waiting x link how logon w).logons.asked
   waiting_keeps x link how logon w all =
       let at : AtLink = at_link logon.link w in
       let talk : Talk = record { joiner = link.talk.joiner; phase = phase_after how logon x.0 } in
@@ -173,7 +173,7 @@ module _ (Fits : ℕ → Logon → Type 0) (Own : ℕ → Type 0) where
       put_back served.1 link.rest logon.link served.0 w (subst (λ (l : Logons). OfEach Fits l.asked) (sym (held_idle x.1 at talk (ended_serves how logon x.0)).0) all)
 
   link_keeps : (x : Option (Bound × List (List ℕ))) (link : LinkState Talk) (how : Ending) (logon : Logon) (w : Work) → OfEach Fits w.logons.asked →
-      OfEach Fits (turn_link x link how logon w).logons.asked
+      OfEach Fits (reach_in_map x link how logon w).logons.asked
   link_keeps None link how logon w all = all
   link_keeps (Some x) link how logon w all = waiting_keeps x link how logon (without_link logon.link w) all
 
@@ -245,11 +245,11 @@ module _ (Fits : ℕ → Logon → Type 0) (Own : ℕ → Type 0) where
   -- ---- the other events
 
   close_if : (hit : Bool) (link on : ℕ) (said : LinkState TurnTalk) (w : Work) → Own on → OfEach Fits w.logons.asked →
-      DeskKeeps Fits Own (close_turn hit link (dialling.On on said) w)
+      DialWorkKeeps Fits Own (close_turn hit link (dialling.On on said) w)
   close_if false link on said w own all = (all, own)
   close_if true link on said w own all = (lost_keeps drop_cause.LinkClosed w all, tt)
 
-  close_keeps : (how : Dialling) (link : ℕ) (w : Work) → IfDialled Own how → OfEach Fits w.logons.asked → DeskKeeps Fits Own (close_link how link w)
+  close_keeps : (how : Dialling) (link : ℕ) (w : Work) → IfDialled Own how → OfEach Fits w.logons.asked → DialWorkKeeps Fits Own (close_link how link w)
   close_keeps dialling.Nothing link w own all = (all, tt)
   close_keeps (dialling.Waits turn frames) link w own all = (all, tt)
   close_keeps (dialling.On on said) link w own all = close_if (on == link) link on said w own all
@@ -258,19 +258,19 @@ module _ (Fits : ℕ → Logon → Type 0) (Own : ℕ → Type 0) where
   opens_keep true link w all = all
   opens_keep false link w all = all
 
-  answer_keeps : (how : Dialling) (link : ℕ) (w : Work) → Own link → IfDialled Own how → OfEach Fits w.logons.asked → DeskKeeps Fits Own (answer_dial how link w)
+  answer_keeps : (how : Dialling) (link : ℕ) (w : Work) → Own link → IfDialled Own how → OfEach Fits w.logons.asked → DialWorkKeeps Fits Own (answer_dial how link w)
   answer_keeps dialling.Nothing link w new own all = (all, tt)
   answer_keeps (dialling.On number said) link w new own all = (all, own)
   answer_keeps (dialling.Waits turn frames) link w new own all = (all, new)
 
-  fail_keeps : (how : Dialling) (w : Work) → IfDialled Own how → OfEach Fits w.logons.asked → DeskKeeps Fits Own (fail_dial how w)
+  fail_keeps : (how : Dialling) (w : Work) → IfDialled Own how → OfEach Fits w.logons.asked → DialWorkKeeps Fits Own (fail_dial how w)
   fail_keeps dialling.Nothing w own all = (all, tt)
   fail_keeps (dialling.On number said) w own all = (all, own)
   fail_keeps (dialling.Waits turn frames) w own all = (lost_keeps drop_cause.DialFailed w all, tt)
 
   -- ---- the next turn
 
-  dial_keeps : (start : Option (Unit {0} × List (List ℕ))) (w : Work) (how : Dialling) → IfDialled Own how → OfEach Fits w.logons.asked → DeskKeeps Fits Own (dial_for start w how)
+  dial_keeps : (start : Option (Unit {0} × List (List ℕ))) (w : Work) (how : Dialling) → IfDialled Own how → OfEach Fits w.logons.asked → DialWorkKeeps Fits Own (dial_for start w how)
   dial_keeps None w how own all = (all, own)
   dial_keeps (Some start) w how own all = (all, tt)
 
@@ -283,7 +283,7 @@ module _ (Fits : ℕ → Logon → Type 0) (Own : ℕ → Type 0) where
   turn_if true true now w how (challenge ∷ left) own all =
       let starting = start_of w.logons.channel (timestamp_of now) challenge in dial_keeps starting.answer (with_requester w starting.state) how own all
 
-  next_keeps : (part : Result (Part Desk) StepRefused) (now : ℕ) → PartKeeps Fits Own part → PartKeeps Fits Own (then_part part (next_turn now))
+  next_keeps : (part : Result (Part DialWork) StepRefused) (now : ℕ) → PartKeeps Fits Own part → PartKeeps Fits Own (then_part part (next_turn now))
   next_keeps (Err why) now kept = tt
   next_keeps (Ok part) now kept =
       let w : Work = part.value.0 in
@@ -308,7 +308,7 @@ Dials Own event.Stop = Unit {0}
 event_keeps : (Fits : ℕ → Logon → Type 0) (Own : ℕ → Type 0) (what : Event) (running : Running) (left : List (List ℕ)) → Dials Own what → IfDialled Own running.dialling →
     OfEach Fits running.logons.asked → PartKeeps Fits Own (by_event what running.dialling (work_of running) left)
 event_keeps Fits Own (event.Opened link) running left dials own all =
-    let closed : Desk = close_link running.dialling link (work_of running) in
+    let closed : DialWork = close_link running.dialling link (work_of running) in
     let kept = close_keeps Fits Own running.dialling link (work_of running) own all in
     (opens_keep Fits Own (nat_le 256 (length closed.0.links)) link closed.0 kept.0, kept.1)
 event_keeps Fits Own (event.Bytes link piece) running left dials own all = absurd dials
@@ -317,7 +317,7 @@ event_keeps Fits Own (event.Dialled link) running left dials own all = answer_ke
 event_keeps Fits Own event.DialFailed running left dials own all = fail_keeps Fits Own running.dialling (work_of running) own all
 event_keeps Fits Own event.Stop running left dials own all = (all, own)
 
-stepped_keeps : (Fits : ℕ → Logon → Type 0) (Own : ℕ → Type 0) (left : List (List ℕ)) (part : Result (Part Desk) StepRefused) → PartKeeps Fits Own part →
+stepped_keeps : (Fits : ℕ → Logon → Type 0) (Own : ℕ → Type 0) (left : List (List ℕ)) (part : Result (Part DialWork) StepRefused) → PartKeeps Fits Own part →
     KeptIn Fits Own (step_by actions_in state_in halted_state left part).state.running
 stepped_keeps Fits Own left (Err why) kept = tt
 stepped_keeps Fits Own left (Ok part) kept = kept
@@ -527,7 +527,7 @@ module _ (May Own : ℕ → Type 0) (w : LinkAt) (piece : List ℕ) (running : R
   bytes_keep_by (dialling.Waits turn frames) own = on_link_keeps (lookup same_number w.link running.links) (dialling.Waits turn frames) refl own
   bytes_keep_by (dialling.On other said) own = bytes_if (other == w.link) other said (dialling.On other said) refl own own
 
-stepped_notes : (X : Type 0) (Own : ℕ → Type 0) (w : LinkAt) (left : List (List ℕ)) (messages : List MessageTaken) (units : List (ServedUnit AtLink Talk)) (part : Result (Part Desk) StepRefused) →
+stepped_notes : (X : Type 0) (Own : ℕ → Type 0) (w : LinkAt) (left : List (List ℕ)) (messages : List MessageTaken) (units : List (ServedUnit AtLink Talk)) (part : Result (Part DialWork) StepRefused) →
     PartKeeps (HasFor X w.at w.member (messages ++ flat_map (message_note w) units)) Own part →
     KeptIn (HasFor X w.at w.member (messages ++ flat_map (message_note w) (units_if_taken (step_by actions_in state_in halted_state left part).answer units))) Own
     (step_by actions_in state_in halted_state left part).state.running

@@ -40,9 +40,9 @@ use Rattle.member_server.specs.declared.state.Talk.{Talk}
 use Rattle.member_server.specs.declared.state.TurnTalk.{TurnTalk}
 use Rattle.member_server.specs.declared.state.Work.{Work}
 use Rattle.member_server.specs.Machine.{actions_in, after_turn, at_turn, bytes_by, bytes_on, halted_state, state_in, step_on, work_of}
-use Rattle.member_server.specs.Outcomes.{after_link, at_link, end_found, end_logon, keep_link, phase_after, reach_link, tell_outcome, turn_link, turn_waiting, waiting_at, without_link, without_logon}
+use Rattle.member_server.specs.Outcomes.{after_link, at_link, end_found, end_logon, keep_link, phase_after, reach_link, tell_outcome, reach_in_map, reach_waiting, waiting_at, without_link, without_logon}
 use Rattle.member_server.specs.State.{State as MemberState}
-use Rattle.member_server.specs.Turns.{Desk, TurnServed, break_turn, dial_for, do_taken, ending_of, lose_turn, next_turn, tell_turn_closed, timestamp_of, turn_by, turn_by_join, turn_server, turn_unit, with_requester}
+use Rattle.member_server.specs.Turns.{DialWork, TurnServed, break_turn, dial_for, do_taken, ending_of, lose_turn, next_turn, tell_turn_closed, timestamp_of, turn_by, turn_by_join, turn_server, turn_unit, with_requester}
 use Rattle.member_server.specs.Units.{serve_held}
 use Rattle.member_server.specs.Work.{Served}
 use Rattle.step_notes.specs.CallLogons.{AreFirst, IsFirstBy, RequestsComeFirst}
@@ -62,14 +62,14 @@ put_back : (said : Option Talk) (rest : List ℕ) (number : ℕ) (at : AtLink) (
 put_back None rest number at w = refl
 put_back (Some talk) rest number at w = refl
 
-waiting_grows : (x : Bound × List (List ℕ)) (link : LinkState Talk) (how : Ending) (logon : Logon) (w : Work) → Grows w.actions (turn_waiting x link how logon w).actions
+waiting_grows : (x : Bound × List (List ℕ)) (link : LinkState Talk) (how : Ending) (logon : Logon) (w : Work) → Grows w.actions (reach_waiting x link how logon w).actions
 waiting_grows x link how logon w =
     let at : AtLink = at_link logon.link w in
     let talk : Talk = record { joiner = link.talk.joiner; phase = phase_after how logon x.0 } in
     let served : Served = serve_held x.1 at talk in
     subst (λ (a : List Action). Grows w.actions a) (sym (put_back served.1 link.rest logon.link served.0 w)) (held_idle x.1 at talk (ended_serves how logon x.0)).2
 
-link_grows : (x : Option (Bound × List (List ℕ))) (link : LinkState Talk) (how : Ending) (logon : Logon) (w : Work) → Grows w.actions (turn_link x link how logon w).actions
+link_grows : (x : Option (Bound × List (List ℕ))) (link : LinkState Talk) (how : Ending) (logon : Logon) (w : Work) → Grows w.actions (reach_in_map x link how logon w).actions
 link_grows None link how logon w = grows_not w.actions
 link_grows (Some x) link how logon w = waiting_grows x link how logon (without_link logon.link w)
 
@@ -178,11 +178,11 @@ module _ (controller : ℕ) where
   first_more (unit ∷ units) actions tail first = by_more _ unit.work _ actions tail (λ more. AreFirst controller units more) (λ more holds. first_more units more tail holds) first
 
   module _ (units : List (ServedUnit AtTurn TurnTalk)) where
-    abbrev pub DeskFirst : Result (Part Desk) StepRefused → Type 0
-    DeskFirst (Err why) = Unit {0}
-    DeskFirst (Ok part) = AreFirst controller units part.value.0.actions
+    abbrev pub DialWorkFirst : Result (Part DialWork) StepRefused → Type 0
+    DialWorkFirst (Err why) = Unit {0}
+    DialWorkFirst (Ok part) = AreFirst controller units part.value.0.actions
 
-    turn_done : (part : ServedPart AtTurn TurnTalk) (rest : List ℕ) (number : ℕ) → FirstOf [] (AreFirst controller units) part → DeskFirst (after_turn part rest number)
+    turn_done : (part : ServedPart AtTurn TurnTalk) (rest : List ℕ) (number : ℕ) → FirstOf [] (AreFirst controller units) part → DialWorkFirst (after_turn part rest number)
     turn_done (Err why) rest number first = tt
     turn_done (Ok part) rest number first = subst (λ (a : List Action). AreFirst controller units a) (sym first.1) first.2
 
@@ -190,7 +190,7 @@ module _ (controller : ℕ) where
     dial_first None w how first = first
     dial_first (Some start) w how first = first_more units w.actions _ first
 
-    turn_if : (starts needs : Bool) (now : ℕ) (w : Work) (how : Dialling) (left : List (List ℕ)) → AreFirst controller units w.actions → DeskFirst (turn_by starts needs now w how left)
+    turn_if : (starts needs : Bool) (now : ℕ) (w : Work) (how : Dialling) (left : List (List ℕ)) → AreFirst controller units w.actions → DialWorkFirst (turn_by starts needs now w how left)
     turn_if false needs now w how left first = first
     turn_if true false now w how left first =
         let starting = start_of w.logons.channel (timestamp_of now) (replicate 8 0) in dial_first starting.answer (with_requester w starting.state) how first
@@ -198,24 +198,24 @@ module _ (controller : ℕ) where
     turn_if true true now w how (challenge ∷ left) first =
         let starting = start_of w.logons.channel (timestamp_of now) challenge in dial_first starting.answer (with_requester w starting.state) how first
 
-    next_first : (part : Result (Part Desk) StepRefused) (now : ℕ) → DeskFirst part → DeskFirst (then_part part (next_turn now))
+    next_first : (part : Result (Part DialWork) StepRefused) (now : ℕ) → DialWorkFirst part → DialWorkFirst (then_part part (next_turn now))
     next_first (Err why) now first = tt
     next_first (Ok part) now first =
         let w : Work = part.value.0 in
         turn_if (can_start w.logons.channel.turn w.logons.channel.waiting) (needs_challenge w.logons.channel.standing) now w part.value.1 part.left first
 
-    answer_first : (left : List (List ℕ)) (part : Result (Part Desk) StepRefused) (actions : List Action) → DeskFirst part → (step_by actions_in state_in halted_state left part).answer ≡ Ok actions →
+    answer_first : (left : List (List ℕ)) (part : Result (Part DialWork) StepRefused) (actions : List Action) → DialWorkFirst part → (step_by actions_in state_in halted_state left part).answer ≡ Ok actions →
         AreFirst controller (units_if_taken (step_by actions_in state_in halted_state left part).answer units) actions
     answer_first left (Err why) actions first is = absurd cc
     answer_first left (Ok part) actions first is =
         let same : part.value.0.actions ≡ actions = cc in subst (λ (a : List Action). AreFirst controller units a) same first
 
-  none_first : (units : List (ServedUnit AtTurn TurnTalk)) (part : Result (Part Desk) StepRefused) → units ≡ [] → DeskFirst units part
+  none_first : (units : List (ServedUnit AtTurn TurnTalk)) (part : Result (Part DialWork) StepRefused) → units ≡ [] → DialWorkFirst units part
   none_first units (Err why) is = tt
   none_first units (Ok part) is = subst (λ (all : List (ServedUnit AtTurn TurnTalk)). AreFirst controller all part.value.0.actions) (sym is) tt
 
   by_first : (hit : Bool) (said : LinkState TurnTalk) (other number : ℕ) (piece : List ℕ) (running : Running) (left : List (List ℕ)) →
-      DeskFirst (turn_units_by hit said number piece running left) (bytes_by hit said number piece (dialling.On other said) (work_of running) left)
+      DialWorkFirst (turn_units_by hit said number piece running left) (bytes_by hit said number piece (dialling.On other said) (work_of running) left)
   by_first false said other number piece running left = none_first [] (bytes_by false said number piece (dialling.On other said) (work_of running) left) refl
   by_first true said other number piece running left =
       let cut : Cut = cut_stream (said.rest ++ piece) in
@@ -224,7 +224,7 @@ module _ (controller : ℕ) where
       (units_first cut.units cut.refused at said.talk left)
 
   on_first : (how : Dialling) (number : ℕ) (piece : List ℕ) (running : Running) (left : List (List ℕ)) →
-      DeskFirst (turn_units_on how number piece running left) (bytes_on how number piece (work_of running) left)
+      DialWorkFirst (turn_units_on how number piece running left) (bytes_on how number piece (work_of running) left)
   on_first dialling.Nothing number piece running left = none_first [] (bytes_on dialling.Nothing number piece (work_of running) left) refl
   on_first (dialling.Waits turn frames) number piece running left = none_first [] (bytes_on (dialling.Waits turn frames) number piece (work_of running) left) refl
   on_first (dialling.On other said) number piece running left = by_first (other == number) said other number piece running left
@@ -235,7 +235,7 @@ module _ (controller : ℕ) where
   running_first None s number piece now left actions is = absurd cc
   running_first (Some running) s number piece now left actions is =
       let units : List (ServedUnit AtTurn TurnTalk) = turn_units_in (Some running) number piece left in
-      let part : Result (Part Desk) StepRefused = bytes_on running.dialling number piece (work_of running) left in
+      let part : Result (Part DialWork) StepRefused = bytes_on running.dialling number piece (work_of running) left in
       answer_first units left (then_part part (next_turn now)) actions (next_first units part now (on_first running.dialling number piece running left)) is
 
 -- the requests come first

@@ -19,15 +19,15 @@ use Rattle.logon_client.specs.Machine as client
 use Rattle.logon_client.specs.State.{State as ClientState}
 use Rattle.logon_client.specs.declared.outcome.ClientOutcome.{ClientOutcome}
 use Rattle.logon_client.specs.declared.state.Running.{Running as ClientRunning}
-use Rattle.logon_client.specs.declared.state.Standing.{Standing}
-use Rattle.logon_client.specs.declared.state.Standing.TheVariants as standing
+use Rattle.logon_client.specs.declared.state.ClientLink.{ClientLink}
+use Rattle.logon_client.specs.declared.state.ClientLink.TheVariants as standing
 use Rattle.logon_client.specs.declared.state.Talk.{Talk as ClientTalk}
 use Rattle.logon_client.specs.declared.state.Work.{Work as ClientWork}
 use Rattle.member_server.specs.Machine as member
 use Rattle.member_server.specs.Outcomes.{at_link, without_link}
 use Rattle.member_server.specs.Rests.{link_leaves, turn_leaves}
 use Rattle.member_server.specs.State.{State as MemberState}
-use Rattle.member_server.specs.Turns.{Desk, next_turn, turn_by, turn_server}
+use Rattle.member_server.specs.Turns.{DialWork, next_turn, turn_by, turn_server}
 use Rattle.member_server.specs.Units.{link_server}
 use Rattle.member_server.specs.declared.state.AtLink.{AtLink}
 use Rattle.member_server.specs.declared.state.AtTurn.{AtTurn}
@@ -51,8 +51,8 @@ turn_rest true false now work how left = IsRest-refl left
 turn_rest true true now work how [] = IsRest-nothing []
 turn_rest true true now work how (challenge ∷ left) = IsRest-later challenge left left (IsRest-refl left)
 
-pub next_rest : (now : ℕ) (desk : Desk) (left : List (List ℕ)) → IsRest (left_by (next_turn now desk left)) left
-next_rest now desk left = turn_rest _ _ now desk.0 desk.1 left
+pub next_rest : (now : ℕ) (dial_work : DialWork) (left : List (List ℕ)) → IsRest (left_by (next_turn now dial_work left)) left
+next_rest now dial_work left = turn_rest _ _ now dial_work.0 dial_work.1 left
 
 units_rest : (part : ServedPart AtLink Talk) (rest : List ℕ) (left : List (List ℕ)) (number : ℕ) (how : Dialling) (work : Work) → IsRest (left_by part) left →
     IsRest (left_by (member.after_units part rest number how work)) left
@@ -115,7 +115,7 @@ close_rest : (own : Bool) (link : LinkState ClientTalk) (work : ClientWork) (lef
 close_rest false link work left = IsRest-refl left
 close_rest true link work left = IsRest-refl left
 
-standing_rest : (what : Event) (how : Standing) (work : ClientWork) (left : List (List ℕ)) → IsRest (left_by (client.by_event what how work left)) left
+standing_rest : (what : Event) (how : ClientLink) (work : ClientWork) (left : List (List ℕ)) → IsRest (left_by (client.by_event what how work left)) left
 standing_rest (event.Opened link) standing.Idle work left = IsRest-refl left
 standing_rest (event.Opened link) standing.Dialling work left = IsRest-refl left
 standing_rest (event.Opened link) (standing.On own) work left = close_rest (link == own.talk.link) own work left

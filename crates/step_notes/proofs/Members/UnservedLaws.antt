@@ -60,10 +60,10 @@ use Rattle.rpc_units.specs.Numbers.{ntlm_provider}
 use Rattle.member_server.specs.Machine.{actions_in, after_turn, after_units, answer_dial, at_turn, by_event, bytes_by, bytes_on, bytes_on_link, close_link, close_turn, event_part, fail_dial, fresh_link, halted_state, open_by, serve_dialled, state_in, step_of, step_on, work_of}
 use Rattle.member_server.specs.Memo.{call_answer}
 use Rattle.member_server.specs.Messages.{ask_by, info_of, is_fit, take_auth3, take_message, take_trailer, wait_by, with_channel}
-use Rattle.member_server.specs.Outcomes.{after_link, at_link, end_found, end_logon, keep_link, phase_after, reach_link, tell_outcome, turn_link, turn_waiting, waiting_at, without_link, without_logon}
+use Rattle.member_server.specs.Outcomes.{after_link, at_link, end_found, end_logon, keep_link, phase_after, reach_link, tell_outcome, reach_in_map, reach_waiting, waiting_at, without_link, without_logon}
 use Rattle.member_server.specs.Requests.{answer_call, body_asked, body_out, hold_by, join_by, join_if, join_request, join_unit, open_unit, reply, seal_reply, send_reply, send_sealed, signed_cause, signed_unit, unit_asked, unit_in, unit_out}
 use Rattle.member_server.specs.State.{State as MemberState}
-use Rattle.member_server.specs.Turns.{Desk, break_turn, dial_for, do_taken, ending_of, lose_turn, next_turn, tell_turn_closed, timestamp_of, turn_by, turn_by_join, turn_server, turn_unit, with_requester, with_work}
+use Rattle.member_server.specs.Turns.{DialWork, break_turn, dial_for, do_taken, ending_of, lose_turn, next_turn, tell_turn_closed, timestamp_of, turn_by, turn_by_join, turn_server, turn_unit, with_requester, with_work}
 use Rattle.member_server.specs.Units.{body_challenged, bound_unit, first_unit, is_fresh, link_server, serve_held, then_said, unit_by, unit_challenged}
 use Rattle.member_server.specs.Work.{Served}
 use Rattle.step_notes.specs.MemberNotes.{LinkAt, is_challenged, is_turn_link, link_if, link_units, link_units_by, link_units_in, link_units_on, taken_after, taken_by, taken_link}
@@ -435,9 +435,9 @@ put_known May k v (entry ∷ links) known all =
 
 -- ---- what a step leaves
 
-abbrev pub DeskLinks : (ℕ → Phase → Type 0) → Result (Part Desk) StepRefused → Type 0
-DeskLinks May (Err why) = Unit {0}
-DeskLinks May (Ok part) = Unserved May part.value.0.links
+abbrev pub DialWorkLinks : (ℕ → Phase → Type 0) → Result (Part DialWork) StepRefused → Type 0
+DialWorkLinks May (Err why) = Unit {0}
+DialWorkLinks May (Ok part) = Unserved May part.value.0.links
 
 abbrev pub TurnLinks : (ℕ → Phase → Type 0) → ServedPart AtTurn TurnTalk → Type 0
 TurnLinks May (Err why) = Unit {0}
@@ -464,7 +464,7 @@ module _ (May : ℕ → Phase → Type 0) where
   -- ---- an outcome
 
   waiting_known : (x : Bound × List (List ℕ)) (link : LinkState Talk) (how : Ending) (logon : Logon) (w : Work) → Unserved May w.links →
-      Unserved May (turn_waiting x link how logon w).links
+      Unserved May (reach_waiting x link how logon w).links
   waiting_known x link how logon w all =
       let at : AtLink = at_link logon.link w in
       let talk : Talk = record { joiner = link.talk.joiner; phase = phase_after how logon x.0 } in
@@ -472,7 +472,7 @@ module _ (May : ℕ → Phase → Type 0) where
       kept_known served.1 link.rest logon.link served.0 w (none_so (May logon.link) served.1 (held_serves x.1 at talk (ended_serves how logon x.0))) all
 
   link_known : (x : Option (Bound × List (List ℕ))) (link : LinkState Talk) (how : Ending) (logon : Logon) (w : Work) → Unserved May w.links →
-      Unserved May (turn_link x link how logon w).links
+      Unserved May (reach_in_map x link how logon w).links
   link_known None link how logon w all = all
   link_known (Some x) link how logon w all = waiting_known x link how logon (without_link logon.link w) (fewer_known logon.link w.links all)
 
@@ -525,11 +525,11 @@ module _ (May : ℕ → Phase → Type 0) where
     refusal = λ why at talk left all. break_known close.BadUnit at all;
   }
 
-  turn_done : (part : ServedPart AtTurn TurnTalk) (rest : List ℕ) (number : ℕ) → TurnLinks May part → DeskLinks May (after_turn part rest number)
+  turn_done : (part : ServedPart AtTurn TurnTalk) (rest : List ℕ) (number : ℕ) → TurnLinks May part → DialWorkLinks May (after_turn part rest number)
   turn_done (Err why) rest number all = tt
   turn_done (Ok part) rest number all = all
 
-  pub dialled_known : (cut : Cut) (number : ℕ) (talk : TurnTalk) (w : Work) (left : List (List ℕ)) → Unserved May w.links → DeskLinks May (serve_dialled cut number talk w left)
+  pub dialled_known : (cut : Cut) (number : ℕ) (talk : TurnTalk) (w : Work) (left : List (List ℕ)) → Unserved May w.links → DialWorkLinks May (serve_dialled cut number talk w left)
   dialled_known cut number talk w left all =
       turn_done (served_by turn_server cut.units cut.refused (at_turn number w) talk left) cut.rest number
       (served_stays turn_server (TurnLinks May) turns_stay cut (at_turn number w) talk left all)
@@ -565,7 +565,7 @@ module _ (May : ℕ → Phase → Type 0) where
   dial_known None w how all = all
   dial_known (Some start) w how all = all
 
-  turn_if : (starts needs : Bool) (now : ℕ) (w : Work) (how : Dialling) (left : List (List ℕ)) → Unserved May w.links → DeskLinks May (turn_by starts needs now w how left)
+  turn_if : (starts needs : Bool) (now : ℕ) (w : Work) (how : Dialling) (left : List (List ℕ)) → Unserved May w.links → DialWorkLinks May (turn_by starts needs now w how left)
   turn_if false needs now w how left all = all
   turn_if true false now w how left all =
       let starting = start_of w.logons.channel (timestamp_of now) (replicate 8 0) in dial_known starting.answer (with_requester w starting.state) how all
@@ -573,14 +573,14 @@ module _ (May : ℕ → Phase → Type 0) where
   turn_if true true now w how (challenge ∷ left) all =
       let starting = start_of w.logons.channel (timestamp_of now) challenge in dial_known starting.answer (with_requester w starting.state) how all
 
-  pub next_known : (part : Result (Part Desk) StepRefused) (now : ℕ) → DeskLinks May part → DeskLinks May (then_part part (next_turn now))
+  pub next_known : (part : Result (Part DialWork) StepRefused) (now : ℕ) → DialWorkLinks May part → DialWorkLinks May (then_part part (next_turn now))
   next_known (Err why) now all = tt
   next_known (Ok part) now all =
       let w : Work = part.value.0 in
       turn_if (can_start w.logons.channel.turn w.logons.channel.waiting) (needs_challenge w.logons.channel.standing) now w part.value.1 part.left all
 
   pub after_known : (part : ServedPart AtLink Talk) (rest : List ℕ) (number : ℕ) (how : Dialling) (w : Work) → IfUnservedPart (May number) part → Unserved May w.links →
-      DeskLinks May (after_units part rest number how w)
+      DialWorkLinks May (after_units part rest number how w)
   after_known (Err why) rest number how w known all = tt
   after_known (Ok part) rest number how w known all = kept_known part.value.1 rest number part.value.0 w known all
 
@@ -588,7 +588,7 @@ module _ (May : ℕ → Phase → Type 0) where
 
 -- What holds of the units of an accepted link and of what they come to, and of bytes on the link of the turn, at which
 -- there are no such units, holds of bytes on any link.
-module _ (Holds : List (ServedUnit AtLink Talk) → Result (Part Desk) StepRefused → Type 0) (link : ℕ) (piece : List ℕ) (running : Running) (left : List (List ℕ))
+module _ (Holds : List (ServedUnit AtLink Talk) → Result (Part DialWork) StepRefused → Type 0) (link : ℕ) (piece : List ℕ) (running : Running) (left : List (List ℕ))
     (accepted : (how : Dialling) → Holds (link_units_on (lookup same_number link running.links) link piece running left)
     (bytes_on_link (lookup same_number link running.links) link piece how (work_of running) left))
     (dialled : (said : LinkState TurnTalk) → Holds [] (serve_dialled (cut_stream (said.rest ++ piece)) link said.talk (work_of running) left)) where
@@ -615,7 +615,7 @@ took_so May (one ∷ []) After Later so took = (took.0, so (λ n. May n × (n �
 took_so May (one ∷ other ∷ more) After Later so took = absurd took
 
 alone_took : (May : ℕ → Type 0) (links : List ℕ) (part : ServedPart AtLink Talk) (rest : List ℕ) (number : ℕ) (how : Dialling) (w : Work) → TakesOne (May number) number links part →
-    Unserved (λ n p. May n × (n ≢ number)) w.links → Took May links (λ Might. DeskLinks (λ n p. Might n) (after_units part rest number how w))
+    Unserved (λ n p. May n × (n ≢ number)) w.links → Took May links (λ Might. DialWorkLinks (λ n p. Might n) (after_units part rest number how w))
 alone_took May [] part rest number how w took all =
     after_known (λ n p. May n) part rest number how w took (links_so (λ n p. May n × (n ≢ number)) (λ n p. May n) (λ n p both. both.0) w.links all)
 alone_took May (one ∷ []) part rest number how w took all = (
@@ -628,7 +628,7 @@ alone_took May (one ∷ other ∷ more) part rest number how w took all = absurd
 module _ (May : ℕ → Type 0) (w : LinkAt) (piece : List ℕ) (running : Running) (left : List (List ℕ)) (all : Unserved (λ n p. May n) running.links) where
   on_link_took : (found : Option (LinkState Talk)) (how : Dialling) → lookup same_number w.link running.links ≡ found →
       Took May (flat_map (taken_link w) (link_units_on found w.link piece running left))
-      (λ Might. DeskLinks (λ n p. Might n) (bytes_on_link found w.link piece how (work_of running) left))
+      (λ Might. DialWorkLinks (λ n p. Might n) (bytes_on_link found w.link piece how (work_of running) left))
   on_link_took None how there = all
   on_link_took (Some link) how there =
       let cut : Cut = cut_stream (link.rest ++ piece) in
@@ -640,16 +640,16 @@ module _ (May : ℕ → Type 0) (w : LinkAt) (piece : List ℕ) (running : Runni
 
   bytes_took_by : (how : Dialling) →
       Took May (flat_map (taken_link w) (link_units_by (is_turn_link how w.link) w.link piece running left))
-      (λ Might. DeskLinks (λ n p. Might n) (bytes_on how w.link piece (work_of running) left))
+      (λ Might. DialWorkLinks (λ n p. Might n) (bytes_on how w.link piece (work_of running) left))
   bytes_took_by how =
-      bytes_hold (λ units part. Took May (flat_map (taken_link w) units) (λ Might. DeskLinks (λ n p. Might n) part)) w.link piece running left
+      bytes_hold (λ units part. Took May (flat_map (taken_link w) units) (λ Might. DialWorkLinks (λ n p. Might n) part)) w.link piece running left
       (λ other. on_link_took (lookup same_number w.link running.links) other refl)
       (λ said. dialled_known (λ n p. May n) (cut_stream (said.rest ++ piece)) w.link said.talk (work_of running) left all) how
 
 -- ---- a step
 
-stepped_took : (May : ℕ → Type 0) (w : LinkAt) (left : List (List ℕ)) (units : List (ServedUnit AtLink Talk)) (part : Result (Part Desk) StepRefused) →
-    Took May (flat_map (taken_link w) units) (λ Might. DeskLinks (λ n p. Might n) part) →
+stepped_took : (May : ℕ → Type 0) (w : LinkAt) (left : List (List ℕ)) (units : List (ServedUnit AtLink Talk)) (part : Result (Part DialWork) StepRefused) →
+    Took May (flat_map (taken_link w) units) (λ Might. DialWorkLinks (λ n p. Might n) part) →
     Took May (flat_map (taken_link w) (units_if_taken (step_by actions_in state_in halted_state left part).answer units))
     (λ Might. LinksIn (λ n p. Might n) (step_by actions_in state_in halted_state left part).state.running)
 stepped_took May w left units (Err why) took = tt
@@ -664,7 +664,7 @@ running_took May w piece now left s (Some running) was all =
     let what : Event = event.Bytes w.link piece in
     stepped_took May w left (link_units_in (Some running) w.link piece left) (event_part running what now left)
     (took_so May (flat_map (taken_link w) (link_units_in (Some running) w.link piece left))
-    (λ Might. DeskLinks (λ n p. Might n) (bytes_on running.dialling w.link piece (work_of running) left)) (λ Might. DeskLinks (λ n p. Might n) (event_part running what now left))
+    (λ Might. DialWorkLinks (λ n p. Might n) (bytes_on running.dialling w.link piece (work_of running) left)) (λ Might. DialWorkLinks (λ n p. Might n) (event_part running what now left))
     (λ Might known. next_known (λ n p. Might n) (bytes_on running.dialling w.link piece (work_of running) left) now known)
     (bytes_took_by May w piece running left all running.dialling))
 
@@ -686,9 +686,9 @@ Opens (event.Bytes link piece) May = ⊥
 Opens _ May = Unit {0}
 
 event_known : (May : ℕ → Phase → Type 0) (what : Event) (running : Running) (left : List (List ℕ)) → Opens what May → Unserved May running.links →
-    DeskLinks May (by_event what running.dialling (work_of running) left)
+    DialWorkLinks May (by_event what running.dialling (work_of running) left)
 event_known May (event.Opened link) running left new all =
-    let closed : Desk = close_link running.dialling link (work_of running) in
+    let closed : DialWork = close_link running.dialling link (work_of running) in
     opens_known May (nat_le 256 (length closed.0.links)) link closed.0 new (close_known May running.dialling link (work_of running) all)
 event_known May (event.Bytes link piece) running left new all = absurd new
 event_known May (event.Closed link) running left new all = close_known May running.dialling link (work_of running) all
@@ -696,7 +696,7 @@ event_known May (event.Dialled link) running left new all = answer_known May run
 event_known May event.DialFailed running left new all = fail_known May running.dialling (work_of running) all
 event_known May event.Stop running left new all = all
 
-stepped_known : (May : ℕ → Phase → Type 0) (left : List (List ℕ)) (part : Result (Part Desk) StepRefused) → DeskLinks May part →
+stepped_known : (May : ℕ → Phase → Type 0) (left : List (List ℕ)) (part : Result (Part DialWork) StepRefused) → DialWorkLinks May part →
     LinksIn May (step_by actions_in state_in halted_state left part).state.running
 stepped_known May left (Err why) all = tt
 stepped_known May left (Ok part) all = all

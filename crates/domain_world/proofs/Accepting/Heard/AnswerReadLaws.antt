@@ -49,8 +49,8 @@ use Rattle.channel_client.specs.declared.state.Step.TheVariants as step
 use Rattle.channel_client.specs.declared.state.Waiting.{Waiting}
 use Rattle.member_server.specs.Laws.{heard_if, heard_in, then_whole, whole_by, whole_units}
 use Rattle.member_server.specs.Machine.{after_turn, at_turn, by_event, bytes_by, event_part, keep_turn, serve_dialled, work_of}
-use Rattle.member_server.specs.Outcomes.{after_link, at_link, end_found, end_logon, keep_link, outcome_of, phase_after, reach_link, tell_outcome, turn_link, turn_waiting, waiting_at, without_link, without_logon}
-use Rattle.member_server.specs.Turns.{Desk, desk_part, dial_by, dial_for, do_taken, ending_of, next_turn, take_by, tell_turn_closed, timestamp_of, turn_by, with_requester, with_work}
+use Rattle.member_server.specs.Outcomes.{after_link, at_link, end_found, end_logon, keep_link, outcome_of, phase_after, reach_link, tell_outcome, reach_in_map, reach_waiting, waiting_at, without_link, without_logon}
+use Rattle.member_server.specs.Turns.{DialWork, dial_work_part, dial_by, dial_for, do_taken, ending_of, next_turn, take_by, tell_turn_closed, timestamp_of, turn_by, with_requester, with_work}
 use Rattle.member_server.specs.Units.{serve_held}
 use Rattle.member_server.specs.declared.outcomes.Ending.{Ending}
 use Rattle.member_server.specs.declared.state.AtLink.{AtLink}
@@ -268,7 +268,7 @@ heard_whole running number bytes unit hears =
 
 -- ---- what the event comes to
 
-abbrev taken_part : ℕ → List ℕ → RpcUnit → Work → List (List ℕ) → Result (Part Desk) StepRefused
+abbrev taken_part : ℕ → List ℕ → RpcUnit → Work → List (List ℕ) → Result (Part DialWork) StepRefused
 taken_part number bytes unit w left =
     after_turn (Ok (record { value = take_by (take_of w.logons.channel unit) None (at_turn number w); left = left })) (cut_stream bytes).rest number
 
@@ -293,7 +293,7 @@ kept_done : (said : Option Talk) (rest : List ℕ) (number : ℕ) (at : AtLink) 
 kept_done None rest number at w same grows = record { asked = ap (λ (l : _). l.asked) same; grows = grows }
 kept_done (Some talk) rest number at w same grows = record { asked = ap (λ (l : _). l.asked) same; grows = grows }
 
-waiting_done : (x : Bound × List (List ℕ)) (link : LinkState Talk) (how : Ending) (logon : Logon) (w : Work) → IsDone w (turn_waiting x link how logon w)
+waiting_done : (x : Bound × List (List ℕ)) (link : LinkState Talk) (how : Ending) (logon : Logon) (w : Work) → IsDone w (reach_waiting x link how logon w)
 waiting_done x link how logon w =
     let at : AtLink = at_link logon.link w in
     let talk : Talk = record { joiner = link.talk.joiner; phase = phase_after how logon x.0 } in
@@ -301,10 +301,10 @@ waiting_done x link how logon w =
     let idle = held_idle x.1 at talk (ended_serves how logon x.0) in
     kept_done served.1 link.rest logon.link served.0 w idle.0 idle.2
 
-link_done : (x : Option (Bound × List (List ℕ))) (link : LinkState Talk) (how : Ending) (logon : Logon) (w : Work) → IsDone w (turn_link x link how logon w)
+link_done : (x : Option (Bound × List (List ℕ))) (link : LinkState Talk) (how : Ending) (logon : Logon) (w : Work) → IsDone w (reach_in_map x link how logon w)
 link_done None link how logon w = record { asked = refl; grows = grows_not w.actions }
 link_done (Some x) link how logon w =
-    let done : IsDone (without_link logon.link w) (turn_waiting x link how logon (without_link logon.link w)) = waiting_done x link how logon (without_link logon.link w) in
+    let done : IsDone (without_link logon.link w) (reach_waiting x link how logon (without_link logon.link w)) = waiting_done x link how logon (without_link logon.link w) in
     record { asked = done.asked; grows = done.grows }
 
 reach_done : (found : Option (LinkState Talk)) (place : ℕ) (how : Ending) (logon : Logon) (w : Work) → IsDone w (reach_link found place how logon w)
@@ -320,12 +320,12 @@ started_done starting w how =
     let done : IsDone (with_requester w starting.state) (dial_by starting w how).0 = dialled_done starting.answer (with_requester w starting.state) how in
     record { asked = done.asked; grows = done.grows }
 
-same_done : (w : Work) (desk : Desk) (left : List (List ℕ)) (part : Part Desk) → IsDone w desk.0 → desk_part desk.0 desk.1 left ≡ Ok part → IsDone w part.value.0
-same_done w desk left part done is =
-    let same : record { value = desk; left = left } ≡ part = (let x = is in cc) in
-    subst (λ (p : Part Desk). IsDone w p.value.0) same done
+same_done : (w : Work) (dial_work : DialWork) (left : List (List ℕ)) (part : Part DialWork) → IsDone w dial_work.0 → dial_work_part dial_work.0 dial_work.1 left ≡ Ok part → IsDone w part.value.0
+same_done w dial_work left part done is =
+    let same : record { value = dial_work; left = left } ≡ part = (let x = is in cc) in
+    subst (λ (p : Part DialWork). IsDone w p.value.0) same done
 
-next_done : (starts needs : Bool) (now : ℕ) (w : Work) (how : Dialling) (left : List (List ℕ)) (part : Part Desk) → turn_by starts needs now w how left ≡ Ok part → IsDone w part.value.0
+next_done : (starts needs : Bool) (now : ℕ) (w : Work) (how : Dialling) (left : List (List ℕ)) (part : Part DialWork) → turn_by starts needs now w how left ≡ Ok part → IsDone w part.value.0
 next_done false needs now w how left part is = same_done w (w, how) left part (record { asked = refl; grows = grows_not w.actions }) is
 next_done true false now w how left part is = same_done w (dial_by (start_of w.logons.channel (timestamp_of now) (replicate 8 0)) w how) left part (started_done _ w how) is
 next_done true true now w how [] part is = let x = is in cc
@@ -334,7 +334,7 @@ next_done true true now w how (challenge ∷ left) part is = same_done w (dial_b
 -- ---- the outcome of the logon of an answer
 
 -- the outcome is told, and the logon of the place is kept no more
-pub record TellsAnswer (running : Running) (place : ℕ) (logon : Logon) (verdict : Verdict) (part : Part Desk) : Type 0 where
+pub record TellsAnswer (running : Running) (place : ℕ) (logon : Logon) (verdict : Verdict) (part : Part DialWork) : Type 0 where
   pub told : OneOf (λ (what : Action). what ≡ action.Told logon.link (outcome_of (ending_of verdict) logon)) part.value.0.actions
   pub asked : part.value.0.logons.asked ≡ take_out same_number place running.logons.asked
 
@@ -352,7 +352,7 @@ ended (Some other) place how logon w is =
       done.asked,
     )
 
-pub answer_tells : (running : Running) (number : ℕ) (bytes : List ℕ) (unit : RpcUnit) (now : ℕ) (left : List (List ℕ)) (part : Part Desk) (place : ℕ) (verdict : Verdict) (logon : Logon) →
+pub answer_tells : (running : Running) (number : ℕ) (bytes : List ℕ) (unit : RpcUnit) (now : ℕ) (left : List (List ℕ)) (part : Part DialWork) (place : ℕ) (verdict : Verdict) (logon : Logon) →
     HearsWhole running number bytes unit → event_part running (event.Bytes number bytes) now left ≡ Ok part →
     (take_of running.logons.channel unit).taken ≡ taken.Answer place verdict → lookup same_number place running.logons.asked ≡ Some logon → TellsAnswer running place logon verdict part
 answer_tells running number bytes unit now left part place verdict logon hears is answers there =
@@ -365,7 +365,7 @@ answer_tells running number bytes unit now left part place verdict logon hears i
     let mid : Work = (take_by taking None (at_turn number w)).0.work in
     let how : Dialling = keep_turn (take_by taking None (at_turn number w)).1 (cut_stream bytes).rest number in
     let next : turn_by (can_start mid.logons.channel.turn mid.logons.channel.waiting) (needs_challenge mid.logons.channel.standing) now mid how left ≡ Ok part =
-    sym (ap (λ (p : Result (Part Desk) StepRefused). then_part p (next_turn now)) (event_takes running number bytes unit left hears)) ∙ is in
+    sym (ap (λ (p : Result (Part DialWork) StepRefused). then_part p (next_turn now)) (event_takes running number bytes unit left hears)) ∙ is in
     let done : IsDone mid part.value.0 =
     next_done (can_start mid.logons.channel.turn mid.logons.channel.waiting) (needs_challenge mid.logons.channel.standing) now mid how left part next in
     let tells : Action → Type 0 = λ (what : Action). what ≡ action.Told logon.link (outcome_of (ending_of verdict) logon) in

@@ -23,7 +23,7 @@ use Rattle.world_moves.specs.declared.links.EndId.TheVariants.{Controller, Membe
 use Rattle.world_moves.specs.declared.moves.Move.{Move}
 use Rattle.world_moves.specs.declared.plan.Plan.{Plan}
 use Rattle.world_moves.specs.declared.state.State.{State}
-use Rattle.world_moves.specs.Acting.{Given, Heard, hear, hears}
+use Rattle.world_moves.specs.Acting.{Given, Heard, hear, hear_and_act}
 use Rattle.world_moves.specs.Bag.{AreShortUnits, HaveBytes}
 use Rattle.world_moves.specs.Forms.{IsSchedule}
 use Rattle.world_moves.specs.Links.{acceptor_of}
@@ -120,8 +120,8 @@ judged_keeps = record {
       heard_stand (n + 1) (acceptor_of route) (hear (acceptor_of route) (event.Opened (length s.links)) (with_link route s)) given b stand;
   begins = λ n k plan s given b is quiet stand. heard_stand (n + 1) (Client k) (begun k plan s) given b stand;
   comes = λ n end w piece s given b side came bytes marked quiet stand.
-      heard_stand (n + 1) end (hear end (event.Bytes w.link piece) s) given (note_at (Some end) w piece s (hears end (event.Bytes w.link piece) s).state b)
-      (end_stand end w piece s (hears end (event.Bytes w.link piece) s).state b quiet stand side came bytes);
+      heard_stand (n + 1) end (hear end (event.Bytes w.link piece) s) given (note_at (Some end) w piece s (hear_and_act end (event.Bytes w.link piece) s).state b)
+      (end_stand end w piece s (hear_and_act end (event.Bytes w.link piece) s).state b quiet stand side came bytes);
   acts = λ n end what s given b fine quiet stand. acts_stand end what s b.judged stand;
   shuts = λ n link s given b quiet stand. stand;
   answers = λ n link there s given b is quiet stand. stand;

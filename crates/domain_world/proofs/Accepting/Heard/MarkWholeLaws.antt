@@ -4,7 +4,7 @@ use Rattle.std.proofs.Common.{◌≡◌, ℕ, ◌-◌, ◌%◌, ◌<◌, ◌≤�
 use Rattle.std.specs.Prelude.{replicate}
 use Rattle.std.proofs.lemmas.List.{drop_at, length-replicate}
 use Rattle.wire_base.specs.Numbers.{AreBytes}
-use Rattle.authenticators.specs.Channels.{Channel}
+use Rattle.authenticators.specs.Channels.{ChannelIdentity}
 use Rattle.outside.specs.declared.event.Event.TheVariants as event
 use Rattle.channel_keys.specs.Credentials.{cred_of}
 use Rattle.authenticators.proofs.BlockLaws.{cred_block}
@@ -46,7 +46,7 @@ use Rattle.world_moves.specs.declared.links.Route.TheVariants.{ToController}
 use Rattle.world_moves.specs.declared.moves.Move.{Move}
 use Rattle.world_moves.specs.declared.plan.Plan.{Plan}
 use Rattle.world_moves.specs.declared.state.State.{State}
-use Rattle.world_moves.specs.Acting.{Given, Heard, done, heard_by, hears}
+use Rattle.world_moves.specs.Acting.{Given, Heard, done, heard_by, hear_and_act}
 use Rattle.world_moves.specs.Bag.{AreShortUnits, HaveBytes}
 use Rattle.world_moves.specs.Ends.{controller_step, member_step}
 use Rattle.world_moves.specs.Forms.{IsSchedule}
@@ -210,11 +210,11 @@ client_sent (Some c) client w piece s b = refl
 
 end_fits : (end : EndId) (w : Coming) (piece : List ℕ) (s : State) (b : Book) → IsAtSide s.links w.link w.back end → CameFrom w.unit s w piece → (IsServer end → length b.sent ≡ length s.bag) →
     QuietState s → MarksFit s.bag b →
-    MarksFit (hears end (event.Bytes w.link piece) s).state.bag (note_at (Some end) w piece s (hears end (event.Bytes w.link piece) s).state b)
+    MarksFit (hear_and_act end (event.Bytes w.link piece) s).state.bag (note_at (Some end) w piece s (hear_and_act end (event.Bytes w.link piece) s).state b)
 end_fits (Controller at) w piece s b side came same quiet each = controller_fits (slice_get s.ends.controllers at) at w piece s b side (same tt) each
 end_fits (Member at) w piece s b side came same quiet each = member_fits (slice_get s.ends.members at) at w piece s b refl quiet came (same tt) each
 end_fits (Client at) w piece s b side came same quiet each =
-    let after : State = (hears (Client at) (event.Bytes w.link piece) s).state in
+    let after : State = (hear_and_act (Client at) (event.Bytes w.link piece) s).state in
     let more : IsMore s.links s.bag after.links after.bag = heard_stays (MoreOf s.links s.bag) (goes_on s.links s.bag) (Client at) (event.Bytes w.link piece) s (no_more s.links s.bag) in
     subst (λ (sent : List Sent). OfEachUnit OfMark tt after.bag sent) (sym (client_sent (slice_get s.ends.clients at) at w piece s b))
     (still_fit s.bag after.bag b
@@ -256,7 +256,7 @@ opened_no_answer bytes frames unit opens heard read given reads returned =
     (subst (λ (s : List ℕ). reply_of 2 s ≡ Ok (reply.Logon read)) (ap (λ (u : RpcUnit). stub_of u.body) (opened_is bytes frames unit opens heard)) reads) returned
 
 module _ (bag : List BagUnit) (js : List Judging) (stand : JudgedStand bag js) (n : ℕ) (bytes : List ℕ) (frames : List RpcUnit) (unit : RpcUnit) (are : AreBytes bytes) (heard : IsHeard bytes frames unit) where
-  reply_marked : (channel : Channel) (number request : ℕ) → IsReplyOfOne js n bytes (ReplyTo channel number request) → IsAsMarked (ReplyTo channel number request) unit
+  reply_marked : (channel : ChannelIdentity) (number request : ℕ) → IsReplyOfOne js n bytes (ReplyTo channel number request) → IsAsMarked (ReplyTo channel number request) unit
   reply_marked channel number request replied =
       let one : Placed (λ (j : Judging). (j.reply ≡ Some n) × IsReplyOfCall channel number request j bytes) js =
       placed (λ (j : Judging). (j.reply ≡ Some n) × IsReplyOfCall channel number request j bytes) js replied in

@@ -4,7 +4,7 @@ use Rattle.std.proofs.Common.{◌≡◌, ℕ, ◌==◌, Bool, true, false, List,
 use Rattle.std.specs.List.{AllByRecursion}
 use Rattle.std.proofs.lemmas.Bool.Decides.{Decides-eqb}
 use Rattle.channel_keys.specs.Hidden.{crypt_key}
-use Rattle.authenticators.specs.Channels.{Channel, channel_key}
+use Rattle.authenticators.specs.Channels.{ChannelIdentity, channel_key}
 use Rattle.authenticators.specs.SecureChannels.{SecureChannelState, after_return, is_awaited, key_of_channel, channel_of}
 use Rattle.authenticators.proofs.ChannelLaws.{channel_key-same}
 use Rattle.outside.specs.declared.action.Outcome.{Outcome}
@@ -19,7 +19,7 @@ use Rattle.logon_stubs.specs.declared.info.SamInfo.{SamInfo}
 use Rattle.logon_stubs.specs.declared.info.Verdict.{Verdict}
 use Rattle.logon_stubs.specs.declared.info.Verdict.TheVariants.{Granted, Status}
 use Rattle.logon_stubs.specs.declared.refused.StubRefused.{StubRefused}
-use Rattle.sam_logon.specs.Granted.{at_level, with_extra_if}
+use Rattle.sam_logon.specs.Granting.{at_level, with_extra_if}
 use Rattle.channel_client.specs.Machine.{judge_awaited, judge_level, judge_logon, judge_status, level_asked}
 use Rattle.channel_client.specs.declared.judging.Judgement.TheVariants as judgement
 use Rattle.channel_client.specs.declared.state.Standing.TheVariants as standing
@@ -96,7 +96,7 @@ reply_is found one other is also = cc
 
 module _ (past : Past) (back : RepliesAreReadBack past) where
   -- the unit as the member read it, and the judging that it answers
-  read_of : (message : MessageTaken) (u : ℕ) (result : Outcome) (read : IsReadIn past message u result) (channel : Channel) (number request place : ℕ) (j : Judging) →
+  read_of : (message : MessageTaken) (u : ℕ) (result : Outcome) (read : IsReadIn past message u result) (channel : ChannelIdentity) (number request place : ℕ) (j : Judging) →
       slice_get past.book.judged place ≡ Some j → read.sent.mark ≡ ReplyTo channel number request → IsReplyOfCall channel number request j read.carrier.bytes → result ≡ outcome_read channel j message
   read_of message u result read channel number request place j judged mark reply =
       let next : IsNext j.computers j.logon = reply.carries.next in
@@ -116,7 +116,7 @@ module _ (past : Past) (back : RepliesAreReadBack past) where
       read.is ∙ ap (λ (v : Verdict). outcome_of (ending_of v) message.logon) (verdict ∙ ap (λ (k : List ℕ). verdict_read k (verdict_passed j)) key)
 
   -- whichever unit and mark are meant, they are those
-  outcome_is : (message : MessageTaken) (u : ℕ) (result : Outcome) → IsReadIn past message u result → (carrier : BagUnit) (sent : Sent) (channel : Channel) (number request place : ℕ)
+  outcome_is : (message : MessageTaken) (u : ℕ) (result : Outcome) → IsReadIn past message u result → (carrier : BagUnit) (sent : Sent) (channel : ChannelIdentity) (number request place : ℕ)
       (j : Judging) → slice_get past.world.state.bag u ≡ Some carrier → slice_get past.book.sent u ≡ Some sent → slice_get past.book.judged place ≡ Some j → sent.mark ≡ ReplyTo channel number request →
       IsReplyOfCall channel number request j carrier.bytes → result ≡ outcome_read channel j message
   outcome_is message u result read carrier sent channel number request place j there noted judged mark reply =
@@ -127,12 +127,12 @@ module _ (past : Past) (back : RepliesAreReadBack past) where
 
   told_as_read : TurnsAreTold past → past.book.clash ≡ false →
       AllByRecursion (λ (message : MessageTaken). (unit : ℕ) → message.reply ≡ Some unit → (carrier : BagUnit) (sent : Sent)
-      (channel : Channel) (number request place : ℕ) (j : Judging) → slice_get past.world.state.bag unit ≡ Some carrier → slice_get past.book.sent unit ≡ Some sent →
+      (channel : ChannelIdentity) (number request place : ℕ) (j : Judging) → slice_get past.world.state.bag unit ≡ Some carrier → slice_get past.book.sent unit ≡ Some sent →
       slice_get past.book.judged place ≡ Some j → sent.mark ≡ ReplyTo channel number request → IsReplyOfCall channel number request j carrier.bytes → OneOf (IsToldAsRead channel message j) past.book.told) past.book.messages
   told_as_read turns clear =
       all_weaker (λ (message : MessageTaken). (u : ℕ) → message.reply ≡ Some u → OneOf (λ (told : OutcomeTold). IsToldInTurn past message u told) past.book.told)
       (λ (message : MessageTaken). (unit : ℕ) → message.reply ≡ Some unit → (carrier : BagUnit) (sent : Sent)
-      (channel : Channel) (number request place : ℕ) (j : Judging) → slice_get past.world.state.bag unit ≡ Some carrier → slice_get past.book.sent unit ≡ Some sent →
+      (channel : ChannelIdentity) (number request place : ℕ) (j : Judging) → slice_get past.world.state.bag unit ≡ Some carrier → slice_get past.book.sent unit ≡ Some sent →
       slice_get past.book.judged place ≡ Some j → sent.mark ≡ ReplyTo channel number request → IsReplyOfCall channel number request j carrier.bytes → OneOf (IsToldAsRead channel message j) past.book.told)
       past.book.messages
       (λ message each unit taken carrier sent channel number request place j there noted judged mark reply.

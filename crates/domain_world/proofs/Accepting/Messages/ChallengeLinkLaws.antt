@@ -19,7 +19,7 @@ use Rattle.member_server.specs.Machine.{actions_in, after_units, bytes_on, bytes
 use Rattle.member_server.specs.Outcomes.{at_link, without_link}
 use Rattle.member_server.specs.Rests.{first_rest}
 use Rattle.member_server.specs.State.{State as MemberState}
-use Rattle.member_server.specs.Turns.{Desk}
+use Rattle.member_server.specs.Turns.{DialWork}
 use Rattle.member_server.specs.Units.{bound_unit, first_unit, is_fresh, link_server, unit_by}
 use Rattle.member_server.specs.Work.{Served}
 use Rattle.member_server.specs.declared.state.AtLink.{AtLink}
@@ -32,7 +32,7 @@ use Rattle.member_server.specs.declared.state.Work.{Work}
 use Rattle.step_notes.specs.MemberNotes.{LinkAt, challenge_after, challenge_in, challenge_note, is_turn_link, link_units, link_units_by, link_units_in, link_units_on, message_after, message_note, next_draw}
 use Rattle.step_notes.specs.Records.{ChallengeSent, MessageTaken}
 use Rattle.step_notes.specs.Served.{talk_after, units_if_taken}
-use Rattle.step_notes.proofs.Members.UnservedLaws.{DeskLinks, IfUnserved, IfUnservedAfter, IfUnservedPart, LinksIn, Unserved, after_known, bound_serves, bytes_hold, dialled_known, found_known, links_so, next_known, none_so, phase_so}
+use Rattle.step_notes.proofs.Members.UnservedLaws.{DialWorkLinks, IfUnserved, IfUnservedAfter, IfUnservedPart, LinksIn, Unserved, after_known, bound_serves, bytes_hold, dialled_known, found_known, links_so, next_known, none_so, phase_so}
 use Rattle.domain_world.proofs.Accepting.Messages.ChallengeReadLaws.{AreTakenWith, CanBeReadAfter, CanBeReadAt, CanBeReadPart, IsReadAs, IsTakenWith, challenged_with, first_reads, read_again}
 use Rattle.domain_world.proofs.Challenges.OwnLinkLaws.{unit_at}
 use Rattle.domain_world.proofs.Frames.LeftLaws.{AreEights, eights_rest}
@@ -233,7 +233,7 @@ come_so link Free Sent (one ∷ other ∷ more) messages After Later so come = a
 module _ (w : LinkAt) (Free : ℕ → Type 0) (Sent : ℕ → List ℕ → ℕ → Type 0) (piece : List ℕ) (now : ℕ) (left : List (List ℕ)) (eights : AreEights left) where
   alone_come : (sent : List ChallengeSent) (messages : List MessageTaken) (part : ServedPart AtLink Talk) (rest : List ℕ) (how : Dialling) (work : Work) →
       Comes w (Free w.link) (Sent w.link) sent messages part → Unserved (λ n p. KnownAt Free Sent n p × (n ≢ w.link)) work.links →
-      BytesCome w.link Free Sent sent messages (λ May. DeskLinks May (after_units part rest w.link how work))
+      BytesCome w.link Free Sent sent messages (λ May. DialWorkLinks May (after_units part rest w.link how work))
   alone_come [] messages part rest how work comes all = (
     comes.0,
     after_known (KnownAt Free Sent) part rest w.link how work comes.1
@@ -251,7 +251,7 @@ module _ (w : LinkAt) (Free : ℕ → Type 0) (Sent : ℕ → List ℕ → ℕ �
 
   link_come : (running : Running) (found : Option (LinkState Talk)) (how : Dialling) → lookup same_number w.link running.links ≡ found → Unserved (KnownAt Free Sent) running.links →
       BytesCome w.link Free Sent (flat_map (challenge_note w) (link_units_on found w.link piece running left)) (flat_map (message_note w) (link_units_on found w.link piece running left))
-      (λ May. DeskLinks May (bytes_on_link found w.link piece how (work_of running) left))
+      (λ May. DialWorkLinks May (bytes_on_link found w.link piece how (work_of running) left))
   link_come running None how there all = (tt, all)
   link_come running (Some link) how there all =
       let cut : Cut = cut_stream (link.rest ++ piece) in
@@ -262,16 +262,16 @@ module _ (w : LinkAt) (Free : ℕ → Type 0) (Sent : ℕ → List ℕ → ℕ �
       (units_come w cut.units cut.refused (Free w.link) (Sent w.link) at link.talk left (found_known (KnownAt Free Sent) w.link running.links link there all) eights)
       (taken_known (KnownAt Free Sent) w.link running.links all)
 
-  desk_come : (running : Running) (how : Dialling) → Unserved (KnownAt Free Sent) running.links →
+  dial_work_comes : (running : Running) (how : Dialling) → Unserved (KnownAt Free Sent) running.links →
       BytesCome w.link Free Sent (flat_map (challenge_note w) (link_units_by (is_turn_link how w.link) w.link piece running left))
-      (flat_map (message_note w) (link_units_by (is_turn_link how w.link) w.link piece running left)) (λ May. DeskLinks May (bytes_on how w.link piece (work_of running) left))
-  desk_come running how all =
-      bytes_hold (λ units part. BytesCome w.link Free Sent (flat_map (challenge_note w) units) (flat_map (message_note w) units) (λ May. DeskLinks May part)) w.link piece running left
+      (flat_map (message_note w) (link_units_by (is_turn_link how w.link) w.link piece running left)) (λ May. DialWorkLinks May (bytes_on how w.link piece (work_of running) left))
+  dial_work_comes running how all =
+      bytes_hold (λ units part. BytesCome w.link Free Sent (flat_map (challenge_note w) units) (flat_map (message_note w) units) (λ May. DialWorkLinks May part)) w.link piece running left
       (λ other. link_come running (lookup same_number w.link running.links) other refl all)
       (λ said. (tt, dialled_known (KnownAt Free Sent) (cut_stream (said.rest ++ piece)) w.link said.talk (work_of running) left all)) how
 
-  stepped_come : (units : List (ServedUnit AtLink Talk)) (part : Result (Part Desk) StepRefused) →
-      BytesCome w.link Free Sent (flat_map (challenge_note w) units) (flat_map (message_note w) units) (λ May. DeskLinks May part) →
+  stepped_come : (units : List (ServedUnit AtLink Talk)) (part : Result (Part DialWork) StepRefused) →
+      BytesCome w.link Free Sent (flat_map (challenge_note w) units) (flat_map (message_note w) units) (λ May. DialWorkLinks May part) →
       BytesCome w.link Free Sent (flat_map (challenge_note w) (units_if_taken (step_by actions_in state_in halted_state left part).answer units))
       (flat_map (message_note w) (units_if_taken (step_by actions_in state_in halted_state left part).answer units))
       (λ May. LinksIn May (step_by actions_in state_in halted_state left part).state.running)
@@ -284,11 +284,11 @@ module _ (w : LinkAt) (Free : ℕ → Type 0) (Sent : ℕ → List ℕ → ℕ �
       (λ May. LinksIn May (step_on r m (event.Bytes w.link piece) now left).state.running)
   running_come m None was all = (tt, was)
   running_come m (Some running) was all =
-      let desk : Result (Part Desk) StepRefused = bytes_on running.dialling w.link piece (work_of running) left in
+      let dial_work : Result (Part DialWork) StepRefused = bytes_on running.dialling w.link piece (work_of running) left in
       let units : List (ServedUnit AtLink Talk) = link_units_in (Some running) w.link piece left in
       stepped_come units (event_part running (event.Bytes w.link piece) now left)
-      (come_so w.link Free Sent (flat_map (challenge_note w) units) (flat_map (message_note w) units) (λ May. DeskLinks May desk)
-      (λ May. DeskLinks May (event_part running (event.Bytes w.link piece) now left)) (λ May known. next_known May desk now known) (desk_come running running.dialling all))
+      (come_so w.link Free Sent (flat_map (challenge_note w) units) (flat_map (message_note w) units) (λ May. DialWorkLinks May dial_work)
+      (λ May. DialWorkLinks May (event_part running (event.Bytes w.link piece) now left)) (λ May known. next_known May dial_work now known) (dial_work_comes running running.dialling all))
 
   -- what bytes on an accepted link come to at a step of a member
   pub bytes_come : (m : MemberState) → LinksIn (KnownAt Free Sent) m.running →

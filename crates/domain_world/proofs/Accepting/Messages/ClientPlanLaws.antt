@@ -25,8 +25,8 @@ use Rattle.logon_client.specs.declared.plan.ClientPlan.{ClientPlan}
 use Rattle.logon_client.specs.declared.state.After.{After}
 use Rattle.logon_client.specs.declared.state.Question.TheVariants.{Who}
 use Rattle.logon_client.specs.declared.state.Running.{Running}
-use Rattle.logon_client.specs.declared.state.Standing.{Standing}
-use Rattle.logon_client.specs.declared.state.Standing.TheVariants.{Idle, Dialling, On}
+use Rattle.logon_client.specs.declared.state.ClientLink.{ClientLink}
+use Rattle.logon_client.specs.declared.state.ClientLink.TheVariants.{Idle, Dialling, On}
 use Rattle.logon_client.specs.declared.state.Talk.{Talk}
 use Rattle.logon_client.specs.declared.state.Terms.{Terms}
 use Rattle.logon_client.specs.declared.state.Work.{Work}
@@ -133,7 +133,7 @@ close_goes : (own : Bool) (link : LinkState Talk) (plan : ClientPlan) (now : ℕ
 close_goes false link plan now left = refl
 close_goes true link plan now left = refl
 
-event_goes : (what : Event) (how : Standing) (plan : ClientPlan) (now : ℕ) (left : List (List ℕ)) → GoesAfter plan (by_event what how (work_of plan now) left)
+event_goes : (what : Event) (how : ClientLink) (plan : ClientPlan) (now : ℕ) (left : List (List ℕ)) → GoesAfter plan (by_event what how (work_of plan now) left)
 event_goes (event.Opened link) Idle plan now left = refl
 event_goes (event.Opened link) Dialling plan now left = refl
 event_goes (event.Opened link) (On own) plan now left = close_goes (link == own.talk.link) own plan now left
@@ -185,7 +185,7 @@ if_made : (own : Bool) (w : ClientAt) (link : LinkState Talk) (piece : List ℕ)
 if_made false w link piece plan now left names eights = tt
 if_made true w link piece plan now left names eights = units_made w plan names (cut_stream (link.rest ++ piece)).units (work_of plan now) link.talk left refl eights
 
-standing_made : (how : Standing) (w : ClientAt) (number : ℕ) (piece : List ℕ) (plan : ClientPlan) (now : ℕ) (left : List (List ℕ)) → HasNames plan → AreEights left →
+standing_made : (how : ClientLink) (w : ClientAt) (number : ℕ) (piece : List ℕ) (plan : ClientPlan) (now : ℕ) (left : List (List ℕ)) → HasNames plan → AreEights left →
     AreMadeFrom (flat_map (made_note w) (units_standing how number piece plan now left))
 standing_made Idle w number piece plan now left names eights = tt
 standing_made Dialling w number piece plan now left names eights = tt

@@ -5,8 +5,8 @@ use Rattle.std.proofs.lemmas.List.{drop_all, take_all}
 use Rattle.channel_events.specs.Marks.{OneOf}
 use Rattle.domain_controller.specs.declared.state.Running.{Running as ControllerRunning}
 use Rattle.logon_client.specs.declared.state.Running.{Running as ClientRunning}
-use Rattle.logon_client.specs.declared.state.Standing.{Standing}
-use Rattle.logon_client.specs.declared.state.Standing.TheVariants.{Idle, Dialling as Waiting, On}
+use Rattle.logon_client.specs.declared.state.ClientLink.{ClientLink}
+use Rattle.logon_client.specs.declared.state.ClientLink.TheVariants.{Idle, Dialling as Waiting, On}
 use Rattle.member_server.specs.declared.state.Dialling.{Dialling}
 use Rattle.member_server.specs.declared.state.Dialling.TheVariants as dialling
 use Rattle.world_moves.specs.Bag.{AreShortUnits, HaveBytes}
@@ -123,7 +123,7 @@ member_more links route k (Some running) quiet = record {
       (λ number link one. accepted_more links route k number one) running.links quiet.accepted;
 }
 
-stands_more : (links : List Route) (route : Route) (k : ℕ) (task : ClientPlan) (how : Standing) → AtUnlessStopped (IsClients links k) (Some (record { task = task; standing = how })) →
+stands_more : (links : List Route) (route : Route) (k : ℕ) (task : ClientPlan) (how : ClientLink) → AtUnlessStopped (IsClients links k) (Some (record { task = task; standing = how })) →
     AtUnlessStopped (IsClients (links ++ route ∷ []) k) (Some (record { task = task; standing = how }))
 stands_more links route k task Idle stands = tt
 stands_more links route k task Waiting stands = tt

@@ -43,7 +43,7 @@ use Rattle.world_moves.specs.declared.links.Route.{Route}
 use Rattle.world_moves.specs.declared.links.Route.TheVariants.{ToMember, ToController, Stranger}
 use Rattle.world_moves.specs.declared.plan.Plan.{Plan}
 use Rattle.world_moves.specs.declared.state.State.{State}
-use Rattle.world_moves.specs.Acting.{Given, Heard, bag_unit, given_by, hear, hears, perform_quietly, send_on, shut_link}
+use Rattle.world_moves.specs.Acting.{Given, Heard, bag_unit, given_by, hear, hear_and_act, perform_quietly, send_on, shut_link}
 use Rattle.world_moves.specs.Bag.{piece_limit, pieces_in, pieces_of, settle_at}
 use Rattle.world_moves.specs.Ends.{EndStates, actions_by, client_step, controller_step, end_step, member_step, renew_client, renew_controller, renew_member}
 use Rattle.world_moves.specs.Forms.{HasForms, IsMemberPlan, IsTable}

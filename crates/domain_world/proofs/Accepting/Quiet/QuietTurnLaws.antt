@@ -18,7 +18,7 @@ use Rattle.channel_client.specs.declared.answers.Taken.TheVariants as taken
 use Rattle.member_server.specs.Machine.{actions_in, after_turn, after_units, answer_dial, at_turn, by_event, bytes_by, bytes_on, bytes_on_link, close_link, close_turn, event_part, fail_dial, halted_state, keep_turn, open_after_close, serve_alone, state_in, step_of, step_on, work_of}
 use Rattle.member_server.specs.Outcomes.{at_link, without_link}
 use Rattle.member_server.specs.State.{State as MemberState}
-use Rattle.member_server.specs.Turns.{Desk, dial_for, do_taken, next_turn, take_by, timestamp_of, turn_by, turn_server, with_requester, with_work}
+use Rattle.member_server.specs.Turns.{DialWork, dial_for, do_taken, next_turn, take_by, timestamp_of, turn_by, turn_server, with_requester, with_work}
 use Rattle.member_server.specs.Units.{link_server}
 use Rattle.member_server.specs.declared.state.AtLink.{AtLink}
 use Rattle.member_server.specs.declared.state.AtTurn.{AtTurn}
@@ -48,7 +48,7 @@ abbrev pub OnUnlessStopped : (ℕ → Type 0) → Option Running → Type 0
 OnUnlessStopped Own None = Unit {0}
 OnUnlessStopped Own (Some running) = IfOn Own running.dialling
 
-abbrev PartOn : (ℕ → Type 0) → Result (Part Desk) StepRefused → Type 0
+abbrev PartOn : (ℕ → Type 0) → Result (Part DialWork) StepRefused → Type 0
 PartOn Own (Err why) = Unit {0}
 PartOn Own (Ok part) = IfOn Own part.value.1
 
@@ -157,13 +157,13 @@ module _ (Own : ℕ → Type 0) where
   next_by_on true true now work how (challenge ∷ left) on =
       dial_on (start_of work.logons.channel (timestamp_of now) challenge).answer (with_requester work (start_of work.logons.channel (timestamp_of now) challenge).state) how on
 
-  next_on : (part : Result (Part Desk) StepRefused) (now : ℕ) → PartOn Own part → PartOn Own (then_part part (next_turn now))
+  next_on : (part : Result (Part DialWork) StepRefused) (now : ℕ) → PartOn Own part → PartOn Own (then_part part (next_turn now))
   next_on (Err why) now on = tt
   next_on (Ok part) now on =
       next_by_on (can_start part.value.0.logons.channel.turn part.value.0.logons.channel.waiting) (needs_challenge part.value.0.logons.channel.standing) now part.value.0 part.value.1
       part.left on
 
-  stepped_on : (left : List (List ℕ)) (part : Result (Part Desk) StepRefused) → PartOn Own part → OnUnlessStopped Own (step_by actions_in state_in halted_state left part).state.running
+  stepped_on : (left : List (List ℕ)) (part : Result (Part DialWork) StepRefused) → PartOn Own part → OnUnlessStopped Own (step_by actions_in state_in halted_state left part).state.running
   stepped_on left (Err why) on = tt
   stepped_on left (Ok part) on = on
 

@@ -4,7 +4,7 @@ use Rattle.std.proofs.Common.{◌≡◌, ◌≢◌, ◌<◌, ℕ, zero, suc, tru
 use Rattle.std.specs.Prelude.{AllPairs}
 use Rattle.std.specs.List.{AllByRecursion}
 use Rattle.std.proofs.lemmas.List.Elements.{recursion_from_All}
-use Rattle.authenticators.specs.Channels.{Channel}
+use Rattle.authenticators.specs.Channels.{ChannelIdentity}
 use Rattle.outside.specs.declared.action.Outcome.{Outcome}
 use Rattle.rpc_units.specs.Calls.{IsHeard}
 use Rattle.member_server.specs.declared.plan.MemberPlan.{MemberPlan}
@@ -132,7 +132,7 @@ pub record GrowsTo (s t : State) (b d : Book) : Type 0 where
 -- A unit that goes back and was made for a channel was made by a controller that is there.
 abbrev pub MarksAreKnown : State → Book → Type 0
 MarksAreKnown s b =
-    (n : ℕ) (unit : BagUnit) (one : Sent) (named : Channel) → slice_get s.bag n ≡ Some unit → unit.back ≡ true → slice_get b.sent n ≡ Some one → sent_channel (Some one) ≡ Some named →
+    (n : ℕ) (unit : BagUnit) (one : Sent) (named : ChannelIdentity) → slice_get s.bag n ≡ Some unit → unit.back ≡ true → slice_get b.sent n ≡ Some one → sent_channel (Some one) ≡ Some named →
     named.controller < length s.ends.controllers
 
 -- where it holds later, it held

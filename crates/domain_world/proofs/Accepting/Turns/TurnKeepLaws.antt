@@ -27,7 +27,7 @@ use Rattle.world_moves.specs.declared.links.Route.{Route}
 use Rattle.world_moves.specs.declared.moves.Move.{Move}
 use Rattle.world_moves.specs.declared.plan.Plan.{Plan}
 use Rattle.world_moves.specs.declared.state.State.{State}
-use Rattle.world_moves.specs.Acting.{Given, Heard, bag_unit, forget, given_by, hear, heard_by, hears, perform_quietly, send_on, shut_link}
+use Rattle.world_moves.specs.Acting.{Given, Heard, bag_unit, forget, given_by, hear, heard_by, hear_and_act, perform_quietly, send_on, shut_link}
 use Rattle.world_moves.specs.Counting.{is_in}
 use Rattle.world_moves.specs.Ends.{EndStates, member_step}
 use Rattle.world_moves.specs.Links.{acceptor_of, is_accepted_by, kind_of}
@@ -229,7 +229,7 @@ module _ (law : LetsInTheGranted) (plan : Plan) where
         quietly n (acceptor_of route) (event.Opened (length s.links)) (with_link route s) given b tt (beside n s (with_link route s) given b refl refl refl holds);
     begins = λ n client own s given b is rests holds. client_begins n client own s given b holds;
     comes = λ n end w piece s given b side came bytes marked rests holds.
-        end_comes end n w piece s (hears end (event.Bytes w.link piece) s).state given b side came rests holds;
+        end_comes end n w piece s (hear_and_act end (event.Bytes w.link piece) s).state given b side came rests holds;
     acts = λ n end what s given b fine rests holds.
         changed n s (perform_quietly end what s) given b (action_plans end what s) (action_still end what s).0 (subst (λ (x : EndStates). SameEnds s.ends x) (sym (action_still end what s).1) (same_ends s.ends))
         (acts_stay plan end what s given b) holds;

@@ -3,7 +3,7 @@
 use Rattle.std.proofs.Common.{◌≡◌, ℕ, zero, suc, ◌<◌, Bool, true, false, List, [], ◌∷◌, length, map, Option, Some, None, refl, sym, subst, ◌∙◌, slice_get, arith}
 use Rattle.std.specs.List.{AllByRecursion}
 use Rattle.std.proofs.lemmas.List.{length-set}
-use Rattle.authenticators.specs.Channels.{Channel}
+use Rattle.authenticators.specs.Channels.{ChannelIdentity}
 use Rattle.authenticators.specs.SecureChannels.{SecureChannelState}
 use Rattle.logon_stubs.specs.declared.calls.Call.{Call}
 use Rattle.logon_stubs.specs.declared.calls.Call.TheVariants as call
@@ -44,7 +44,7 @@ got_within (first ∷ items) (suc k) item there = omega (arith, got_within items
 -- ---- what controllers mark
 
 module _ (count : ℕ) where
-  abbrev IfChannel : Option Channel → Type 0
+  abbrev IfChannel : Option ChannelIdentity → Type 0
   IfChannel None = Unit {0}
   IfChannel (Some channel) = channel.controller < count
 
@@ -64,19 +64,19 @@ module _ (count : ℕ) where
   in_known controller None computers few = tt
   in_known controller (Some computer) computers few = by_known controller computer _ few
 
-  opened_known : (unit : Option ℕ) (channel : Channel) (number : ℕ) → channel.controller < count → IsKnownMark (opened_mark unit channel number)
+  opened_known : (unit : Option ℕ) (channel : ChannelIdentity) (number : ℕ) → channel.controller < count → IsKnownMark (opened_mark unit channel number)
   opened_known None channel number few = tt
   opened_known (Some unit) channel number few = few
 
-  opening_known : (channel : Option Channel) (w : Where) (number : ℕ) → IfChannel channel → IsKnownMark (opening channel w number).mark
+  opening_known : (channel : Option ChannelIdentity) (w : Where) (number : ℕ) → IfChannel channel → IsKnownMark (opening channel w number).mark
   opening_known None w number few = tt
   opening_known (Some channel) w number few = opened_known w.unit channel number few
 
-  reply_known : (unit : Option ℕ) (channel : Channel) (number : ℕ) → channel.controller < count → IsKnownMark (reply_mark unit channel number)
+  reply_known : (unit : Option ℕ) (channel : ChannelIdentity) (number : ℕ) → channel.controller < count → IsKnownMark (reply_mark unit channel number)
   reply_known None channel number few = tt
   reply_known (Some unit) channel number few = few
 
-  passing_known : (channel : Option Channel) (j : Judging) → IfChannel channel → IsKnownMark (passing channel j).mark
+  passing_known : (channel : Option ChannelIdentity) (j : Judging) → IfChannel channel → IsKnownMark (passing channel j).mark
   passing_known None j few = tt
   passing_known (Some channel) j few = reply_known j.unit channel j.number few
 
@@ -160,12 +160,12 @@ module _ (count : ℕ) where
   }
 
   -- by which way the unit goes
-  known_by : (mark : Mark) (back : Bool) (named : Channel) → IsItsWay back mark → back ≡ true → IsKnownMark mark → mark_channel mark ≡ Some named → named.controller < count
+  known_by : (mark : Mark) (back : Bool) (named : ChannelIdentity) → IsItsWay back mark → back ≡ true → IsKnownMark mark → mark_channel mark ≡ Some named → named.controller < count
   known_by Plain back named way is known made = let x = made in cc
   known_by (Opening channel number) back named way is known made = let both : true ≡ false = sym is ∙ way in absurd (let x = both in cc)
-  known_by (Opened channel number request) back named way is known made = subst (λ (c : Channel). c.controller < count) (some_is channel named made) known
+  known_by (Opened channel number request) back named way is known made = subst (λ (c : ChannelIdentity). c.controller < count) (some_is channel named made) known
   known_by (Calling channel number timestamp) back named way is known made = let both : true ≡ false = sym is ∙ way in absurd (let x = both in cc)
-  known_by (ReplyTo channel number request) back named way is known made = subst (λ (c : Channel). c.controller < count) (some_is channel named made) known
+  known_by (ReplyTo channel number request) back named way is known made = subst (λ (c : ChannelIdentity). c.controller < count) (some_is channel named made) known
 
 pub marks_known : (plan : Plan) (moves : List Move) → MarksAreKnown (past plan moves).world.state (past plan moves).book
 marks_known plan moves n unit one named there back noted made =

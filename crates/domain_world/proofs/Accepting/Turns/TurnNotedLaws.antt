@@ -6,7 +6,7 @@ use Rattle.std.specs.List.{AllByRecursion}
 use Rattle.std.proofs.lemmas.Bool.{eqb-true}
 use Rattle.std.proofs.lemmas.Bool.Decides.{Decides-eqb}
 use Rattle.wire_base.specs.Maps.{lookup, same_number}
-use Rattle.authenticators.specs.Channels.{Channel, SameChannel}
+use Rattle.authenticators.specs.Channels.{ChannelIdentity, SameChannel}
 use Rattle.authenticators.proofs.ChannelLaws.{same_channel-Decides}
 use Rattle.outside.specs.declared.event.Event.TheVariants as event
 use Rattle.rpc_units.specs.declared.unit.Unit.{Unit as RpcUnit}
@@ -192,10 +192,10 @@ answered_is (taken.Dropped place cause) controller before after = refl
 
 -- ---- no clash: the unit was made for that channel
 
-pub record IsMadeFor (channel : Channel) (unit : ℕ) (units : List Sent) : Type 0 where
+pub record IsMadeFor (channel : ChannelIdentity) (unit : ℕ) (units : List Sent) : Type 0 where
   pub sent : Sent
   pub noted : slice_get units unit ≡ Some sent
-  pub named : Channel
+  pub named : ChannelIdentity
   pub made : sent_channel (Some sent) ≡ Some named
   pub same : SameChannel named channel
 
@@ -203,19 +203,19 @@ not_false : (flag : Bool) → not flag ≡ false → flag ≡ true
 not_false true is = refl
 not_false false is = let x = is in cc
 
-made_by : (channel named : Channel) → is_channel (Some named) channel ≡ true → SameChannel named channel
+made_by : (channel named : ChannelIdentity) → is_channel (Some named) channel ≡ true → SameChannel named channel
 made_by channel named is = (same_channel-Decides named channel).0 is
 
-made_for : (channel : Channel) (unit : ℕ) (units : List Sent) (sent : Sent) (named : Option Channel) → slice_get units unit ≡ Some sent → sent_channel (Some sent) ≡ named → is_channel named channel ≡ true →
+made_for : (channel : ChannelIdentity) (unit : ℕ) (units : List Sent) (sent : Sent) (named : Option ChannelIdentity) → slice_get units unit ≡ Some sent → sent_channel (Some sent) ≡ named → is_channel named channel ≡ true →
     IsMadeFor channel unit units
 made_for channel unit units sent None there made is = let x = is in cc
 made_for channel unit units sent (Some named) there made is = record { sent = sent; noted = there; named = named; made = made; same = made_by channel named is }
 
-found_for : (channel : Channel) (unit : ℕ) (units : List Sent) (found : Option Sent) → slice_get units unit ≡ found → is_channel (sent_channel found) channel ≡ true → IsMadeFor channel unit units
+found_for : (channel : ChannelIdentity) (unit : ℕ) (units : List Sent) (found : Option Sent) → slice_get units unit ≡ found → is_channel (sent_channel found) channel ≡ true → IsMadeFor channel unit units
 found_for channel unit units None there is = let x = is in cc
 found_for channel unit units (Some sent) there is = made_for channel unit units sent (sent_channel (Some sent)) there refl is
 
-pub unclashed : (channel : Channel) (unit : ℕ) (units : List Sent) → clashes (Some channel) (Some unit) units ≡ false → IsMadeFor channel unit units
+pub unclashed : (channel : ChannelIdentity) (unit : ℕ) (units : List Sent) → clashes (Some channel) (Some unit) units ≡ false → IsMadeFor channel unit units
 unclashed channel unit units none = found_for channel unit units (slice_get units unit) refl (not_false (is_channel (sent_channel (slice_get units unit)) channel) none)
 
 -- ---- messages that are changed: those on one link

@@ -17,7 +17,7 @@ use Rattle.channel_client.specs.Machine.{take_of}
 use Rattle.member_server.specs.Laws.{IsTold, LetsInTheGranted, heard_if, heard_in}
 use Rattle.member_server.specs.Machine.{actions_in, event_part, halted_state, state_in, step_of}
 use Rattle.member_server.specs.State.{State as MemberState}
-use Rattle.member_server.specs.Turns.{Desk}
+use Rattle.member_server.specs.Turns.{DialWork}
 use Rattle.member_server.specs.declared.plan.MemberPlan.{MemberPlan}
 use Rattle.member_server.specs.declared.state.AtTurn.{AtTurn}
 use Rattle.member_server.specs.declared.state.Dialling.{Dialling}
@@ -130,7 +130,7 @@ pub turns_clash : (controller : ℕ) (units : List (ServedUnit AtTurn TurnTalk))
 turns_clash controller units carried numbers b none =
     notes_keep (λ (later : Book). later.clash ≡ false → b.clash ≡ false) carried (λ note served number later so apart. so (or_false later.clash _ apart).0) controller units numbers b (λ apart. apart) none
 
-part_cases : (part : Result (Part Desk) StepRefused) → ((p : Part Desk) × (part ≡ Ok p)) ⊎ ((why : StepRefused) × (part ≡ Err why))
+part_cases : (part : Result (Part DialWork) StepRefused) → ((p : Part DialWork) × (part ≡ Ok p)) ⊎ ((why : StepRefused) × (part ≡ Err why))
 part_cases (Ok p) = inl (p, refl)
 part_cases (Err why) = inr (why, refl)
 
@@ -289,28 +289,28 @@ module _ (law : LetsInTheGranted) (plan : Plan) (k : ℕ) (w : Coming) (piece : 
       pub before : TurnFacts plan (heard run).state (book_after run) (messages_in run) (told_yet given b)
       before = first_facts run (told_yet given b) there (side.accepts k (member run) there) facts
 
-      abbrev pub part_of : Result (Part Desk) StepRefused
+      abbrev pub part_of : Result (Part DialWork) StepRefused
       part_of = event_part running what s.moment s.chances.left
 
-      abbrev answer_to : Result (Part Desk) StepRefused → Result (List Action) StepRefused
+      abbrev answer_to : Result (Part DialWork) StepRefused → Result (List Action) StepRefused
       answer_to part = (step_by actions_in state_in halted_state s.chances.left part).answer
 
       refused : (why : StepRefused) → part_of ≡ Err why →
           TurnFacts plan (heard run).state (book_after run) (book_after run).messages (told_yet (given ++ given_by (Member k) (heard run).actions) (book_after run))
       refused why is =
-          without_units run (ap (λ (part : Result (Part Desk) StepRefused). units_if_taken (answer_to part) (turn_units_in run w.link piece s.chances.left)) is)
-          (subst (λ (part : Result (Part Desk) StepRefused). AllByRecursion (IsKnown plan (heard run).state (book_after run) (messages_in run)) (told_in (given_by (Member k) (actions_by (answer_to part))) 0))
+          without_units run (ap (λ (part : Result (Part DialWork) StepRefused). units_if_taken (answer_to part) (turn_units_in run w.link piece s.chances.left)) is)
+          (subst (λ (part : Result (Part DialWork) StepRefused). AllByRecursion (IsKnown plan (heard run).state (book_after run) (messages_in run)) (told_in (given_by (Member k) (actions_by (answer_to part))) 0))
           (sym is) tt) before
 
-      noted : (part : Part Desk) → part_of ≡ Ok part → IsTurnNoted (controller_of k s) running whole.0.unit w.unit (first_of numbers) (first_book run) (turn_book run)
+      noted : (part : Part DialWork) → part_of ≡ Ok part → IsTurnNoted (controller_of k s) running whole.0.unit w.unit (first_of numbers) (first_book run) (turn_book run)
       noted part is =
           subst (λ (units : List (ServedUnit AtTurn TurnTalk)).
           IsTurnNoted (controller_of k s) running whole.0.unit w.unit (first_of numbers) (first_book run) (note_turns (controller_of k s) units w.unit numbers (first_book run)))
-          (sym (ap (λ (part : Result (Part Desk) StepRefused). units_if_taken (answer_to part) (turn_units_in run w.link piece s.chances.left)) is))
+          (sym (ap (λ (part : Result (Part DialWork) StepRefused). units_if_taken (answer_to part) (turn_units_in run w.link piece s.chances.left)) is))
           (turn_noted (controller_of k s) running w.link piece whole.0.unit s.chances.left w.unit numbers (first_book run) hears)
 
       -- all that is known as a whole unit comes
-      pub comes : (part : Part Desk) → part_of ≡ Ok part →
+      pub comes : (part : Part DialWork) → part_of ≡ Ok part →
           ComesWhole plan k w.link u s (heard run).state b (book_after run) (messages_in run) running piece whole.0.unit (controller_of k s) s.moment s.chances.left part
       comes part is = record {
         hears = hears;
@@ -330,16 +330,16 @@ module _ (law : LetsInTheGranted) (plan : Plan) (k : ℕ) (w : Coming) (piece : 
             one_before (IsOut (past_at plan s b) k pending logon (standing_channel (controller_of k s) running.logons.channel)) b.messages (new_in run)
             (side.out k (member run) running pending logon there refl turn asked kept);
         done = is;
-        lets_in = subst (λ (part : Result (Part Desk) StepRefused). AllByRecursion (IsTold running what) (actions_by (answer_to part))) is
+        lets_in = subst (λ (part : Result (Part DialWork) StepRefused). AllByRecursion (IsTold running what) (actions_by (answer_to part))) is
             (law.told (member run) running what s.moment s.chances.left refl);
         after = λ m found. elim (set_cases s.ends.members k k (stepped run).state m found) [
           | inl here ↦ ap (λ (x : MemberState). x.running) (sym here.1)
-              ∙ ap (λ (part : Result (Part Desk) StepRefused). (step_by actions_in state_in halted_state s.chances.left part).state.running) is
+              ∙ ap (λ (part : Result (Part DialWork) StepRefused). (step_by actions_in state_in halted_state s.chances.left part).state.running) is
           | inr other ↦ absurd (other.0 refl)
         ];
       }
 
-      taken : (part : Part Desk) → part_of ≡ Ok part →
+      taken : (part : Part DialWork) → part_of ≡ Ok part →
           TurnFacts plan (heard run).state (book_after run) (book_after run).messages (told_yet (given ++ given_by (Member k) (heard run).actions) (book_after run))
       taken part is =
           let note = taking_note (Some (take_of running.logons.channel whole.0.unit)) (controller_of k s) running.logons.channel in

@@ -3,7 +3,7 @@
 use Rattle.std.proofs.Common.{◌≡◌, ◌≢◌, ◌<◌, ◌⊎◌, ℕ, true, false, List, [], ◌∷◌, ◌++◌, length, inl, inr, Option, Some, None, Ok, refl, sym, ap, subst, ◌∙◌, slice_get}
 use Rattle.std.specs.List.{AllByRecursion}
 use Rattle.wire_base.specs.Maps.{lookup, same_number}
-use Rattle.authenticators.specs.Channels.{Channel, channel_key}
+use Rattle.authenticators.specs.Channels.{ChannelIdentity, channel_key}
 use Rattle.authenticators.specs.SecureChannels.{channel_of, SecureChannelState}
 use Rattle.outside.specs.Machine.{Part}
 use Rattle.outside.specs.declared.action.Action.{Action}
@@ -31,7 +31,7 @@ use Rattle.member_server.specs.Laws.{IsGranted, IsTold, is_dialled}
 use Rattle.member_server.specs.Machine.{event_part}
 use Rattle.member_server.specs.Outcomes.{outcome_of}
 use Rattle.member_server.specs.State.{State as MemberState}
-use Rattle.member_server.specs.Turns.{Desk, ending_of}
+use Rattle.member_server.specs.Turns.{DialWork, ending_of}
 use Rattle.member_server.specs.declared.outcomes.Ending.TheVariants as ending
 use Rattle.member_server.specs.declared.state.Logon.{Logon}
 use Rattle.member_server.specs.declared.state.Running.{Running}
@@ -121,7 +121,7 @@ pub record CarriesUnit (s : State) (u : ℕ) (bytes : List ℕ) : Type 0 where
   pub back : carrier.back ≡ true
   pub same : bytes ≡ carrier.bytes
 
-named_with : (controller : ℕ) (computer : List ℕ) (how : Standing) (stood : SecureChannelState) (channel : Channel) → how ≡ standing.Open stood → stands_in controller computer how ≡ Some channel →
+named_with : (controller : ℕ) (computer : List ℕ) (how : Standing) (stood : SecureChannelState) (channel : ChannelIdentity) → how ≡ standing.Open stood → stands_in controller computer how ≡ Some channel →
     channel_of controller computer stood ≡ channel
 named_with controller computer how stood channel stands is = some_is _ channel (sym (ap (λ (h : Standing). stands_in controller computer h) stands) ∙ is)
 
@@ -137,7 +137,7 @@ taken_cases (taken.Dropped place cause) = inr refl
 -- unit and of calls, that there is no clash, and what the step gives. The arguments t and d: the state after it, and
 -- what is then written down of units.
 pub record ComesWhole (plan : Plan) (k number u : ℕ) (s t : State) (b d : Book) (messages : List MessageTaken) (running : Running) (bytes : List ℕ) (unit : RpcUnit) (controller now : ℕ)
-    (left : List (List ℕ)) (part : Part Desk) : Type 0 where
+    (left : List (List ℕ)) (part : Part DialWork) : Type 0 where
   pub hears : HearsWhole running number bytes unit
   pub carries : CarriesUnit t u bytes
   pub apart : AreApart (links_in messages)
@@ -175,7 +175,7 @@ no_some : {T : Type 0} (found : Option T) (item : T) → found ≡ None → foun
 no_some found item none is = let both : None ≡ Some item = sym none ∙ is in absurd (let x = both in cc)
 
 module _ (plan : Plan) (k number u : ℕ) (s t : State) (b d : Book) (messages : List MessageTaken) (running : Running) (bytes : List ℕ) (unit : RpcUnit) (controller now : ℕ) (left : List (List ℕ))
-    (part : Part Desk) (comes : ComesWhole plan k number u s t b d messages running bytes unit controller now left part) (told : List OutcomeTold) (facts : TurnFacts plan t d messages told) where
+    (part : Part DialWork) (comes : ComesWhole plan k number u s t b d messages running bytes unit controller now left part) (told : List OutcomeTold) (facts : TurnFacts plan t d messages told) where
   abbrev c : Requester
   c = running.logons.channel
 
@@ -224,7 +224,7 @@ module _ (plan : Plan) (k number u : ℕ) (s t : State) (b d : Book) (messages :
       (λ link how granted. no_some (place_answered (take_of c unit).taken) granted.place none (ap place_answered granted.takes))
       (called_facts plan t d messages told (link_of_place note.called running.logons) requested (called_free note.called) facts))
 
-  module _ (place : ℕ) (v : Verdict) (answers : (take_of c unit).taken ≡ taken.Answer place v) (channel : Channel) (stands : standing_channel controller c ≡ Some channel)
+  module _ (place : ℕ) (v : Verdict) (answers : (take_of c unit).taken ≡ taken.Answer place v) (channel : ChannelIdentity) (stands : standing_channel controller c ≡ Some channel)
       (is_note : note ≡ passed_note channel (Some place)) where
     abbrev pub its : IsAnswerOf c unit place v
     its = answer_is c unit place v answers
@@ -238,7 +238,7 @@ module _ (plan : Plan) (k number u : ℕ) (s t : State) (b d : Book) (messages :
     -- it was made by a controller that is there
     made_there : controller < length t.ends.controllers
     made_there =
-        subst (λ (n : ℕ). n < length t.ends.controllers) (made.same.controller ∙ sym (ap (λ (x : Channel). x.controller) named))
+        subst (λ (n : ℕ). n < length t.ends.controllers) (made.same.controller ∙ sym (ap (λ (x : ChannelIdentity). x.controller) named))
         (comes.marks u comes.carries.carrier made.sent made.named comes.carries.there comes.carries.back (comes.sent u made.sent made.noted) made.made)
 
     same_grant : (link : ℕ) (how : Outcome) (granted : IsGrantedBy running unit link how) → (place ≡ granted.place) × (v ≡ verdict.Granted granted.info)
@@ -267,9 +267,9 @@ module _ (plan : Plan) (k number u : ℕ) (s t : State) (b d : Book) (messages :
             out = out.sent;
             call = out.call;
             asked = comes.sent out.request out.sent out.there;
-            mark = out.mark ∙ ap (λ (x : Channel). Calling x its.pending.number out.timestamp) one;
+            mark = out.mark ∙ ap (λ (x : ChannelIdentity). Calling x its.pending.number out.timestamp) one;
             controller = subst (λ (n : ℕ). HasController (slice_get plan.members n) t.ends channel.controller) (sym mine.same_member)
-                (subst (λ (n : ℕ). HasController (slice_get plan.members k) t.ends n) (ap (λ (x : Channel). x.controller) named) (comes.controlled made_there));
+                (subst (λ (n : ℕ). HasController (slice_get plan.members k) t.ends n) (ap (λ (x : ChannelIdentity). x.controller) named) (comes.controlled made_there));
             carrier = comes.carries.carrier;
             there = comes.carries.there;
             back = comes.carries.back;

@@ -24,7 +24,7 @@ use Rattle.step_notes.specs.Records.{LogonTurn}
 use Rattle.world_moves.specs.declared.links.EndId.{EndId}
 use Rattle.world_moves.specs.declared.links.EndId.TheVariants.{Controller, Member, Client}
 use Rattle.world_moves.specs.declared.state.State.{State}
-use Rattle.world_moves.specs.declared.state.Waiting.{Waiting}
+use Rattle.world_moves.specs.declared.state.WaitingDial.{WaitingDial}
 use Rattle.world_moves.specs.Acting.{Given, given_by, hear}
 use Rattle.world_moves.specs.Ends.{EndStates, EndStep, actions_by, client_step, controller_step, member_step, with_client}
 use Rattle.domain_world.specs.Past.{controller_of_plan}
@@ -38,7 +38,7 @@ use Rattle.domain_world.proofs.Sequences.SeedTurnLaws.{Turned, drawn_still, turn
 
 -- ---- what is known
 
-pub record TurnsHold (d : Option EndId) (rest : Given) (plans : List MemberPlan) (ends : EndStates) (dials : List Waiting) (drawn : List (List ℕ)) (given : Given) (turns : List LogonTurn) : Type 0 where
+pub record TurnsHold (d : Option EndId) (rest : Given) (plans : List MemberPlan) (ends : EndStates) (dials : List WaitingDial) (drawn : List (List ℕ)) (given : Given) (turns : List LogonTurn) : Type 0 where
   pub before : AreDrawn drawn turns
   pub members : (k : ℕ) (m : MemberState) → slice_get ends.members k ≡ Some m → TurnsIf k (controller_of_plan (slice_get plans k) ends) d rest dials drawn given turns m.running
 
@@ -65,7 +65,7 @@ still_drawn drawn later turns still all =
 
 -- ---- of a member that takes no step
 
-pub same_turns : (k controller : ℕ) (d e : Option EndId) (rest more : Given) (dials waiting : List Waiting) (drawn later : List (List ℕ)) (given after : Given) (turns : List LogonTurn) (r : Option Running) →
+pub same_turns : (k controller : ℕ) (d e : Option EndId) (rest more : Given) (dials waiting : List WaitingDial) (drawn later : List (List ℕ)) (given after : Given) (turns : List LogonTurn) (r : Option Running) →
     dials_out k e more waiting ≤ dials_out k d rest dials → answered_dials k e ≤ answered_dials k d → given_dials k after ≡ given_dials k given → StillDrawn drawn later →
     TurnsIf k controller d rest dials drawn given turns r → TurnsIf k controller e more waiting later after turns r
 same_turns k controller d e rest more dials waiting drawn later given after turns None out answered same still old = tt
@@ -87,7 +87,7 @@ answers_less k end what d later rest answers = elim answers [
 
 -- ---- an event
 
-module _ (plans : List MemberPlan) (ends : EndStates) (dials : List Waiting) (d later : Option EndId) (rest given : Given) (turns : List LogonTurn)
+module _ (plans : List MemberPlan) (ends : EndStates) (dials : List WaitingDial) (d later : Option EndId) (rest given : Given) (turns : List LogonTurn)
     (less : (k : ℕ) → answered_dials k later ≤ answered_dials k d) where
   abbrev Before : List (List ℕ) → Type 0
   Before drawn = TurnsHold d rest plans ends dials drawn given turns
@@ -190,7 +190,7 @@ hear_holds asks dialled d later rest (Member at) what s given turns answers know
     refl answers known
 
 -- a client begins
-pub begin_holds : (client : ℕ) (state : ClientState) (actions : List Action) (plans : List MemberPlan) (ends : EndStates) (dials : List Waiting) (chances : Drawing) (turns : List LogonTurn) →
+pub begin_holds : (client : ℕ) (state : ClientState) (actions : List Action) (plans : List MemberPlan) (ends : EndStates) (dials : List WaitingDial) (chances : Drawing) (turns : List LogonTurn) →
     TurnsKnown None [] plans ends dials chances [] turns →
     TurnsKnown None (given_by (Client client) actions ++ []) plans (with_client client state ends) dials chances (given_by (Client client) actions) turns
 begin_holds client state actions plans ends dials chances turns known differ =

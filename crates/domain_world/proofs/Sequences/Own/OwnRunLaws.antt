@@ -9,7 +9,7 @@ use Rattle.outside.specs.Drawing.{Drawing}
 use Rattle.outside.specs.declared.action.Action.{Action}
 use Rattle.outside.specs.declared.action.Action.TheVariants.{Keep, Send, Dial, Close, Told, Judged}
 use Rattle.outside.specs.declared.event.Event.TheVariants as event
-use Rattle.authenticators.specs.Channels.{Channel}
+use Rattle.authenticators.specs.Channels.{ChannelIdentity}
 use Rattle.wire_base.specs.declared.authenticator.Authenticator.{Authenticator}
 use Rattle.authenticators.specs.SecureChannels.{SecureChannelState}
 use Rattle.domain_controller.specs.State.{State as ControllerState}
@@ -36,7 +36,7 @@ use Rattle.world_moves.specs.declared.links.EndId.TheVariants.{Controller, Membe
 use Rattle.world_moves.specs.declared.moves.Move.{Move}
 use Rattle.world_moves.specs.declared.plan.Plan.{Plan}
 use Rattle.world_moves.specs.declared.state.State.{State}
-use Rattle.world_moves.specs.declared.state.Waiting.{Waiting}
+use Rattle.world_moves.specs.declared.state.WaitingDial.{WaitingDial}
 use Rattle.world_moves.specs.declared.links.LinkKind.{LinkKind}
 use Rattle.world_moves.specs.declared.links.LinkKind.TheVariants as kind
 use Rattle.world_moves.specs.declared.links.Route.{Route}
@@ -59,12 +59,12 @@ use Rattle.domain_world.proofs.Sequences.SeedTurnLaws.{Turned, on_channel, stamp
 
 -- ---- dials
 
-first_of_dials : (dials : List Waiting) (dial : Waiting) → slice_get dials 0 ≡ Some dial → dials ≡ dial ∷ drop 1 dials
+first_of_dials : (dials : List WaitingDial) (dial : WaitingDial) → slice_get dials 0 ≡ Some dial → dials ≡ dial ∷ drop 1 dials
 first_of_dials [] dial is = absurd (let x = is in cc)
-first_of_dials (first ∷ dials) dial is = let same : first ≡ dial = some_is first dial is in ap (λ (one : Waiting). one ∷ dials) same
+first_of_dials (first ∷ dials) dial is = let same : first ≡ dial = some_is first dial is in ap (λ (one : WaitingDial). one ∷ dials) same
 
 -- of a member that takes no step, where nothing was given: as many dials are out, or fewer
-fewer_out : (k controller : ℕ) (d later : Option EndId) (dials waiting : List Waiting) (drawn : List (List ℕ)) (turns : List LogonTurn) (r : Option Running) →
+fewer_out : (k controller : ℕ) (d later : Option EndId) (dials waiting : List WaitingDial) (drawn : List (List ℕ)) (turns : List LogonTurn) (r : Option Running) →
     dials_out k later [] waiting ≤ dials_out k d [] dials → TurnsIf k controller d [] dials drawn [] turns r → TurnsIf k controller later [] waiting drawn [] turns r
 fewer_out k controller d later dials waiting drawn turns None few old = tt
 fewer_out k controller d later dials waiting drawn turns (Some running) few old = record {
@@ -76,14 +76,14 @@ fewer_out k controller d later dials waiting drawn turns (Some running) few old 
   turned = old.turned;
 }
 
-first_holds : (dial : Waiting) (s : State) (turns : List LogonTurn) → slice_get s.dials 0 ≡ Some dial → TurnsKnown None [] s.member_plans s.ends s.dials s.chances [] turns →
+first_holds : (dial : WaitingDial) (s : State) (turns : List LogonTurn) → slice_get s.dials 0 ≡ Some dial → TurnsKnown None [] s.member_plans s.ends s.dials s.chances [] turns →
     TurnsKnown (Some dial.end) [] s.member_plans s.ends (drop 1 s.dials) s.chances [] turns
 first_holds dial s turns is known differ =
     let holds = known differ in
     record {
       before = holds.before;
       members = λ k m there.
-          let count : waiting_dials k s.dials ≡ one_if (is_member k dial.end) + waiting_dials k (drop 1 s.dials) = ap (λ (l : List Waiting). waiting_dials k l) (first_of_dials s.dials dial is) in
+          let count : waiting_dials k s.dials ≡ one_if (is_member k dial.end) + waiting_dials k (drop 1 s.dials) = ap (λ (l : List WaitingDial). waiting_dials k l) (first_of_dials s.dials dial is) in
           fewer_out k (controller_of_plan (slice_get s.member_plans k) s.ends) None (Some dial.end) s.dials (drop 1 s.dials) s.chances.drawn turns m.running (omega (arith, count)) (holds.members k m there);
     }
 
@@ -100,11 +100,11 @@ forgets_hold end s turns known differ =
 
 -- ---- an end is made anew
 
-module _ (asks : AsksWhatWaits) (plans : List MemberPlan) (ends : EndStates) (dials : List Waiting) (drawn : List (List ℕ)) (turns : List LogonTurn) where
-  abbrev Now : EndStates → List Waiting → Type 0
+module _ (asks : AsksWhatWaits) (plans : List MemberPlan) (ends : EndStates) (dials : List WaitingDial) (drawn : List (List ℕ)) (turns : List LogonTurn) where
+  abbrev Now : EndStates → List WaitingDial → Type 0
   Now now waiting = TurnsHold None [] plans now waiting drawn [] turns
 
-  anew : (k controller : ℕ) (plan : MemberPlan) (waiting : List Waiting) → waiting_dials k waiting ≡ 0 → TurnsIf k controller None [] waiting drawn [] turns (fresh_member plan).running
+  anew : (k controller : ℕ) (plan : MemberPlan) (waiting : List WaitingDial) → waiting_dials k waiting ≡ 0 → TurnsIf k controller None [] waiting drawn [] turns (fresh_member plan).running
   anew k controller plan waiting none = record {
     order = asks.fresh plan;
     out_once = omega (arith, none);
@@ -175,7 +175,7 @@ abbrev kept_if : Bool → List LogonTurn → List LogonTurn
 kept_if false turns = []
 kept_if true turns = turns
 
-stamped_mine : (hit : Bool) (k j : ℕ) (channel : Option Channel) (stamp : Option Authenticator) → (j == k) ≡ hit → mine k (stamped channel stamp j) ≡ kept_if hit (stamped channel stamp j)
+stamped_mine : (hit : Bool) (k j : ℕ) (channel : Option ChannelIdentity) (stamp : Option Authenticator) → (j == k) ≡ hit → mine k (stamped channel stamp j) ≡ kept_if hit (stamped channel stamp j)
 stamped_mine false k j None stamp is = refl
 stamped_mine true k j None stamp is = refl
 stamped_mine false k j (Some channel) None is = refl
@@ -187,7 +187,7 @@ none_mine : (hit : Bool) → [] ≡ kept_if hit []
 none_mine false = refl
 none_mine true = refl
 
-by_mine : (hit : Bool) (k j : ℕ) (st : Option Step) (channel : Option Channel) → (j == k) ≡ hit → mine k (turn_by st channel j) ≡ kept_if hit (turn_by st channel j)
+by_mine : (hit : Bool) (k j : ℕ) (st : Option Step) (channel : Option ChannelIdentity) → (j == k) ≡ hit → mine k (turn_by st channel j) ≡ kept_if hit (turn_by st channel j)
 by_mine hit k j None channel is = none_mine hit
 by_mine hit k j (Some (step.Bind (call.Logon c))) channel is = stamped_mine hit k j channel c.authenticator is
 by_mine hit k j (Some (step.Bind (call.Challenge c))) channel is = none_mine hit
@@ -365,10 +365,10 @@ and_filter one other (turn ∷ turns) = and_one (one turn) turn (filter one turn
     and_one false turn first both is = is
 
 -- the timestamps of a member's turns on a channel
-pub own_stamps : (k : ℕ) (channel : Channel) (turns : List LogonTurn) → stamps_on channel (mine k turns) ≡ timestamps_on k channel turns
+pub own_stamps : (k : ℕ) (channel : ChannelIdentity) (turns : List LogonTurn) → stamps_on channel (mine k turns) ≡ timestamps_on k channel turns
 own_stamps k channel turns = ap (λ (l : List LogonTurn). map (λ (turn : LogonTurn). turn.timestamp) l) (sym (and_filter (λ (turn : LogonTurn). turn.member == k) (on_channel channel) turns))
 
-own_seed : (s : State) (k : ℕ) (channel : Channel) (o : SecureChannelState) (turns : List LogonTurn) → TurnsHold None [] s.member_plans s.ends s.dials s.chances.drawn [] turns →
+own_seed : (s : State) (k : ℕ) (channel : ChannelIdentity) (o : SecureChannelState) (turns : List LogonTurn) → TurnsHold None [] s.member_plans s.ends s.dials s.chances.drawn [] turns →
     Stands s k channel o → o.seed ≡ channel_seed channel (timestamps_on k channel turns)
 own_seed s k channel o turns holds stands =
     let c : ℕ = controller_of k s in

@@ -5,7 +5,7 @@ use Rattle.std.proofs.lemmas.Bool.Decides.{Decides-eqb}
 use Rattle.std.proofs.lemmas.List.{length-set}
 use Rattle.outside.specs.declared.action.Action.{Action}
 use Rattle.outside.specs.declared.event.Event.{Event}
-use Rattle.authenticators.specs.Channels.{Channel}
+use Rattle.authenticators.specs.Channels.{ChannelIdentity}
 use Rattle.channel_client.specs.Effects.{stands_in}
 use Rattle.channel_events.specs.Marks.{Mark, Calling}
 use Rattle.member_server.specs.ChannelSteps.{ChannelStepsKnown}
@@ -69,17 +69,17 @@ controller_kept k s t plans same =
 -- each call was written down before
 abbrev pub NoNewCalls : List Mark → List Mark → Type 0
 NoNewCalls marks later =
-    (n number timestamp : ℕ) (e : Channel) → slice_get later n ≡ Some (Calling e number timestamp) → slice_get marks n ≡ Some (Calling e number timestamp)
+    (n number timestamp : ℕ) (e : ChannelIdentity) → slice_get later n ≡ Some (Calling e number timestamp) → slice_get marks n ≡ Some (Calling e number timestamp)
 
 -- each call on a channel with that one's client's challenge was
-abbrev pub NoNewOn : List Mark → List Mark → Channel → Type 0
+abbrev pub NoNewOn : List Mark → List Mark → ChannelIdentity → Type 0
 NoNewOn marks later c =
-    (n number timestamp : ℕ) (e : Channel) → slice_get later n ≡ Some (Calling e number timestamp) → e.client ≡ c.client → slice_get marks n ≡ Some (Calling e number timestamp)
+    (n number timestamp : ℕ) (e : ChannelIdentity) → slice_get later n ≡ Some (Calling e number timestamp) → e.client ≡ c.client → slice_get marks n ≡ Some (Calling e number timestamp)
 
 -- the channel that stands at the member, if one does, is such
-abbrev pub OnStanding : (Channel → Type 0) → ℕ → Option Running → Type 0
+abbrev pub OnStanding : (ChannelIdentity → Type 0) → ℕ → Option Running → Type 0
 OnStanding P controller None = Unit {0}
-OnStanding P controller (Some running) = (c : Channel) → stands_in controller running.logons.channel.caller.computer running.logons.channel.standing ≡ Some c → P c
+OnStanding P controller (Some running) = (c : ChannelIdentity) → stands_in controller running.logons.channel.caller.computer running.logons.channel.standing ≡ Some c → P c
 
 module _ (plan : Plan) (s t : State) (b d : Book) (given more : Given) (plans : t.member_plans ≡ s.member_plans) (grows : GrowsTo s t b d) (drawn : StillDrawn s.chances.drawn t.chances.drawn)
     (turns : d.turns ≡ b.turns) where

@@ -5,7 +5,7 @@ use Rattle.outside.specs.Machine.{Part, step_by}
 use Rattle.outside.specs.declared.action.StepRefused.{StepRefused}
 use Rattle.outside.specs.declared.event.Event.{Event}
 use Rattle.outside.specs.declared.event.Event.TheVariants as event
-use Rattle.authenticators.specs.Channels.{Channel}
+use Rattle.authenticators.specs.Channels.{ChannelIdentity}
 use Rattle.rpc_units.specs.Calls.{IsHeard}
 use Rattle.rpc_units.specs.declared.unit.Unit.{Unit as RpcUnit}
 use Rattle.end_links.specs.Links.{LinkState}
@@ -17,7 +17,7 @@ use Rattle.member_server.specs.ChannelSteps.{ChannelSteps, ChannelStepsKnown, Co
 use Rattle.member_server.specs.Dials.{IsWaiting, TurnSteps, TurnStepsIfTaken, TurnsAreDialled, dials_in}
 use Rattle.member_server.specs.Laws.{IsInOrder, heard_in, is_dialled}
 use Rattle.member_server.specs.Machine.{actions_in, by_event, event_part, halted_state, state_in, step_of, work_of}
-use Rattle.member_server.specs.Turns.{Desk}
+use Rattle.member_server.specs.Turns.{DialWork}
 use Rattle.member_server.specs.declared.state.Dialling.TheVariants as dialling
 use Rattle.member_server.specs.declared.state.Running.{Running}
 use Rattle.member_server.specs.declared.state.TurnTalk.{TurnTalk}
@@ -39,13 +39,13 @@ abbrev pub OwnIf : (ℕ → Type 0) → List Mark → List (List ℕ) → List L
 OwnIf Done marks drawn turns given controller k None = Unit {0}
 OwnIf Done marks drawn turns given controller k (Some running) = OwnCalls Done marks drawn turns given controller k running
 
-ok_same : (one other : Part Desk) (first : Result (Part Desk) StepRefused) → first ≡ Ok one → first ≡ Ok other → one ≡ other
+ok_same : (one other : Part DialWork) (first : Result (Part DialWork) StepRefused) → first ≡ Ok one → first ≡ Ok other → one ≡ other
 ok_same one other first is also = let both : Ok one ≡ Ok other = sym is ∙ also in cc
 
 module _ (dialled : TurnsAreDialled) (Done Later : ℕ → Type 0) (marks now_marks : List Mark) (drawn : List (List ℕ)) (turns : List LogonTurn) (given : Given) (controller k : ℕ) (running : Running)
     (what : Event) (now : ℕ) (left : List (List ℕ)) (order : IsInOrder (is_dialled running.dialling) running.logons) (old : OwnCalls Done marks drawn turns given controller k running)
     (from : Requester) (known : KnowsCalls Later now_marks old.own controller from) where
-  stepped_by : (part : Result (Part Desk) StepRefused) → event_part running what now left ≡ part →
+  stepped_by : (part : Result (Part DialWork) StepRefused) → event_part running what now left ≡ part →
       TurnStepsIfTaken running.logons.channel (by_event what running.dialling (work_of running) left) now part →
       StepsIfTaken (by_event what running.dialling (work_of running) left) (ComesCalmly from) now part → Differ (drawn ++ (step_by actions_in state_in halted_state left part).drawn) →
       OwnIf Later now_marks (drawn ++ (step_by actions_in state_in halted_state left part).drawn) turns
@@ -54,7 +54,7 @@ module _ (dialled : TurnsAreDialled) (Done Later : ℕ → Type 0) (marks now_ma
   stepped_by (Ok part) is turn_steps channel_steps differ =
       let steps : TurnSteps running.logons.channel (by_event what running.dialling (work_of running) left) now part = turn_steps in
       let same : channel_steps.part ≡ steps.part = ok_same channel_steps.part steps.part (by_event what running.dialling (work_of running) left) channel_steps.is steps.is in
-      let calm : ComesCalmly from steps.part.value.0.logons.channel = subst (λ (x : Part Desk). ComesCalmly from x.value.0.logons.channel) same channel_steps.mid in
+      let calm : ComesCalmly from steps.part.value.0.logons.channel = subst (λ (x : Part DialWork). ComesCalmly from x.value.0.logons.channel) same channel_steps.mid in
       let calls : KnowsCalls Later now_marks old.own controller steps.part.value.0.logons.channel =
       subst (λ (x : Requester). KnowsCalls Later now_marks old.own controller x) (sym calm.is) (calm_knows Later now_marks old.own controller calm.doings from calm.calm known) in
       step_calls Later now_marks drawn turns given controller k running what now left part old.own steps old.before old.none
@@ -77,13 +77,13 @@ own_quiet dialled steps Done marks drawn turns given controller k running what n
 pub own_whole : TurnsAreDialled → ChannelStepsKnown → (Done Later : ℕ → Type 0) → ((n : ℕ) → Done n → Later n) → (marks more : List Mark) (drawn : List (List ℕ)) (turns : List LogonTurn)
     (given : Given) (controller k : ℕ) (running : Running) (number : ℕ) (said : LinkState TurnTalk) (bytes : List ℕ) (frames : List RpcUnit) (unit : RpcUnit) (now : ℕ) (left : List (List ℕ)) →
     running.dialling ≡ dialling.On number said → said.rest ≡ [] → said.talk.joiner ≡ None → IsHeard bytes frames unit → IsInOrder (is_dialled running.dialling) running.logons →
-    ((challenge : List ℕ) → (view_of controller running.logons.channel).opening ≡ Some challenge → (n number timestamp : ℕ) (d : Channel) → slice_get marks n ≡ Some (Calling d number timestamp) →
+    ((challenge : List ℕ) → (view_of controller running.logons.channel).opening ≡ Some challenge → (n number timestamp : ℕ) (d : ChannelIdentity) → slice_get marks n ≡ Some (Calling d number timestamp) →
     d.client ≡ challenge → ⊥) →
     Placed (taking_note (Some (take_of running.logons.channel unit)) controller running.logons.channel).sends
     (taking_note (Some (take_of running.logons.channel unit)) controller running.logons.channel).mark more →
-    ((c : Channel) (number timestamp place : ℕ) → taking_note (Some (take_of running.logons.channel unit)) controller running.logons.channel
+    ((c : ChannelIdentity) (number timestamp place : ℕ) → taking_note (Some (take_of running.logons.channel unit)) controller running.logons.channel
     ≡ request_note (Calling c number timestamp) (Some place) → IsPlaced more (Calling c number timestamp)) →
-    ((c : Channel) (number : ℕ) → IsAnswer (take_of running.logons.channel unit).taken → (view_of controller running.logons.channel).stands ≡ Some c →
+    ((c : ChannelIdentity) (number : ℕ) → IsAnswer (take_of running.logons.channel unit).taken → (view_of controller running.logons.channel).stands ≡ Some c →
     (view_of controller running.logons.channel).asking ≡ Some number → (n timestamp : ℕ) → slice_get marks n ≡ Some (Calling c number timestamp) → Later n) →
     OwnCalls Done marks drawn turns given controller k running →
     let step = step_of (record { running = Some running }) (event.Bytes number bytes) now left in

@@ -4,7 +4,7 @@ use Rattle.std.proofs.Common.{◌≡◌, ℕ, List, [], ◌∷◌, map, inl, inr
 use Rattle.std.specs.List.{AllByRecursion}
 use Rattle.wire_base.specs.Maps.{lookup, same_number}
 use Rattle.wire_base.proofs.NameLaws.{IsSameness-same_number}
-use Rattle.authenticators.specs.Channels.{Channel}
+use Rattle.authenticators.specs.Channels.{ChannelIdentity}
 use Rattle.authenticators.specs.SecureChannels.{channel_of}
 use Rattle.outside.specs.Machine.{Part}
 use Rattle.rpc_units.specs.declared.unit.Unit.{Unit as RpcUnit}
@@ -28,7 +28,7 @@ use Rattle.channel_client.specs.declared.state.Waiting.{Waiting}
 use Rattle.logon_stubs.specs.declared.info.Verdict.{Verdict}
 use Rattle.channel_events.specs.Marks.{Mark, Calling, OneOf}
 use Rattle.channel_events.proofs.ListLaws.{some_is}
-use Rattle.member_server.specs.Turns.{Desk}
+use Rattle.member_server.specs.Turns.{DialWork}
 use Rattle.member_server.specs.declared.state.Logon.{Logon}
 use Rattle.member_server.specs.declared.state.Running.{Running}
 use Rattle.step_notes.specs.CallLogons.{waiting_for}
@@ -51,7 +51,7 @@ use Rattle.domain_world.proofs.Sequences.CalledLaws.{mark_there}
 
 -- ---- a call that goes out
 
-module _ (controller : ℕ) (s : Requester) (c : Channel) (number timestamp : ℕ) where
+module _ (controller : ℕ) (s : Requester) (c : ChannelIdentity) (number timestamp : ℕ) where
   abbrev Stands : Type 0
   Stands = stands_in controller s.caller.computer s.standing ≡ Some c
 
@@ -65,7 +65,7 @@ module _ (controller : ℕ) (s : Requester) (c : Channel) (number timestamp : �
   asked_by question.Logon frames (standing.Half client server) is mark = absurd (let x = mark in cc)
   asked_by question.Logon frames (standing.Open o) is mark =
       let same : channel_of controller s.caller.computer o ≡ c = (let x = mark in cc) in
-      ap (λ (how : Standing). stands_in controller s.caller.computer how) is ∙ ap (λ (x : Channel). Some x) same
+      ap (λ (how : Standing). stands_in controller s.caller.computer how) is ∙ ap (λ (x : ChannelIdentity). Some x) same
 
   settled_by : (j : Judgement) → (taking_note (Some (settle j s)) controller s).mark ≡ Calling c number timestamp → Stands
   settled_by (judgement.Half client server) mark = absurd (let x = mark in cc)
@@ -116,14 +116,14 @@ with_both X P Q [] so one all = absurd one
 with_both X P Q (message ∷ messages) so one all = elim one [ inl here ↦ so message here all.0 | inr later ↦ with_both X P Q messages so later all.1 ]
 
 module _ (plan : Plan) (k number u : ℕ) (s t : State) (b d : Book) (messages : List MessageTaken) (running : Running) (bytes : List ℕ) (unit : RpcUnit) (controller now : ℕ) (left : List (List ℕ))
-    (part : Part Desk) (comes : ComesWhole plan k number u s t b d messages running bytes unit controller now left part) (told : List OutcomeTold) (facts : TurnFacts plan t d messages told)
-    (distinct : (one other called timestamp later : ℕ) (c d : Channel) → slice_get (marks_in b.sent) one ≡ Some (Calling c called timestamp) →
+    (part : Part DialWork) (comes : ComesWhole plan k number u s t b d messages running bytes unit controller now left part) (told : List OutcomeTold) (facts : TurnFacts plan t d messages told)
+    (distinct : (one other called timestamp later : ℕ) (c d : ChannelIdentity) → slice_get (marks_in b.sent) one ≡ Some (Calling c called timestamp) →
     slice_get (marks_in b.sent) other ≡ Some (Calling d called later) → c.client ≡ d.client → one ≡ other) where
   abbrev c : Requester
   c = running.logons.channel
 
   -- the call is that of the message whose answer is taken
-  pub taken_for : (channel : Channel) (called : ℕ) → IsAnswer (take_of c unit).taken → (view_of controller c).stands ≡ Some channel → (view_of controller c).asking ≡ Some called → (n timestamp : ℕ) →
+  pub taken_for : (channel : ChannelIdentity) (called : ℕ) → IsAnswer (take_of c unit).taken → (view_of controller c).stands ≡ Some channel → (view_of controller c).asking ≡ Some called → (n timestamp : ℕ) →
       slice_get (marks_in b.sent) n ≡ Some (Calling channel called timestamp) → IsTakenFor (past_at plan t d) n
   taken_for channel called is stands asking n timestamp there =
       let answer : AnswersPlace (take_of c unit).taken = answer_of (take_of c unit).taken is in
@@ -148,7 +148,7 @@ module _ (plan : Plan) (k number u : ℕ) (s t : State) (b d : Book) (messages :
       mark_there b.sent out.request out.sent out.there ∙ ap (λ (m : Mark). Some m) out.mark ∙ ap (λ (i : ℕ). Some (Calling out.channel i out.timestamp)) same in
       record {
         message = with_answer (Some u) message;
-        call = out.call ∙ ap (λ (i : ℕ). Some i) (distinct out.request n called out.timestamp timestamp out.channel channel call there (ap (λ (x : Channel). x.client) one));
+        call = out.call ∙ ap (λ (i : ℕ). Some i) (distinct out.request n called out.timestamp timestamp out.channel channel call there (ap (λ (x : ChannelIdentity). x.client) one));
         unit = u;
         taken = taken_there plan k number u s t b d messages running bytes unit controller now left part comes told facts answer.place answer.verdict answer.is takes.0 takes.1 takes.3 kept.logon there_kept
             message (free out.link) out;

@@ -9,7 +9,7 @@ use Rattle.outside.specs.declared.action.Action.{Action}
 use Rattle.outside.specs.declared.action.StepRefused.{StepRefused}
 use Rattle.outside.specs.declared.event.Event.{Event}
 use Rattle.outside.proofs.DrawLaws.{between_front}
-use Rattle.authenticators.specs.Channels.{Channel}
+use Rattle.authenticators.specs.Channels.{ChannelIdentity}
 use Rattle.channel_client.specs.Effects.{IsCoherent, opening_in, seed_in, stands_in, step_in, view_of}
 use Rattle.channel_client.specs.Machine.{can_start, needs_challenge, start_of}
 use Rattle.channel_client.specs.State.{Requester}
@@ -22,7 +22,7 @@ use Rattle.member_server.specs.ChannelSteps.{IsNextTurn}
 use Rattle.member_server.specs.Dials.{IsDialledBy, IsNoAnswer, IsWaiting, StaysOutIfTaken, TurnStepsIfTaken, TurnsAreDialled, dials_in}
 use Rattle.member_server.specs.Laws.{AsksWhatWaits, InOrderUnlessStopped, IsInOrder, is_dialled}
 use Rattle.member_server.specs.Machine.{actions_in, by_event, event_part, halted_state, state_in, step_of, work_of}
-use Rattle.member_server.specs.Turns.{Desk, timestamp_of}
+use Rattle.member_server.specs.Turns.{DialWork, timestamp_of}
 use Rattle.member_server.specs.declared.state.Dialling.{Dialling}
 use Rattle.member_server.specs.declared.state.Dialling.TheVariants as dialling
 use Rattle.member_server.specs.declared.state.Running.{Running}
@@ -35,7 +35,7 @@ use Rattle.step_notes.specs.Records.{LogonTurn}
 use Rattle.step_notes.proofs.Members.RestLaws.{event_rest}
 use Rattle.world_moves.specs.declared.links.EndId.{EndId}
 use Rattle.world_moves.specs.declared.links.EndId.TheVariants.{Member}
-use Rattle.world_moves.specs.declared.state.Waiting.{Waiting}
+use Rattle.world_moves.specs.declared.state.WaitingDial.{WaitingDial}
 use Rattle.world_moves.specs.Acting.{Given, given_by}
 use Rattle.world_moves.specs.Ends.{actions_by}
 use Rattle.domain_world.proofs.Requests.StepApartLaws.{Differ, fresh_last}
@@ -55,7 +55,7 @@ times (suc n) turns = turns ++ times n turns
 -- ---- what is known of a member that runs: of the dial of its turn, and of its turns, where the one that started in
 -- this move isn't written down yet
 
-pub record TurnsOf (k controller : ℕ) (d : Option EndId) (rest : Given) (dials : List Waiting) (drawn : List (List ℕ)) (given : Given) (turns : List LogonTurn) (running : Running) : Type 0 where
+pub record TurnsOf (k controller : ℕ) (d : Option EndId) (rest : Given) (dials : List WaitingDial) (drawn : List (List ℕ)) (given : Given) (turns : List LogonTurn) (running : Running) : Type 0 where
   pub order : IsInOrder (is_dialled running.dialling) running.logons
   -- one dial is out at most, and the turn waits for it then
   pub out_once : dials_out k d rest dials ≤ 1
@@ -65,7 +65,7 @@ pub record TurnsOf (k controller : ℕ) (d : Option EndId) (rest : Given) (dials
   pub given_waits : 1 ≤ given_dials k given → IsWaiting running.dialling × (answered_dials k d ≡ 0)
   pub turned : Turned (view_of controller running.logons.channel) (mine k turns ++ times (given_dials k given) (turn_of controller k running.logons.channel)) drawn
 
-abbrev pub TurnsIf : ℕ → ℕ → Option EndId → Given → List Waiting → List (List ℕ) → Given → List LogonTurn → Option Running → Type 0
+abbrev pub TurnsIf : ℕ → ℕ → Option EndId → Given → List WaitingDial → List (List ℕ) → Given → List LogonTurn → Option Running → Type 0
 TurnsIf k controller d rest dials drawn given turns None = Unit {0}
 TurnsIf k controller d rest dials drawn given turns (Some running) = TurnsOf k controller d rest dials drawn given turns running
 
@@ -101,12 +101,12 @@ pub both_drawn : (drawn : List (List ℕ)) (one other : List LogonTurn) → AreD
 both_drawn drawn [] other first later = later
 both_drawn drawn (turn ∷ one) other first later = (first.0, both_drawn drawn one other first.1 later)
 
-stamped_drawn : (drawn : List (List ℕ)) (j : ℕ) (channel : Option Channel) (stamp : Option Authenticator) → ((c : Channel) → channel ≡ Some c → IsDrawn c.client drawn) → AreDrawn drawn (stamped channel stamp j)
+stamped_drawn : (drawn : List (List ℕ)) (j : ℕ) (channel : Option ChannelIdentity) (stamp : Option Authenticator) → ((c : ChannelIdentity) → channel ≡ Some c → IsDrawn c.client drawn) → AreDrawn drawn (stamped channel stamp j)
 stamped_drawn drawn j None stamp so = tt
 stamped_drawn drawn j (Some channel) None so = tt
 stamped_drawn drawn j (Some channel) (Some stamp) so = (so channel refl, tt)
 
-by_drawn : (drawn : List (List ℕ)) (j : ℕ) (st : Option Step) (channel : Option Channel) → ((c : Channel) → channel ≡ Some c → IsDrawn c.client drawn) → AreDrawn drawn (turn_by st channel j)
+by_drawn : (drawn : List (List ℕ)) (j : ℕ) (st : Option Step) (channel : Option ChannelIdentity) → ((c : ChannelIdentity) → channel ≡ Some c → IsDrawn c.client drawn) → AreDrawn drawn (turn_by st channel j)
 by_drawn drawn j None channel so = tt
 by_drawn drawn j (Some (step.Bind (call.Logon c))) channel so = stamped_drawn drawn j channel c.authenticator so
 by_drawn drawn j (Some (step.Bind (call.Challenge c))) channel so = tt
@@ -146,31 +146,31 @@ module _ (k controller : ℕ) (drawn : List (List ℕ)) (turns : List LogonTurn)
     turned = subst (λ (all : List LogonTurn). Turned (view_of controller new) all later) (sym (one_time count (turn_of controller k new) (mine k turns) one)) turned;
   }
 
-  started : (starts needs : Bool) (now : ℕ) (mid : Requester) (left rest_left : List (List ℕ)) (new : Requester) (after : List (List ℕ)) (how : Dialling) (desk : Desk) →
-      can_start mid.turn mid.waiting ≡ starts → needs_challenge mid.standing ≡ needs → IsNextTurn starts needs now mid rest_left new after → IsRest rest_left left → IsDialledBy starts how desk →
+  started : (starts needs : Bool) (now : ℕ) (mid : Requester) (left rest_left : List (List ℕ)) (new : Requester) (after : List (List ℕ)) (how : Dialling) (dial_work : DialWork) →
+      can_start mid.turn mid.waiting ≡ starts → needs_challenge mid.standing ≡ needs → IsNextTurn starts needs now mid rest_left new after → IsRest rest_left left → IsDialledBy starts how dial_work →
       IsCoherent mid → Differ (drawn ++ draws_between left after) → Turned (view_of controller mid) (mine k turns) drawn →
-      HasStarted k controller (drawn ++ draws_between left after) turns new desk.1 (dials_in desk.0.actions)
-  started false needs now mid left rest_left new after how desk can need next rest dials coherent differ turned =
-      unstarted mid new desk.1 (dials_in desk.0.actions) (draws_between left after) next.0 dials.0 turned
-  started true false now mid left rest_left new after how desk can need next rest dials coherent differ turned =
+      HasStarted k controller (drawn ++ draws_between left after) turns new dial_work.1 (dials_in dial_work.0.actions)
+  started false needs now mid left rest_left new after how dial_work can need next rest dials coherent differ turned =
+      unstarted mid new dial_work.1 (dials_in dial_work.0.actions) (draws_between left after) next.0 dials.0 turned
+  started true false now mid left rest_left new after how dial_work can need next rest dials coherent differ turned =
       let t : Requester = (start_of mid (timestamp_of now) (replicate 8 0)).state in
-      with_start new desk.1 (dials_in desk.0.actions) (drawn ++ draws_between left after) dials.0 dials.1
+      with_start new dial_work.1 (dials_in dial_work.0.actions) (drawn ++ draws_between left after) dials.0 dials.1
       (subst (λ (x : Requester). Turned (view_of controller x) (mine k turns ++ turn_of controller k x) (drawn ++ draws_between left after)) (sym next.0)
       (turned_later (view_of controller t) (mine k turns ++ turn_of controller k t) drawn (drawn ++ draws_between left after) (λ challenge is. drawn_still challenge drawn (draws_between left after) is)
       (starts_so (mine k turns) drawn controller k (timestamp_of now) (replicate 8 0) false mid can need tt before coherent turned)))
-  started true true now mid left rest_left new after how desk can need next rest dials coherent differ turned =
+  started true true now mid left rest_left new after how dial_work can need next rest dials coherent differ turned =
       let challenge : List ℕ = next.0 in
       let t : Requester = (start_of mid (timestamp_of now) challenge).state in
       let all : List (List ℕ) = drawn ++ draws_between left after in
       let same : all ≡ (drawn ++ rest.front) ++ challenge ∷ [] = one_drawn drawn left rest_left after rest challenge next.1 in
       let fresh : IsDrawn challenge (drawn ++ rest.front) → ⊥ = fresh_last (drawn ++ rest.front) challenge (subst Differ same differ) in
-      with_start new desk.1 (dials_in desk.0.actions) all dials.0 dials.1
+      with_start new dial_work.1 (dials_in dial_work.0.actions) all dials.0 dials.1
       (subst (λ (x : Requester). Turned (view_of controller x) (mine k turns ++ turn_of controller k x) all) (sym next.2)
       (turned_later (view_of controller t) (mine k turns ++ turn_of controller k t) (drawn ++ challenge ∷ []) all
       (λ one is. subst (IsDrawn one) (sym same) (drawn_between one drawn rest.front challenge is))
       (starts_so (mine k turns) drawn controller k (timestamp_of now) challenge true mid can need (λ is. fresh (drawn_still challenge drawn rest.front is)) before coherent turned)))
 
-  free_by : (part : Result (Part Desk) StepRefused) (running : Running) (what : Event) (now : ℕ) (left : List (List ℕ)) (d : Option EndId) (rest : Given) (dials : List Waiting) (given : Given) →
+  free_by : (part : Result (Part DialWork) StepRefused) (running : Running) (what : Event) (now : ℕ) (left : List (List ℕ)) (d : Option EndId) (rest : Given) (dials : List WaitingDial) (given : Given) →
       TurnStepsIfTaken running.logons.channel (by_event what running.dialling (work_of running) left) now part →
       InOrderUnlessStopped (step_by actions_in state_in halted_state left part).state.running → dials_out k d rest dials ≡ 0 → given_dials k given ≡ 0 → IsCoherent running.logons.channel →
       Turned (view_of controller running.logons.channel) (mine k turns) drawn → Differ (drawn ++ (step_by actions_in state_in halted_state left part).drawn) →
@@ -183,7 +183,7 @@ module _ (k controller : ℕ) (drawn : List (List ℕ)) (turns : List LogonTurn)
       let actions : List Action = part.value.0.actions in
       let comes = comes_so (mine k turns) drawn controller running.logons.channel mid steps.comes coherent turned in
       let rest_left : IsRest steps.part.left left =
-      subst (λ (first : Result (Part Desk) StepRefused). IsRest (left_by first) left) steps.is (event_rest what running.dialling (work_of running) left) in
+      subst (λ (first : Result (Part DialWork) StepRefused). IsRest (left_by first) left) steps.is (event_rest what running.dialling (work_of running) left) in
       let has : HasStarted k controller (drawn ++ draws_between left part.left) turns part.value.0.logons.channel part.value.1 (dials_in actions) =
       started (can_start mid.turn mid.waiting) (needs_challenge mid.standing) now mid left steps.part.left part.value.0.logons.channel part.left steps.part.value.1 part.value refl refl steps.next
       rest_left steps.dials comes.0 differ comes.1 in
@@ -212,14 +212,14 @@ stands_same controller old new caller standing =
 pub turn_same : (controller k : ℕ) (old new : Requester) → new.caller ≡ old.caller → new.standing ≡ old.standing → new.turn ≡ old.turn → turn_of controller k new ≡ turn_of controller k old
 turn_same controller k old new caller standing turn =
     ap (λ (t : Option Pending). turn_by (step_in t) (stands_in controller new.caller.computer new.standing) k) turn
-    ∙ ap (λ (c : Option Channel). turn_by (step_in old.turn) c k) (stands_same controller old new caller standing)
+    ∙ ap (λ (c : Option ChannelIdentity). turn_by (step_in old.turn) c k) (stands_same controller old new caller standing)
 
 opening_same : (old new : Requester) → new.standing ≡ old.standing → new.turn ≡ old.turn → opening_in new.standing (step_in new.turn) ≡ opening_in old.standing (step_in old.turn)
 opening_same old new standing turn =
     ap (λ (how : Standing). opening_in how (step_in new.turn)) standing ∙ ap (λ (t : Option Pending). opening_in old.standing (step_in t)) turn
 
 module _ (k controller : ℕ) (turns : List LogonTurn) where
-  waits_by : (part : Result (Part Desk) StepRefused) (running : Running) (left : List (List ℕ)) (d : Option EndId) (rest : Given) (dials : List Waiting) (drawn : List (List ℕ)) (given : Given) →
+  waits_by : (part : Result (Part DialWork) StepRefused) (running : Running) (left : List (List ℕ)) (d : Option EndId) (rest : Given) (dials : List WaitingDial) (drawn : List (List ℕ)) (given : Given) →
       StaysOutIfTaken running.logons.channel running.dialling part → InOrderUnlessStopped (step_by actions_in state_in halted_state left part).state.running →
       TurnsOf k controller d rest dials drawn given turns running →
       let actions : List Action = actions_by (step_by actions_in state_in halted_state left part).answer in
@@ -274,7 +274,7 @@ module _ (asks : AsksWhatWaits) (dialled : TurnsAreDialled) (k controller : ℕ)
       InOrderUnlessStopped (step_by actions_in state_in halted_state left (event_part running what now left)).state.running
   order_after running what now left order = asks.keeps (record { running = Some running }) running what now left refl order
 
-  free_step : (running : Running) (what : Event) (now : ℕ) (left : List (List ℕ)) (d later : Option EndId) (rest : Given) (dials : List Waiting) (drawn : List (List ℕ)) (given : Given) →
+  free_step : (running : Running) (what : Event) (now : ℕ) (left : List (List ℕ)) (d later : Option EndId) (rest : Given) (dials : List WaitingDial) (drawn : List (List ℕ)) (given : Given) →
       dials_out k later rest dials ≡ 0 → given_dials k given ≡ 0 → TurnsOf k controller d rest dials drawn given turns running → AreDrawn drawn (mine k turns) →
       Differ (drawn ++ (step_by actions_in state_in halted_state left (event_part running what now left)).drawn) →
       let actions : List Action = actions_by (step_by actions_in state_in halted_state left (event_part running what now left)).answer in
@@ -286,7 +286,7 @@ module _ (asks : AsksWhatWaits) (dialled : TurnsAreDialled) (k controller : ℕ)
       (subst (λ (all : List LogonTurn). Turned (view_of controller running.logons.channel) all drawn)
       (no_times (given_dials k given) (turn_of controller k running.logons.channel) (mine k turns) none) old.turned) differ
 
-  pub member_step : (r : Option Running) (what : Event) (now : ℕ) (left : List (List ℕ)) (d later : Option EndId) (rest : Given) (dials : List Waiting) (drawn : List (List ℕ)) (given : Given) →
+  pub member_step : (r : Option Running) (what : Event) (now : ℕ) (left : List (List ℕ)) (d later : Option EndId) (rest : Given) (dials : List WaitingDial) (drawn : List (List ℕ)) (given : Given) →
       Answers (Member k) what d later rest → TurnsIf k controller d rest dials drawn given turns r → AreDrawn drawn (mine k turns) →
       let step = step_of (record { running = r }) what now left in
       Differ (drawn ++ step.drawn) →

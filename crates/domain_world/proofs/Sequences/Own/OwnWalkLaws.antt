@@ -19,7 +19,7 @@ use Rattle.world_moves.specs.declared.links.EndId.{EndId}
 use Rattle.world_moves.specs.declared.links.EndId.TheVariants.{Controller, Member, Client}
 use Rattle.world_moves.specs.declared.plan.Plan.{Plan}
 use Rattle.world_moves.specs.declared.state.State.{State}
-use Rattle.world_moves.specs.Acting.{Given, given_by, hear, hears, perform_quietly, shut_link, forget}
+use Rattle.world_moves.specs.Acting.{Given, given_by, hear, hear_and_act, perform_quietly, shut_link, forget}
 use Rattle.world_moves.specs.Links.{acceptor_of}
 use Rattle.world_moves.specs.Moving.{answered_link, begun, settle, tick, with_link, without_first}
 use Rattle.domain_world.specs.Past.{Coming, answers_of, any_clash, at_controller, marks_of, note_at, note_client, note_controller, sent_at}
@@ -60,7 +60,7 @@ MemberComes plan Side =
     (n at : ℕ) (w : Coming) (piece : List ℕ) (s : State) (given : Given) (b : Book) → IsAtSide s.links w.link w.back (Member at) → CameFrom w.unit s w piece → length b.sent ≡ length s.bag →
     Side n s given b → OwnHolds plan n s given b →
     OwnHolds plan (n + 1) (hear (Member at) (event.Bytes w.link piece) s).state (given ++ given_by (Member at) (hear (Member at) (event.Bytes w.link piece) s).actions)
-    (note_at (Some (Member at)) w piece s (hears (Member at) (event.Bytes w.link piece) s).state b)
+    (note_at (Some (Member at)) w piece s (hear_and_act (Member at) (event.Bytes w.link piece) s).state b)
 
 module _ (dialled : TurnsAreDialled) (steps : ChannelStepsKnown) (asks : AsksWhatWaits) (plan : Plan) where
   heard_so : (n : ℕ) (end : EndId) (what : Event) (s : State) (given : Given) (b : Book) → IsNoBytes what → OwnHolds plan n s given b →
@@ -93,10 +93,10 @@ module _ (dialled : TurnsAreDialled) (steps : ChannelStepsKnown) (asks : AsksWha
     end_comes : (n : ℕ) (end : EndId) (w : Coming) (piece : List ℕ) (s : State) (given : Given) (b : Book) → IsAtSide s.links w.link w.back end → CameFrom w.unit s w piece →
         (IsServer end → length b.sent ≡ length s.bag) → Side n s given b → OwnHolds plan n s given b →
         OwnHolds plan (n + 1) (hear end (event.Bytes w.link piece) s).state (given ++ given_by end (hear end (event.Bytes w.link piece) s).actions)
-        (note_at (Some end) w piece s (hears end (event.Bytes w.link piece) s).state b)
+        (note_at (Some end) w piece s (hear_and_act end (event.Bytes w.link piece) s).state b)
     end_comes n (Controller at) w piece s given b at_side came even side holds =
         let what : Event = event.Bytes w.link piece in
-        controller_noted (slice_get s.ends.controllers at) at (n + 1) w piece s (hear (Controller at) what s).state (hears (Controller at) what s).state
+        controller_noted (slice_get s.ends.controllers at) at (n + 1) w piece s (hear (Controller at) what s).state (hear_and_act (Controller at) what s).state
         (given ++ given_by (Controller at) (hear (Controller at) what s).actions) b (own_hears dialled steps asks plan n (Controller at) what s given b tt holds)
     end_comes n (Client at) w piece s given b at_side came even side holds =
         let what : Event = event.Bytes w.link piece in

@@ -5,7 +5,7 @@ use Rattle.outside.specs.Machine.{Part, step_by}
 use Rattle.outside.specs.declared.action.StepRefused.{StepRefused}
 use Rattle.outside.specs.declared.event.Event.{Event}
 use Rattle.outside.specs.declared.event.Event.TheVariants as event
-use Rattle.authenticators.specs.Channels.{Channel}
+use Rattle.authenticators.specs.Channels.{ChannelIdentity}
 use Rattle.channel_client.specs.Effects.{stands_in, view_of}
 use Rattle.channel_client.specs.Machine.{take_of}
 use Rattle.channel_client.specs.State.{Requester}
@@ -15,7 +15,7 @@ use Rattle.member_server.specs.Dials.{TurnsAreDialled}
 use Rattle.member_server.specs.Laws.{AsksWhatWaits, LetsInTheGranted}
 use Rattle.member_server.specs.Machine.{actions_in, event_part, halted_state, state_in, step_of}
 use Rattle.member_server.specs.State.{State as MemberState}
-use Rattle.member_server.specs.Turns.{Desk}
+use Rattle.member_server.specs.Turns.{DialWork}
 use Rattle.member_server.specs.declared.state.Dialling.TheVariants as dialling
 use Rattle.member_server.specs.declared.state.Running.{Running}
 use Rattle.member_server.specs.declared.state.TurnTalk.{TurnTalk}
@@ -25,7 +25,7 @@ use Rattle.step_notes.specs.Records.{Book, LogonTurn, Sent}
 use Rattle.world_moves.specs.declared.links.EndId.TheVariants.{Member}
 use Rattle.world_moves.specs.declared.plan.Plan.{Plan}
 use Rattle.world_moves.specs.declared.state.State.{State}
-use Rattle.world_moves.specs.Acting.{Given, Heard, given_by, hear, heard_by, hears, perform_all}
+use Rattle.world_moves.specs.Acting.{Given, Heard, given_by, hear, heard_by, hear_and_act, perform_all}
 use Rattle.world_moves.specs.Ends.{actions_by, member_step}
 use Rattle.domain_world.specs.Accepting.Runs.{seen_member}
 use Rattle.domain_world.specs.Accepting.Sequences.{IsTakenFor}
@@ -62,18 +62,18 @@ use Rattle.domain_world.proofs.Frames.TurnFrameLaws.{turns_sent}
 -- ---- the marks that are written down
 
 -- the first of them, where no other is a call
-one_behind : (rest : List Mark) (mark : Mark) → NoCalls rest → (n number timestamp : ℕ) (c : Channel) → slice_get (mark ∷ rest) n ≡ Some (Calling c number timestamp) → mark ≡ Calling c number timestamp
+one_behind : (rest : List Mark) (mark : Mark) → NoCalls rest → (n number timestamp : ℕ) (c : ChannelIdentity) → slice_get (mark ∷ rest) n ≡ Some (Calling c number timestamp) → mark ≡ Calling c number timestamp
 one_behind rest mark none zero number timestamp c there = let x = there in cc
 one_behind rest mark none (suc n) number timestamp c there = absurd (none n number timestamp c there)
 
-call_in : (front rest : List Mark) (mark : Mark) → NoCalls front → NoCalls rest → (n number timestamp : ℕ) (c : Channel) → slice_get (front ++ mark ∷ rest) n ≡ Some (Calling c number timestamp) →
+call_in : (front rest : List Mark) (mark : Mark) → NoCalls front → NoCalls rest → (n number timestamp : ℕ) (c : ChannelIdentity) → slice_get (front ++ mark ∷ rest) n ≡ Some (Calling c number timestamp) →
     mark ≡ Calling c number timestamp
 call_in [] rest mark none_before behind n number timestamp c there = one_behind rest mark behind n number timestamp c there
 call_in (first ∷ front) rest mark none_before behind zero number timestamp c there = absurd (none_before zero number timestamp c there)
 call_in (first ∷ front) rest mark none_before behind (suc n) number timestamp c there = call_in front rest mark (λ k. none_before (suc k)) behind n number timestamp c there
 
-behind_or : (old more : List Mark) (mark : Mark) → ((n number timestamp : ℕ) (c : Channel) → slice_get more n ≡ Some (Calling c number timestamp) → mark ≡ Calling c number timestamp) →
-    (n number timestamp : ℕ) (c : Channel) → slice_get (old ++ more) n ≡ Some (Calling c number timestamp) →
+behind_or : (old more : List Mark) (mark : Mark) → ((n number timestamp : ℕ) (c : ChannelIdentity) → slice_get more n ≡ Some (Calling c number timestamp) → mark ≡ Calling c number timestamp) →
+    (n number timestamp : ℕ) (c : ChannelIdentity) → slice_get (old ++ more) n ≡ Some (Calling c number timestamp) →
     (slice_get old n ≡ Some (Calling c number timestamp)) ⊎ (mark ≡ Calling c number timestamp)
 behind_or [] more mark so n number timestamp c there = inr (so n number timestamp c there)
 behind_or (first ∷ old) more mark so zero number timestamp c there = inl there
@@ -81,7 +81,7 @@ behind_or (first ∷ old) more mark so (suc n) number timestamp c there = behind
 
 -- of marks among which one stands, or none is a call
 abbrev OnlyThat : List Mark → Mark → Type 0
-OnlyThat more mark = (n number timestamp : ℕ) (c : Channel) → slice_get more n ≡ Some (Calling c number timestamp) → mark ≡ Calling c number timestamp
+OnlyThat more mark = (n number timestamp : ℕ) (c : ChannelIdentity) → slice_get more n ≡ Some (Calling c number timestamp) → mark ≡ Calling c number timestamp
 
 only_none : (more : List Mark) (mark : Mark) → NoCalls more → OnlyThat more mark
 only_none more mark none n number timestamp c there = absurd (none n number timestamp c there)
@@ -114,7 +114,7 @@ module _ (law : LetsInTheGranted) (laws : CallLaws) (dialled : TurnsAreDialled) 
   abbrev c : Requester
   c = running.logons.channel
 
-  abbrev part_of : Result (Part Desk) StepRefused
+  abbrev part_of : Result (Part DialWork) StepRefused
   part_of = event_part running what s.moment s.chances.left
 
   abbrev t : State
@@ -148,10 +148,10 @@ module _ (law : LetsInTheGranted) (laws : CallLaws) (dialled : TurnsAreDialled) 
         (served laws n at w piece s after b running whole_one) (units_whole laws n at w piece s after b running whole_one)
 
     module _ (link : IsDialledBy s.links at w.link) where
-      only_new : (part : Result (Part Desk) StepRefused) → part_of ≡ part → OnlyThat new note.mark
-      only_new (Err why) err = only_none new note.mark (subst (λ (p : Result (Part Desk) StepRefused). PlacedBy p note new) err placed_by)
+      only_new : (part : Result (Part DialWork) StepRefused) → part_of ≡ part → OnlyThat new note.mark
+      only_new (Err why) err = only_none new note.mark (subst (λ (p : Result (Part DialWork) StepRefused). PlacedBy p note new) err placed_by)
       only_new (Ok part) ok =
-          only_by note.sends note.mark new (subst (λ (p : Result (Part Desk) StepRefused). PlacedBy p note new) ok placed_by)
+          only_by note.sends note.mark new (subst (λ (p : Result (Part DialWork) StepRefused). PlacedBy p note new) ok placed_by)
           (λ sends. request_placed laws n at w piece s after b running whole_one link even bag part ok sends)
 
       -- of another member
@@ -170,21 +170,21 @@ module _ (law : LetsInTheGranted) (laws : CallLaws) (dialled : TurnsAreDialled) 
           ]
 
       -- of the member itself
-      own_at : (part : Result (Part Desk) StepRefused) → part_of ≡ part → CallsHold n s.member_plans s.ends s.chances.drawn s.links b.sent b.messages →
+      own_at : (part : Result (Part DialWork) StepRefused) → part_of ≡ part → CallsHold n s.member_plans s.ends s.chances.drawn s.links b.sent b.messages →
           MemberOwn (IsTakenFor (past_at plan s b)) (marks_in b.sent) s.chances.drawn b.turns given its at (Some running) →
-          ((p : Part Desk) → part_of ≡ Ok p → (channel : Channel) (number : ℕ) → IsAnswer (take_of c whole_one.unit).taken → (view_of its c).stands ≡ Some channel →
+          ((p : Part DialWork) → part_of ≡ Ok p → (channel : ChannelIdentity) (number : ℕ) → IsAnswer (take_of c whole_one.unit).taken → (view_of its c).stands ≡ Some channel →
           (view_of its c).asking ≡ Some number → (i timestamp : ℕ) → slice_get (marks_in b.sent) i ≡ Some (Calling channel number timestamp) → IsTakenFor (past_at plan t d) i) →
           Differ t.chances.drawn →
           OwnIf (IsTakenFor (past_at plan t d)) (marks_in b.sent ++ new) t.chances.drawn b.turns more_given its at (step_of m what s.moment s.chances.left).state.running
       own_at (Err why) err holds old done differ =
-          subst (λ (p : Result (Part Desk) StepRefused).
+          subst (λ (p : Result (Part DialWork) StepRefused).
           OwnIf (IsTakenFor (past_at plan t d)) (marks_in b.sent ++ new) t.chances.drawn b.turns more_given its at (step_by actions_in state_in halted_state s.chances.left p).state.running) (sym err) tt
       own_at (Ok part) ok holds old done differ =
           own_whole dialled steps (IsTakenFor (past_at plan s b)) (IsTakenFor (past_at plan t d)) (taken_for_stays plan s t b d grows) (marks_in b.sent) new s.chances.drawn b.turns given its at running
           w.link whole_one.said piece whole_one.frames whole_one.unit s.moment s.chances.left whole_one.on whole_one.rest whole_one.none whole_one.heard old.0
           (λ challenge opening i number timestamp e there client.
           holds.apart.opening at (view_of its c) i number timestamp e (ap (λ (x : Option MemberState). seen_member its x) is) (opening ∙ ap (λ (x : List ℕ). Some x) (sym client)) there)
-          (subst (λ (p : Result (Part Desk) StepRefused). PlacedBy p note new) ok placed_by)
+          (subst (λ (p : Result (Part DialWork) StepRefused). PlacedBy p note new) ok placed_by)
           (λ e number timestamp place noted.
           subst (λ (mark : Mark). IsPlaced new mark) (ap (λ (x : TurnNote). x.mark) noted)
           (request_placed laws n at w piece s after b running whole_one link even bag part ok (ap (λ (x : TurnNote). x.sends) noted)))
@@ -192,7 +192,7 @@ module _ (law : LetsInTheGranted) (laws : CallLaws) (dialled : TurnsAreDialled) 
 
       -- of all
       facts_after : CallsHold n s.member_plans s.ends s.chances.drawn s.links b.sent b.messages → OwnFacts plan s given b →
-          ((p : Part Desk) → part_of ≡ Ok p → (channel : Channel) (number : ℕ) → IsAnswer (take_of c whole_one.unit).taken → (view_of its c).stands ≡ Some channel →
+          ((p : Part DialWork) → part_of ≡ Ok p → (channel : ChannelIdentity) (number : ℕ) → IsAnswer (take_of c whole_one.unit).taken → (view_of its c).stands ≡ Some channel →
           (view_of its c).asking ≡ Some number → (i timestamp : ℕ) → slice_get (marks_in b.sent) i ≡ Some (Calling channel number timestamp) → IsTakenFor (past_at plan t d) i) →
           Differ t.chances.drawn → OwnFacts plan t more_given d
       facts_after holds old done differ =
@@ -274,7 +274,7 @@ module _ (law : LetsInTheGranted) (laws : CallLaws) (dialled : TurnsAreDialled) 
   HeardBy found = heard_by (member_step found at bytes s.moment s.ends s.chances) s
 
   abbrev after_all : State
-  after_all = (hears (Member at) bytes s).state
+  after_all = (hear_and_act (Member at) bytes s).state
 
   abbrev IsNoted : Option MemberState → Type 0
   IsNoted found = OwnHolds plan (n + 1) (hear (Member at) bytes s).state (given ++ given_by (Member at) (hear (Member at) bytes s).actions) (note_member found at w piece s after_all b)

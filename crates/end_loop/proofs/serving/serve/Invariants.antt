@@ -1,6 +1,6 @@
 use Rattle.std.proofs.Common.{◌≡◌, ◌≤◌, ◌+◌, ◌-◌, ℕ, List, [], ◌∷◌, true, false, length}
 use Rattle.end_loop.specs.Seen.{sight_of}
-use Rattle.end_loop.specs.Runs.{Ran, standing_at, idle_at}
+use Rattle.end_loop.specs.Runs.{Ran, run_state_at, idle_at}
 use Rattle.end_loop.proofs.serving.serve.Given as goal
 
 abbrev pub invariant-loop-asked : goal.invariant-loop-asked
@@ -8,7 +8,7 @@ invariant-loop-asked g l =
     let before = sight_of g.P.Port.story g.P.Port.link_faults g.C.Clock.moments g.Q.Chances.drawing g.S.Sink.taken l.fn.port l.fn.clock l.fn.chances l.fn.out in
     let now = sight_of g.P.Port.story g.P.Port.link_faults g.C.Clock.moments g.Q.Chances.drawing g.S.Sink.taken l.port l.clock l.chances l.out in
     record {
-      ran : Ran g.E.End.machine (standing_at l.fn.end l.fn.queue.items before) (idle_at l.end now) l.asked before now;
+      ran : Ran g.E.End.machine (run_state_at l.fn.end l.fn.queue.items before) (idle_at l.end now) l.asked before now;
       running : g.E.End.is_stopped l.end ≡ false;
       idle : l.queue.items ≡ [];
       within : l.asked ≤ l.most;

@@ -16,12 +16,12 @@ pub returns-clause-settles : goal.returns-clause-settles
 returns-clause-settles g c =
     let drawing = g.Q.Chances.drawing in
     let runs : c.args.self.now.running ≡ Some c.in-Some.running = sym (ap State.running c.self.view_is) ∙ sym c.take.ensures.value ∙ c.in-Some.is in
-    λ made. step_settles c.in-Some.running c.args.self.now (state_in c.in-Ok.desk) c.args.event.now c.args.now (drawing c.args.chances.now).left (drawing c.run_event.new.chances).left
-    c.in-Ok.desk c.into_actions.result c.into_actions.ensures.actions runs refl c.in-Ok.ensures.answer made
+    λ made. step_settles c.in-Some.running c.args.self.now (state_in c.in-Ok.dial_work) c.args.event.now c.args.now (drawing c.args.chances.now).left (drawing c.run_event.new.chances).left
+    c.in-Ok.dial_work c.into_actions.result c.into_actions.ensures.actions runs refl c.in-Ok.ensures.answer made
 
 pub returns-clause-answer : goal.returns-clause-answer
 returns-clause-answer g c =
     let drawing = g.Q.Chances.drawing in
     let runs : c.args.self.now.running ≡ Some c.in-Some.running = sym (ap State.running c.self.view_is) ∙ sym c.take.ensures.value ∙ c.in-Some.is in
-    step_taken c.in-Some.running c.args.self.now (state_in c.in-Ok.desk) c.args.event.now c.args.now (drawing c.args.chances.now) (drawing c.run_event.new.chances)
-    c.in-Ok.desk c.into_actions.result c.into_actions.ensures.actions runs refl c.in-Ok.ensures.draws c.in-Ok.ensures.answer
+    step_taken c.in-Some.running c.args.self.now (state_in c.in-Ok.dial_work) c.args.event.now c.args.now (drawing c.args.chances.now) (drawing c.run_event.new.chances)
+    c.in-Ok.dial_work c.into_actions.result c.into_actions.ensures.actions runs refl c.in-Ok.ensures.draws c.in-Ok.ensures.answer

@@ -21,7 +21,7 @@ use Rattle.world_moves.specs.declared.links.OpenLink.{OpenLink}
 use Rattle.world_moves.specs.declared.links.Route.{Route}
 use Rattle.world_moves.specs.declared.links.Route.TheVariants.{ToMember, ToController}
 use Rattle.world_moves.specs.declared.state.State.{State}
-use Rattle.world_moves.specs.Acting.{Heard, hear, hears, perform, nothing_done}
+use Rattle.world_moves.specs.Acting.{Heard, hear, hear_and_act, perform, nothing_done}
 use Rattle.world_moves.specs.Bag.{first_waiting, is_waiting, settle_at}
 use Rattle.world_moves.specs.Counting.{add_counts, counts_of}
 use Rattle.world_moves.specs.Ends.{EndStates, drawn_on}
@@ -42,8 +42,8 @@ pub record IsOldest (bag : List BagUnit) (unit : BagUnit) (later : List BagUnit)
 -- it comes at that end
 pub record Comes (s : State) (unit : BagUnit) (later : List BagUnit) (end : EndId) : Type 0 where
   pub number : ℕ
-  pub state : (onward s).state ≡ (hears end (event.Bytes unit.link unit.bytes) (settle number s)).state
-  pub given : (onward s).given ≡ (hears end (event.Bytes unit.link unit.bytes) (settle number s)).given
+  pub state : (onward s).state ≡ (hear_and_act end (event.Bytes unit.link unit.bytes) (settle number s)).state
+  pub given : (onward s).given ≡ (hear_and_act end (event.Bytes unit.link unit.bytes) (settle number s)).given
   pub behind : waiting (settle number s).bag ≡ later
 
 -- the ends with one of them changed

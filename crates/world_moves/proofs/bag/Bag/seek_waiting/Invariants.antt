@@ -1,7 +1,7 @@
 use Rattle.std.proofs.Common.{◌-◌, ◌≤◌, length}
 use Rattle.wire_base.proofs.PlaceLaws.{NoneBefore}
 use Rattle.world_moves.specs.Bag.{is_waiting}
-use Rattle.world_moves.proofs.bag.Bag.first_waiting.Given as goal
+use Rattle.world_moves.proofs.bag.Bag.seek_waiting.Given as goal
 
 -- no unit before the place waits
 abbrev pub invariant-loop-place : goal.invariant-loop-place
