@@ -37,7 +37,8 @@ use Rattle.logon_client.specs.Answering.{pairs_by, is_enough, drawn_for, nt_by, 
 use Rattle.logon_client.specs.Asked.{HoldsOf, response_holds}
 use Rattle.logon_client.specs.Answers.{IsAgreed, HasChosen, IsDrawn, OffersAgreed, DrawsKeys, AnswersVerify, KeysFound}
 use Rattle.logon_client.specs.Machine.{hear_flags, hear_pairs, hear_challenge, hear_trailer, hear_result, hear_ack, hear_body, hear_call, hear_unit, offer_by}
-use Rattle.logon_client.specs.Plans.{offer_of, is_signed}
+use Rattle.unit_security.specs.Levels.{is_signed}
+use Rattle.logon_client.specs.Plans.{offer_of}
 
 -- ---- what is agreed
 

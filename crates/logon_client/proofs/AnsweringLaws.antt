@@ -18,7 +18,8 @@ use Rattle.logon_client.specs.declared.plan.AuthKind.{AuthKind}
 use Rattle.logon_client.specs.declared.plan.AuthKind.TheVariants.{V1, V1Ess, V2}
 use Rattle.logon_client.specs.declared.plan.ClientPlan.{ClientPlan}
 use Rattle.logon_client.specs.Answering.{negotiate_for, bind_for, answer_by}
-use Rattle.logon_client.specs.Securing.{trailer_of}
+use Rattle.unit_security.specs.Securing.{trailer_of}
+use Rattle.logon_client.specs.Securing.{trailer_context}
 
 -- ---- the bind
 
@@ -41,7 +42,7 @@ pub bind_short : (level : ℕ) (auth : AuthKind) → length (written (bind_for l
 bind_short level auth = omega (arith, bind_length level auth)
 
 -- a bind with the trailer put to it
-pub bind_with : (unit : RpcUnit) (trailer : Trailer) (value : List ℕ) (level : ℕ) (auth : AuthKind) → unit ≡ bind_of memo_syntax 1 → trailer ≡ trailer_of level value →
+pub bind_with : (unit : RpcUnit) (trailer : Trailer) (value : List ℕ) (level : ℕ) (auth : AuthKind) → unit ≡ bind_of memo_syntax 1 → trailer ≡ trailer_of level trailer_context value →
     value ≡ written_negotiate (negotiate_for auth) →
     record { first = unit.first; last = unit.last; call = unit.call; body = unit.body; trailer = Some trailer } ≡ bind_for level auth
 bind_with unit trailer value level auth unit_is trailer_is value_is = cc
@@ -53,7 +54,7 @@ unfolding authenticate_of header_of
 message_some [] message read = absurd cc
 message_some (byte ∷ bytes) message read = omega arith
 
-pub auth3_writable : (bytes : List ℕ) (message : Authenticate) (trailer : Trailer) (level : ℕ) → authenticate_of bytes ≡ Ok message → trailer ≡ trailer_of level bytes →
+pub auth3_writable : (bytes : List ℕ) (message : Authenticate) (trailer : Trailer) (level : ℕ) → authenticate_of bytes ≡ Ok message → trailer ≡ trailer_of level trailer_context bytes →
     IsWritable (record { first = true; last = true; call = 1; body = Auth3; trailer = Some trailer })
 auth3_writable bytes message trailer level read is =
     record { pieces = (refl, refl); counts = tt; value = rw is (message_some bytes message read) }

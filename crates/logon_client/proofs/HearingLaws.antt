@@ -18,8 +18,10 @@ use Rattle.logon_client.specs.declared.state.Talk.{Talk}
 use Rattle.logon_client.specs.declared.state.Terms.{Terms}
 use Rattle.logon_client.specs.declared.state.Work.{Work}
 use Rattle.logon_client.specs.Machine.{awaited, fails, outcome_of, is_response, talk_on, hear, hear_unit, hear_call, hear_body, hear_response, hear_secured, hear_fragment, hear_opened, hear_unit_opened}
-use Rattle.logon_client.specs.Plans.{is_sealed}
-use Rattle.logon_client.specs.Securing.{Secured, secured_if, has_level, open_unit}
+use Rattle.unit_security.specs.Levels.{is_sealed}
+use Rattle.unit_security.specs.declared.securing.Secured.{Secured}
+use Rattle.unit_security.specs.Securing.{secured_if, open_unit}
+use Rattle.logon_client.specs.Securing.{has_level}
 
 -- ---- bytes that are echoed
 

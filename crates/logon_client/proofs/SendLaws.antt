@@ -53,8 +53,11 @@ use Rattle.logon_client.specs.declared.state.Terms.{Terms}
 use Rattle.logon_client.specs.declared.state.Work.{Work}
 use Rattle.logon_client.specs.Answering.{is_enough, drawn_for, answer_of as answer_to, auth3_of}
 use Rattle.logon_client.specs.Machine.{told, asks, answers_by, answers, answers_part, hear_flags, hear_pairs, hear_challenge, hear_trailer, hear_result, hear_ack, hear_name_by, hear_name, hear_echo_by, hear_echo, hear_reply, hear_joined, hear_fragment, hear_body_opened, hear_unit_opened, hear_opened, hear_secured, hear_response, hear_body, hear_call, hear_unit, hear, serve_heard, client_server, by_piece, by_close, after_stream, by_event, link_of, standing_by, step_of, halted, actions_after, state_after, work_of, step_by_outcome, step_by_running, ends, fails}
-use Rattle.logon_client.specs.Plans.{offer_of, is_sealed}
-use Rattle.logon_client.specs.Securing.{Secured, has_level, open_unit}
+use Rattle.unit_security.specs.Levels.{is_sealed}
+use Rattle.logon_client.specs.Plans.{offer_of}
+use Rattle.unit_security.specs.declared.securing.Secured.{Secured}
+use Rattle.unit_security.specs.Securing.{open_unit}
+use Rattle.logon_client.specs.Securing.{has_level}
 use Rattle.logon_client.specs.Sends.{IsOwnLink, IsSentAt, SendsOnItsLink}
 use Rattle.logon_client.specs.State.{State}
 

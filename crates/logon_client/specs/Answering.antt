@@ -32,7 +32,8 @@ use Rattle.logon_client.specs.declared.answering.Keys.{Keys}
 use Rattle.logon_client.specs.declared.answering.Responses.{Responses}
 use Rattle.logon_client.specs.declared.answering.ServerOffer.{ServerOffer}
 use Rattle.logon_client.specs.Plans.{offer_of, needs_ess}
-use Rattle.logon_client.specs.Securing.{trailer_of}
+use Rattle.unit_security.specs.Securing.{trailer_of}
+use Rattle.logon_client.specs.Securing.{trailer_context}
 
 -- ---- the bind
 
@@ -42,7 +43,7 @@ negotiate_for auth = record { flags = offer_of auth; domain = []; workstation = 
 
 -- the bind, which is call 1
 abbrev pub bind_for : ℕ → AuthKind → RpcUnit
-bind_for level auth = record (bind_of memo_syntax 1) { trailer = Some (trailer_of level (written_negotiate (negotiate_for auth))) }
+bind_for level auth = record (bind_of memo_syntax 1) { trailer = Some (trailer_of level trailer_context (written_negotiate (negotiate_for auth))) }
 
 -- ---- the CHALLENGE
 
@@ -141,7 +142,7 @@ answer_of plan offer drawn = answer_with plan offer drawn (responses_of plan off
 
 abbrev pub auth3_unit : ℕ → List ℕ → RpcUnit
 auth3_unit level message =
-    record { first = true; last = true; call = 1; body = Auth3; trailer = Some (trailer_of level message) }
+    record { first = true; last = true; call = 1; body = Auth3; trailer = Some (trailer_of level trailer_context message) }
 
 -- the bytes of a unit, where they are no more than a unit may have
 abbrev pub bytes_if : Bool → RpcUnit → Option (List ℕ)

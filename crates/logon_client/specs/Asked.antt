@@ -19,8 +19,10 @@ use Rattle.logon_client.specs.declared.state.Question.TheVariants.{Who, Echo}
 use Rattle.logon_client.specs.declared.state.Terms.{Terms}
 use Rattle.logon_client.specs.declared.state.Work.{Work}
 use Rattle.logon_client.specs.Machine.{done, fails, asks_echo, echo_bytes, outcome_of, talk_on, hear_name_by, hear_name, hear_echo_by, hear_echo, hear_reply, hear_joined, hear_fragment, hear_body_opened, hear_unit_opened, hear_opened, hear_secured, hear_response, hear_body}
-use Rattle.logon_client.specs.Plans.{is_sealed}
-use Rattle.logon_client.specs.Securing.{Secured, has_level, open_unit}
+use Rattle.unit_security.specs.Levels.{is_sealed}
+use Rattle.unit_security.specs.declared.securing.Secured.{Secured}
+use Rattle.unit_security.specs.Securing.{open_unit}
+use Rattle.logon_client.specs.Securing.{has_level}
 
 -- What holds of an outcome on a link, of Echo that is sent there, and of a response of which more is to come.
 pub record HoldsOf (P : Heard → Type 0) (link : ℕ) (work : Work) : Type 0 where

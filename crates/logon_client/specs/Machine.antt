@@ -58,8 +58,11 @@ use Rattle.logon_client.specs.declared.state.Talk.{Talk}
 use Rattle.logon_client.specs.declared.state.Terms.{Terms}
 use Rattle.logon_client.specs.declared.state.Work.{Work}
 use Rattle.logon_client.specs.Answering.{bind_for, pairs_by, is_enough, time_by, drawn_for, answer_of as answer_to, auth3_of}
-use Rattle.logon_client.specs.Plans.{offer_of, is_sealed}
-use Rattle.logon_client.specs.Securing.{Secured, has_level, open_unit, session_for, send_call}
+use Rattle.unit_security.specs.Levels.{is_sealed}
+use Rattle.logon_client.specs.Plans.{offer_of}
+use Rattle.unit_security.specs.declared.securing.Secured.{Secured}
+use Rattle.unit_security.specs.Securing.{open_unit}
+use Rattle.logon_client.specs.Securing.{has_level, session_for, send_call}
 use Rattle.logon_client.specs.State.{State}
 
 -- ---- numbers of the calls

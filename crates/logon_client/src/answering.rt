@@ -13,7 +13,7 @@ ghost use Rattle.rpc_units.specs.Writing.{IsWritable, written};
 ghost use Rattle.logon_client.specs.Answering.{negotiate_for, bind_for, drawn_for, pairs_sent, responses_of, keys_by, keys_of, answer_by, answer_of, auth3_unit, auth3_of, bytes_within, with_base, nt_by, lm_by};
 
 use crate::plan::{AuthKind, ClientPlan};
-use crate::securing::trailer;
+use crate::securing::TRAILER_CONTEXT;
 use end_links::{bind, unit_bytes};
 use memo_stubs::MEMO;
 use ntlm_messages::{Authenticate, Negotiate, WriteRefused, write_authenticate, write_negotiate};
@@ -24,6 +24,7 @@ use outside::{Chances, StepRefused};
 use rc4_stream::Rc4;
 use rpc_units::{Body, Unit, UnitWriteRefused, write_unit};
 use std::alloc::Global;
+use unit_security::trailer;
 use wire_base::{Blob, NoMemory};
 
 /// What a server's CHALLENGE offers: the flags that are agreed, its challenge, its target information, the time of an
@@ -89,7 +90,7 @@ pub(crate) fn bind_bytes(alloc: Global, level: u8, auth: AuthKind) -> Result<Blo
     ensures most { IfOk result (λ bytes. length bytes ≤ 5840) }
 {
     let unit = Unit {
-        trailer: Some(trailer(level, negotiate_bytes(alloc, auth)?)),
+        trailer: Some(trailer(level, TRAILER_CONTEXT, negotiate_bytes(alloc, auth)?)),
         ..bind(alloc, &MEMO, 1)?
     };
     unit_bytes(alloc, &unit)
@@ -310,7 +311,7 @@ pub(crate) fn auth3_bytes(
         last: true,
         call: 1,
         body: Body::Auth3,
-        trailer: Some(trailer(level, message)),
+        trailer: Some(trailer(level, TRAILER_CONTEXT, message)),
     };
     bytes_within(alloc, &unit)
 }

@@ -25,7 +25,7 @@ ghost use Rattle.logon_client.specs.Securing.{has_level, send_call};
 use crate::answering::ServerOffer;
 use crate::outcome::{ClientOutcome, NoAnswerCause, PeerFault, RefusedCause};
 use crate::plan::AuthKind;
-use crate::securing::{is_signed, open_unit, send_call};
+use crate::securing::send_call;
 use crate::state::{Phase, Question, Talk, Terms, Work};
 use end_links::{fragment_limit, request};
 use memo_stubs::{MemoRefused, read_echo_reply, read_who_reply, write_echo_request};
@@ -41,6 +41,7 @@ use rpc_units::{
     UnitRefused, UnitView, read_unit, stub_of, view_unit,
 };
 use std::alloc::Global;
+use unit_security::{is_signed, open_unit};
 use wire_base::{Blob, NoMemory, Units};
 
 /// What a unit comes to, before anything is drawn for it.

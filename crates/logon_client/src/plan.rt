@@ -1,12 +1,13 @@
 //! What a client is to do.
 
 ghost use Rattle.std.specs.Prelude.{◌≡◌, ◌≤◌, IfOk};
-ghost use Rattle.logon_client.specs.Plans.{CanLogOn, is_sealed, offer_of};
+ghost use Rattle.unit_security.specs.Levels.{is_sealed};
+ghost use Rattle.logon_client.specs.Plans.{CanLogOn, offer_of};
 
 use ntlm_flags::{OFFERED_FLAGS, OFFERED_FLAGS_V1};
-use rpc_units::PRIVACY_LEVEL;
 use std::alloc::Global;
 use std::marker::Model;
+use unit_security::is_sealed;
 use wire_base::{Blob, NoMemory, Units};
 
 /// The responses that a client gives (MS-NLMP 3.3.1, 3.3.2).
@@ -124,7 +125,7 @@ impl Task {
     pub fn seals(&self) -> bool
         ensures { result ≡ is_sealed self.now.level }
     {
-        self.plan.level == PRIVACY_LEVEL
+        is_sealed(self.plan.level)
     }
 
     /// How many bytes are echoed.

@@ -8,7 +8,7 @@ use Rattle.logon_runs.specs.Runs.{Asked, sam_for, message_for, hidden}
 use Rattle.std.proofs.Common.{ap, ◌∙◌}
 use Rattle.std.specs.Prelude.{◌&&◌}
 use Rattle.ntlm_flags.specs.Flags.{has_flag, negotiate_extended_sessionsecurity}
-use Rattle.logon_client.specs.Plans.{is_signed}
+use Rattle.unit_security.specs.Levels.{is_signed}
 use Rattle.logon_client.specs.Securing.{session_for, session_if}
 use Rattle.member_server.specs.Levels.{is_plain}
 use Rattle.member_server.specs.Outcomes.{session_in}

@@ -8,7 +8,8 @@ use Rattle.account_table.specs.AccountTable.{AccountTable}
 use Rattle.account_table.specs.Ranges.{InRangeAccount, InRangeSid}
 use Rattle.account_table.specs.declared.account.Account.{Account}
 use Rattle.channel_client.specs.declared.state.Question.TheVariants as question
-use Rattle.logon_client.specs.Plans.{CanLogOn, is_signed}
+use Rattle.unit_security.specs.Levels.{is_signed}
+use Rattle.logon_client.specs.Plans.{CanLogOn}
 use Rattle.member_server.specs.Outcomes.{name_in}
 use Rattle.member_server.specs.Turns.{timestamp_of}
 use Rattle.logon_steps.specs.Answers.{AreDraws, answer_for, drawn_of, terms_for}

@@ -38,7 +38,8 @@ use Rattle.logon_client.specs.declared.plan.AuthKind.{AuthKind}
 use Rattle.logon_client.specs.declared.plan.AuthKind.TheVariants.{V1, V1Ess, V2}
 use Rattle.logon_client.specs.declared.plan.ClientPlan.{ClientPlan}
 use Rattle.logon_client.specs.Answering.{nt_by, pairs_sent}
-use Rattle.logon_client.specs.Plans.{CanLogOn, is_signed, offer_of}
+use Rattle.unit_security.specs.Levels.{is_signed}
+use Rattle.logon_client.specs.Plans.{CanLogOn, offer_of}
 use Rattle.logon_client.specs.Securing.{session_if}
 use Rattle.logon_client.proofs.AnswerLaws.{answers_verify, keys_found}
 use Rattle.member_server.specs.declared.plan.MemberPlan.{MemberPlan}

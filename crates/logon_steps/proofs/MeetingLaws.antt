@@ -40,7 +40,7 @@ use Rattle.logon_client.specs.declared.state.Work.{Work as ClientWork}
 use Rattle.logon_client.specs.Answering.{bind_for, drawn_for, is_enough, negotiate_for, pairs_by}
 use Rattle.logon_client.specs.Machine as client
 use Rattle.logon_client.specs.Plans.{CanLogOn, is_level, needs_ess, offer_of}
-use Rattle.logon_client.specs.Securing.{trailer_of}
+use Rattle.unit_security.specs.Securing.{trailer_of}
 use Rattle.member_server.specs.declared.binds.Offer.{Offer}
 use Rattle.member_server.specs.declared.plan.MemberPlan.{MemberPlan}
 use Rattle.member_server.specs.declared.state.AtLink.{AtLink}
@@ -119,9 +119,9 @@ enough_agreed task can = agreed task.auth task.level can.plain where
   agreed V1Ess level plain = or_true (not (needs_ess level V1Ess))
   agreed V2 level plain = or_true (not (needs_ess level V2))
 
-offer_found : (task : ClientPlan) → CanLogOn task → binds.offer_in (Some (trailer_of task.level (written_negotiate (negotiate_for task.auth)))) ≡ Some (offer_heard task)
+offer_found : (task : ClientPlan) → CanLogOn task → binds.offer_in (Some (trailer_of task.level 1 (written_negotiate (negotiate_for task.auth)))) ≡ Some (offer_heard task)
 offer_found task can =
-    let trailer : Trailer = trailer_of task.level (written_negotiate (negotiate_for task.auth)) in
+    let trailer : Trailer = trailer_of task.level 1 (written_negotiate (negotiate_for task.auth)) in
     ap (λ (served : Bool). binds.offer_at served trailer) (level_served task.level can.level)
     ∙ ap (λ (read : Result Negotiate MessageRefused). binds.offer_by read trailer) (negotiate_read task.auth)
     ∙ ap (λ (enough : Bool). binds.offer_if enough trailer (offer_of task.auth)) (enough_offered task can)

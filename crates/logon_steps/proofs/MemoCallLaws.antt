@@ -1,7 +1,7 @@
 -- A call of a client to its member under a logon, and the reply.
 -- Of `memo_calls_go`.
 use Rattle.std.proofs.Common.{◌≡◌, ℕ, ◌≤◌, ◌<◌, ◌+◌, ◌-◌, ◌^◌, Bool, true, false, List, [], ◌∷◌, length, Option, Some, None, Result, Ok, refl, sym, ap, ap₂, subst, ◌∙◌, arith, append-nil}
-use Rattle.std.specs.Prelude.{◌&&◌, ◌==◌, replicate}
+use Rattle.std.specs.Prelude.{◌&&◌, ◌==◌}
 use Rattle.std.specs.List.{AllByRecursion, flat_map}
 use Rattle.std.proofs.lemmas.Bool.{eq-eqb, le-leb}
 use Rattle.ntlm_seal.specs.Directions.{Direction}
@@ -21,23 +21,24 @@ use Rattle.rpc_units.proofs.CuttingLaws.{cut_sendable, fragments_end}
 use Rattle.rpc_units.proofs.JoiningLaws.{with_stub-own}
 use Rattle.rpc_units.proofs.SealedLaws.{unit_of-value_replaced, value_replaced-written}
 use Rattle.rpc_units.proofs.WritingLaws.{length_written}
-use Rattle.end_links.specs.Sending.{request_of}
+use Rattle.end_links.specs.Sending.{request_of, response_of}
 use Rattle.logon_client.specs.declared.state.Phase.TheVariants as client_phase
 use Rattle.logon_client.specs.declared.state.Question.{Question}
 use Rattle.logon_client.specs.declared.state.Terms.{Terms}
 use Rattle.logon_client.specs.declared.state.Work.{Work as ClientWork}
 use Rattle.logon_client.specs.Machine as client
-use Rattle.logon_client.specs.Plans.{is_sealed}
-use Rattle.logon_client.specs.Securing.{Secured, has_level, open_unit as client_open, secure_all, secure_unit, sent_secured, then_secured, trailer_of}
+use Rattle.unit_security.specs.Levels.{is_sealed}
+use Rattle.unit_security.specs.declared.securing.Secured.{Secured}
+use Rattle.unit_security.specs.Opening.{HasRoom, Travels}
+use Rattle.unit_security.specs.Securing.{blank_trailer, open_unit, secure_all, secure_call, secure_unit, then_secured}
+use Rattle.unit_security.proofs.OpeningLaws.{secured_is_opened}
+use Rattle.logon_client.specs.Securing.{has_level, sent_secured}
 use Rattle.member_server.specs.declared.state.AtLink.{AtLink}
 use Rattle.member_server.specs.declared.state.LoggedOn.{LoggedOn}
-use Rattle.member_server.specs.Levels.{is_plain, is_sealing}
-use Rattle.member_server.specs.Requests.{after_opening, answer_call, cause_by, join_by, join_unit, open_unit, reply_with, seal_reply, send_reply, send_sealed, signed_cause, signed_unit, talk_in, unit_in}
-use Rattle.member_server.specs.Sealing.{Opening, blank_trailer, is_due, frame_by, frames_by, opening_by, then_frame}
+use Rattle.member_server.specs.Levels.{is_plain}
+use Rattle.member_server.specs.Requests.{answer_call, cause_by, is_due, join_by, join_opened, join_unit, open_request, secure_reply, send_reply, send_secured, signed_cause, signed_unit, talk_in, unit_in}
 use Rattle.member_server.specs.Work.{send, stay}
 use Rattle.logon_steps.specs.MemoCalls.{AreSessions, MemoCallsGo, ReplyGoes, RequestGoes, logged_on, with_session}
-use Rattle.logon_steps.specs.Securing.{HasRoom, Travels, TravelsToClient, TravelsToMember}
-use Rattle.logon_steps.proofs.SecuringLaws.{units_travel}
 use Rattle.logon_steps.proofs.StreamLaws.{read_again}
 
 -- ---- a call that fits into one unit
@@ -163,13 +164,13 @@ secured_one seals one unit sent later is =
 
 -- the request with room for a signature of the client
 abbrev pub signed_request_at : ℕ → ℕ → ℕ → List ℕ → RpcUnit
-signed_request_at level number opnum stub = request_at number opnum stub (Some (trailer_of level (replicate 16 0)))
+signed_request_at level number opnum stub = request_at number opnum stub (Some (blank_trailer level 1))
 
 pub request_room : (level number opnum : ℕ) (stub : List ℕ) → number < 2 ^ 32 → opnum < 2 ^ 16 → length stub ≤ 5792 → HasRoom (signed_request_at level number opnum stub)
 request_room level number opnum stub below op short = record {
-  sends = one_sends (signed_request_at level number opnum stub) (request_can number opnum stub (Some (trailer_of level (replicate 16 0))) below op short (refl, omega arith)) short;
+  sends = one_sends (signed_request_at level number opnum stub) (request_can number opnum stub (Some (blank_trailer level 1)) below op short (refl, omega arith)) short;
   stub = tt;
-  trailer = trailer_of level (replicate 16 0);
+  trailer = blank_trailer level 1;
   has = refl;
   room = refl;
 }
@@ -181,18 +182,17 @@ due level other context value is sixteen =
     ∙ ap₂ (λ (a b : Bool). a && b) (eq-eqb level level refl) (eq-eqb (length value) 16 sixteen)
 
 signed_request_heard : (level number opnum : ℕ) (stub : List ℕ) (one other : SessionState) → length stub ≤ 5792 → is_plain level ≡ false →
-    HasRoom (signed_request_at level number opnum stub) → (goes : TravelsToMember (is_sealed level) (signed_request_at level number opnum stub) one other) →
+    HasRoom (signed_request_at level number opnum stub) → (t : Travels (is_sealed level) (signed_request_at level number opnum stub) one other) →
     (on : LoggedOn) (at : AtLink) → on.bound.level ≡ level → on.session ≡ Some other →
-    unit_in (is_plain level) goes.travels.sent on None at ≡ answer_call (request_of number 0 opnum stub).body number (logged_on on (Some goes.travels.next)) None at
-signed_request_heard level number opnum stub one other short plain room goes on at level_is session_is =
-    let t : Travels (signed_request_at level number opnum stub) one other = goes.travels in
+    unit_in (is_plain level) t.sent on None at ≡ answer_call (request_of number 0 opnum stub).body number (logged_on on (Some t.next)) None at
+signed_request_heard level number opnum stub one other short plain room t on at level_is session_is =
     let call : RpcUnit = signed_request_at level number opnum stub in
     ap (λ (p : Bool). unit_in p t.sent on None at) plain
     ∙ ap (λ (read : Result RpcUnit UnitRefused). signed_unit (signed_cause read on.bound.level) t.sent on None at) t.read
     ∙ ap (λ (d : Bool). signed_unit (cause_by (Request (length stub) 0 opnum t.stub) d) t.sent on None at) (due level on.bound.level 1 t.signature level_is t.sixteen)
-    ∙ ap (λ (session : Option SessionState). open_unit session t.sent on None at) session_is
-    ∙ ap (λ (l : ℕ). after_opening (opening_by (is_sealing l) other t.sent) on None at) level_is
-    ∙ ap (λ (opening : Opening). after_opening opening on None at) goes.opened
+    ∙ ap (λ (session : Option SessionState). open_request session t.sent on None at) session_is
+    ∙ ap (λ (l : ℕ). join_opened (open_unit (is_sealed l) other t.sent) on None at) level_is
+    ∙ ap (λ (opened : Option Secured). join_opened opened on None at) t.opened
     ∙ joined_request number opnum stub (Some (record { kind = 10; level = level; context = 1; value = t.signature })) (written (unit_with_value call t.signature)) (logged_on on (Some t.next)) at
     short (signed_read call t.signature room t.sixteen)
 
@@ -201,14 +201,12 @@ signed_request : (most level number opnum : ℕ) (stub : List ℕ) (one other : 
 signed_request most level number opnum stub one other few below op short are =
     let call : RpcUnit = signed_request_at level number opnum stub in
     let room : HasRoom call = request_room level number opnum stub below op short in
-    let goes : TravelsToMember (is_sealed level) call one other = units_travel.to_member (is_sealed level) call one other room are.1 (omega (arith, few, are.2)) in
-    signed_goes most level number opnum stub one other short are room goes where
+    signed_goes most level number opnum stub one other short are room (secured_is_opened (is_sealed level) call one other room are.1 (omega (arith, few, are.2))) where
       signed_goes : (most level number opnum : ℕ) (stub : List ℕ) (one other : SessionState) → length stub ≤ 5792 → AreSessions most level (Some one) (Some other) →
-          HasRoom (signed_request_at level number opnum stub) → TravelsToMember (is_sealed level) (signed_request_at level number opnum stub) one other →
+          HasRoom (signed_request_at level number opnum stub) → Travels (is_sealed level) (signed_request_at level number opnum stub) one other →
           RequestGoes most level number opnum stub (Some one) (Some other)
-      signed_goes most level number opnum stub one other short are room goes =
+      signed_goes most level number opnum stub one other short are room t =
           let call : RpcUnit = signed_request_at level number opnum stub in
-          let t : Travels call one other = goes.travels in
           record {
             sent = t.sent;
             later = Some t.later;
@@ -216,14 +214,14 @@ signed_request most level number opnum stub one other few below op short are =
             sessions = (are.0, t.paired, omega (arith, t.count, are.2), subst (λ (n : ℕ). n < most + 1) (sym (ap number_of t.back)) (omega (arith, are.3)));
             goes = ap (λ (units : List RpcUnit). sent_secured (secure_all (is_sealed level) one units))
                 (one_fragment call (record { stub = tt; first = refl; last = refl }) short)
-                ∙ ap sent_secured (secured_one (is_sealed level) one call t.sent t.later goes.secured);
+                ∙ ap sent_secured (secured_one (is_sealed level) one call t.sent t.later t.secured);
             some = omega (arith, t.size, length_written call);
             short = omega (arith, t.size, room.sends.short);
             unit = unit_with_value (unit_with_stub call t.stub) t.signature;
             read = t.read;
             call = refl;
             body = refl;
-            heard = signed_request_heard level number opnum stub one other short are.0 room goes;
+            heard = signed_request_heard level number opnum stub one other short are.0 room t;
           }
 
 -- ---- a reply
@@ -283,42 +281,34 @@ reply_room level number stub below short = record {
   room = refl;
 }
 
-framed_one : (sealing : Bool) (s : SessionState) (unit : RpcUnit) (sent : List ℕ) (later : SessionState) → frame_by sealing s (written unit) ≡ Some (sent, later) →
-    frames_by sealing s (unit ∷ []) ≡ Some (sent, later)
-framed_one sealing s unit sent later is =
-    ap (λ (first : Option (List ℕ × SessionState)). then_frame first (λ next. frames_by sealing next [])) is
-    ∙ ap (λ (bytes : List ℕ). Some (bytes, later)) (append-nil sent)
-
 pub signed_reply_sent : (level number : ℕ) (stub : List ℕ) (one other : SessionState) → length stub ≤ 5792 → is_plain level ≡ false →
-    (goes : TravelsToClient (is_sealed level) (signed_reply_at level number stub) other one) →
+    (t : Travels (is_sealed level) (signed_reply_at level number stub) other one) →
     (on : LoggedOn) (at : AtLink) → on.bound.level ≡ level → on.bound.context ≡ 1 → on.bound.binding.limit ≡ 5840 → on.session ≡ Some other →
-    send_reply (is_plain level) number 0 stub on None at ≡ stay (send at goes.travels.sent) (talk_in None (logged_on on (Some goes.travels.later)))
-signed_reply_sent level number stub one other short plain goes on at level_is context_is limit_is session_is =
-    let t : Travels (signed_reply_at level number stub) other one = goes.travels in
+    send_reply (is_plain level) number 0 stub on None at ≡ stay (send at t.sent) (talk_in None (logged_on on (Some t.later)))
+signed_reply_sent level number stub one other short plain t on at level_is context_is limit_is session_is =
     ap (λ (p : Bool). send_reply p number 0 stub on None at) plain
-    ∙ ap (λ (session : Option SessionState). seal_reply session number 0 stub on None at) session_is
-    ∙ ap₂ (λ (l context : ℕ). send_sealed (frames_by (is_sealing l) other (cut_of (reply_with (blank_trailer l context) number 0 stub) on.bound.binding.limit)) on None at) level_is context_is
-    ∙ ap (λ (limit : ℕ). send_sealed (frames_by (is_sealing level) other (cut_of (signed_reply_at level number stub) limit)) on None at) limit_is
-    ∙ ap (λ (units : List RpcUnit). send_sealed (frames_by (is_sealing level) other units) on None at)
+    ∙ ap (λ (session : Option SessionState). secure_reply session number 0 stub on None at) session_is
+    ∙ ap₂ (λ (l context : ℕ). send_secured (secure_call other l context (response_of number 0 stub) on.bound.binding.limit) on None at) level_is context_is
+    ∙ ap (λ (limit : ℕ). send_secured (secure_call other level 1 (response_of number 0 stub) limit) on None at) limit_is
+    ∙ ap (λ (units : List RpcUnit). send_secured (secure_all (is_sealed level) other units) on None at)
     (one_fragment (signed_reply_at level number stub) (record { stub = tt; first = refl; last = refl }) short)
-    ∙ ap (λ (frames : Option (List ℕ × SessionState)). send_sealed frames on None at) (framed_one (is_sealing level) other (signed_reply_at level number stub) t.sent t.later goes.secured)
+    ∙ ap (λ (secured : Option Secured). send_secured secured on None at) (secured_one (is_sealed level) other (signed_reply_at level number stub) t.sent t.later t.secured)
 
 signed_reply_heard : (level number : ℕ) (stub : List ℕ) (one other : SessionState) → length stub ≤ 5792 → HasRoom (signed_reply_at level number stub) →
-    (goes : TravelsToClient (is_sealed level) (signed_reply_at level number stub) other one) →
+    (t : Travels (is_sealed level) (signed_reply_at level number stub) other one) →
     (terms : Terms) (question : Question) (link : ℕ) (work : ClientWork) → work.task.level ≡ level → terms.session ≡ Some one →
     client.awaited (client_phase.Asked terms question) ≡ number →
-    client.hear goes.travels.sent (client.talk_on link None (client_phase.Asked terms question)) work
-    ≡ client.hear_reply question stub (with_session terms (Some goes.travels.next)) link work
-signed_reply_heard level number stub one other short room goes terms question link work level_is session_is waits =
-    let t : Travels (signed_reply_at level number stub) other one = goes.travels in
+    client.hear t.sent (client.talk_on link None (client_phase.Asked terms question)) work
+    ≡ client.hear_reply question stub (with_session terms (Some t.next)) link work
+signed_reply_heard level number stub one other short room t terms question link work level_is session_is waits =
     let call : RpcUnit = signed_reply_at level number stub in
     let came : RpcUnit = unit_with_value (unit_with_stub call t.stub) t.signature in
     awaited_heard came t.sent number terms question link work t.read refl waits
     ∙ ap (λ (s : Option SessionState). client.hear_response s came t.sent None terms question link work) session_is
     ∙ ap (λ (l : ℕ). client.hear_secured (has_level l came.trailer) t.sent one None terms question link work) level_is
     ∙ ap (λ (same : Bool). client.hear_secured same t.sent one None terms question link work) (eq-eqb level level refl)
-    ∙ ap (λ (l : ℕ). client.hear_opened (client_open (is_sealed l) one t.sent) None terms question link work) level_is
-    ∙ ap (λ (opened : Option Secured). client.hear_opened opened None terms question link work) goes.opened
+    ∙ ap (λ (l : ℕ). client.hear_opened (open_unit (is_sealed l) one t.sent) None terms question link work) level_is
+    ∙ ap (λ (opened : Option Secured). client.hear_opened opened None terms question link work) t.opened
     ∙ ap (λ (read : Result RpcUnit UnitRefused). client.hear_unit_opened read None (with_session terms (Some t.next)) question link work) (signed_read call t.signature room t.sixteen)
     ∙ joined_response number stub (Some (record { kind = 10; level = level; context = 1; value = t.signature })) (with_session terms (Some t.next)) question link work short
 
@@ -334,21 +324,20 @@ memo_calls_go = record {
   request_by most level number opnum stub (Some one) (Some other) few below op short are = signed_request most level number opnum stub one other few below op short are
 
   reply_goes : (most level number : ℕ) (stub : List ℕ) (one other : SessionState) → length stub ≤ 5792 → AreSessions most level (Some one) (Some other) →
-      HasRoom (signed_reply_at level number stub) → TravelsToClient (is_sealed level) (signed_reply_at level number stub) other one →
+      HasRoom (signed_reply_at level number stub) → Travels (is_sealed level) (signed_reply_at level number stub) other one →
       ReplyGoes most level number stub (Some other) (Some one)
-  reply_goes most level number stub one other short are room goes =
-      let t : Travels (signed_reply_at level number stub) other one = goes.travels in
+  reply_goes most level number stub one other short are room t =
       record {
         sent = t.sent;
         later = Some t.later;
         next = Some t.next;
         sessions = (are.0, record { there = t.paired.back; back = t.paired.there }, subst (λ (n : ℕ). n < most + 1) (sym (ap number_of t.back)) (omega (arith, are.2)), omega (arith, t.count, are.3));
-        goes = signed_reply_sent level number stub one other short are.0 goes;
+        goes = signed_reply_sent level number stub one other short are.0 t;
         some = omega (arith, t.size, length_written (signed_reply_at level number stub));
         short = omega (arith, t.size, room.sends.short);
         unit = unit_with_value (unit_with_stub (signed_reply_at level number stub) t.stub) t.signature;
         read = t.read;
-        heard = signed_reply_heard level number stub one other short room goes;
+        heard = signed_reply_heard level number stub one other short room t;
       }
 
   reply_by : (most level number : ℕ) (stub : List ℕ) (one other : Option SessionState) → most < 2 ^ 32 - 1 → number < 2 ^ 32 → length stub ≤ 5792 →
@@ -357,5 +346,5 @@ memo_calls_go = record {
   reply_by most level number stub (Some one) None few below short are = absurd are
   reply_by most level number stub (Some one) (Some other) few below short are =
       reply_goes most level number stub one other short are (reply_room level number stub below short)
-      (units_travel.to_client (is_sealed level) (signed_reply_at level number stub) other one (reply_room level number stub below short)
+      (secured_is_opened (is_sealed level) (signed_reply_at level number stub) other one (reply_room level number stub below short)
       (record { there = are.1.back; back = are.1.there }) (omega (arith, few, are.3)))

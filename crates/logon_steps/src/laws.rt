@@ -14,7 +14,6 @@ ghost use Rattle.logon_steps.specs.MemberAnswers.{LogonsEnd};
 ghost use Rattle.logon_steps.specs.MemberLinks.{LinksStep};
 ghost use Rattle.logon_steps.specs.MemberTurns.{TurnsStep};
 ghost use Rattle.logon_steps.specs.MemoCalls.{MemoCallsGo};
-ghost use Rattle.logon_steps.specs.Securing.{UnitsTravel};
 ghost use Rattle.logon_steps.specs.Telling.{LogonsAreShort};
 ghost use Rattle.logon_steps.specs.Turning.{TurnsGoThrough};
 
@@ -56,13 +55,6 @@ pub fn controllers_step()
 #[tactic(auto, using(crate::proofs::MeetingLaws::meets))]
 pub fn clients_and_members_meet()
     ensures { Meets }
-{}
-
-/// A unit that a client signs or seals is taken by its member, and one of a member by its client,
-/// while both sessions are in step; and they are so again.
-#[tactic(auto, using(crate::proofs::SecuringLaws::units_travel))]
-pub fn units_travel()
-    ensures { UnitsTravel }
 {}
 
 /// A client's call under its logon is heard once at its member, and the reply at the client, at

@@ -7,5 +7,5 @@ mod laws;
 pub use laws::{
     answers_are_asked, calls_are_answered, calls_can_go, clients_and_members_meet, clients_step,
     computers_are_known, controllers_step, links_step, logons_are_asked, logons_are_granted,
-    logons_are_short, logons_end, memo_calls_go, turns_go_through, turns_step, units_travel,
+    logons_are_short, logons_end, memo_calls_go, turns_go_through, turns_step,
 };

@@ -11,7 +11,6 @@ mod OtherLinkLaws
 mod OutcomeLaws
 mod PendingLaws
 mod QuietLaws
-mod SealingLaws
 mod StepLaws
 mod StepRules
 mod TurnLaws

@@ -43,7 +43,8 @@ use Rattle.member_server.specs.Levels.{is_plain}
 use Rattle.rpc_units.specs.Numbers.{ntlm_provider}
 use Rattle.member_server.specs.Memo.{call_answer}
 use Rattle.member_server.specs.Messages.{ask_by, info_of, is_fit, take_auth3, take_message, take_trailer, wait_by, with_channel}
-use Rattle.member_server.specs.Requests.{answer_call, body_asked, body_out, hold_by, join_by, join_if, join_request, join_unit, open_unit, reply, seal_reply, send_reply, send_sealed, signed_cause, signed_unit, talk_in, unit_asked, unit_in, unit_out, with_session}
+use Rattle.unit_security.specs.declared.securing.Secured.{Secured}
+use Rattle.member_server.specs.Requests.{answer_call, body_asked, body_out, hold_by, join_by, join_opened, join_request, join_unit, open_request, reply, secure_reply, send_reply, send_secured, signed_cause, signed_unit, talk_in, unit_asked, unit_in, unit_out, with_session}
 use Rattle.member_server.specs.Units.{body_challenged, bound_unit, serve_held, then_said, unit_challenged}
 use Rattle.member_server.specs.Work.{Served, send, shut, stay}
 use Rattle.member_server.proofs.StepRules.{Holds, LinkRules}
@@ -146,15 +147,15 @@ module _ (P : Type 0) (K : Holds) (rules : LinkRules K) where
 
   -- ---- a user is logged on
 
-  sealed_fine : (sealed : Option (List ℕ × SessionState)) (on : LoggedOn) (joiner : Option RpcUnit) (at : AtLink) → K at.logons at.actions →
-      Fine P K (send_sealed sealed on joiner at)
-  sealed_fine None on joiner at good = shut_fine close.BadAuthentication at good
-  sealed_fine (Some sent) on joiner at good = put_fine sent.0 (talk_in joiner (with_session on sent.1)) at good (λ p. tt)
+  secured_fine : (secured : Option Secured) (on : LoggedOn) (joiner : Option RpcUnit) (at : AtLink) → K at.logons at.actions →
+      Fine P K (send_secured secured on joiner at)
+  secured_fine None on joiner at good = shut_fine close.BadAuthentication at good
+  secured_fine (Some secured) on joiner at good = put_fine secured.bytes (talk_in joiner (with_session on secured.session)) at good (λ p. tt)
 
   seal_fine : (session : Option SessionState) (call context : ℕ) (stub : List ℕ) (on : LoggedOn) (joiner : Option RpcUnit) (at : AtLink) → K at.logons at.actions →
-      Fine P K (seal_reply session call context stub on joiner at)
+      Fine P K (secure_reply session call context stub on joiner at)
   seal_fine None call context stub on joiner at good = shut_fine close.BadAuthentication at good
-  seal_fine (Some session) call context stub on joiner at good = sealed_fine _ on joiner at good
+  seal_fine (Some session) call context stub on joiner at good = secured_fine _ on joiner at good
 
   send_fine : (plain : Bool) (call context : ℕ) (stub : List ℕ) (on : LoggedOn) (joiner : Option RpcUnit) (at : AtLink) → K at.logons at.actions →
       Fine P K (send_reply plain call context stub on joiner at)
@@ -195,14 +196,14 @@ module _ (P : Type 0) (K : Holds) (rules : LinkRules K) where
   plain_fine (Err why) on joiner at good = shut_fine close.BadUnit at good
   plain_fine (Ok unit) on joiner at good = request_fine unit.body unit on joiner at good
 
-  if_fine : (is_taken : Bool) (bytes : List ℕ) (on : LoggedOn) (joiner : Option RpcUnit) (at : AtLink) → K at.logons at.actions → Fine P K (join_if is_taken bytes on joiner at)
-  if_fine false bytes on joiner at good = shut_fine close.BadAuthentication at good
-  if_fine true bytes on joiner at good = plain_fine (unit_of bytes) on joiner at good
+  opened_fine : (opened : Option Secured) (on : LoggedOn) (joiner : Option RpcUnit) (at : AtLink) → K at.logons at.actions → Fine P K (join_opened opened on joiner at)
+  opened_fine None on joiner at good = shut_fine close.BadAuthentication at good
+  opened_fine (Some opened) on joiner at good = plain_fine (unit_of opened.bytes) (with_session on opened.session) joiner at good
 
   open_fine : (session : Option SessionState) (bytes : List ℕ) (on : LoggedOn) (joiner : Option RpcUnit) (at : AtLink) → K at.logons at.actions →
-      Fine P K (open_unit session bytes on joiner at)
+      Fine P K (open_request session bytes on joiner at)
   open_fine None bytes on joiner at good = shut_fine close.BadAuthentication at good
-  open_fine (Some session) bytes on joiner at good = if_fine _ _ _ joiner at good
+  open_fine (Some session) bytes on joiner at good = opened_fine _ on joiner at good
 
   signed_fine : (cause : Option CloseCause) (bytes : List ℕ) (on : LoggedOn) (joiner : Option RpcUnit) (at : AtLink) → K at.logons at.actions →
       Fine P K (signed_unit cause bytes on joiner at)

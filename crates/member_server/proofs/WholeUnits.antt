@@ -8,14 +8,9 @@ use Rattle.ntlm_messages.specs.declared.messages.Authenticate.{Authenticate}
 use Rattle.ntlm_messages.specs.declared.refused.MessageRefused.{MessageRefused}
 use Rattle.ntlm_messages.specs.Authenticate.{authenticate_of}
 use Rattle.ntlm_seal.specs.Sessions.{SessionState}
-use Rattle.outside.specs.declared.action.Action.TheVariants as action
 use Rattle.outside.specs.declared.action.CloseCause.{CloseCause}
-use Rattle.outside.specs.declared.action.CloseCause.TheVariants as close
-use Rattle.outside.specs.declared.action.DropCause.TheVariants as drop_cause
-use Rattle.outside.specs.declared.action.Outcome.TheVariants as outcome
 use Rattle.outside.specs.declared.action.Action.{Action}
 use Rattle.rpc_units.specs.declared.refused.JoinRefused.{JoinRefused}
-use Rattle.rpc_units.specs.declared.refused.JoinRefused.TheVariants as join
 use Rattle.rpc_units.specs.declared.refused.UnitRefused.{UnitRefused}
 use Rattle.rpc_units.specs.declared.unit.Body.{Body}
 use Rattle.rpc_units.specs.declared.unit.Body.TheVariants.{Bind, BindAck, BindNak, Auth3, Request, Response, Fault}
@@ -35,32 +30,36 @@ use Rattle.end_links.specs.Binding.{nak_of}
 use Rattle.end_links.specs.Serving.{ServedPart}
 use Rattle.end_links.proofs.KeepLaws.{StaysAmong}
 use Rattle.channel_client.specs.declared.answers.AskRefused.{AskRefused}
-use Rattle.channel_client.specs.declared.answers.AskRefused.TheVariants as ask_refused
 use Rattle.channel_client.specs.Machine.{ask_of}
 use Rattle.channel_client.specs.Whole.{InRangeLogon, InRangeRequester}
 use Rattle.channel_client.proofs.WholeLaws.{requesters_send_whole}
 use Rattle.member_server.specs.declared.memo.Answer.{Answer}
-use Rattle.member_server.specs.declared.memo.Answer.TheVariants as answer
 use Rattle.member_server.specs.declared.state.AtLink.{AtLink}
 use Rattle.member_server.specs.declared.state.Bound.{Bound}
 use Rattle.member_server.specs.declared.state.LoggedOn.{LoggedOn}
 use Rattle.member_server.specs.declared.state.Logon.{Logon}
 use Rattle.member_server.specs.declared.state.Phase.{Phase}
-use Rattle.member_server.specs.declared.state.Phase.TheVariants as phase
 use Rattle.member_server.specs.declared.state.Talk.{Talk}
 use Rattle.member_server.specs.Held.{held_limit, held_size}
 use Rattle.member_server.specs.Levels.{is_plain}
 use Rattle.member_server.specs.Memo.{call_answer}
 use Rattle.member_server.specs.Messages.{ask_by, info_of, is_fit, take_auth3, take_message, take_trailer, wait_by, with_channel}
-use Rattle.member_server.specs.Requests.{answer_call, body_asked, body_out, hold_by, join_by, join_if, join_request, join_unit, open_unit, reply, seal_reply, send_reply, send_sealed, signed_cause, signed_unit, talk_in, unit_asked, unit_in, unit_out, with_session}
-use Rattle.member_server.specs.Units.{body_challenged, bound_unit, serve_held, then_said, unit_challenged}
-use Rattle.member_server.specs.Work.{Served, send, shut, stay}
+use Rattle.member_server.specs.Requests.{answer_call, body_asked, body_out, hold_by, join_by, join_request, join_unit, reply, send_reply, signed_cause, signed_unit, talk_in, unit_asked, unit_in, unit_out, with_session, join_opened, open_request, secure_reply, send_secured}
+use Rattle.member_server.specs.Units.{body_challenged, bound_unit, serve_held, then_said, unit_challenged, first_unit, is_fresh, link_server, unit_by}
+use Rattle.member_server.specs.Work.{Served, send, shut, stay, tell}
 use Rattle.member_server.specs.declared.binds.Offer.{Offer}
 use Rattle.member_server.specs.Binds.{ack_fits, answer_bind, bind_by, bound_by, challenge_ack, fresh_unit, offer_in}
-use Rattle.member_server.specs.Units.{first_unit, is_fresh, link_server, unit_by}
 use Rattle.member_server.specs.Whole.{AreChallenges, InRangePhase, IsSentOn}
-use Rattle.member_server.specs.Work.{tell}
 use Rattle.member_server.proofs.WholeParts.{FitsTrailer, info_fits, trailer_fits}
+use Rattle.unit_security.specs.declared.securing.Secured.{Secured}
+use Rattle.outside.specs.declared.action.Action.TheVariants as action
+use Rattle.outside.specs.declared.action.CloseCause.TheVariants as close
+use Rattle.outside.specs.declared.action.DropCause.TheVariants as drop_cause
+use Rattle.outside.specs.declared.action.Outcome.TheVariants as outcome
+use Rattle.rpc_units.specs.declared.refused.JoinRefused.TheVariants as join
+use Rattle.channel_client.specs.declared.answers.AskRefused.TheVariants as ask_refused
+use Rattle.member_server.specs.declared.memo.Answer.TheVariants as answer
+use Rattle.member_server.specs.declared.state.Phase.TheVariants as phase
 
 -- ---- what is kept
 
@@ -191,15 +190,15 @@ module _ (First Second : ℕ → Type 0) where
 
   -- ---- a user is logged on
 
-  sealed_fits : (sealed : Option (List ℕ × SessionState)) (on : LoggedOn) (joiner : Option RpcUnit) (at : AtLink) → AtFits First Second at →
-      ServedFits First Second (send_sealed sealed on joiner at)
-  sealed_fits None on joiner at fits = shut_fits close.BadAuthentication at fits
-  sealed_fits (Some sent) on joiner at fits = send_fits sent.0 (talk_in joiner (with_session on sent.1)) at fits tt
+  secured_fits : (secured : Option Secured) (on : LoggedOn) (joiner : Option RpcUnit) (at : AtLink) → AtFits First Second at →
+      ServedFits First Second (send_secured secured on joiner at)
+  secured_fits None on joiner at fits = shut_fits close.BadAuthentication at fits
+  secured_fits (Some secured) on joiner at fits = send_fits secured.bytes (talk_in joiner (with_session on secured.session)) at fits tt
 
   seal_fits : (session : Option SessionState) (call context : ℕ) (stub : List ℕ) (on : LoggedOn) (joiner : Option RpcUnit) (at : AtLink) → AtFits First Second at →
-      ServedFits First Second (seal_reply session call context stub on joiner at)
+      ServedFits First Second (secure_reply session call context stub on joiner at)
   seal_fits None call context stub on joiner at fits = shut_fits close.BadAuthentication at fits
-  seal_fits (Some session) call context stub on joiner at fits = sealed_fits _ on joiner at fits
+  seal_fits (Some session) call context stub on joiner at fits = secured_fits _ on joiner at fits
 
   plain_reply : (plain : Bool) (call context : ℕ) (stub : List ℕ) (on : LoggedOn) (joiner : Option RpcUnit) (at : AtLink) → AtFits First Second at →
       ServedFits First Second (send_reply plain call context stub on joiner at)
@@ -239,14 +238,14 @@ module _ (First Second : ℕ → Type 0) where
   plain_fits (Err why) on joiner at fits = shut_fits close.BadUnit at fits
   plain_fits (Ok unit) on joiner at fits = request_fits unit.body unit on joiner at fits
 
-  if_fits : (is_taken : Bool) (bytes : List ℕ) (on : LoggedOn) (joiner : Option RpcUnit) (at : AtLink) → AtFits First Second at → ServedFits First Second (join_if is_taken bytes on joiner at)
-  if_fits false bytes on joiner at fits = shut_fits close.BadAuthentication at fits
-  if_fits true bytes on joiner at fits = plain_fits (unit_of bytes) on joiner at fits
+  opened_fits : (opened : Option Secured) (on : LoggedOn) (joiner : Option RpcUnit) (at : AtLink) → AtFits First Second at → ServedFits First Second (join_opened opened on joiner at)
+  opened_fits None on joiner at fits = shut_fits close.BadAuthentication at fits
+  opened_fits (Some opened) on joiner at fits = plain_fits (unit_of opened.bytes) (with_session on opened.session) joiner at fits
 
   open_fits : (session : Option SessionState) (bytes : List ℕ) (on : LoggedOn) (joiner : Option RpcUnit) (at : AtLink) → AtFits First Second at →
-      ServedFits First Second (open_unit session bytes on joiner at)
+      ServedFits First Second (open_request session bytes on joiner at)
   open_fits None bytes on joiner at fits = shut_fits close.BadAuthentication at fits
-  open_fits (Some session) bytes on joiner at fits = if_fits _ _ _ joiner at fits
+  open_fits (Some session) bytes on joiner at fits = opened_fits _ on joiner at fits
 
   signed_fits : (cause : Option CloseCause) (bytes : List ℕ) (on : LoggedOn) (joiner : Option RpcUnit) (at : AtLink) → AtFits First Second at →
       ServedFits First Second (signed_unit cause bytes on joiner at)

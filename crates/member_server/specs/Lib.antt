@@ -13,7 +13,6 @@ pub mod Outcomes
 pub mod Pending
 pub mod Requests
 pub mod Rests
-pub mod Sealing
 pub mod State
 pub mod Turns
 pub mod Units

@@ -1,6 +1,6 @@
 -- Requests on links that are bound (C706 12.6.4.9, 12.6.4.10, 12.6.4.7): held while the logon is asked, served once a
 -- user is logged on, and else answered with a fault.
-use Rattle.std.specs.Prelude.{ℕ, ◌+◌, Bool, true, false, nat_le, List, [], ◌∷◌, ◌++◌, length, Option, Some, None, Result, Ok, Err}
+use Rattle.std.specs.Prelude.{ℕ, ◌+◌, ◌==◌, ◌&&◌, Bool, true, false, nat_le, List, [], ◌∷◌, ◌++◌, length, Option, Some, None, Result, Ok, Err}
 use Rattle.outside.specs.declared.action.CloseCause.{CloseCause}
 use Rattle.outside.specs.declared.action.CloseCause.TheVariants as close
 use Rattle.ntlm_seal.specs.Sessions.{SessionState}
@@ -12,8 +12,11 @@ use Rattle.rpc_units.specs.declared.unit.Body.TheVariants.{Request}
 use Rattle.rpc_units.specs.declared.unit.Trailer.{Trailer}
 use Rattle.rpc_units.specs.declared.unit.Unit.{Unit as RpcUnit}
 use Rattle.rpc_units.specs.Calls.{bytes_of_call}
-use Rattle.rpc_units.specs.Joining.{answer_of, open_after, cut_of}
+use Rattle.rpc_units.specs.Joining.{answer_of, open_after}
 use Rattle.rpc_units.specs.Reading.{unit_of}
+use Rattle.unit_security.specs.declared.securing.Secured.{Secured}
+use Rattle.unit_security.specs.Levels.{is_sealed}
+use Rattle.unit_security.specs.Securing.{open_unit, secure_call}
 use Rattle.end_links.specs.Agreed.{accepts}
 use Rattle.end_links.specs.Sending.{fault_of, response_of}
 use Rattle.member_server.specs.declared.memo.Answer.{Answer}
@@ -24,9 +27,8 @@ use Rattle.member_server.specs.declared.state.LoggedOn.{LoggedOn}
 use Rattle.member_server.specs.declared.state.Phase.TheVariants as phase
 use Rattle.member_server.specs.declared.state.Talk.{Talk}
 use Rattle.member_server.specs.Held.{held_size, held_limit}
-use Rattle.member_server.specs.Levels.{is_plain, is_sealing}
+use Rattle.member_server.specs.Levels.{is_plain}
 use Rattle.member_server.specs.Memo.{call_answer}
-use Rattle.member_server.specs.Sealing.{is_due, Opening, opening_by, frames_by, blank_trailer}
 use Rattle.member_server.specs.Work.{Served, send, send_unit, stay, shut}
 
 -- ---- replies
@@ -37,27 +39,22 @@ talk_in joiner on = record { joiner = joiner; phase = phase.In on }
 abbrev pub with_session : LoggedOn → SessionState → LoggedOn
 with_session on session = record on { session = Some session }
 
--- the reply as it is signed: with a trailer of the bind's level and context
-abbrev pub reply_with : Trailer → ℕ → ℕ → List ℕ → RpcUnit
-reply_with trailer call context stub =
-    let reply : RpcUnit = response_of call context stub in record reply { trailer = Some trailer }
-
 -- nothing of a reply that the session refuses is sent
-abbrev pub send_sealed : Option (List ℕ × SessionState) → LoggedOn → Option RpcUnit → AtLink → Served
-send_sealed None on joiner at = shut close.BadAuthentication at
-send_sealed (Some sent) on joiner at = stay (send at sent.0) (talk_in joiner (with_session on sent.1))
+abbrev pub send_secured : Option Secured → LoggedOn → Option RpcUnit → AtLink → Served
+send_secured None on joiner at = shut close.BadAuthentication at
+send_secured (Some secured) on joiner at = stay (send at secured.bytes) (talk_in joiner (with_session on secured.session))
 
-abbrev pub seal_reply : Option SessionState → ℕ → ℕ → List ℕ → LoggedOn → Option RpcUnit → AtLink → Served
-seal_reply None call context stub on joiner at = shut close.BadAuthentication at
-seal_reply (Some session) call context stub on joiner at =
-    send_sealed (frames_by (is_sealing on.bound.level) session
-    (cut_of (reply_with (blank_trailer on.bound.level on.bound.context) call context stub) on.bound.binding.limit)) on joiner at
+-- the reply as it is signed: with trailers of the bind's level and context
+abbrev pub secure_reply : Option SessionState → ℕ → ℕ → List ℕ → LoggedOn → Option RpcUnit → AtLink → Served
+secure_reply None call context stub on joiner at = shut close.BadAuthentication at
+secure_reply (Some session) call context stub on joiner at =
+    send_secured (secure_call session on.bound.level on.bound.context (response_of call context stub) on.bound.binding.limit) on joiner at
 
 -- the argument: whether the level is the one without signatures
 abbrev pub send_reply : Bool → ℕ → ℕ → List ℕ → LoggedOn → Option RpcUnit → AtLink → Served
 send_reply true call context stub on joiner at =
     stay (send at (bytes_of_call (response_of call context stub) on.bound.binding.limit)) (talk_in joiner on)
-send_reply false call context stub on joiner at = seal_reply on.session call context stub on joiner at
+send_reply false call context stub on joiner at = secure_reply on.session call context stub on joiner at
 
 -- a fault carries no trailer
 abbrev pub reply : Answer → ℕ → ℕ → LoggedOn → Option RpcUnit → AtLink → Served
@@ -89,6 +86,11 @@ join_unit (Ok unit) on joiner at = join_request unit.body unit on joiner at
 
 -- ---- at a level that signs, a request is joined once its signature is taken
 
+-- the trailer is there, of that level, and its value has 16 bytes
+abbrev pub is_due : ℕ → Option Trailer → Bool
+is_due level None = false
+is_due level (Some trailer) = (trailer.level == level) && (length trailer.value == 16)
+
 -- why a unit isn't a request with the trailer that is due, where it isn't; the argument: whether the trailer is
 abbrev pub cause_by : Body → Bool → Option CloseCause
 cause_by (Request hint context opnum stub) false = Some close.BadAuthentication
@@ -99,20 +101,17 @@ abbrev pub signed_cause : Result RpcUnit UnitRefused → ℕ → Option CloseCau
 signed_cause (Err why) level = Some close.BadUnit
 signed_cause (Ok unit) level = cause_by unit.body (is_due level unit.trailer)
 
-abbrev pub join_if : Bool → List ℕ → LoggedOn → Option RpcUnit → AtLink → Served
-join_if false bytes on joiner at = shut close.BadAuthentication at
-join_if true bytes on joiner at = join_unit (unit_of bytes) on joiner at
+abbrev pub join_opened : Option Secured → LoggedOn → Option RpcUnit → AtLink → Served
+join_opened None on joiner at = shut close.BadAuthentication at
+join_opened (Some opened) on joiner at = join_unit (unit_of opened.bytes) (with_session on opened.session) joiner at
 
-abbrev pub after_opening : Opening → LoggedOn → Option RpcUnit → AtLink → Served
-after_opening opening on joiner at = join_if opening.taken opening.bytes (with_session on opening.session) joiner at
-
-abbrev pub open_unit : Option SessionState → List ℕ → LoggedOn → Option RpcUnit → AtLink → Served
-open_unit None bytes on joiner at = shut close.BadAuthentication at
-open_unit (Some session) bytes on joiner at = after_opening (opening_by (is_sealing on.bound.level) session bytes) on joiner at
+abbrev pub open_request : Option SessionState → List ℕ → LoggedOn → Option RpcUnit → AtLink → Served
+open_request None bytes on joiner at = shut close.BadAuthentication at
+open_request (Some session) bytes on joiner at = join_opened (open_unit (is_sealed on.bound.level) session bytes) on joiner at
 
 abbrev pub signed_unit : Option CloseCause → List ℕ → LoggedOn → Option RpcUnit → AtLink → Served
 signed_unit (Some cause) bytes on joiner at = shut cause at
-signed_unit None bytes on joiner at = open_unit on.session bytes on joiner at
+signed_unit None bytes on joiner at = open_request on.session bytes on joiner at
 
 -- the argument: whether the level is the one without signatures, at which a trailer is passed over
 abbrev pub unit_in : Bool → List ℕ → LoggedOn → Option RpcUnit → AtLink → Served

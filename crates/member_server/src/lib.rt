@@ -15,7 +15,6 @@ mod messages;
 mod outcomes;
 mod plan;
 mod requests;
-mod sealing;
 mod state;
 mod turns;
 mod units;

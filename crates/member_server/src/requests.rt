@@ -1,38 +1,33 @@
 //! Requests on links that are bound.
 
-ghost use Rattle.std.specs.Prelude.{◌≡◌, ◌≤◌, ◌<◌, ◌+◌, ◌^◌, ◌==◌, length, nat_le, None, Some, IfOk, Ok};
-ghost use Rattle.std.specs.List.{AllByRecursion, flat_map};
+ghost use Rattle.std.specs.Prelude.{◌≡◌, ◌≤◌, ◌<◌, ◌+◌, ◌^◌, ◌==◌, length, nat_le, None, Some, IfOk, IfSome, Ok, option_map};
 ghost use Rattle.end_links.specs.Bounds.{send_limit};
 ghost use Rattle.outside.specs.declared.action.CloseCause.TheVariants as close;
-ghost use Rattle.rpc_units.specs.Joining.{HasStub, answer_of, cut_of, open_after};
+ghost use Rattle.rpc_units.specs.Joining.{HasStub, answer_of, open_after};
 ghost use Rattle.rpc_units.specs.Reading.{unit_of};
-ghost use Rattle.rpc_units.specs.Views.{body_shown, unit_shown};
-ghost use Rattle.rpc_units.specs.Writing.{written};
+ghost use Rattle.rpc_units.specs.Views.{body_shown, trailer_shown, unit_shown};
+ghost use Rattle.unit_security.specs.Securing.{open_unit, secure_call};
 ghost use Rattle.end_links.specs.Agreed.{accepts};
 ghost use Rattle.end_links.specs.Sending.{fault_of, response_of};
 ghost use Rattle.rpc_units.specs.Calls.{bytes_of_call};
 ghost use Rattle.member_server.specs.declared.state.Phase.TheVariants as phase;
 ghost use Rattle.member_server.specs.Held.{held_size, held_limit};
-ghost use Rattle.member_server.specs.Levels.{is_plain, is_sealing};
+ghost use Rattle.member_server.specs.Levels.{is_plain};
 ghost use Rattle.member_server.specs.Memo.{IsShortAnswer, call_answer};
-ghost use Rattle.member_server.specs.Requests.{talk_in, reply_with, send_sealed, seal_reply, send_reply, reply, answer_call, join_by, join_request, join_unit, cause_by, signed_cause, join_if, after_opening, open_unit, signed_unit, unit_in, body_out, unit_out, hold_by, body_asked, unit_asked};
-ghost use Rattle.member_server.specs.Sealing.{HasSignature, IsReady, IsShortFrames, blank_trailer, frames_by, opening_by};
+ghost use Rattle.member_server.specs.Requests.{talk_in, send_secured, secure_reply, send_reply, reply, answer_call, join_by, join_request, join_unit, cause_by, is_due, signed_cause, join_opened, open_request, signed_unit, unit_in, body_out, unit_out, hold_by, body_asked, unit_asked};
 ghost use Rattle.member_server.specs.Work.{send, send_unit, stay};
 
 use crate::held::Held;
-use crate::levels::{is_plain, is_sealing};
+use crate::levels::is_plain;
 use crate::memo::{Answer, call_answer};
-use crate::sealing::{is_due, send_all, take};
 use crate::state::{AtLink, Bound, LoggedOn, Phase, Talk};
 use crate::work::{let_go, send, send_unit, shut_call};
 use end_links::{call_bytes, fault, response};
 use ntlm_seal::Session;
 use outside::CloseCause;
-use rpc_units::{
-    Body, BodyView, JoinRefused, Joiner, NTLM_PROVIDER, Trailer, Unit, UnitList, UnitView,
-    cut_call, view_unit,
-};
+use rpc_units::{Body, BodyView, JoinRefused, Joiner, TrailerView, Unit, UnitView, view_unit};
 use std::alloc::Global;
+use unit_security::{Secured, is_sealed, open_unit, secure_call};
 use wire_base::{Blob, NoMemory};
 
 // ---- no user is logged on
@@ -195,7 +190,7 @@ fn send_reply(
         (λ served. served ≡ send_reply (is_plain on.bound.level) call context stub on joiner at) }
 {
     if !is_plain(on.bound.level) {
-        return seal_reply(alloc, stub, call, context, on, joiner, at);
+        return secure_reply(alloc, stub, call, context, on, joiner, at);
     }
     match plain_reply(alloc, stub, call, context, &on.bound) {
         Ok(bytes) => send_in(bytes, on, joiner, at),
@@ -237,7 +232,7 @@ fn send_in(
 }
 
 /// A reply is signed or sealed, fragment by fragment, and sent. Where the session refuses one, the link is closed.
-fn seal_reply(
+fn secure_reply(
     alloc: Global,
     stub: Blob,
     call: u32,
@@ -248,7 +243,7 @@ fn seal_reply(
 ) -> Result<(AtLink, Option<Talk>), NoMemory>
     requires { length stub ≤ 65558 }
     ensures { IfOk result
-        (λ served. served ≡ seal_reply on.session call context stub on joiner at) }
+        (λ served. served ≡ secure_reply on.session call context stub on joiner at) }
 {
     let LoggedOn {
         bound,
@@ -259,8 +254,9 @@ fn seal_reply(
     let Some(session) = session else {
         return shut_call(joiner, at, CloseCause::BadAuthentication);
     };
-    match sealed_reply(alloc, stub, call, context, &bound, session) {
-        Ok(Some((bytes, session))) => {
+    match secured_reply(alloc, stub, call, context, &bound, session) {
+        Ok(Some(secured)) => {
+            let Secured { bytes, session } = secured;
             let on = LoggedOn {
                 bound,
                 name,
@@ -276,53 +272,23 @@ fn seal_reply(
 
 /// The bytes of a reply that is signed or sealed, and the session afterwards. None where the session refuses a
 /// fragment.
-fn sealed_reply(
+fn secured_reply(
     alloc: Global,
     stub: Blob,
     call: u32,
     context: u16,
     bound: &Bound,
     session: Session,
-) -> Result<Option<(Blob, Session)>, NoMemory>
+) -> Result<Option<Secured>, NoMemory>
     requires { length stub ≤ 65558 }
-    ensures value { IfOk result (λ sent. sent ≡ frames_by (is_sealing bound.now.level) session
-        (cut_of (reply_with (blank_trailer bound.now.level bound.now.context) call context stub)
-        bound.now.binding.limit)) }
-    ensures short { IfOk result IsShortFrames }
+    ensures value { IfOk result (λ sent. sent ≡ secure_call session bound.now.level
+        bound.now.context (response_of call context stub) bound.now.binding.limit) }
+    ensures short { IfOk result (λ sent. IfSome sent (λ secured.
+        length secured.bytes ≤ send_limit)) }
 {
-    match reply_units(alloc, stub, call, context, bound) {
-        Ok(units) => send_all(alloc, is_sealing(bound.level), session, units.items()),
-        Err(NoMemory) => Err(NoMemory),
-    }
-}
-
-/// The fragments of a reply that is signed, with blank values.
-#[tactic(auto, using(crate::proofs::SealingLaws::reply_ready))]
-fn reply_units(
-    alloc: Global,
-    stub: Blob,
-    call: u32,
-    context: u16,
-    bound: &Bound,
-) -> Result<UnitList, NoMemory>
-    requires { length stub ≤ 65558 }
-    ensures value { IfOk result (λ units. units ≡ cut_of
-        (reply_with (blank_trailer bound.now.level bound.now.context) call context stub)
-        bound.now.binding.limit) }
-    ensures ready { IfOk result (λ units. AllByRecursion IsReady units) }
-    ensures short { IfOk result (λ units. length (flat_map written units) ≤ send_limit) }
-{
-    let trailer = Trailer {
-        kind: NTLM_PROVIDER,
-        level: bound.level,
-        context: bound.context,
-        value: Blob::copy(alloc, &[0; 16])?,
-    };
-    let unit = Unit {
-        trailer: Some(trailer),
-        ..response(call, context, stub)
-    };
-    Ok(cut_call(alloc, &unit, bound.binding.limit())?)
+    let reply = response(call, context, stub);
+    let limit = bound.binding.limit();
+    secure_call(alloc, session, bound.level, bound.context, reply, limit)
 }
 
 // ---- a user is logged on
@@ -410,13 +376,19 @@ fn join(
     }
 }
 
+/// Whether a trailer is there, of that level, and with a value of 16 bytes.
+fn is_due(level: u8, trailer: &Option<TrailerView>) -> bool
+    ensures { result ≡ is_due level (option_map trailer_shown trailer.now) }
+{
+    match trailer {
+        Some(trailer) => trailer.level == level && trailer.value.len() == 16,
+        None => false,
+    }
+}
+
 /// Why a unit isn't a request with the trailer that is due at a level that signs, where it isn't.
-#[tactic(auto, using(crate::proofs::SealingLaws::due))]
 fn signed_cause(level: u8, bytes: &[u8]) -> Option<CloseCause>
-    ensures value { result ≡ signed_cause (unit_of bytes.now) level }
-    ensures least { result ≡ None → 16 ≤ length bytes.now }
-    ensures most { result ≡ None → length bytes.now ≤ 65536 }
-    ensures signature { result ≡ None → HasSignature bytes.now }
+    ensures { result ≡ signed_cause (unit_of bytes.now) level }
 {
     let Ok(unit) = view_unit(bytes) else {
         return Some(CloseCause::BadUnit);
@@ -451,22 +423,20 @@ pub(crate) fn unit_in(
     if let Some(cause) = signed_cause(on.bound.level, bytes) {
         return shut_call(joiner, at, cause);
     }
-    open_unit(alloc, bytes, on, joiner, at)
+    open_request(alloc, bytes, on, joiner, at)
 }
 
 /// A request with the trailer that is due: its signature is taken, and it is joined.
-fn open_unit(
+fn open_request(
     alloc: Global,
     bytes: &mut [u8],
     on: LoggedOn,
     joiner: Joiner,
     at: AtLink,
 ) -> Result<(AtLink, Option<Talk>), NoMemory>
-    requires least { 16 ≤ length bytes.old }
-    requires most { length bytes.old ≤ 65536 }
-    requires signature { HasSignature bytes.old }
     ensures len { length bytes.new ≡ length bytes.old }
-    ensures served { IfOk result (λ served. served ≡ open_unit on.session bytes.old on joiner at) }
+    ensures served { IfOk result
+        (λ served. served ≡ open_request on.session bytes.old on joiner at) }
 {
     let LoggedOn {
         bound,
@@ -477,8 +447,8 @@ fn open_unit(
     let Some(session) = session else {
         return shut_call(joiner, at, CloseCause::BadAuthentication);
     };
-    let (taken, session) = take(is_sealing(bound.level), session, bytes);
-    if !taken {
+    let mut session = session;
+    if !open_unit(&mut session, is_sealed(bound.level), bytes) {
         return shut_call(joiner, at, CloseCause::BadAuthentication);
     }
     let on = LoggedOn {

@@ -63,7 +63,8 @@ use Rattle.member_server.specs.Machine.{actions_in, after_turn, after_units, ans
 use Rattle.member_server.specs.Memo.{call_answer}
 use Rattle.member_server.specs.Messages.{ask_by, info_of, is_fit, take_auth3, take_message, take_trailer, wait_by, with_channel}
 use Rattle.member_server.specs.Outcomes.{after_link, at_link, end_found, end_logon, keep_link, outcome_of, phase_after, reach_link, tell_at, tell_outcome, reach_in_map, reach_waiting, waiting_at, without_link, without_logon}
-use Rattle.member_server.specs.Requests.{answer_call, body_asked, body_out, hold_by, join_by, join_if, join_request, join_unit, open_unit, reply, seal_reply, send_reply, send_sealed, signed_cause, signed_unit, unit_asked, unit_in, unit_out}
+use Rattle.unit_security.specs.declared.securing.Secured.{Secured}
+use Rattle.member_server.specs.Requests.{answer_call, body_asked, body_out, hold_by, join_by, join_opened, join_request, join_unit, open_request, reply, secure_reply, send_reply, send_secured, signed_cause, signed_unit, unit_asked, unit_in, unit_out, with_session}
 use Rattle.member_server.specs.State.{State as MemberState}
 use Rattle.member_server.specs.Turns.{DialWork, break_turn, dial_for, do_taken, ending_of, lose_turn, next_turn, tell_turn_closed, timestamp_of, turn_by, turn_by_join, turn_server, turn_unit, with_requester, with_work}
 use Rattle.member_server.specs.Units.{body_challenged, bound_unit, first_unit, is_fresh, link_server, serve_held, then_said, unit_by, unit_challenged}
@@ -201,14 +202,14 @@ asked_adds : (unit : Result RpcUnit UnitRefused) (bytes : List ℕ) (bound : Bou
 asked_adds (Err why) bytes bound place held joiner at = shuts 0 _ at
 asked_adds (Ok unit) bytes bound place held joiner at = asked_body_adds unit.body bytes bound place held joiner at
 
-sealed_adds : (sealed : Option (List ℕ × _)) (on : LoggedOn) (joiner : Option RpcUnit) (at : AtLink) → Adds 0 at (send_sealed sealed on joiner at)
-sealed_adds None on joiner at = shuts 0 _ at
-sealed_adds (Some sent) on joiner at = sends 0 0 at sent.0 (none_few 0)
+secured_adds : (secured : Option Secured) (on : LoggedOn) (joiner : Option RpcUnit) (at : AtLink) → Adds 0 at (send_secured secured on joiner at)
+secured_adds None on joiner at = shuts 0 _ at
+secured_adds (Some secured) on joiner at = sends 0 0 at secured.bytes (none_few 0)
 
 seal_adds : (session : Option _) (call context : ℕ) (stub : List ℕ) (on : LoggedOn) (joiner : Option RpcUnit) (at : AtLink) →
-    Adds 0 at (seal_reply session call context stub on joiner at)
+    Adds 0 at (secure_reply session call context stub on joiner at)
 seal_adds None call context stub on joiner at = shuts 0 _ at
-seal_adds (Some session) call context stub on joiner at = sealed_adds _ on joiner at
+seal_adds (Some session) call context stub on joiner at = secured_adds _ on joiner at
 
 send_adds : (plain : Bool) (call context : ℕ) (stub : List ℕ) (on : LoggedOn) (joiner : Option RpcUnit) (at : AtLink) →
     Adds 0 at (send_reply plain call context stub on joiner at)
@@ -249,13 +250,13 @@ plain_adds : (unit : Result RpcUnit UnitRefused) (on : LoggedOn) (joiner : Optio
 plain_adds (Err why) on joiner at = shuts 0 _ at
 plain_adds (Ok unit) on joiner at = request_adds unit.body unit on joiner at
 
-opened_adds : (is_taken : Bool) (bytes : List ℕ) (on : LoggedOn) (joiner : Option RpcUnit) (at : AtLink) → Adds 0 at (join_if is_taken bytes on joiner at)
-opened_adds false bytes on joiner at = shuts 0 _ at
-opened_adds true bytes on joiner at = plain_adds (unit_of bytes) on joiner at
+opened_adds : (opened : Option Secured) (on : LoggedOn) (joiner : Option RpcUnit) (at : AtLink) → Adds 0 at (join_opened opened on joiner at)
+opened_adds None on joiner at = shuts 0 _ at
+opened_adds (Some opened) on joiner at = plain_adds (unit_of opened.bytes) (with_session on opened.session) joiner at
 
-session_adds : (session : Option _) (bytes : List ℕ) (on : LoggedOn) (joiner : Option RpcUnit) (at : AtLink) → Adds 0 at (open_unit session bytes on joiner at)
+session_adds : (session : Option _) (bytes : List ℕ) (on : LoggedOn) (joiner : Option RpcUnit) (at : AtLink) → Adds 0 at (open_request session bytes on joiner at)
 session_adds None bytes on joiner at = shuts 0 _ at
-session_adds (Some session) bytes on joiner at = opened_adds _ _ _ joiner at
+session_adds (Some session) bytes on joiner at = opened_adds _ on joiner at
 
 signed_adds : (cause : Option CloseCause) (bytes : List ℕ) (on : LoggedOn) (joiner : Option RpcUnit) (at : AtLink) → Adds 0 at (signed_unit cause bytes on joiner at)
 signed_adds (Some cause) bytes on joiner at = shuts 0 _ at

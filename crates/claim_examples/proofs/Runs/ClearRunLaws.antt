@@ -25,7 +25,7 @@ use Rattle.channel_client.specs.declared.state.Step.TheVariants as step
 use Rattle.domain_controller.specs.declared.state.Computers.{Computers}
 use Rattle.logon_client.specs.Answering.{bind_for}
 use Rattle.logon_client.specs.Machine as steps
-use Rattle.logon_client.specs.Plans.{is_signed}
+use Rattle.unit_security.specs.Levels.{is_signed}
 use Rattle.logon_client.specs.declared.plan.ClientPlan.{ClientPlan}
 use Rattle.logon_client.specs.declared.state.Phase.TheVariants as client_phase
 use Rattle.member_server.specs.Turns.{timestamp_of}

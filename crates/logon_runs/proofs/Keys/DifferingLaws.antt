@@ -2,7 +2,6 @@
 -- Of `keys_may_differ`.
 use Rattle.std.proofs.Common.{◌≡◌, ℕ, ◌≤◌, ◌<◌, ◌-◌, ◌^◌, ◌==◌, suc, Bool, true, false, List, length, Option, Some, None, Result, Ok, Err, refl, ap, subst, ◌∙◌, arith, inl, inr}
 use Rattle.std.specs.Prelude.{◌⊎◌, nat_le, bytes_eq}
-use Rattle.std.proofs.lemmas.Bool.{and_parts, eqb-true}
 use Rattle.ntlm_seal.specs.Sessions.{SessionState}
 use Rattle.outside.specs.declared.action.CloseCause.{CloseCause}
 use Rattle.outside.specs.declared.action.CloseCause.TheVariants as close
@@ -34,28 +33,30 @@ use Rattle.logon_client.specs.declared.state.Question.{Question}
 use Rattle.logon_client.specs.declared.state.Question.TheVariants as client_question
 use Rattle.logon_client.specs.declared.state.Terms.{Terms}
 use Rattle.logon_client.specs.Machine as client
-use Rattle.logon_client.specs.Plans.{CanLogOn, is_sealed}
-use Rattle.logon_client.specs.Securing.{Secured, has_level, open_unit as client_open, secure_all, send_call, sent_secured}
+use Rattle.unit_security.specs.Levels.{is_sealed}
+use Rattle.logon_client.specs.Plans.{CanLogOn}
+use Rattle.unit_security.specs.declared.securing.Secured.{Secured}
+use Rattle.unit_security.specs.Opening.{HasRoom, Travels}
+use Rattle.unit_security.specs.Securing.{open_unit, secure_all}
+use Rattle.logon_client.specs.Securing.{has_level, send_call, sent_secured}
 use Rattle.member_server.specs.declared.memo.Answer.{Answer}
 use Rattle.member_server.specs.declared.memo.Answer.TheVariants as answer
 use Rattle.member_server.specs.declared.state.AtLink.{AtLink}
 use Rattle.member_server.specs.declared.state.Bound.{Bound}
 use Rattle.member_server.specs.declared.state.LoggedOn.{LoggedOn}
-use Rattle.member_server.specs.Levels.{is_plain, is_sealing}
+use Rattle.member_server.specs.Levels.{is_plain}
 use Rattle.member_server.specs.Memo.{call_answer, echo_answer, memo_answer, who_answer}
-use Rattle.member_server.specs.Requests.{after_opening, cause_by, join_by, join_if, join_unit, open_unit, reply, seal_reply, send_reply, signed_cause, signed_unit, talk_in, unit_in, with_session}
-use Rattle.member_server.specs.Sealing.{Opening, is_due, opening_by}
+use Rattle.member_server.specs.Requests.{cause_by, is_due, join_by, join_opened, join_unit, open_request, reply, secure_reply, send_reply, signed_cause, signed_unit, talk_in, unit_in, with_session}
 use Rattle.member_server.specs.Work.{Served, send, shut, stay}
 use Rattle.logon_steps.specs.MemoCalls.{logged_on}
-use Rattle.logon_steps.specs.Securing.{HasRoom, Travels, TravelsToClient, TravelsToMember}
 use Rattle.logon_steps.proofs.ClientStepLaws.{echo_length, echo_are, link_hears, stepped}
 use Rattle.logon_steps.proofs.MemoCallLaws.{one_bytes, one_fragment, one_sends, reply_room, request_at, request_can, request_room, response_at, response_can, secured_one, signed_reply_at, signed_reply_sent, signed_request_at}
-use Rattle.logon_steps.proofs.SecuringLaws.{units_travel}
+use Rattle.unit_security.proofs.OpeningLaws.{secured_is_opened}
 use Rattle.logon_steps.proofs.StreamLaws.{read_again}
 use Rattle.logon_runs.specs.Keys.Differing.{AreTerms, AsksEcho, HasItsOutcome, HasSent, Hears, IsLetIn, IsReplied, IsRequest, IsShut, IsSingle, KeysMayDiffer, single_unit}
 use Rattle.logon_runs.proofs.Failing.FailingStepLaws.{fault_sends}
 use Rattle.logon_runs.proofs.Keys.EchoSizeLaws.{echo_fits, echo_reply_size}
-use Rattle.logon_runs.proofs.Keys.OpeningLaws.{client_opens, member_opens, mirror, mirrored}
+use Rattle.logon_runs.proofs.Keys.OpeningLaws.{mirror, mirrored, what_opens}
 
 -- ---- sessions
 
@@ -133,10 +134,9 @@ plain_reply task sent call stub on below short is =
 
 signed_by : (task : ClientPlan) (sent call : ℕ) (stub : List ℕ) (on : LoggedOn) (s : SessionState) → sent < 2 ^ 32 - 1 → call < 2 ^ 32 → length stub ≤ 5792 → is_plain task.level ≡ false →
     on.session ≡ Some s → HasSent sent (Some s) → IsLetIn task sent on →
-    TravelsToClient (is_sealed task.level) (signed_reply_at task.level call stub) s (mirror s) → Serves task sent (λ at. send_reply (is_plain task.level) call 0 stub on None at)
+    Travels (is_sealed task.level) (signed_reply_at task.level call stub) s (mirror s) → Serves task sent (λ at. send_reply (is_plain task.level) call 0 stub on None at)
 unfolding Serves
-signed_by task sent call stub on s few below short plain is_session has is goes =
-    let t : Travels (signed_reply_at task.level call stub) s (mirror s) = goes.travels in
+signed_by task sent call stub on s few below short plain is_session has is t =
     let room : HasRoom (signed_reply_at task.level call stub) = reply_room task.level call stub below short in
     inr (record {
       bytes = t.sent;
@@ -151,19 +151,19 @@ signed_by task sent call stub on s few below short plain is_session has is goes 
       };
       let_in = let_in_still task sent (suc sent) on (Some t.later) (t.paired.there.sends, omega (arith, t.count, has.1)) is;
       replies = λ at.
-          signed_reply_sent task.level call stub (mirror s) s short plain goes on at (ap Bound.level is.bound) (ap Bound.context is.bound) (ap limit_of is.bound) is_session;
+          signed_reply_sent task.level call stub (mirror s) s short plain t on at (ap Bound.level is.bound) (ap Bound.context is.bound) (ap limit_of is.bound) is_session;
     })
 
 signed_reply : (task : ClientPlan) (sent call : ℕ) (stub : List ℕ) (on : LoggedOn) (session : Option SessionState) → sent < 2 ^ 32 - 1 → call < 2 ^ 32 → length stub ≤ 5792 →
     is_plain task.level ≡ false → on.session ≡ session → IsLetIn task sent on → Serves task sent (λ at. send_reply (is_plain task.level) call 0 stub on None at)
 signed_reply task sent call stub on None few below short plain is_session is =
     carried task sent _ (λ at. shut close.BadAuthentication at)
-    (λ at. ap (λ (p : Bool). send_reply p call 0 stub on None at) plain ∙ ap (λ (s : Option SessionState). seal_reply s call 0 stub on None at) is_session)
+    (λ at. ap (λ (p : Bool). send_reply p call 0 stub on None at) plain ∙ ap (λ (s : Option SessionState). secure_reply s call 0 stub on None at) is_session)
     (closes task sent close.BadAuthentication)
 signed_reply task sent call stub on (Some s) few below short plain is_session is =
     let has : HasSent sent (Some s) = subst (HasSent sent) is_session is.session in
     signed_by task sent call stub on s few below short plain is_session has is
-    (units_travel.to_client (is_sealed task.level) (signed_reply_at task.level call stub) s (mirror s) (reply_room task.level call stub below short) (mirrored s has.0) (omega (arith, has.1, few)))
+    (secured_is_opened (is_sealed task.level) (signed_reply_at task.level call stub) s (mirror s) (reply_room task.level call stub below short) (mirrored s has.0) (omega (arith, has.1, few)))
 
 stub_reply : (plain : Bool) (task : ClientPlan) (sent call : ℕ) (stub : List ℕ) (on : LoggedOn) → is_plain task.level ≡ plain → sent < 2 ^ 32 - 1 → call < 2 ^ 32 → length stub ≤ 5792 →
     IsLetIn task sent on → Serves task sent (λ at. send_reply (is_plain task.level) call 0 stub on None at)
@@ -235,41 +235,29 @@ joined task sent call hint opnum stub trailer on bytes read few below is =
 
 -- ---- a request that the session opens, where it takes it
 
-opened_if : (taken : Bool) (task : ClientPlan) (sent call hint opnum : ℕ) (stub : List ℕ) (trailer : Trailer) (on : LoggedOn) (s : SessionState) (bytes : List ℕ) →
-    (opening_by (is_sealing on.bound.level) s bytes).taken ≡ taken → unit_of bytes ≡ Ok (single_unit call (Request hint 0 opnum stub) (Some trailer)) → length trailer.value ≡ 16 → sent < 2 ^ 32 - 1 →
-    call < 2 ^ 32 → HasSent sent (Some s) → IsLetIn task sent on → Serves task sent (λ at. after_opening (opening_by (is_sealing on.bound.level) s bytes) on None at)
-opened_if false task sent call hint opnum stub trailer on s bytes taken read sixteen few below has is =
-    let opening : Opening = opening_by (is_sealing on.bound.level) s bytes in
+opened_by : (opened : Option Secured) (task : ClientPlan) (sent call hint opnum : ℕ) (stub : List ℕ) (trailer : Option Trailer) (on : LoggedOn) (s : SessionState) (bytes : List ℕ) →
+    open_unit (is_sealed on.bound.level) s bytes ≡ opened → unit_of bytes ≡ Ok (single_unit call (Request hint 0 opnum stub) trailer) → sent < 2 ^ 32 - 1 →
+    call < 2 ^ 32 → HasSent sent (Some s) → IsLetIn task sent on → Serves task sent (λ at. join_opened (open_unit (is_sealed on.bound.level) s bytes) on None at)
+opened_by None task sent call hint opnum stub trailer on s bytes opens read few below has is =
     carried task sent _ (λ at. shut close.BadAuthentication at)
-    (λ at. ap (λ (t : Bool). join_if t opening.bytes (with_session on opening.session) None at) taken)
+    (λ at. ap (λ (o : Option Secured). join_opened o on None at) opens)
     (closes task sent close.BadAuthentication)
-opened_if true task sent call hint opnum stub trailer on s bytes taken read sixteen few below has is =
-    let opening : Opening = opening_by (is_sealing on.bound.level) s bytes in
-    let opens = member_opens (is_sealing on.bound.level) s bytes (single_unit call (Request hint 0 opnum stub) (Some trailer)) trailer sent read refl sixteen has.1 taken in
-    carried task sent _ (λ at. join_unit (unit_of opening.bytes) (with_session on opening.session) None at)
-    (λ at. ap (λ (t : Bool). join_if t opening.bytes (with_session on opening.session) None at) taken)
-    (joined task sent call hint opnum opens.0.0 (Some trailer) (with_session on opening.session) opening.bytes opens.0.1 few below
-    (let_in_still task sent sent on (Some opening.session) opens.1 is))
+opened_by (Some secured) task sent call hint opnum stub trailer on s bytes opens read few below has is =
+    let taken = what_opens (is_sealed on.bound.level) s bytes (single_unit call (Request hint 0 opnum stub) trailer) sent secured read has.1 opens in
+    carried task sent _ (λ at. join_unit (unit_of secured.bytes) (with_session on secured.session) None at)
+    (λ at. ap (λ (o : Option Secured). join_opened o on None at) opens)
+    (joined task sent call hint opnum taken.0.0 trailer (with_session on secured.session) secured.bytes taken.0.1 few below
+    (let_in_still task sent sent on (Some secured.session) taken.1 is))
 
-opened : (session : Option SessionState) (task : ClientPlan) (sent call hint opnum : ℕ) (stub : List ℕ) (trailer : Trailer) (on : LoggedOn) (bytes : List ℕ) → on.session ≡ session →
-    unit_of bytes ≡ Ok (single_unit call (Request hint 0 opnum stub) (Some trailer)) → length trailer.value ≡ 16 → sent < 2 ^ 32 - 1 → call < 2 ^ 32 → IsLetIn task sent on →
-    Serves task sent (λ at. open_unit on.session bytes on None at)
-opened None task sent call hint opnum stub trailer on bytes is_session read sixteen few below is =
-    carried task sent _ (λ at. shut close.BadAuthentication at) (λ at. ap (λ (s : Option SessionState). open_unit s bytes on None at) is_session) (closes task sent close.BadAuthentication)
-opened (Some s) task sent call hint opnum stub trailer on bytes is_session read sixteen few below is =
-    carried task sent _ (λ at. after_opening (opening_by (is_sealing on.bound.level) s bytes) on None at)
-    (λ at. ap (λ (other : Option SessionState). open_unit other bytes on None at) is_session)
-    (opened_if (opening_by (is_sealing on.bound.level) s bytes).taken task sent call hint opnum stub trailer on s bytes refl read sixteen few below (subst (HasSent sent) is_session is.session) is)
-
-due_sixteen : (level : ℕ) (trailer : Trailer) → is_due level (Some trailer) ≡ true → length trailer.value ≡ 16
-due_sixteen level trailer is = eqb-true (length trailer.value) 16 (and_parts (trailer.level == level) (length trailer.value == 16) is).1
-
-due_opened : (trailer : Option Trailer) (task : ClientPlan) (sent call hint opnum : ℕ) (stub : List ℕ) (on : LoggedOn) (bytes : List ℕ) → is_due on.bound.level trailer ≡ true →
+opened : (session : Option SessionState) (task : ClientPlan) (sent call hint opnum : ℕ) (stub : List ℕ) (trailer : Option Trailer) (on : LoggedOn) (bytes : List ℕ) → on.session ≡ session →
     unit_of bytes ≡ Ok (single_unit call (Request hint 0 opnum stub) trailer) → sent < 2 ^ 32 - 1 → call < 2 ^ 32 → IsLetIn task sent on →
-    Serves task sent (λ at. open_unit on.session bytes on None at)
-due_opened None task sent call hint opnum stub on bytes due read few below is = absurd cc
-due_opened (Some trailer) task sent call hint opnum stub on bytes due read few below is =
-    opened on.session task sent call hint opnum stub trailer on bytes refl read (due_sixteen on.bound.level trailer due) few below is
+    Serves task sent (λ at. open_request on.session bytes on None at)
+opened None task sent call hint opnum stub trailer on bytes is_session read few below is =
+    carried task sent _ (λ at. shut close.BadAuthentication at) (λ at. ap (λ (s : Option SessionState). open_request s bytes on None at) is_session) (closes task sent close.BadAuthentication)
+opened (Some s) task sent call hint opnum stub trailer on bytes is_session read few below is =
+    carried task sent _ (λ at. join_opened (open_unit (is_sealed on.bound.level) s bytes) on None at)
+    (λ at. ap (λ (other : Option SessionState). open_request other bytes on None at) is_session)
+    (opened_by (open_unit (is_sealed on.bound.level) s bytes) task sent call hint opnum stub trailer on s bytes refl read few below (subst (HasSent sent) is_session is.session) is)
 
 -- the argument: whether the trailer is the one that is due
 signed_if : (due : Bool) (task : ClientPlan) (sent call hint opnum : ℕ) (stub : List ℕ) (trailer : Option Trailer) (on : LoggedOn) (bytes : List ℕ) → is_due on.bound.level trailer ≡ due →
@@ -281,11 +269,11 @@ signed_if false task sent call hint opnum stub trailer on bytes due read few bel
     ∙ ap (λ (d : Bool). signed_unit (cause_by (Request hint 0 opnum stub) d) bytes on None at) due)
     (closes task sent close.BadAuthentication)
 signed_if true task sent call hint opnum stub trailer on bytes due read few below is =
-    carried task sent _ (λ at. open_unit on.session bytes on None at)
+    carried task sent _ (λ at. open_request on.session bytes on None at)
     (λ at.
     ap (λ (u : Result RpcUnit UnitRefused). signed_unit (signed_cause u on.bound.level) bytes on None at) read
     ∙ ap (λ (d : Bool). signed_unit (cause_by (Request hint 0 opnum stub) d) bytes on None at) due)
-    (due_opened trailer task sent call hint opnum stub on bytes due read few below is)
+    (opened on.session task sent call hint opnum stub trailer on bytes refl read few below is)
 
 -- the argument: whether the level is the one without signatures
 served_if : (plain : Bool) (task : ClientPlan) (sent call opnum : ℕ) (on : LoggedOn) (bytes : List ℕ) → is_plain on.bound.level ≡ plain → IsRequest call opnum bytes → sent < 2 ^ 32 - 1 → call < 2 ^ 32 →
@@ -311,16 +299,15 @@ pub record Asks (level call opnum : ℕ) (stub : List ℕ) (session : Option Ses
   pub has : HasSent (suc sent) sending.session
 
 signed_asks : (level call opnum : ℕ) (stub : List ℕ) (s : SessionState) (sent : ℕ) → call < 2 ^ 32 → opnum < 2 ^ 16 → length stub ≤ 5792 → HasSent sent (Some s) →
-    TravelsToMember (is_sealed level) (signed_request_at level call opnum stub) s (mirror s) → Asks level call opnum stub (Some s) sent
-signed_asks level call opnum stub s sent below op short has goes =
+    Travels (is_sealed level) (signed_request_at level call opnum stub) s (mirror s) → Asks level call opnum stub (Some s) sent
+signed_asks level call opnum stub s sent below op short has t =
     let unit : RpcUnit = signed_request_at level call opnum stub in
-    let t : Travels unit s (mirror s) = goes.travels in
     let room : HasRoom unit = request_room level call opnum stub below op short in
     record {
       sending = record { bytes = t.sent; session = Some t.later };
       goes = ap (λ (units : List RpcUnit). sent_secured (secure_all (is_sealed level) s units))
           (one_fragment unit (record { stub = tt; first = refl; last = refl }) short)
-          ∙ ap sent_secured (secured_one (is_sealed level) s unit t.sent t.later goes.secured);
+          ∙ ap sent_secured (secured_one (is_sealed level) s unit t.sent t.later t.secured);
       request = record {
         hint = length stub;
         stub = t.stub;
@@ -346,7 +333,7 @@ asks_by level call opnum stub None sent few below op short has =
     }
 asks_by level call opnum stub (Some s) sent few below op short has =
     signed_asks level call opnum stub s sent below op short has
-    (units_travel.to_member (is_sealed level) (signed_request_at level call opnum stub) s (mirror s) (request_room level call opnum stub below op short) (mirrored s has.0) (omega (arith, has.1, few)))
+    (secured_is_opened (is_sealed level) (signed_request_at level call opnum stub) s (mirror s) (request_room level call opnum stub below op short) (mirrored s has.0) (omega (arith, has.1, few)))
 
 -- ---- what a client makes of a reply, on whichever link and whenever
 
@@ -430,11 +417,11 @@ fragment_heard question task sent call hint context stub trailer terms are =
     fragment_if (nat_le (length stub) 65536) question task sent call hint context stub trailer terms refl are
 
 opened_heard : (secured : Option Secured) (question : Question) (task : ClientPlan) (sent call hint context : ℕ) (stub : List ℕ) (trailer : Option Trailer) (terms : Terms) (s : SessionState) (bytes : List ℕ) →
-    client_open (is_sealed task.level) s bytes ≡ secured → unit_of bytes ≡ Ok (single_unit call (Response hint context stub) trailer) → HasSent sent (Some s) → AreTerms sent terms →
+    open_unit (is_sealed task.level) s bytes ≡ secured → unit_of bytes ≡ Ok (single_unit call (Response hint context stub) trailer) → HasSent sent (Some s) → AreTerms sent terms →
     HearsAs task sent question (λ link now. client.hear_opened secured None terms question link (client.work_of task now))
 opened_heard None question task sent call hint context stub trailer terms s bytes opens read has are = fails_so task sent question (BadPeer peer_fault.BadSeal)
 opened_heard (Some secured) question task sent call hint context stub trailer terms s bytes opens read has are =
-    let taken = client_opens (is_sealed task.level) s bytes (single_unit call (Response hint context stub) trailer) sent secured read has.1 opens in
+    let taken = what_opens (is_sealed task.level) s bytes (single_unit call (Response hint context stub) trailer) sent secured read has.1 opens in
     let later : Terms = record terms { session = Some secured.session } in
     as_heard task sent question _ (λ link now. client.hear_fragment (single_unit call (Response hint context taken.0.0) trailer) None later question link (client.work_of task now))
     (λ link now. ap (λ (u : Result RpcUnit UnitRefused). client.hear_unit_opened u None later question link (client.work_of task now)) taken.0.1)
@@ -446,7 +433,7 @@ secured_heard : (level : Bool) (question : Question) (task : ClientPlan) (sent c
     HearsAs task sent question (λ link now. client.hear_secured level bytes s None terms question link (client.work_of task now))
 secured_heard false question task sent call hint context stub trailer terms s bytes read has are = fails_so task sent question (BadPeer peer_fault.BadSeal)
 secured_heard true question task sent call hint context stub trailer terms s bytes read has are =
-    opened_heard (client_open (is_sealed task.level) s bytes) question task sent call hint context stub trailer terms s bytes refl read has are
+    opened_heard (open_unit (is_sealed task.level) s bytes) question task sent call hint context stub trailer terms s bytes refl read has are
 
 response_heard : (session : Option SessionState) (question : Question) (task : ClientPlan) (sent call hint context : ℕ) (stub : List ℕ) (trailer : Option Trailer) (terms : Terms) (bytes : List ℕ) →
     unit_of bytes ≡ Ok (single_unit call (Response hint context stub) trailer) → HasSent sent session → AreTerms sent terms →

@@ -31,7 +31,8 @@ use Rattle.logon_client.specs.declared.state.Question.{Question}
 use Rattle.logon_client.specs.declared.state.Question.TheVariants as client_question
 use Rattle.logon_client.specs.declared.state.Terms.{Terms}
 use Rattle.logon_client.specs.Machine as client
-use Rattle.logon_client.specs.Plans.{CanLogOn, is_signed}
+use Rattle.unit_security.specs.Levels.{is_signed}
+use Rattle.logon_client.specs.Plans.{CanLogOn}
 use Rattle.logon_client.specs.Securing.{session_if}
 use Rattle.member_server.specs.declared.outcomes.Ending.TheVariants as ending
 use Rattle.member_server.specs.declared.state.LoggedOn.{LoggedOn}

@@ -7,12 +7,10 @@ use Rattle.std.proofs.lemmas.List.{length-append, length-take, take-append-drop}
 use Rattle.std.proofs.lemmas.Slice.{drop-append-drop}
 use Rattle.ntlm_seal.specs.declared.refusal.SealRefused.{SealRefused}
 use Rattle.ntlm_seal.specs.Directions.{Direction, combine}
-use Rattle.ntlm_seal.specs.Sessions.{SessionState, judge_by, judge_of, judgement_with, open_of, unit_left, verdict_of}
+use Rattle.ntlm_seal.specs.Sessions.{SessionState, judge_by, judge_of, judgement_with, open_of, verdict_of}
 use Rattle.ntlm_seal.specs.Turns.{Paired}
 use Rattle.ntlm_seal.proofs.TurnLaws.{combine_range}
-use Rattle.rpc_units.specs.declared.refused.UnitRefused.{UnitRefused}
 use Rattle.rpc_units.specs.declared.unit.Body.{Body}
-use Rattle.rpc_units.specs.declared.unit.Trailer.{Trailer}
 use Rattle.rpc_units.specs.declared.unit.Unit.{Unit as RpcUnit}
 use Rattle.rpc_units.specs.Joining.{stub_of}
 use Rattle.rpc_units.specs.Reading.{unit_of}
@@ -20,8 +18,8 @@ use Rattle.rpc_units.specs.Sealed.{IsSealedRange, range_replaced, unit_with_stub
 use Rattle.rpc_units.specs.Sealing.{sealed_of}
 use Rattle.rpc_units.proofs.JoiningLaws.{with_stub-own}
 use Rattle.rpc_units.proofs.SealedLaws.{sealed_of-Some, take-range_replaced, unit_of-range_replaced}
-use Rattle.logon_client.specs.Securing.{Secured, open_in, open_unit, range_by, range_if, range_of, signature_part, signed_part, taken_by}
-use Rattle.member_server.specs.Sealing.{front_part, opening_by, opening_in, value_part}
+use Rattle.unit_security.specs.declared.securing.Secured.{Secured}
+use Rattle.unit_security.specs.Securing.{open_in, open_unit, range_by, range_if, range_of, signature_part, signed_part, taken_by}
 use Rattle.logon_runs.specs.Keys.Differing.{HasSent}
 
 -- ---- sessions
@@ -76,52 +74,7 @@ combined_read d bytes unit from to at sealed read after within =
 same_read : (unit : RpcUnit) (bytes : List ℕ) → unit_of bytes ≡ Ok unit → IsReadBut unit bytes
 same_read unit bytes read = (stub_of unit.body, read ∙ ap (λ (body : Body). Ok (record unit { body = body })) (sym (with_stub-own unit.body)))
 
--- ---- at a member
-
-left_plain : (answer : Result Unit SealRefused) (unit plain : List ℕ) (from to : ℕ) → is_ok answer ≡ true → unit_left answer unit plain from to ≡ plain
-left_plain (Ok taken) unit plain from to is = refl
-left_plain (Err why) unit plain from to is = absurd cc
-
-unit_is : (one other : RpcUnit) → ◌≡◌ {A = Result RpcUnit UnitRefused} (Ok one) (Ok other) → one ≡ other
-unit_is one other is = cc
-
-trailer_is : (one other : Trailer) → ◌≡◌ {A = Option Trailer} (Some one) (Some other) → one ≡ other
-trailer_is one other is = cc
-
--- the range ends before the last 24 bytes
-range_ends : (bytes : List ℕ) (unit : RpcUnit) (trailer : Trailer) (from to : ℕ) → unit_of bytes ≡ Ok unit → unit.trailer ≡ Some trailer → length trailer.value ≡ 16 →
-    sealed_of bytes ≡ Some (from, to) → to + 24 ≡ length bytes
-range_ends bytes unit trailer from to read has sixteen sealed =
-    let found : IsSealedRange bytes from to = sealed_of-Some bytes from to sealed in
-    let same : found.unit ≡ unit = unit_is found.unit unit (sym found.read ∙ read) in
-    let same_trailer : found.trailer ≡ trailer = trailer_is found.trailer trailer (sym found.has ∙ ap (λ (u : RpcUnit). u.trailer) same ∙ has) in
-    omega (arith, found.ends, ap (λ (t : Trailer). length t.value) same_trailer, sixteen)
-
-opened_in : (found : Option (ℕ × ℕ)) (s : SessionState) (bytes : List ℕ) (unit : RpcUnit) (trailer : Trailer) (sent : ℕ) → sealed_of bytes ≡ found → unit_of bytes ≡ Ok unit →
-    unit.trailer ≡ Some trailer → length trailer.value ≡ 16 → s.sending.number ≤ sent → (opening_in found s bytes).taken ≡ true →
-    IsReadBut unit (opening_in found s bytes).bytes × HasSent sent (Some (opening_in found s bytes).session)
-opened_in None s bytes unit trailer sent sealed read has sixteen few is = absurd cc
-opened_in (Some range) s bytes unit trailer sent sealed read has sixteen few is =
-    let from : ℕ = range.0 in
-    let to : ℕ = range.1 in
-    let ends : to + 24 ≡ length bytes = range_ends bytes unit trailer from to read has sixteen sealed in
-    let j = open_of s (front_part bytes) from to (value_part bytes) in
-    let opened = combined_read s.receiving bytes unit from to (length bytes - 16) sealed read (omega (arith, ends)) (omega arith) in (
-      (
-        opened.0,
-        ap (λ (front : List ℕ). unit_of (front ++ value_part bytes)) (left_plain j.answer (front_part bytes) (combine s.receiving (front_part bytes) from to) from to is) ∙ opened.1,
-      ),
-      judged s.broken s (combine s.receiving (front_part bytes) from to) from to (value_part bytes) sent few is,
-    )
-
-pub member_opens : (seals : Bool) (s : SessionState) (bytes : List ℕ) (unit : RpcUnit) (trailer : Trailer) (sent : ℕ) → unit_of bytes ≡ Ok unit → unit.trailer ≡ Some trailer →
-    length trailer.value ≡ 16 → s.sending.number ≤ sent → (opening_by seals s bytes).taken ≡ true →
-    IsReadBut unit (opening_by seals s bytes).bytes × HasSent sent (Some (opening_by seals s bytes).session)
-member_opens false s bytes unit trailer sent read has sixteen few is =
-    (same_read unit bytes read, judged s.broken s (front_part bytes) 0 0 (value_part bytes) sent few is)
-member_opens true s bytes unit trailer sent read has sixteen few is = opened_in (sealed_of bytes) s bytes unit trailer sent refl read has sixteen few is
-
--- ---- at a client
+-- ---- what is opened
 
 range_if_is : (test : Bool) (one other : ℕ × ℕ) → range_if test one ≡ Some other → (test ≡ true) × (one ≡ other)
 range_if_is true one other is = (refl, cc)
@@ -142,11 +95,11 @@ taken_is (Err why) session bytes secured is = absurd cc
 abbrev IsTaken : RpcUnit → ℕ → Secured → Type 0
 IsTaken unit sent secured = IsReadBut unit secured.bytes × HasSent sent (Some secured.session)
 
-client_opens_in : (seals : Bool) (found : Option (ℕ × ℕ)) (s : SessionState) (bytes : List ℕ) (unit : RpcUnit) (sent : ℕ) (secured : Secured) → range_of bytes ≡ found →
+opens_in : (seals : Bool) (found : Option (ℕ × ℕ)) (s : SessionState) (bytes : List ℕ) (unit : RpcUnit) (sent : ℕ) (secured : Secured) → range_of bytes ≡ found →
     unit_of bytes ≡ Ok unit → s.sending.number ≤ sent → open_in seals found s bytes ≡ Some secured → IsTaken unit sent secured
-client_opens_in true None s bytes unit sent secured ranged read few is = absurd cc
-client_opens_in false None s bytes unit sent secured ranged read few is = absurd cc
-client_opens_in true (Some range) s bytes unit sent secured ranged read few is =
+opens_in true None s bytes unit sent secured ranged read few is = absurd cc
+opens_in false None s bytes unit sent secured ranged read few is = absurd cc
+opens_in true (Some range) s bytes unit sent secured ranged read few is =
     let from : ℕ = range.0 in
     let to : ℕ = range.1 in
     let both = range_is (sealed_of bytes) bytes range ranged in
@@ -157,11 +110,11 @@ client_opens_in true (Some range) s bytes unit sent secured ranged read few is =
       combined_read s.receiving bytes unit from to (to + 8) both.0 read (omega arith) (omega (arith, both.1)),
       judged s.broken s plain from to (signature_part range bytes) sent few taken.0,
     )
-client_opens_in false (Some range) s bytes unit sent secured ranged read few is =
+opens_in false (Some range) s bytes unit sent secured ranged read few is =
     let j = judge_of s (signed_part range bytes) 0 0 (signature_part range bytes) in
     let taken = taken_is j.answer j.session bytes secured is in
     subst (IsTaken unit sent) taken.1 (same_read unit bytes read, judged s.broken s (signed_part range bytes) 0 0 (signature_part range bytes) sent few taken.0)
 
-pub client_opens : (seals : Bool) (s : SessionState) (bytes : List ℕ) (unit : RpcUnit) (sent : ℕ) (secured : Secured) → unit_of bytes ≡ Ok unit → s.sending.number ≤ sent →
+pub what_opens : (seals : Bool) (s : SessionState) (bytes : List ℕ) (unit : RpcUnit) (sent : ℕ) (secured : Secured) → unit_of bytes ≡ Ok unit → s.sending.number ≤ sent →
     open_unit seals s bytes ≡ Some secured → IsReadBut unit secured.bytes × HasSent sent (Some secured.session)
-client_opens seals s bytes unit sent secured read few is = client_opens_in seals (range_of bytes) s bytes unit sent secured refl read few is
+what_opens seals s bytes unit sent secured read few is = opens_in seals (range_of bytes) s bytes unit sent secured refl read few is

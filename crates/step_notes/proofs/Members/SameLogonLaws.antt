@@ -29,7 +29,8 @@ use Rattle.member_server.specs.Binds.{ack_fits, answer_bind, bind_by, fresh_unit
 use Rattle.member_server.specs.Held.{held_limit, held_size}
 use Rattle.member_server.specs.Levels.{is_plain}
 use Rattle.member_server.specs.Memo.{call_answer}
-use Rattle.member_server.specs.Requests.{answer_call, body_asked, body_out, hold_by, join_by, join_if, join_request, join_unit, open_unit, reply, seal_reply, send_reply, send_sealed, signed_cause, signed_unit, unit_asked, unit_in, unit_out}
+use Rattle.unit_security.specs.declared.securing.Secured.{Secured}
+use Rattle.member_server.specs.Requests.{answer_call, body_asked, body_out, hold_by, join_by, join_opened, join_request, join_unit, open_request, reply, secure_reply, send_reply, send_secured, signed_cause, signed_unit, unit_asked, unit_in, unit_out, with_session}
 use Rattle.member_server.specs.Units.{bound_unit, first_unit, serve_held, then_said}
 use Rattle.member_server.specs.Work.{Served, tell}
 use Rattle.step_notes.proofs.Members.UnservedLaws.{HasServed, IfUnserved, bound_serves}
@@ -85,14 +86,14 @@ asked_idle : (unit : Result RpcUnit UnitRefused) (bytes : List ℕ) (bound : Bou
 asked_idle (Err why) bytes bound place held joiner at = told_idle _ at
 asked_idle (Ok unit) bytes bound place held joiner at = asked_body unit.body bytes bound place held joiner at
 
-sealed_idle : (sealed : Option (List ℕ × _)) (on : LoggedOn) (joiner : Option RpcUnit) (at : AtLink) → IsIdle at (send_sealed sealed on joiner at).0
-sealed_idle None on joiner at = told_idle _ at
-sealed_idle (Some sent) on joiner at = told_idle _ at
+secured_idle : (secured : Option Secured) (on : LoggedOn) (joiner : Option RpcUnit) (at : AtLink) → IsIdle at (send_secured secured on joiner at).0
+secured_idle None on joiner at = told_idle _ at
+secured_idle (Some secured) on joiner at = told_idle _ at
 
 seal_idle : (session : Option _) (call context : ℕ) (stub : List ℕ) (on : LoggedOn) (joiner : Option RpcUnit) (at : AtLink) →
-    IsIdle at (seal_reply session call context stub on joiner at).0
+    IsIdle at (secure_reply session call context stub on joiner at).0
 seal_idle None call context stub on joiner at = told_idle _ at
-seal_idle (Some session) call context stub on joiner at = sealed_idle _ on joiner at
+seal_idle (Some session) call context stub on joiner at = secured_idle _ on joiner at
 
 send_idle : (plain : Bool) (call context : ℕ) (stub : List ℕ) (on : LoggedOn) (joiner : Option RpcUnit) (at : AtLink) →
     IsIdle at (send_reply plain call context stub on joiner at).0
@@ -133,13 +134,13 @@ plain_idle : (unit : Result RpcUnit UnitRefused) (on : LoggedOn) (joiner : Optio
 plain_idle (Err why) on joiner at = told_idle _ at
 plain_idle (Ok unit) on joiner at = request_idle unit.body unit on joiner at
 
-opened_idle : (is_taken : Bool) (bytes : List ℕ) (on : LoggedOn) (joiner : Option RpcUnit) (at : AtLink) → IsIdle at (join_if is_taken bytes on joiner at).0
-opened_idle false bytes on joiner at = told_idle _ at
-opened_idle true bytes on joiner at = plain_idle (unit_of bytes) on joiner at
+opened_idle : (opened : Option Secured) (on : LoggedOn) (joiner : Option RpcUnit) (at : AtLink) → IsIdle at (join_opened opened on joiner at).0
+opened_idle None on joiner at = told_idle _ at
+opened_idle (Some opened) on joiner at = plain_idle (unit_of opened.bytes) (with_session on opened.session) joiner at
 
-session_idle : (session : Option _) (bytes : List ℕ) (on : LoggedOn) (joiner : Option RpcUnit) (at : AtLink) → IsIdle at (open_unit session bytes on joiner at).0
+session_idle : (session : Option _) (bytes : List ℕ) (on : LoggedOn) (joiner : Option RpcUnit) (at : AtLink) → IsIdle at (open_request session bytes on joiner at).0
 session_idle None bytes on joiner at = told_idle _ at
-session_idle (Some session) bytes on joiner at = opened_idle _ _ _ joiner at
+session_idle (Some session) bytes on joiner at = opened_idle _ on joiner at
 
 signed_idle : (cause : Option CloseCause) (bytes : List ℕ) (on : LoggedOn) (joiner : Option RpcUnit) (at : AtLink) → IsIdle at (signed_unit cause bytes on joiner at).0
 signed_idle (Some cause) bytes on joiner at = told_idle _ at

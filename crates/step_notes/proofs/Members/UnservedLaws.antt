@@ -61,7 +61,8 @@ use Rattle.member_server.specs.Machine.{actions_in, after_turn, after_units, ans
 use Rattle.member_server.specs.Memo.{call_answer}
 use Rattle.member_server.specs.Messages.{ask_by, info_of, is_fit, take_auth3, take_message, take_trailer, wait_by, with_channel}
 use Rattle.member_server.specs.Outcomes.{after_link, at_link, end_found, end_logon, keep_link, phase_after, reach_link, tell_outcome, reach_in_map, reach_waiting, waiting_at, without_link, without_logon}
-use Rattle.member_server.specs.Requests.{answer_call, body_asked, body_out, hold_by, join_by, join_if, join_request, join_unit, open_unit, reply, seal_reply, send_reply, send_sealed, signed_cause, signed_unit, unit_asked, unit_in, unit_out}
+use Rattle.unit_security.specs.declared.securing.Secured.{Secured}
+use Rattle.member_server.specs.Requests.{answer_call, body_asked, body_out, hold_by, join_by, join_opened, join_request, join_unit, open_request, reply, secure_reply, send_reply, send_secured, signed_cause, signed_unit, unit_asked, unit_in, unit_out, with_session}
 use Rattle.member_server.specs.State.{State as MemberState}
 use Rattle.member_server.specs.Turns.{DialWork, break_turn, dial_for, do_taken, ending_of, lose_turn, next_turn, tell_turn_closed, timestamp_of, turn_by, turn_by_join, turn_server, turn_unit, with_requester, with_work}
 use Rattle.member_server.specs.Units.{body_challenged, bound_unit, first_unit, is_fresh, link_server, serve_held, then_said, unit_by, unit_challenged}
@@ -194,14 +195,14 @@ asked_serves : (unit : Result RpcUnit UnitRefused) (bytes : List ℕ) (bound : B
 asked_serves (Err why) bytes bound place held joiner at = tt
 asked_serves (Ok unit) bytes bound place held joiner at = asked_body unit.body bytes bound place held joiner at
 
-sealed_serves : (sealed : Option (List ℕ × _)) (on : LoggedOn) (joiner : Option RpcUnit) (at : AtLink) → HasServed (send_sealed sealed on joiner at).1
-sealed_serves None on joiner at = tt
-sealed_serves (Some sent) on joiner at = tt
+secured_serves : (secured : Option Secured) (on : LoggedOn) (joiner : Option RpcUnit) (at : AtLink) → HasServed (send_secured secured on joiner at).1
+secured_serves None on joiner at = tt
+secured_serves (Some secured) on joiner at = tt
 
 seal_serves : (session : Option _) (call context : ℕ) (stub : List ℕ) (on : LoggedOn) (joiner : Option RpcUnit) (at : AtLink) →
-    HasServed (seal_reply session call context stub on joiner at).1
+    HasServed (secure_reply session call context stub on joiner at).1
 seal_serves None call context stub on joiner at = tt
-seal_serves (Some session) call context stub on joiner at = sealed_serves _ on joiner at
+seal_serves (Some session) call context stub on joiner at = secured_serves _ on joiner at
 
 send_serves : (plain : Bool) (call context : ℕ) (stub : List ℕ) (on : LoggedOn) (joiner : Option RpcUnit) (at : AtLink) →
     HasServed (send_reply plain call context stub on joiner at).1
@@ -242,13 +243,13 @@ plain_serves : (unit : Result RpcUnit UnitRefused) (on : LoggedOn) (joiner : Opt
 plain_serves (Err why) on joiner at = tt
 plain_serves (Ok unit) on joiner at = request_serves unit.body unit on joiner at
 
-opened_serves : (is_taken : Bool) (bytes : List ℕ) (on : LoggedOn) (joiner : Option RpcUnit) (at : AtLink) → HasServed (join_if is_taken bytes on joiner at).1
-opened_serves false bytes on joiner at = tt
-opened_serves true bytes on joiner at = plain_serves (unit_of bytes) on joiner at
+opened_serves : (opened : Option Secured) (on : LoggedOn) (joiner : Option RpcUnit) (at : AtLink) → HasServed (join_opened opened on joiner at).1
+opened_serves None on joiner at = tt
+opened_serves (Some opened) on joiner at = plain_serves (unit_of opened.bytes) (with_session on opened.session) joiner at
 
-session_serves : (session : Option _) (bytes : List ℕ) (on : LoggedOn) (joiner : Option RpcUnit) (at : AtLink) → HasServed (open_unit session bytes on joiner at).1
+session_serves : (session : Option _) (bytes : List ℕ) (on : LoggedOn) (joiner : Option RpcUnit) (at : AtLink) → HasServed (open_request session bytes on joiner at).1
 session_serves None bytes on joiner at = tt
-session_serves (Some session) bytes on joiner at = opened_serves _ _ _ joiner at
+session_serves (Some session) bytes on joiner at = opened_serves _ on joiner at
 
 signed_serves : (cause : Option CloseCause) (bytes : List ℕ) (on : LoggedOn) (joiner : Option RpcUnit) (at : AtLink) → HasServed (signed_unit cause bytes on joiner at).1
 signed_serves (Some cause) bytes on joiner at = tt

@@ -1,6 +1,6 @@
 use Rattle.std.proofs.Common.{◌≡◌, sym, ap, ◌∙◌}
-use Rattle.logon_client.specs.Plans.{is_sealed}
-use Rattle.logon_client.specs.Securing.{open_unit, secured_if}
+use Rattle.unit_security.specs.Levels.{is_sealed}
+use Rattle.unit_security.specs.Securing.{open_unit, secured_if}
 use Rattle.logon_client.proofs.HearingLaws.{opened_in}
 use Rattle.logon_client.proofs.hearing.hear_secured.Goals as goal
 

@@ -6,7 +6,8 @@ use Rattle.rpc_units.specs.declared.unit.Unit.{Unit as RpcUnit}
 use Rattle.rpc_units.specs.Sealed.{IsSealedRange}
 use Rattle.rpc_units.specs.Writing.{written}
 use Rattle.rpc_units.proofs.GrammarLaws.{IsUnit-unit_of}
-use Rattle.logon_client.specs.Securing.{Secured, secured_if, secure_unit, secure_all, behind, then_secured}
+use Rattle.unit_security.specs.declared.securing.Secured.{Secured}
+use Rattle.unit_security.specs.Securing.{behind, secure_all, secure_unit, secured_if, then_secured}
 
 -- a unit is short
 pub range_short : (bytes : List ℕ) (from to : ℕ) → IsSealedRange bytes from to → length bytes ≤ 5840

@@ -3,8 +3,8 @@
 use Rattle.std.proofs.Common.{◌≡◌, ◌≤◌, ◌+◌, drop, length}
 use Rattle.std.specs.List.{flat_map, AllByRecursion}
 use Rattle.rpc_units.specs.Writing.{written, value_len, IsWritable}
-use Rattle.logon_client.specs.Securing.{behind, secure_all}
-use Rattle.logon_client.proofs.securing.secure_call.Given as goal
+use Rattle.unit_security.specs.Securing.{behind, secure_all}
+use Rattle.unit_security.proofs.securing.secure_fragments.Given as goal
 
 abbrev pub invariant-loop-unit : goal.invariant-loop-unit
 invariant-loop-unit l = record {

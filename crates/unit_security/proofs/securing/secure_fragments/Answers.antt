@@ -4,9 +4,9 @@ use Rattle.std.proofs.lemmas.List.{drop_all, length-append}
 use Rattle.std.specs.List.{flat_map, AllByRecursion}
 use Rattle.rpc_units.proofs.CuttingLaws.{call_short}
 use Rattle.rpc_units.specs.Writing.{IsWritable, value_len, written}
-use Rattle.logon_client.specs.Securing.{behind, secure_all, secure_unit, secured_if}
-use Rattle.logon_client.proofs.SecuringLaws.{front_of, secure_more, secure_stops, secure_ends}
-use Rattle.logon_client.proofs.securing.secure_call.Goals as goal
+use Rattle.unit_security.specs.Securing.{behind, secure_all, secure_unit, secured_if}
+use Rattle.unit_security.proofs.FragmentLaws.{front_of, secure_more, secure_stops, secure_ends}
+use Rattle.unit_security.proofs.securing.secure_fragments.Goals as goal
 
 pub returns-then-not-secure_unit-clause-answer : goal.returns-then-not-secure_unit-clause-answer
 returns-then-not-secure_unit-clause-answer c =

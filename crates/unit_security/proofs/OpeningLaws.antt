@@ -1,12 +1,11 @@
 -- A unit that a session signs or seals, as the other takes it.
--- Of `units_travel`.
-use Rattle.std.proofs.Common.{◌≡◌, ℕ, ◌≤◌, ◌<◌, ◌+◌, ◌-◌, ◌^◌, Bool, true, false, List, ◌++◌, length, take, drop, Option, Some, Ok, refl, sym, ap, ap₂, ◌∙◌, arith, length-append}
-use Rattle.std.specs.Prelude.{is_ok}
+-- Of `what_is_secured_is_opened`.
+use Rattle.std.proofs.Common.{◌≡◌, ℕ, ◌≤◌, ◌+◌, ◌-◌, Bool, true, false, List, ◌++◌, length, take, drop, Option, Some, Ok, refl, sym, ap, ap₂, ◌∙◌, arith, length-append}
 use Rattle.std.proofs.lemmas.Bool.{eq-eqb}
 use Rattle.std.proofs.lemmas.List.{take_at, drop_at, length-take, length-drop}
 use Rattle.ntlm_seal.specs.Directions.{combine, signature_of}
-use Rattle.ntlm_seal.specs.Sessions.{Judgement, Sealing, SessionState, judge_of, open_of, seal_of, unit_left}
-use Rattle.ntlm_seal.specs.Turns.{Paired, after_sending, after_taking}
+use Rattle.ntlm_seal.specs.Sessions.{Judgement, Sealing, SessionState, judge_of, open_of, seal_of}
+use Rattle.ntlm_seal.specs.Turns.{after_sending, after_taking}
 use Rattle.ntlm_seal.proofs.TurnLaws.{combine_range, is_accepted, length-combine, length-signature_of, opens_again}
 use Rattle.rpc_units.specs.declared.unit.Body.{Body}
 use Rattle.rpc_units.specs.declared.unit.Unit.{Unit as RpcUnit}
@@ -17,12 +16,10 @@ use Rattle.rpc_units.specs.Sealing.{sealed_of}
 use Rattle.rpc_units.specs.Writing.{written}
 use Rattle.rpc_units.proofs.JoiningLaws.{with_stub-own}
 use Rattle.rpc_units.proofs.SealedLaws.{sealed_of-Some, sealed_of-value_replaced, sealed_of-written, take-range_replaced, unit_of-range_replaced, unit_of-value_replaced, value_replaced-written}
-use Rattle.logon_client.specs.Securing as client
-use Rattle.logon_client.specs.Securing.{Secured, range_by, range_if, range_of, sealed_with, signed_with, taken_with}
-use Rattle.member_server.specs.Sealing as member
-use Rattle.member_server.specs.Sealing.{Opening, check_opening, front_part, range_opening, value_part, with_value}
-use Rattle.logon_steps.specs.Securing.{HasRoom, Travels, TravelsToClient, TravelsToMember, UnitsTravel}
-use Rattle.logon_steps.proofs.StreamLaws.{read_again}
+use Rattle.rpc_units.proofs.WritingLaws.{unit_of-written}
+use Rattle.unit_security.specs.declared.securing.Secured.{Secured}
+use Rattle.unit_security.specs.Opening.{HasRoom, SecuredIsOpened}
+use Rattle.unit_security.specs.Securing.{open_in, range_by, range_if, range_of, sealed_with, secure_in, signed_with, taken_with}
 
 -- ---- the parts of a unit
 
@@ -43,15 +40,12 @@ range_sealed unit room =
 long : (unit : RpcUnit) → HasRoom unit → 48 ≤ length (written unit)
 long unit room = let is = sealed_of-Some (written unit) 24 (end_of unit) (range_sealed unit room) in omega (arith, is.in_order)
 
+-- it is read again
+read_back : (unit : RpcUnit) → HasRoom unit → unit_of (written unit) ≡ Ok unit
+read_back unit room = unit_of-written unit room.sends.writable room.sends.range room.sends.short
+
 front_size : (unit : RpcUnit) → HasRoom unit → length (front_of unit) ≡ length (written unit) - 16
 front_size unit room = omega (arith, length-take (length (written unit) - 16) (written unit), long unit room)
-
--- bytes and a signature behind them
-front_back : (bytes value : List ℕ) → length value ≡ 16 → front_part (bytes ++ value) ≡ bytes
-front_back bytes value sixteen = take_at bytes value (length (bytes ++ value) - 16) (omega (arith, length-append bytes value, sixteen))
-
-value_back : (bytes value : List ℕ) → length value ≡ 16 → value_part (bytes ++ value) ≡ value
-value_back bytes value sixteen = drop_at bytes value (length (bytes ++ value) - 16) (omega (arith, length-append bytes value, sixteen))
 
 -- ---- what a sealed unit is read as
 
@@ -86,7 +80,7 @@ plain_form unit room = record {
   size = front_size unit room;
   sealed = λ value sixteen. sealed_of-value_replaced (written unit) 24 (end_of unit) value (range_sealed unit room) (omega (arith, long unit room)) sixteen;
   read = λ value sixteen.
-      unit_of-value_replaced (written unit) unit room.trailer value (read_again unit room.sends) room.has room.room sixteen
+      unit_of-value_replaced (written unit) unit room.trailer value (read_back unit room) room.has room.room sixteen
       ∙ ap (λ (u : RpcUnit). Ok (unit_with_value u value)) (ap (λ (body : Body). record unit { body = body }) (sym (with_stub-own unit.body)));
 }
 
@@ -100,7 +94,7 @@ sealed_form unit one room =
     found.2
     ∙ sym (take-range_replaced (written unit) range 24 (end_of unit) (length (written unit) - 16) low (omega (arith, long unit room)) (omega arith) found.1)
     ∙ ap (λ (n : ℕ). take (n - 16) (changed unit range)) (sym (changed_size unit range room found.1)) in
-    let both = unit_of-range_replaced (written unit) unit 24 (end_of unit) range (range_sealed unit room) (read_again unit room.sends) found.1 in
+    let both = unit_of-range_replaced (written unit) unit 24 (end_of unit) range (range_sealed unit room) (read_back unit room) found.1 in
     record {
       stub = take (length (stub_of unit.body)) range;
       size = length-combine one.sending (front_of unit) 24 (end_of unit) low short ∙ front_size unit room;
@@ -139,83 +133,13 @@ own_front unit room = ap (λ (n : ℕ). take n (written unit)) (omega (arith, lo
 with_signature : (unit : RpcUnit) (value : List ℕ) → HasRoom unit → length value ≡ 16 → front_of unit ++ value ≡ written (unit_with_value unit value)
 with_signature unit value room sixteen = value_replaced-written unit room.trailer value room.has room.room sixteen
 
--- ---- what travels
-
-abbrev travels_by : (unit : RpcUnit) (one other : SessionState) (front value : List ℕ) (from to : ℕ) → HasRoom unit → Form unit front → length value ≡ 16 →
-    Paired (after_sending one from to) (after_taking other from to) → Travels unit one other
-travels_by unit one other front value from to room form sixteen paired = record {
-  sent = front ++ value;
-  stub = form.stub;
-  signature = value;
-  later = after_sending one from to;
-  next = after_taking other from to;
-  sixteen = sixteen;
-  size = omega (arith, length-append front value, form.size, sixteen, long unit room);
-  read = form.read value sixteen;
-  paired = paired;
-  count = refl;
-  back = refl;
-}
-
--- ---- what is opened, by its front and its signature
-
-abbrev opening_with : Judgement → SessionState → List ℕ → List ℕ → ℕ → ℕ → Opening
-opening_with j s f v from to = record {
-  taken = is_ok j.answer;
-  bytes = unit_left j.answer f (combine s.receiving f from to) from to ++ v;
-  session = j.session;
-}
-
-abbrev opening_at : List ℕ → SessionState → Opening
-opening_at bytes session = record { taken = true; bytes = bytes; session = session }
-
--- ---- from a client to its member
-
-to_member : (seals : Bool) (unit : RpcUnit) (one other : SessionState) → HasRoom unit → Paired one other → one.sending.number < 2 ^ 32 - 1 → TravelsToMember seals unit one other
-to_member true unit one other room paired below =
-    let to : ℕ = end_of unit in
-    let plain : List ℕ = front_of unit in
-    let short : to ≤ length plain = omega (arith, front_size unit room, long unit room) in
-    let low : 24 ≤ to = omega (arith, long unit room) in
-    let again = opens_again one other plain 24 to paired low short below in
-    let front : List ℕ = combine one.sending plain 24 to in
-    let value : List ℕ = signature_of one.sending plain 24 to in
-    let sixteen : length value ≡ 16 = length-signature_of one.sending plain 24 to in
-    let form : Form unit front = sealed_form unit one room in
-    record {
-      travels = travels_by unit one other front value 24 to room form sixteen again.paired;
-      secured = ap (λ (r : Option (ℕ × ℕ)). client.secure_in true r one (written unit)) (own_range unit room)
-          ∙ ap (λ (p : List ℕ). sealed_with (seal_of one p 24 to)) (own_front unit room)
-          ∙ ap sealed_with again.sealed;
-      opened = ap (λ (r : Option (ℕ × ℕ)). member.opening_in r other (front ++ value)) (form.sealed value sixteen)
-          ∙ ap₂ (λ (f v : List ℕ). opening_with (open_of other f 24 to v) other f v 24 to) (front_back front value sixteen) (value_back front value sixteen)
-          ∙ ap (λ (j : Judgement). opening_with j other front value 24 to) again.opened
-          ∙ ap (λ (p : List ℕ). opening_at (p ++ value) (after_taking other 24 to)) again.same
-          ∙ ap (λ (b : List ℕ). opening_at b (after_taking other 24 to)) (with_signature unit value room sixteen);
-    }
-to_member false unit one other room paired below =
-    let to : ℕ = end_of unit in
-    let plain : List ℕ = front_of unit in
-    let accepted = is_accepted one other plain paired below in
-    let value : List ℕ = signature_of one.sending plain 0 0 in
-    let sixteen : length value ≡ 16 = length-signature_of one.sending plain 0 0 in
-    record {
-      travels = travels_by unit one other plain value 0 0 room (plain_form unit room) sixteen accepted.paired;
-      secured = ap (λ (r : Option (ℕ × ℕ)). client.secure_in false r one (written unit)) (own_range unit room)
-          ∙ ap (λ (p : List ℕ). signed_with (seal_of one p 0 0).answer p (seal_of one p 0 0).session) (own_front unit room)
-          ∙ ap (λ (x : Sealing). signed_with x.answer plain x.session) accepted.signed;
-      opened = ap₂ (λ (f v : List ℕ). check_opening (judge_of other f 0 0 v) (plain ++ value)) (front_back plain value sixteen) (value_back plain value sixteen)
-          ∙ ap (λ (j : Judgement). check_opening j (plain ++ value)) accepted.checked
-          ∙ ap (λ (b : List ℕ). opening_at b (after_taking other 0 0)) (with_signature unit value room sixteen);
-    }
-
--- ---- from a member to its client
+-- ---- both sides
 
 abbrev secured_at : List ℕ → SessionState → Option Secured
 secured_at bytes session = Some (record { bytes = bytes; session = session })
 
-to_client : (seals : Bool) (unit : RpcUnit) (one other : SessionState) → HasRoom unit → Paired one other → one.sending.number < 2 ^ 32 - 1 → TravelsToClient seals unit one other
-to_client true unit one other room paired below =
+pub secured_is_opened : SecuredIsOpened
+secured_is_opened true unit one other room paired below =
     let to : ℕ = end_of unit in
     let plain : List ℕ = front_of unit in
     let short : to ≤ length plain = omega (arith, front_size unit room, long unit room) in
@@ -226,16 +150,27 @@ to_client true unit one other room paired below =
     let sixteen : length value ≡ 16 = length-signature_of one.sending plain 24 to in
     let form : Form unit front = sealed_form unit one room in
     record {
-      travels = travels_by unit one other front value 24 to room form sixteen again.paired;
-      secured = ap (λ (r : Option (ℕ × ℕ)). member.sealed_range r one (written unit)) (range_sealed unit room)
-          ∙ ap (λ (x : Sealing). with_value x.answer x.unit x.session) again.sealed;
-      opened = ap (λ (r : Option (ℕ × ℕ)). client.open_in true r other (front ++ value)) (sent_range unit front value room form sixteen)
+      sent = front ++ value;
+      stub = form.stub;
+      signature = value;
+      later = after_sending one 24 to;
+      next = after_taking other 24 to;
+      sixteen = sixteen;
+      size = omega (arith, length-append front value, form.size, sixteen, long unit room);
+      read = form.read value sixteen;
+      paired = again.paired;
+      count = refl;
+      back = refl;
+      secured = ap (λ (r : Option (ℕ × ℕ)). secure_in true r one (written unit)) (own_range unit room)
+          ∙ ap (λ (p : List ℕ). sealed_with (seal_of one p 24 to)) (own_front unit room)
+          ∙ ap sealed_with again.sealed;
+      opened = ap (λ (r : Option (ℕ × ℕ)). open_in true r other (front ++ value)) (sent_range unit front value room form sixteen)
           ∙ ap₂ (λ (f v : List ℕ). taken_with (open_of other f 24 to v) (combine other.receiving f 24 to ++ v)) (cut_front unit front value room form) (cut_value unit front value room form)
           ∙ ap (λ (j : Judgement). taken_with j (combine other.receiving front 24 to ++ value)) again.opened
           ∙ ap (λ (p : List ℕ). secured_at (p ++ value) (after_taking other 24 to)) again.same
           ∙ ap (λ (b : List ℕ). secured_at b (after_taking other 24 to)) (with_signature unit value room sixteen);
     }
-to_client false unit one other room paired below =
+secured_is_opened false unit one other room paired below =
     let to : ℕ = end_of unit in
     let plain : List ℕ = front_of unit in
     let accepted = is_accepted one other plain paired below in
@@ -243,13 +178,22 @@ to_client false unit one other room paired below =
     let sixteen : length value ≡ 16 = length-signature_of one.sending plain 0 0 in
     let form : Form unit plain = plain_form unit room in
     record {
-      travels = travels_by unit one other plain value 0 0 room form sixteen accepted.paired;
-      secured = ap (λ (x : Sealing). with_value x.answer plain x.session) accepted.signed;
-      opened = ap (λ (r : Option (ℕ × ℕ)). client.open_in false r other (plain ++ value)) (sent_range unit plain value room form sixteen)
+      sent = plain ++ value;
+      stub = form.stub;
+      signature = value;
+      later = after_sending one 0 0;
+      next = after_taking other 0 0;
+      sixteen = sixteen;
+      size = omega (arith, length-append plain value, form.size, sixteen, long unit room);
+      read = form.read value sixteen;
+      paired = accepted.paired;
+      count = refl;
+      back = refl;
+      secured = ap (λ (r : Option (ℕ × ℕ)). secure_in false r one (written unit)) (own_range unit room)
+          ∙ ap (λ (p : List ℕ). signed_with (seal_of one p 0 0).answer p (seal_of one p 0 0).session) (own_front unit room)
+          ∙ ap (λ (x : Sealing). signed_with x.answer plain x.session) accepted.signed;
+      opened = ap (λ (r : Option (ℕ × ℕ)). open_in false r other (plain ++ value)) (sent_range unit plain value room form sixteen)
           ∙ ap₂ (λ (f v : List ℕ). taken_with (judge_of other f 0 0 v) (plain ++ value)) (cut_front unit plain value room form) (cut_value unit plain value room form)
           ∙ ap (λ (j : Judgement). taken_with j (plain ++ value)) accepted.checked
           ∙ ap (λ (b : List ℕ). secured_at b (after_taking other 0 0)) (with_signature unit value room sixteen);
     }
-
-pub units_travel : UnitsTravel
-units_travel = record { to_member = to_member; to_client = to_client }

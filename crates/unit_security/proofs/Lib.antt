@@ -1,0 +1,2 @@
+pub mod FragmentLaws
+pub mod OpeningLaws

@@ -1,0 +1,20 @@
+//! What the authentication levels say of units.
+
+ghost use Rattle.std.specs.Prelude.{◌≡◌};
+ghost use Rattle.unit_security.specs.Levels.{is_sealed, is_signed};
+
+use rpc_units::{INTEGRITY_LEVEL, PRIVACY_LEVEL};
+
+/// Whether units are signed at the level (MS-RPCE 2.2.1.1.8).
+pub fn is_signed(level: u8) -> bool
+    ensures { result ≡ is_signed level }
+{
+    level == INTEGRITY_LEVEL || level == PRIVACY_LEVEL
+}
+
+/// Whether they are sealed too (MS-RPCE 2.2.1.1.8).
+pub fn is_sealed(level: u8) -> bool
+    ensures { result ≡ is_sealed level }
+{
+    level == PRIVACY_LEVEL
+}
