@@ -259,7 +259,7 @@ numbered_fits : (numbered : Bool) (p : Pending) (unit : RpcUnit) (next : ℕ) �
 numbered_fits false p unit next = tt
 numbered_fits true p unit next = body_fits unit.body p.step next
 
-heard_fits : (turn : Option Pending) (unit : RpcUnit) (next : ℕ) → HeardFits (hear turn unit next) (step_in turn)
+pub heard_fits : (turn : Option Pending) (unit : RpcUnit) (next : ℕ) → HeardFits (hear turn unit next) (step_in turn)
 heard_fits None unit next = tt
 heard_fits (Some p) unit next = numbered_fits (unit.call == p.number) p unit next
 

@@ -6,14 +6,14 @@ use Rattle.wire_base.specs.Names.{same_name}
 use Rattle.wire_base.specs.declared.authenticator.Authenticator.{Authenticator}
 use Rattle.authenticators.specs.SecureChannels.{SecureChannelState, key_of_channel, passes_on, return_by, channel_by}
 use Rattle.outside.specs.declared.action.Action.{Action}
-use Rattle.outside.specs.declared.action.Action.TheVariants as action
 use Rattle.outside.specs.declared.action.Judged.{Judged}
-use Rattle.outside.specs.declared.action.Judged.TheVariants as judged
 use Rattle.logon_stubs.specs.declared.calls.LogonCall.{LogonCall}
 use Rattle.domain_controller.specs.Laws.{IsNext, is_passed, PassesTheNext}
 use Rattle.domain_controller.specs.Machine.{Desk, desk, put_channel, take_channel, judge_return, judge_channel, answer_logon}
 use Rattle.domain_controller.specs.declared.line.Line.{Line}
 use Rattle.domain_controller.specs.declared.state.Computers.{Computers}
+use Rattle.outside.specs.declared.action.Action.TheVariants as action
+use Rattle.outside.specs.declared.action.Judged.TheVariants as judged
 
 -- the calls's one judgement and one answer, and when it passes
 abbrev pub JudgedOnce : Line → List Action → Desk → Type 0 → Type 0
@@ -27,17 +27,17 @@ two old one other = append_assoc old (one ∷ []) (other ∷ [])
 never : (how : Judged) (Next : Type 0) → is_passed how ≡ false → (Next → ⊥) → (is_passed how ≡ true) ↔ Next
 never how Next not none = (λ is. absurd cc, λ next. absurd (none next))
 
-one_given : (given other : Authenticator) → Some given ≡ Some other → given ≡ other
+pub one_given : (given other : Authenticator) → Some given ≡ Some other → given ≡ other
 one_given given other is = cc
 
-one_channel : (computer other : List ℕ) (channel another : SecureChannelState) (computers : Computers) → Some computer ≡ Some other → lookup same_name computer computers.channels ≡ Some channel →
+pub one_channel : (computer other : List ℕ) (channel another : SecureChannelState) (computers : Computers) → Some computer ≡ Some other → lookup same_name computer computers.channels ≡ Some channel →
     lookup same_name other computers.channels ≡ Some another → channel ≡ another
 one_channel computer other channel another computers is stands also =
     let same : computer ≡ other = cc in
     let both : Some channel ≡ Some another = sym stands ∙ ap (λ (n : List ℕ). lookup same_name n computers.channels) same ∙ also in
     cc
 
-not_both : (channel other : SecureChannelState) (given more : Authenticator) → channel ≡ other → given ≡ more → passes_on channel given ≡ false → passes_on other more ≡ true → ⊥
+pub not_both : (channel other : SecureChannelState) (given more : Authenticator) → channel ≡ other → given ≡ more → passes_on channel given ≡ false → passes_on other more ≡ true → ⊥
 not_both channel other given more same alike fails passes = absurd cc
 
 by_pass : (passes : Bool) (c : LogonCall) (computer : List ℕ) (given : Authenticator) (channel : SecureChannelState) (computers : Computers) (name : List ℕ) (now : ℕ) (line : Line) (d : Desk) →

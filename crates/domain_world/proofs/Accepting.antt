@@ -5,8 +5,8 @@ pub mod CarriedLaws
 pub mod Heard
 pub mod LetInLaws
 pub mod LetInStepLaws
+pub mod ListPlaceLaws
 pub mod Messages
-pub mod PlacedLaws
 pub mod Quiet
 pub mod RunBeginLaws
 pub mod ScheduleLaws

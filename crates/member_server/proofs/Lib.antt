@@ -4,7 +4,7 @@ mod ChannelStepLaws
 mod DialLaws
 mod EventSteps
 mod KeptLaws
-mod LinkLaws
+pub mod LinkLaws
 mod MemoLaws
 mod MessageLaws
 mod OtherLinkLaws

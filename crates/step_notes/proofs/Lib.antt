@@ -2,3 +2,4 @@ pub mod Channels
 mod ClientNoteLaws
 pub mod Controllers
 pub mod Members
+pub mod ServedLaws

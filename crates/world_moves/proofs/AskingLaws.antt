@@ -30,7 +30,8 @@ use Rattle.rpc_units.specs.Reading.{unit_of}
 use Rattle.rpc_units.specs.Stream.{Cut, cut_stream}
 use Rattle.end_links.specs.Agreed.{accepts}
 use Rattle.end_links.specs.Links.{LinkState}
-use Rattle.end_links.specs.Serving.{ServedPart, served_by, then_open, then_talk}
+use Rattle.end_links.specs.Serving.{ServedPart, served_cut, with_close}
+use Rattle.end_links.proofs.KeepLaws.{StaysServing, served_stays}
 use Rattle.channel_client.specs.declared.answers.AskRefused.{AskRefused}
 use Rattle.channel_client.specs.declared.answers.AskRefused.TheVariants as ask_refused
 use Rattle.channel_client.specs.declared.answers.Taken.{Taken}
@@ -339,29 +340,20 @@ ended_none (ending.NoController cause) logon bound = refl
 
 -- ---- the units of a stream
 
-abbrev pub EachAdds : List (List ℕ) → Option UnitRefused → Type 0
-EachAdds units why = (at : AtLink) (talk : Talk) (left : List (List ℕ)) → AddsPart (can_ask talk.phase) at (served_by link_server units why at talk left)
-
 behind_adds : (most more : ℕ) (at next : AtLink) (part : ServedPart AtLink Talk) → due_at next + more ≤ due_at at + most → AddsPart more next part → AddsPart most at part
 behind_adds most more at next (Err why) few adds = tt
 behind_adds most more at next (Ok part) few adds = omega (arith, few, adds)
 
-talk_adds : (units : List (List ℕ)) (why : Option UnitRefused) (most : ℕ) (at next : AtLink) (said : Option Talk) (left : List (List ℕ)) → EachAdds units why →
-    due_at next + due_on said ≤ due_at at + most → AddsPart most at (then_talk next said left (λ later talk rest. served_by link_server units why later talk rest))
-talk_adds units why most at next None left each few = few
-talk_adds units why most at next (Some talk) left each few =
-    behind_adds most (can_ask talk.phase) at next (served_by link_server units why next talk left) few (each next talk left)
+adds_stay : (most : ℕ) (at : AtLink) → StaysServing link_server (AddsPart most at)
+adds_stay most at = record {
+  spent = λ why. tt;
+  unit = λ bytes next talk left few.
+      behind_adds most (can_ask talk.phase) at next (unit_by (is_fresh talk.phase) talk.phase bytes talk.joiner next left) few (unit_adds talk.phase bytes talk.joiner next left);
+  refusal = λ why next talk left few. behind_adds most (can_ask talk.phase) at next (with_close (link_server.refusal why next talk left)) few (shuts (can_ask talk.phase) close.BadUnit next);
+}
 
-open_adds : (units : List (List ℕ)) (why : Option UnitRefused) (most : ℕ) (at : AtLink) (part : ServedPart AtLink Talk) → EachAdds units why → AddsPart most at part →
-    AddsPart most at (then_open part (λ later talk rest. served_by link_server units why later talk rest))
-open_adds units why most at (Err refused) each adds = tt
-open_adds units why most at (Ok part) each adds = talk_adds units why most at part.value.0 part.value.1 part.left each adds
-
-units_add : (units : List (List ℕ)) (why : Option UnitRefused) → EachAdds units why
-units_add [] None at talk left = omega arith
-units_add [] (Some why) at talk left = shuts (can_ask talk.phase) close.BadUnit at
-units_add (bytes ∷ units) why at talk left =
-    open_adds units why (can_ask talk.phase) at (unit_by (is_fresh talk.phase) talk.phase bytes talk.joiner at left) (units_add units why) (unit_adds talk.phase bytes talk.joiner at left)
+units_add : (cut : Cut) (at : AtLink) (talk : Talk) (left : List (List ℕ)) → AddsPart (can_ask talk.phase) at (served_cut link_server cut at talk left)
+units_add cut at talk left = served_stays link_server (AddsPart (can_ask talk.phase) at) (adds_stay (can_ask talk.phase) at) cut at talk left (omega arith)
 
 -- ---- the links of a member
 
@@ -477,20 +469,12 @@ turn_due : (most : ℕ) (unit : Result RpcUnit UnitRefused) (joiner : Option Rpc
 turn_due most (Err why) joiner at few = break_due most close.BadUnit at few
 turn_due most (Ok unit) joiner at few = joined_due most (answer_of joiner unit) (open_after joiner unit) at few
 
-turn_said : (most : ℕ) (units : List (List ℕ)) (why : Option UnitRefused) →
-    ((at : AtTurn) (talk : TurnTalk) (left : List (List ℕ)) → due_in at.work ≤ most → DueTurn most (served_by turn_server units why at talk left)) →
-    (at : AtTurn) (said : Option TurnTalk) (left : List (List ℕ)) → due_in at.work ≤ most →
-    DueTurn most (then_talk at said left (λ next talk rest. served_by turn_server units why next talk rest))
-turn_said most units why later at None left few = few
-turn_said most units why later at (Some talk) left few = later at talk left few
-
-turns_due : (most : ℕ) (units : List (List ℕ)) (why : Option UnitRefused) (at : AtTurn) (talk : TurnTalk) (left : List (List ℕ)) → due_in at.work ≤ most →
-    DueTurn most (served_by turn_server units why at talk left)
-turns_due most [] None at talk left few = few
-turns_due most [] (Some why) at talk left few = break_due most close.BadUnit at few
-turns_due most (bytes ∷ units) why at talk left few =
-    let served : AtTurn × Option TurnTalk = turn_unit (unit_of bytes) talk.joiner at in
-    turn_said most units why (turns_due most units why) served.0 served.1 left (turn_due most (unit_of bytes) talk.joiner at few)
+turns_stay : (most : ℕ) → StaysServing turn_server (DueTurn most)
+turns_stay most = record {
+  spent = λ why. tt;
+  unit = λ bytes at talk left few. turn_due most (unit_of bytes) talk.joiner at few;
+  refusal = λ why at talk left few. break_due most close.BadUnit at few;
+}
 
 turn_done : (most : ℕ) (part : ServedPart AtTurn TurnTalk) (rest : List ℕ) (number : ℕ) → DueTurn most part → DueDialWork most (after_turn part rest number)
 turn_done most (Err why) rest number few = tt
@@ -498,8 +482,8 @@ turn_done most (Ok part) rest number few = few
 
 dialled_due : (most : ℕ) (cut : Cut) (number : ℕ) (talk : TurnTalk) (w : Work) (left : List (List ℕ)) → due_in w ≤ most → DueDialWork most (serve_dialled cut number talk w left)
 dialled_due most cut number talk w left few =
-    turn_done most (served_by turn_server cut.units cut.refused (at_turn number w) talk left) cut.rest number
-    (turns_due most cut.units cut.refused (at_turn number w) talk left few)
+    turn_done most (served_cut turn_server cut (at_turn number w) talk left) cut.rest number
+    (served_stays turn_server (DueTurn most) (turns_stay most) cut (at_turn number w) talk left few)
 
 -- ---- bytes on an accepted link
 
@@ -515,8 +499,8 @@ link_bytes most (Some link) number piece how w left is few =
     let cut : Cut = cut_stream (link.rest ++ piece) in
     let rest : Work = without_link number w in
     let at : AtLink = at_link number rest in
-    after_due most (can_ask link.talk.phase) at (served_by link_server cut.units cut.refused at link.talk left) cut.rest number how rest
-    (units_add cut.units cut.refused at link.talk left) (omega (arith, few, ask_taken number w.links link is))
+    after_due most (can_ask link.talk.phase) at (served_cut link_server cut at link.talk left) cut.rest number how rest
+    (units_add cut at link.talk left) (omega (arith, few, ask_taken number w.links link is))
 
 bytes_if : (most : ℕ) (hit : Bool) (said : LinkState TurnTalk) (number : ℕ) (piece : List ℕ) (how : Dialling) (w : Work) (left : List (List ℕ)) → due_in w ≤ most →
     DueDialWork most (bytes_by hit said number piece how w left)

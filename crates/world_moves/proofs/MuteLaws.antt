@@ -21,7 +21,8 @@ use Rattle.rpc_units.specs.declared.unit.Unit.{Unit as RpcUnit}
 use Rattle.rpc_units.specs.Reading.{unit_of}
 use Rattle.rpc_units.specs.Stream.{cut_stream}
 use Rattle.end_links.specs.Links.{LinkState}
-use Rattle.end_links.specs.Serving.{ServedPart, served_by, served_cut, then_open, then_talk}
+use Rattle.end_links.specs.Serving.{ServedPart, served_cut}
+use Rattle.end_links.proofs.KeepLaws.{StaysServing, served_stays}
 use Rattle.logon_client.specs.declared.answering.Drawn.{Drawn}
 use Rattle.logon_client.specs.declared.answering.ServerOffer.{ServerOffer}
 use Rattle.logon_client.specs.declared.hearing.Heard.{Heard}
@@ -41,7 +42,7 @@ use Rattle.logon_client.specs.declared.state.Terms.{Terms}
 use Rattle.logon_client.specs.declared.state.Work.{Work}
 use Rattle.logon_client.specs.Answering.{is_enough, drawn_for, answer_of as answer_to, auth3_of}
 use Rattle.logon_client.specs.Asked.{HoldsOf, response_holds}
-use Rattle.logon_client.specs.Machine.{actions_after, after_stream, answers, answers_by, answers_part, asks, by_close, by_event, by_piece, client_server, halted, hear, hear_ack, hear_body, hear_call, hear_challenge, hear_flags, hear_pairs, hear_result, hear_trailer, hear_unit, serve_heard, serve_unit, state_after, step_by_outcome, step_by_running, step_of, told, work_of}
+use Rattle.logon_client.specs.Machine.{actions_after, after_stream, answers, answers_by, answers_part, asks, by_close, by_event, by_piece, client_server, halted, hear, hear_ack, hear_body, hear_call, hear_challenge, hear_flags, hear_pairs, hear_result, hear_trailer, hear_unit, serve_heard, state_after, step_by_outcome, step_by_running, step_of, told, work_of}
 use Rattle.logon_client.specs.Plans.{offer_of}
 use Rattle.logon_client.specs.State.{State}
 use Rattle.world_moves.specs.Ends.{actions_by}
@@ -142,24 +143,12 @@ heard_mute : (what : Heard) (left : List (List ℕ)) → HearsMute what → Part
 heard_mute (heard.Done work talk) left mute = mute
 heard_mute (heard.Challenged work link offer) left mute = drawn_mute (drawn_for (has_flag offer.flags negotiate_key_exch) left) offer link work mute
 
-abbrev pub EachMute : List (List ℕ) → Option UnitRefused → Type 0
-EachMute units why = (work : Work) (talk : Talk) (left : List (List ℕ)) → IsMute work → PartMute (served_by client_server units why work talk left)
-
-talk_mute : (units : List (List ℕ)) (why : Option UnitRefused) (work : Work) (talk : Option Talk) (left : List (List ℕ)) → EachMute units why → IsMute work →
-    PartMute (then_talk work talk left (λ later said rest. served_by client_server units why later said rest))
-talk_mute units why work None left each mute = mute
-talk_mute units why work (Some talk) left each mute = each work talk left mute
-
-later_mute : (units : List (List ℕ)) (why : Option UnitRefused) (part : ServedPart Work Talk) → EachMute units why → PartMute part →
-    PartMute (then_open part (λ later said rest. served_by client_server units why later said rest))
-later_mute units why (Err refused) each mute = tt
-later_mute units why (Ok part) each mute = talk_mute units why part.value.0 part.value.1 part.left each mute
-
-served_mute : (units : List (List ℕ)) (why : Option UnitRefused) → EachMute units why
-served_mute [] None = λ work talk left mute. mute
-served_mute [] (Some why) = λ work talk left mute. shut_mute talk.link work mute
-served_mute (bytes ∷ units) why = λ work talk left mute.
-    later_mute units why (serve_unit bytes work talk left) (served_mute units why) (heard_mute (hear bytes talk work) left (unit_mute (unit_of bytes) bytes talk work mute))
+mute_stays : StaysServing client_server PartMute
+mute_stays = record {
+  spent = λ why. tt;
+  unit = λ bytes work talk left mute. heard_mute (hear bytes talk work) left (unit_mute (unit_of bytes) bytes talk work mute);
+  refusal = λ why work talk left mute. shut_mute talk.link work mute;
+}
 
 -- ---- events
 
@@ -175,7 +164,7 @@ piece_mute : (own : Bool) (piece : List ℕ) (link : LinkState Talk) (work : Wor
 piece_mute false piece link work left mute = mute
 piece_mute true piece link work left mute =
     let cut = cut_stream (link.rest ++ piece) in
-    stream_mute cut.rest (served_cut client_server cut work link.talk left) (served_mute cut.units cut.refused work link.talk left mute)
+    stream_mute cut.rest (served_cut client_server cut work link.talk left) (served_stays client_server PartMute mute_stays cut work link.talk left mute)
 
 closed_mute : (own : Bool) (link : LinkState Talk) (work : Work) (left : List (List ℕ)) → IsMute work → AfterMute (by_close own link work left)
 closed_mute false link work left mute = mute

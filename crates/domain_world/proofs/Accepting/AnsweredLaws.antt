@@ -50,7 +50,7 @@ use Rattle.channel_events.proofs.ListLaws.{one_weaker, some_is}
 use Rattle.channel_events.proofs.SameLaws.{itself, one_channel, same_back, same_on}
 use Rattle.step_notes.proofs.Controllers.GrantVerdictLaws.{IsServedGrant, served_grant}
 use Rattle.step_notes.proofs.Controllers.JudgedStepLaws.{same_status}
-use Rattle.domain_world.proofs.Accepting.PlacedLaws.{Cut, Placed, all_at, all_by_place, apart_same, cut_twice, first_found, found_is, one_at, ordered, placed}
+use Rattle.domain_world.proofs.Accepting.ListPlaceLaws.{Cut, Placed, all_at, all_by_place, apart_same, cut_twice, first_found, found_is, one_at, ordered, placed}
 use Rattle.domain_world.proofs.Frames.MarkPlaceLaws.{got_beside}
 use Rattle.domain_world.proofs.Judgements.MovedLaws.{IsFound, passed_in}
 

@@ -27,7 +27,7 @@ use Rattle.domain_world.specs.Claims.Replies.{IsReplyOfOne, RepliesCarryTheirJud
 use Rattle.domain_world.specs.Past.{Past}
 use Rattle.channel_events.proofs.ListLaws.{some_is}
 use Rattle.channel_events.proofs.SameLaws.{one_channel}
-use Rattle.domain_world.proofs.Accepting.PlacedLaws.{all_at, all_by_place, placed}
+use Rattle.domain_world.proofs.Accepting.ListPlaceLaws.{all_at, all_by_place, placed}
 
 -- ---- bytes are those of one whole unit alone
 

@@ -15,7 +15,7 @@ use Rattle.world_moves.specs.Draws.{DrawsAreBlocks}
 use Rattle.domain_world.specs.Claims.{IsPlainlyAccepted, IsUnusedChallenge, ShortResponsesServeOnce, info_asked}
 use Rattle.domain_world.specs.Claims.OwnChallenges.{MessagesHaveOwnChallenges}
 use Rattle.domain_world.specs.Past.{Past}
-use Rattle.domain_world.proofs.Accepting.PlacedLaws.{all_by_place, apart_same, placed}
+use Rattle.domain_world.proofs.Accepting.ListPlaceLaws.{all_by_place, apart_same, placed}
 
 -- such a response that verifies is the one to the challenge
 verified : (found : Option Account) (info : NetworkInfo) (hash : List ℕ) → hash_in found ≡ hash → length info.nt ≡ 24 →

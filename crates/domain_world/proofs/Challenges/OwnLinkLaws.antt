@@ -2,6 +2,7 @@
 -- AUTHENTICATE is. It serves `messages_are_taken_as_sent`, `messages_have_own_challenges`, `runs_are_heard`,
 -- `runs_are_proved`, `short_responses_serve_once`.
 use Rattle.std.proofs.Common.{◌≡◌, ◌==◌, ◌≤◌, ℕ, Bool, true, false, List, [], ◌∷◌, ◌++◌, length, Option, Some, None, Result, Ok, Err, inl, inr, refl, sym, ap, subst, ◌∙◌, arith, slice_get, append_assoc, length-append}
+use Rattle.std.proofs.lemmas.List.{flat_map_more}
 use Rattle.std.specs.Prelude.{flat_map}
 use Rattle.std.specs.List.{AllByRecursion}
 use Rattle.std.proofs.lemmas.Bool.{eq-eqb}
@@ -28,8 +29,8 @@ use Rattle.rpc_units.specs.declared.unit.Unit.{Unit as RpcUnit}
 use Rattle.rpc_units.specs.Reading.{unit_of}
 use Rattle.rpc_units.specs.Stream.{Cut, cut_stream}
 use Rattle.end_links.specs.Links.{LinkState}
-use Rattle.end_links.specs.Serving.{ServedPart, served_by, then_open, then_talk, ServedUnit, served_units, units_on, units_then}
-use Rattle.end_links.proofs.ServingLaws.{units_served}
+use Rattle.end_links.specs.Serving.{ServedPart, served_cut, ServedUnit, served_units}
+use Rattle.end_links.proofs.KeepLaws.{comes_to, unit_served}
 use Rattle.channel_client.specs.declared.answers.AskRefused.{AskRefused}
 use Rattle.channel_client.specs.declared.answers.AskRefused.TheVariants as ask_refused
 use Rattle.channel_client.specs.Machine.{ask_of}
@@ -50,7 +51,7 @@ use Rattle.rpc_units.specs.Numbers.{ntlm_provider}
 use Rattle.member_server.specs.Machine.{actions_in, after_units, bytes_on, bytes_on_link, event_part, halted_state, state_in, step_of, step_on, work_of}
 use Rattle.member_server.specs.Messages.{ask_by, info_of, is_fit, take_auth3, take_message, take_trailer, wait_by, with_channel}
 use Rattle.member_server.specs.Outcomes.{at_link, without_link}
-use Rattle.member_server.specs.Rests.{first_rest, link_leaves}
+use Rattle.member_server.specs.Rests.{link_leaves}
 use Rattle.member_server.specs.State.{State as MemberState}
 use Rattle.member_server.specs.Turns.{DialWork, next_turn}
 use Rattle.member_server.specs.Units.{body_challenged, bound_unit, first_unit, is_fresh, link_server, unit_by, unit_challenged}
@@ -63,6 +64,7 @@ use Rattle.world_moves.specs.declared.links.EndId.TheVariants.{Member}
 use Rattle.world_moves.specs.declared.links.Route.{Route}
 use Rattle.world_moves.specs.Links.{acceptor_of}
 use Rattle.channel_events.proofs.ListLaws.{got_append, got_behind}
+use Rattle.step_notes.proofs.ServedLaws.{served_beside, served_noted}
 use Rattle.step_notes.proofs.Members.RestLaws.{next_rest}
 use Rattle.step_notes.proofs.Members.UnservedLaws.{DialWorkLinks, HasServed, IfUnserved, IfUnservedAfter, IfUnservedPart, LinksIn, Unserved, after_known, bound_serves, bytes_hold, dialled_known, fewer_known, found_known, next_known, none_so}
 use Rattle.domain_world.proofs.Frames.AllLaws.{all_join, all_flat}
@@ -282,26 +284,7 @@ AreSent w D units = AllByRecursion (λ (sent : ChallengeSent). D sent.challenge)
 abbrev pub AreFor : LinkAt → Type 0 → (List ℕ → Type 0) → List (ServedUnit AtLink Talk) → ServedPart AtLink Talk → Type 0
 AreFor w F D units part = AllByRecursion (λ (one : MessageTaken). F × D one.logon.challenge) (flat_map (message_note w) units) × IfUnservedPart (IsKnown F D) part
 
-abbrev pub LaterFor : LinkAt → Type 0 → (List ℕ → Type 0) → List (List ℕ) → Option UnitRefused → Type 0
-LaterFor w F D units why = (at : AtLink) (talk : Talk) (left : List (List ℕ)) → IfUnserved (IsKnown F D talk.phase) talk.phase →
-    AreSent w D (served_units link_server units at talk left) →
-    AreFor w F D (served_units link_server units at talk left) (served_by link_server units why at talk left)
-
-module _ (w : LinkAt) (F : Type 0) (D : List ℕ → Type 0) (units : List (List ℕ)) (why : Option UnitRefused) (later : LaterFor w F D units why) where
-  said_for : (at : AtLink) (said : Option Talk) (left : List (List ℕ)) → IfUnservedAfter (IsKnown F D) said →
-      AreSent w D (units_on at said left (λ next talk rest. served_units link_server units next talk rest)) →
-      AreFor w F D (units_on at said left (λ next talk rest. served_units link_server units next talk rest))
-      (then_talk at said left (λ next talk rest. served_by link_server units why next talk rest))
-  said_for at None left known sent = (tt, tt)
-  said_for at (Some talk) left known sent = later at talk left known sent
-
-  part_for : (part : ServedPart AtLink Talk) → IfUnservedPart (IsKnown F D) part →
-      AreSent w D (units_then part (λ next talk rest. served_units link_server units next talk rest)) →
-      AreFor w F D (units_then part (λ next talk rest. served_units link_server units next talk rest))
-      (then_open part (λ next talk rest. served_by link_server units why next talk rest))
-  part_for (Err refused) known sent = (tt, tt)
-  part_for (Ok part) known sent = said_for part.value.0 part.value.1 part.left known sent
-
+module _ (w : LinkAt) (F : Type 0) (D : List ℕ → Type 0) where
   -- the challenge that the link has then was written down
   phase_sent : (p : Phase) (at : AtLink) (left : List (List ℕ)) → F → AllByRecursion (λ (sent : ChallengeSent). D sent.challenge) (challenge_in p w at left) →
       IfUnserved (IsKnown F D p) p
@@ -321,48 +304,51 @@ module _ (w : LinkAt) (F : Type 0) (D : List ℕ → Type 0) (units : List (List
   part_sent (Err refused) at left its sent = tt
   part_sent (Ok part) at left its sent = said_sent part.value.1 at left its sent
 
-  bound_for : (p : Phase) (bytes : List ℕ) (joiner : Option RpcUnit) (at : AtLink) (left : List (List ℕ)) →
-      AreSent w D (units_on (bound_unit p bytes joiner at).0 (bound_unit p bytes joiner at).1 left (λ next talk rest. served_units link_server units next talk rest)) →
-      AreFor w F D (units_on (bound_unit p bytes joiner at).0 (bound_unit p bytes joiner at).1 left (λ next talk rest. served_units link_server units next talk rest))
-      (then_talk (bound_unit p bytes joiner at).0 (bound_unit p bytes joiner at).1 left (λ next talk rest. served_by link_server units why next talk rest))
-  bound_for p bytes joiner at left sent =
-      let served : Served = bound_unit p bytes joiner at in
-      said_for served.0 served.1 left (none_so (IsKnown F D) served.1 (bound_serves p bytes joiner at)) sent
+  -- of one unit
+  abbrev IsForUnit : Bool → Phase → List ℕ → Option RpcUnit → AtLink → List (List ℕ) → Type 0
+  IsForUnit challenged p bytes joiner at left =
+      AllByRecursion (λ (one : MessageTaken). F × D one.logon.challenge) (message_by challenged (unit_at (is_fresh p) p bytes joiner at left) w)
+      × IfUnservedPart (IsKnown F D) (unit_by (is_fresh p) p bytes joiner at left)
 
   unit_for : (p : Phase) (bytes : List ℕ) (joiner : Option RpcUnit) (at : AtLink) (left : List (List ℕ)) → IfUnserved (IsKnown F D p) p →
-      AreSent w D (unit_at (is_fresh p) p bytes joiner at left
-      ∷ units_then (unit_by (is_fresh p) p bytes joiner at left) (λ next talk rest. served_units link_server units next talk rest)) →
-      AreFor w F D (unit_at (is_fresh p) p bytes joiner at left
-      ∷ units_then (unit_by (is_fresh p) p bytes joiner at left) (λ next talk rest. served_units link_server units next talk rest))
-      (then_open (unit_by (is_fresh p) p bytes joiner at left) (λ next talk rest. served_by link_server units why next talk rest))
-  unit_for phase.Fresh bytes joiner at left known sent =
-      let part : ServedPart AtLink Talk = first_unit (unit_of bytes) joiner at left in
-      let rest : List (ServedUnit AtLink Talk) = units_then part (λ next talk more. served_units link_server units next talk more) in
-      let parts = all_parts (λ (one : ChallengeSent). D one.challenge) (challenge_after (talk_after part) w at left) (flat_map (challenge_note w) rest) sent in
-      part_for part (part_sent part at left known parts.0) parts.1
+      AllByRecursion (λ (sent : ChallengeSent). D sent.challenge) (challenge_by (is_fresh p) (unit_at (is_fresh p) p bytes joiner at left) w) →
+      IsForUnit (is_challenged p) p bytes joiner at left
+  unit_for phase.Fresh bytes joiner at left known sent = (tt, part_sent (first_unit (unit_of bytes) joiner at left) at left known sent)
   unit_for (phase.Challenged bound challenge flags) bytes joiner at left known sent =
-      let served : Served = bound_unit (phase.Challenged bound challenge flags) bytes joiner at in
-      let rest : List (ServedUnit AtLink Talk) = units_on served.0 served.1 left (λ next talk more. served_units link_server units next talk more) in
-      let own = bound_for (phase.Challenged bound challenge flags) bytes joiner at left sent in (
-        all_join (λ (one : MessageTaken). F × D one.logon.challenge) (message_after served.1 (Some served.0) w bytes) (flat_map (message_note w) rest)
-            (all_so (λ (one : MessageTaken). one.logon.challenge ≡ challenge) (λ (one : MessageTaken). F × D one.logon.challenge) (λ one is. (known.0, subst D (sym is) known.1))
-            (message_after served.1 (Some served.0) w bytes) (challenged_asks w bytes (unit_of bytes) bound challenge flags joiner at))
-            own.0,
+      let served : Served = bound_unit (phase.Challenged bound challenge flags) bytes joiner at in (
+        all_so (λ (one : MessageTaken). one.logon.challenge ≡ challenge) (λ (one : MessageTaken). F × D one.logon.challenge) (λ one is. (known.0, subst D (sym is) known.1))
+            (message_after served.1 (Some served.0) w bytes) (challenged_asks w bytes (unit_of bytes) bound challenge flags joiner at),
+        none_so (IsKnown F D) served.1 (bound_serves (phase.Challenged bound challenge flags) bytes joiner at),
+      )
+  unit_for (phase.Asked bound place held) bytes joiner at left known sent = (tt, none_so (IsKnown F D) _ (bound_serves (phase.Asked bound place held) bytes joiner at))
+  unit_for (phase.In on) bytes joiner at left known sent = (tt, none_so (IsKnown F D) _ (bound_serves (phase.In on) bytes joiner at))
+  unit_for (phase.Out bound status) bytes joiner at left known sent = (tt, none_so (IsKnown F D) _ (bound_serves (phase.Out bound status) bytes joiner at))
+
+  for_more : (done : List (ServedUnit AtLink Talk)) (bytes : List ℕ) (at : AtLink) (talk : Talk) (left : List (List ℕ)) →
+      (AreSent w D done → AreFor w F D done (comes_to at (Some talk) left)) → AreSent w D (done ++ unit_served link_server bytes at talk left ∷ []) →
+      AreFor w F D (done ++ unit_served link_server bytes at talk left ∷ []) (link_server.unit bytes at talk left)
+  for_more done bytes at talk left before sent =
+      let one : ServedUnit AtLink Talk = unit_served link_server bytes at talk left in
+      let parts = all_parts (λ (one : ChallengeSent). D one.challenge) (flat_map (challenge_note w) done) (challenge_note w one)
+      (subst (λ (all : List ChallengeSent). AllByRecursion (λ (one : ChallengeSent). D one.challenge) all) (sym (flat_map_more (challenge_note w) [] done one)) sent) in
+      let known = before parts.0 in
+      let own = unit_for talk.phase bytes talk.joiner at left known.1 parts.1 in (
+        subst (λ (all : List MessageTaken). AllByRecursion (λ (one : MessageTaken). F × D one.logon.challenge) all) (flat_map_more (message_note w) [] done one)
+            (all_join (λ (one : MessageTaken). F × D one.logon.challenge) (flat_map (message_note w) done) (message_note w one) known.0 own.0),
         own.1,
       )
-  unit_for (phase.Asked bound place held) bytes joiner at left known sent = bound_for (phase.Asked bound place held) bytes joiner at left sent
-  unit_for (phase.In on) bytes joiner at left known sent = bound_for (phase.In on) bytes joiner at left sent
-  unit_for (phase.Out bound status) bytes joiner at left known sent = bound_for (phase.Out bound status) bytes joiner at left sent
 
-units_for : (w : LinkAt) (F : Type 0) (D : List ℕ → Type 0) (units : List (List ℕ)) (why : Option UnitRefused) → LaterFor w F D units why
-units_for w F D [] None at talk left known sent = (tt, known)
-units_for w F D [] (Some why) at talk left known sent = (tt, tt)
-units_for w F D (bytes ∷ units) why at talk left known sent = unit_for w F D units why (units_for w F D units why) talk.phase bytes talk.joiner at left known sent
+  units_for : (cut : Cut) (at : AtLink) (talk : Talk) (left : List (List ℕ)) → IfUnserved (IsKnown F D talk.phase) talk.phase →
+      AreSent w D (served_units link_server cut.units at talk left) →
+      AreFor w F D (served_units link_server cut.units at talk left) (served_cut link_server cut at talk left)
+  units_for cut at talk left known =
+      served_beside link_server (λ done part. AreSent w D done → AreFor w F D done part)
+      (record { unit = for_more; refusal = λ done why at talk left before sent. ((before sent).0, tt) }) cut at talk left (λ sent. (tt, known))
 
 -- ---- a link has one CHALLENGE
 
 -- a link whose challenge has served is bound
-served_bound : (p : Phase) → IfUnserved ⊥ p → is_fresh p ≡ false
+pub served_bound : (p : Phase) → IfUnserved ⊥ p → is_fresh p ≡ false
 served_bound phase.Fresh known = absurd known
 served_bound (phase.Challenged bound challenge flags) known = absurd known
 served_bound (phase.Asked bound place held) known = refl
@@ -378,82 +364,73 @@ said_bound : (said : Option Talk) → HasServed said → IsBound said
 said_bound None known = tt
 said_bound (Some talk) known = served_bound talk.phase known
 
-abbrev pub SendsNone : LinkAt → List (List ℕ) → Type 0
-SendsNone w units = (at : AtLink) (talk : Talk) (left : List (List ℕ)) → is_fresh talk.phase ≡ false → flat_map (challenge_note w) (served_units link_server units at talk left) ≡ []
-
 -- one, or none
 abbrev pub AtMostOne : List ChallengeSent → Type 0
 AtMostOne [] = Unit {0}
 AtMostOne (one ∷ []) = Unit {0}
 AtMostOne (one ∷ other ∷ more) = ⊥
 
-abbrev pub SendsOne : LinkAt → List (List ℕ) → Type 0
-SendsOne w units = (at : AtLink) (talk : Talk) (left : List (List ℕ)) → AtMostOne (flat_map (challenge_note w) (served_units link_server units at talk left))
+abbrev pub IsBoundPart : ServedPart AtLink Talk → Type 0
+IsBoundPart (Err why) = Unit {0}
+IsBoundPart (Ok part) = IsBound part.value.1
 
-module _ (w : LinkAt) (units : List (List ℕ)) (none : SendsNone w units) where
-  on_none : (at : AtLink) (said : Option Talk) (left : List (List ℕ)) → IsBound said →
-      flat_map (challenge_note w) (units_on at said left (λ next talk rest. served_units link_server units next talk rest)) ≡ []
-  on_none at None left bound = refl
-  on_none at (Some talk) left bound = none at talk left bound
+-- behind one something is bound
+abbrev pub SendsOne : List ChallengeSent → ServedPart AtLink Talk → Type 0
+SendsOne [] part = Unit {0}
+SendsOne (one ∷ []) part = IsBoundPart part
+SendsOne (one ∷ other ∷ more) part = ⊥
 
-  -- a unit where something is bound
-  bound_none : (p : Phase) (bytes : List ℕ) (joiner : Option RpcUnit) (at : AtLink) (left : List (List ℕ)) →
-      flat_map (challenge_note w) (units_on (bound_unit p bytes joiner at).0 (bound_unit p bytes joiner at).1 left (λ next talk rest. served_units link_server units next talk rest)) ≡ []
-  bound_none p bytes joiner at left =
-      let served : Served = bound_unit p bytes joiner at in on_none served.0 served.1 left (said_bound served.1 (bound_serves p bytes joiner at))
+one_sent : (sent : List ChallengeSent) (part : ServedPart AtLink Talk) → SendsOne sent part → AtMostOne sent
+one_sent [] part sends = tt
+one_sent (one ∷ []) part sends = tt
+one_sent (one ∷ other ∷ more) part sends = sends
 
-  unit_none : (p : Phase) (bytes : List ℕ) (joiner : Option RpcUnit) (at : AtLink) (left : List (List ℕ)) → is_fresh p ≡ false →
-      flat_map (challenge_note w) (unit_at (is_fresh p) p bytes joiner at left
-      ∷ units_then (unit_by (is_fresh p) p bytes joiner at left) (λ next talk rest. served_units link_server units next talk rest)) ≡ []
-  unit_none phase.Fresh bytes joiner at left bound = absurd cc
-  unit_none (phase.Challenged bound challenge flags) bytes joiner at left is = bound_none (phase.Challenged bound challenge flags) bytes joiner at left
-  unit_none (phase.Asked bound place held) bytes joiner at left is = bound_none (phase.Asked bound place held) bytes joiner at left
-  unit_none (phase.In on) bytes joiner at left is = bound_none (phase.In on) bytes joiner at left
-  unit_none (phase.Out bound status) bytes joiner at left is = bound_none (phase.Out bound status) bytes joiner at left
+module _ (w : LinkAt) where
+  phase_one : (p : Phase) (joiner : Option RpcUnit) (next at : AtLink) (rest left : List (List ℕ)) →
+      SendsOne (challenge_in p w at left) (comes_to next (Some (record { joiner = joiner; phase = p })) rest)
+  phase_one phase.Fresh joiner next at rest left = tt
+  phase_one (phase.Challenged bound challenge flags) joiner next at rest left = refl
+  phase_one (phase.Asked bound place held) joiner next at rest left = tt
+  phase_one (phase.In on) joiner next at rest left = tt
+  phase_one (phase.Out bound status) joiner next at rest left = tt
 
-  -- behind a unit where nothing was bound
-  phase_one : SendsOne w units → (p : Phase) (joiner : Option RpcUnit) (next at : AtLink) (rest left : List (List ℕ)) →
-      AtMostOne (challenge_in p w at left ++ flat_map (challenge_note w) (served_units link_server units next (record { joiner = joiner; phase = p }) rest))
-  phase_one later phase.Fresh joiner next at rest left = later next (record { joiner = joiner; phase = phase.Fresh }) rest
-  phase_one later (phase.Challenged bound challenge flags) joiner next at rest left =
-      subst (λ (more : List ChallengeSent). AtMostOne (challenge_in (phase.Challenged bound challenge flags) w at left ++ more))
-      (sym (none next (record { joiner = joiner; phase = phase.Challenged bound challenge flags }) rest refl)) tt
-  phase_one later (phase.Asked bound place held) joiner next at rest left = later next (record { joiner = joiner; phase = phase.Asked bound place held }) rest
-  phase_one later (phase.In on) joiner next at rest left = later next (record { joiner = joiner; phase = phase.In on }) rest
-  phase_one later (phase.Out bound status) joiner next at rest left = later next (record { joiner = joiner; phase = phase.Out bound status }) rest
+  said_one : (said : Option Talk) (next at : AtLink) (rest left : List (List ℕ)) → SendsOne (challenge_after said w at left) (comes_to next said rest)
+  said_one None next at rest left = tt
+  said_one (Some talk) next at rest left = phase_one talk.phase talk.joiner next at rest left
 
-  said_one : SendsOne w units → (said : Option Talk) (next at : AtLink) (rest left : List (List ℕ)) →
-      AtMostOne (challenge_after said w at left ++ flat_map (challenge_note w) (units_on next said rest (λ later talk more. served_units link_server units later talk more)))
-  said_one later None next at rest left = tt
-  said_one later (Some talk) next at rest left = phase_one later talk.phase talk.joiner next at rest left
+  part_one : (part : ServedPart AtLink Talk) (at : AtLink) (left : List (List ℕ)) → SendsOne (challenge_after (talk_after part) w at left) part
+  part_one (Err why) at left = tt
+  part_one (Ok part) at left = said_one part.value.1 part.value.0 at part.left left
 
-  part_one : SendsOne w units → (part : ServedPart AtLink Talk) (at : AtLink) (left : List (List ℕ)) →
-      AtMostOne (challenge_after (talk_after part) w at left ++ flat_map (challenge_note w) (units_then part (λ next talk more. served_units link_server units next talk more)))
-  part_one later (Err why) at left = tt
-  part_one later (Ok part) at left = said_one later part.value.1 part.value.0 at part.left left
+  unit_one : (fresh : Bool) (p : Phase) (bytes : List ℕ) (joiner : Option RpcUnit) (at : AtLink) (left : List (List ℕ)) →
+      SendsOne (challenge_by fresh (unit_at fresh p bytes joiner at left) w) (unit_by fresh p bytes joiner at left)
+  unit_one false p bytes joiner at left = tt
+  unit_one true p bytes joiner at left = part_one (first_unit (unit_of bytes) joiner at left) at left
 
   -- where something is bound, none
-  bound_one : (p : Phase) (bytes : List ℕ) (joiner : Option RpcUnit) (at : AtLink) (left : List (List ℕ)) → is_fresh p ≡ false →
-      AtMostOne (flat_map (challenge_note w) (unit_at (is_fresh p) p bytes joiner at left
-      ∷ units_then (unit_by (is_fresh p) p bytes joiner at left) (λ next talk rest. served_units link_server units next talk rest)))
-  bound_one p bytes joiner at left is = subst AtMostOne (sym (unit_none p bytes joiner at left is)) tt
+  bound_one : (fresh : Bool) (one : ChallengeSent) (p : Phase) (bytes : List ℕ) (joiner : Option RpcUnit) (at : AtLink) (left : List (List ℕ)) → fresh ≡ false →
+      SendsOne (one ∷ challenge_by fresh (unit_at fresh p bytes joiner at left) w) (unit_by fresh p bytes joiner at left)
+  bound_one false one p bytes joiner at left bound = said_bound (bound_unit p bytes joiner at).1 (bound_serves p bytes joiner at)
+  bound_one true one p bytes joiner at left bound = absurd cc
 
-  unit_one : SendsOne w units → (p : Phase) (bytes : List ℕ) (joiner : Option RpcUnit) (at : AtLink) (left : List (List ℕ)) →
-      AtMostOne (flat_map (challenge_note w) (unit_at (is_fresh p) p bytes joiner at left
-      ∷ units_then (unit_by (is_fresh p) p bytes joiner at left) (λ next talk rest. served_units link_server units next talk rest)))
-  unit_one later phase.Fresh bytes joiner at left = part_one later (first_unit (unit_of bytes) joiner at left) at left
-  unit_one later (phase.Challenged bound challenge flags) bytes joiner at left = bound_one (phase.Challenged bound challenge flags) bytes joiner at left refl
-  unit_one later (phase.Asked bound place held) bytes joiner at left = bound_one (phase.Asked bound place held) bytes joiner at left refl
-  unit_one later (phase.In on) bytes joiner at left = bound_one (phase.In on) bytes joiner at left refl
-  unit_one later (phase.Out bound status) bytes joiner at left = bound_one (phase.Out bound status) bytes joiner at left refl
+  more_one : (sent : List ChallengeSent) (bytes : List ℕ) (at : AtLink) (talk : Talk) (left : List (List ℕ)) → SendsOne sent (comes_to at (Some talk) left) →
+      SendsOne (sent ++ challenge_note w (unit_served link_server bytes at talk left)) (link_server.unit bytes at talk left)
+  more_one [] bytes at talk left sends = unit_one (is_fresh talk.phase) talk.phase bytes talk.joiner at left
+  more_one (one ∷ []) bytes at talk left bound = bound_one (is_fresh talk.phase) one talk.phase bytes talk.joiner at left bound
+  more_one (one ∷ other ∷ more) bytes at talk left none = absurd none
 
-units_none : (w : LinkAt) (units : List (List ℕ)) → SendsNone w units
-units_none w [] at talk left bound = refl
-units_none w (bytes ∷ units) at talk left bound = unit_none w units (units_none w units) talk.phase bytes talk.joiner at left bound
+  shut_one : (sent : List ChallengeSent) (at after : AtLink) (talk : Talk) (left : List (List ℕ)) → SendsOne sent (comes_to at (Some talk) left) → SendsOne sent (comes_to after None left)
+  shut_one [] at after talk left sends = tt
+  shut_one (one ∷ []) at after talk left bound = tt
+  shut_one (one ∷ other ∷ more) at after talk left none = none
 
-units_one : (w : LinkAt) (units : List (List ℕ)) → SendsOne w units
-units_one w [] at talk left = tt
-units_one w (bytes ∷ units) at talk left = unit_one w units (units_none w units) (units_one w units) talk.phase bytes talk.joiner at left
+  units_one : (cut : Cut) (at : AtLink) (talk : Talk) (left : List (List ℕ)) → AtMostOne (flat_map (challenge_note w) (served_units link_server cut.units at talk left))
+  units_one cut at talk left =
+      one_sent (flat_map (challenge_note w) (served_units link_server cut.units at talk left)) (served_cut link_server cut at talk left)
+      (served_noted link_server (challenge_note w) SendsOne (record {
+        unit = more_one;
+        refusal = λ sent why at talk left sends. shut_one sent at _ talk left sends;
+      }) cut at talk left tt)
 
 -- ---- which draw gave a challenge
 
@@ -538,55 +515,30 @@ module _ (w : LinkAt) (drawn all last : List (List ℕ)) (drew : w.drawn ≡ len
   part_drawn (Err why) at left first before after = tt
   part_drawn (Ok part) at left first before after = said_drawn part.value.1 at left part.left first before after
 
-abbrev pub LaterDrawn : LinkAt → List (List ℕ) → List (List ℕ) → List (List ℕ) → List (List ℕ) → Option UnitRefused → Type 0
-LaterDrawn w drawn all last units why = (at : AtLink) (talk : Talk) (left : List (List ℕ)) → IsRest left all →
-    IsRest last (left_by (served_by link_server units why at talk left)) →
-    WereDrawn drawn all last (flat_map (challenge_note w) (served_units link_server units at talk left))
+  own_drawn : (fresh : Bool) (p : Phase) (bytes : List ℕ) (joiner : Option RpcUnit) (at : AtLink) (left : List (List ℕ)) → IsRest left all →
+      IsRest last (left_by (unit_by fresh p bytes joiner at left)) → WereDrawn drawn all last (challenge_by fresh (unit_at fresh p bytes joiner at left) w)
+  own_drawn false p bytes joiner at left before after = tt
+  own_drawn true p bytes joiner at left before after = part_drawn (first_unit (unit_of bytes) joiner at left) at left (first_drew (unit_of bytes) joiner at left) before after
 
-module _ (w : LinkAt) (drawn all last : List (List ℕ)) (drew : w.drawn ≡ length drawn) (had : w.left ≡ length all) (units : List (List ℕ)) (why : Option UnitRefused)
-    (later : LaterDrawn w drawn all last units why) where
-  talk_rest : (at : AtLink) (said : Option Talk) (left : List (List ℕ)) →
-      IsRest (left_by (then_talk at said left (λ next talk rest. served_by link_server units why next talk rest))) left
-  talk_rest at None left = IsRest-refl left
-  talk_rest at (Some talk) left = units_served.rest link_server (record { units = units; rest = []; refused = why }) at talk left link_leaves
+-- whatever is left at the end
+abbrev pub DrawnSoFar : List (List ℕ) → List (List ℕ) → List ChallengeSent → ServedPart AtLink Talk → Type 0
+DrawnSoFar drawn all sent part = IsRest (left_by part) all × ((last : List (List ℕ)) → IsRest last (left_by part) → WereDrawn drawn all last sent)
 
-  -- what is left at the end is a rest of what a unit leaves
-  open_rest : (part : ServedPart AtLink Talk) → IsRest last (left_by (then_open part (λ next talk rest. served_by link_server units why next talk rest))) → IsRest last (left_by part)
-  open_rest part after =
-      IsRest-trans last (left_by (then_open part (λ next talk rest. served_by link_server units why next talk rest))) (left_by part) after
-      (then_part-rest part (λ done rest. then_talk done.0 done.1 rest (λ next talk more. served_by link_server units why next talk more)) (left_by part)
-      (λ done rest. talk_rest done.0 done.1 rest) (IsRest-refl (left_by part)))
-
-  on_drawn : (at : AtLink) (said : Option Talk) (left : List (List ℕ)) → IsRest left all →
-      IsRest last (left_by (then_talk at said left (λ next talk rest. served_by link_server units why next talk rest))) →
-      WereDrawn drawn all last (flat_map (challenge_note w) (units_on at said left (λ next talk rest. served_units link_server units next talk rest)))
-  on_drawn at None left before after = tt
-  on_drawn at (Some talk) left before after = later at talk left before after
-
-  then_drawn : (part : ServedPart AtLink Talk) (left : List (List ℕ)) → IsRest (left_by part) left → IsRest left all →
-      IsRest last (left_by (then_open part (λ next talk rest. served_by link_server units why next talk rest))) →
-      WereDrawn drawn all last (flat_map (challenge_note w) (units_then part (λ next talk rest. served_units link_server units next talk rest)))
-  then_drawn (Err refused) left its before after = tt
-  then_drawn (Ok part) left its before after = on_drawn part.value.0 part.value.1 part.left (IsRest-trans part.left left all its before) after
-
-  unit_drawn : (fresh : Bool) (p : Phase) (bytes : List ℕ) (joiner : Option RpcUnit) (at : AtLink) (left : List (List ℕ)) → IsRest left all →
-      IsRest last (left_by (then_open (unit_by fresh p bytes joiner at left) (λ next talk rest. served_by link_server units why next talk rest))) →
-      WereDrawn drawn all last (challenge_by fresh (unit_at fresh p bytes joiner at left) w
-      ++ flat_map (challenge_note w) (units_then (unit_by fresh p bytes joiner at left) (λ next talk rest. served_units link_server units next talk rest)))
-  unit_drawn false p bytes joiner at left before after = then_drawn (unit_by false p bytes joiner at left) left (IsRest-refl left) before after
-  unit_drawn true p bytes joiner at left before after =
-      let part : ServedPart AtLink Talk = first_unit (unit_of bytes) joiner at left in
-      all_join (IsDrawn (drawn ++ draws_between all last)) (challenge_after (talk_after part) w at left)
-      (flat_map (challenge_note w) (units_then part (λ next talk rest. served_units link_server units next talk rest)))
-      (part_drawn w drawn all last drew had part at left (first_drew (unit_of bytes) joiner at left) before (open_rest part after))
-      (then_drawn part left (first_rest (unit_of bytes) joiner at left) before after)
-
-units_drawn : (w : LinkAt) (drawn all last : List (List ℕ)) (drew : w.drawn ≡ length drawn) (had : w.left ≡ length all) (units : List (List ℕ)) (why : Option UnitRefused) →
-    LaterDrawn w drawn all last units why
-units_drawn w drawn all last drew had [] None at talk left before after = tt
-units_drawn w drawn all last drew had [] (Some why) at talk left before after = tt
-units_drawn w drawn all last drew had (bytes ∷ units) why at talk left before after =
-    unit_drawn w drawn all last drew had units why (units_drawn w drawn all last drew had units why) (is_fresh talk.phase) talk.phase bytes talk.joiner at left before after
+units_drawn : (w : LinkAt) (drawn all : List (List ℕ)) → w.drawn ≡ length drawn → w.left ≡ length all → (cut : Cut) (at : AtLink) (talk : Talk) →
+    DrawnSoFar drawn all (flat_map (challenge_note w) (served_units link_server cut.units at talk all)) (served_cut link_server cut at talk all)
+units_drawn w drawn all drew had cut at talk =
+    served_noted link_server (challenge_note w) (DrawnSoFar drawn all) (record {
+      unit = λ sent bytes at talk left before.
+          let part : ServedPart AtLink Talk = link_server.unit bytes at talk left in
+          let fewer : IsRest (left_by part) left = link_leaves.unit bytes at talk left in (
+            IsRest-trans (left_by part) left all fewer before.0,
+            λ last after.
+                all_join (IsDrawn (drawn ++ draws_between all last)) sent (challenge_note w (unit_served link_server bytes at talk left))
+                (before.1 last (IsRest-trans last (left_by part) left after fewer))
+                (own_drawn w drawn all last drew had (is_fresh talk.phase) talk.phase bytes talk.joiner at left before.0 after),
+          );
+      refusal = λ sent why at talk left before. before;
+    }) cut at talk all (IsRest-refl all, λ last after. tt)
 
 -- ---- bytes at a member
 
@@ -605,10 +557,10 @@ module _ (challenges : List ChallengeSent) (links : List Route) (w : LinkAt) (pi
   link_own running (Some link) how all there sent =
       let cut : Cut = cut_stream (link.rest ++ piece) in
       let at : AtLink = at_link w.link (work_of running) in
-      let own = units_for w (IsLinkIn links w.link w.member) (λ (challenge : List ℕ). OneOf (IsSentOn w.link challenge) challenges) cut.units cut.refused at link.talk left
+      let own = units_for w (IsLinkIn links w.link w.member) (λ (challenge : List ℕ). OneOf (IsSentOn w.link challenge) challenges) cut at link.talk left
       (found_known (IsOwn challenges links w.member) w.link running.links link there all) sent in (
         own.0,
-        after_known (IsOwn challenges links w.member) (served_by link_server cut.units cut.refused at link.talk left) cut.rest w.link how (without_link w.link (work_of running)) own.1
+        after_known (IsOwn challenges links w.member) (served_cut link_server cut at link.talk left) cut.rest w.link how (without_link w.link (work_of running)) own.1
             (fewer_known (IsOwn challenges links w.member) w.link running.links all),
       )
 
@@ -642,7 +594,7 @@ module _ (challenges : List ChallengeSent) (links : List Route) (w : LinkAt) (pi
 module _ (w : LinkAt) (piece : List ℕ) (now : ℕ) (left : List (List ℕ)) where
   link_one : (running : Running) (found : Option (LinkState Talk)) → AtMostOne (flat_map (challenge_note w) (link_units_on found w.link piece running left))
   link_one running None = tt
-  link_one running (Some link) = units_one w (cut_stream (link.rest ++ piece)).units (at_link w.link (work_of running)) link.talk left
+  link_one running (Some link) = units_one w (cut_stream (link.rest ++ piece)) (at_link w.link (work_of running)) link.talk left
 
   taken_one : (answer : Result (List Action) StepRefused) (units : List (ServedUnit AtLink Talk)) → AtMostOne (flat_map (challenge_note w) units) →
       AtMostOne (flat_map (challenge_note w) (units_if_taken answer units))
@@ -675,8 +627,8 @@ module _ (drawn left : List (List ℕ)) (w : LinkAt) (drew : w.drawn ≡ length 
   link_drawn running (Some link) how last after =
       let cut : Cut = cut_stream (link.rest ++ piece) in
       let at : AtLink = at_link w.link (work_of running) in
-      units_drawn w drawn left last drew had cut.units cut.refused at link.talk left (IsRest-refl left)
-      (after_rest (served_by link_server cut.units cut.refused at link.talk left) cut.rest w.link how (without_link w.link (work_of running)) last after)
+      (units_drawn w drawn left drew had cut at link.talk).1 last
+      (after_rest (served_cut link_server cut at link.talk left) cut.rest w.link how (without_link w.link (work_of running)) last after)
 
   dial_work_drawn : (running : Running) (how : Dialling) → AreDrawn drawn left w (link_units_by (is_turn_link how w.link) w.link piece running left) (bytes_on how w.link piece (work_of running) left)
   dial_work_drawn running how =

@@ -20,14 +20,13 @@ use Rattle.world_moves.specs.declared.moves.Move.{Move}
 use Rattle.world_moves.specs.declared.moves.Move.TheVariants as move
 use Rattle.world_moves.specs.declared.state.State.{State}
 use Rattle.world_moves.specs.declared.state.WaitingDial.{WaitingDial}
-use Rattle.world_moves.specs.Acting.{Heard, bag_unit, close_open, closed_at, done, forget, hear, hear_and_act, hear_and_act_if, perform, perform_all, perform_all_quietly, perform_quietly, piece_comes, pieces_come, send_on, shut_link}
+use Rattle.world_moves.specs.Acting.{bag_unit, close_open, closed_at, done, forget, hear, hear_and_act, hear_and_act_if, perform, perform_all, perform_all_quietly, perform_quietly, piece_comes, pieces_come, send_on, shut_link}
 use Rattle.world_moves.specs.Bag.{first_waiting, pieces_of}
 use Rattle.world_moves.specs.Choosing.{chosen_place}
-use Rattle.world_moves.specs.Counting.{add_counts, counts_of}
-use Rattle.world_moves.specs.Ends.{with_client}
 use Rattle.world_moves.specs.Links.{acceptor_of, hearer_of, is_accepted_by, kind_of, other_hearer}
 use Rattle.world_moves.specs.Moving.{act, answer_by, answered_link, begun, come_by, come_on_own, connect_by, connect_first, end_of_peer, onward_by, open_link, route_to, settle, start, start_at, start_by, with_link, without_first}
 use Rattle.logon_steps.proofs.ClientStepLaws.{clients_step}
+use Rattle.logon_runs.proofs.Seen.StartLaws.{begun_so}
 use Rattle.domain_world.specs.Claims.Completeness.{IsPlainMove}
 
 -- ---- an end hears something, and acts
@@ -152,13 +151,6 @@ moment_below s (move.Shut number) plain below = absurd plain
 moment_below s (move.Restart number) plain below = absurd plain
 
 -- ---- challenges
-
--- a client begins with a dial alone
-abbrev begun_so : ℕ → Beginning → State → Heard
-begun_so at beginning s = record {
-  state = record s { ends = with_client at beginning.state s.ends; counts = add_counts s.counts (counts_of beginning.actions) };
-  actions = beginning.actions;
-}
 
 start_by_chances : (plan : Option ClientPlan) (at : ℕ) (s : State) → (start_by plan at s).state.chances ≡ s.chances
 start_by_chances None at s = refl

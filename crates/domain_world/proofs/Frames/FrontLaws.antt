@@ -13,28 +13,23 @@ use Rattle.channel_keys.specs.Credentials.{cred_of}
 use Rattle.channel_keys.specs.Flags.{rc4_flag}
 use Rattle.authenticators.specs.SecureChannels.{SecureChannelState, channel_by as moved_by_call, key_of_channel, passes_on, return_by}
 use Rattle.outside.specs.declared.action.Action.{Action}
-use Rattle.outside.specs.declared.action.Action.TheVariants as action
 use Rattle.outside.specs.declared.action.StepRefused.{StepRefused}
-use Rattle.outside.specs.declared.event.Event.TheVariants as event
 use Rattle.outside.specs.Machine.{step_by, then_part}
-use Rattle.rpc_units.specs.declared.refused.UnitRefused.{UnitRefused}
 use Rattle.rpc_units.specs.Reading.{unit_of}
 use Rattle.rpc_units.specs.Stream.{Cut, cut_stream}
 use Rattle.logon_stubs.specs.declared.calls.AuthCall.{AuthCall}
 use Rattle.logon_stubs.specs.declared.calls.Call.{Call}
-use Rattle.logon_stubs.specs.declared.calls.Call.TheVariants as call
 use Rattle.logon_stubs.specs.declared.calls.ChallengeCall.{ChallengeCall}
 use Rattle.logon_stubs.specs.declared.info.NetworkInfo.{NetworkInfo}
 use Rattle.account_table.specs.LookUps.{knows_in}
 use Rattle.account_table.specs.declared.account.Account.{Account}
 use Rattle.end_links.specs.Links.{LinkState}
-use Rattle.end_links.specs.Serving.{ServedPart, Service, served_by, served_cut, then_open, then_talk, ServedUnit}
+use Rattle.end_links.specs.Serving.{ServedPart, served_cut, ServedUnit}
 use Rattle.domain_controller.specs.Hearing.{hear}
 use Rattle.domain_controller.specs.Machine.{Desk, account_for, answer_logon, by_call, by_heard, channel_for, controller_server, desk, draw_challenge, judge_account, judge_channel, judge_offer, judge_pair, judge_return, open_channel, put_channel, put_pair_if, take_channel, take_pair}
 use Rattle.domain_controller.specs.State.{State as ControllerState}
 use Rattle.domain_controller.specs.Step.{LinkMap, first_desk, halted, serve_on, start_turn, state_after, step_on, step_of}
 use Rattle.domain_controller.specs.declared.hearing.Heard.{Heard}
-use Rattle.domain_controller.specs.declared.hearing.Heard.TheVariants as heard
 use Rattle.domain_controller.specs.declared.line.Line.{Line}
 use Rattle.domain_controller.specs.declared.state.ChallengePair.{ChallengePair}
 use Rattle.domain_controller.specs.declared.state.Running.{Running}
@@ -60,6 +55,11 @@ use Rattle.world_moves.proofs.LinkFrameLaws.{IsOnLink}
 use Rattle.domain_world.proofs.Frames.MarkPlaceLaws.{IsHere, all_push}
 use Rattle.domain_world.proofs.Frames.NewUnitLaws.{IsFront, IsNewUnit, new_or_plain}
 use Rattle.domain_world.proofs.Frames.OpenMadeLaws.{IsAtSide, side_of}
+use Rattle.end_links.proofs.KeepLaws.{StaysServing, served_stays}
+use Rattle.outside.specs.declared.action.Action.TheVariants as action
+use Rattle.outside.specs.declared.event.Event.TheVariants as event
+use Rattle.logon_stubs.specs.declared.calls.Call.TheVariants as call
+use Rattle.domain_controller.specs.declared.hearing.Heard.TheVariants as heard
 
 abbrev pub AllHere : ℕ → List Action → Type 0
 AllHere link actions = AllByRecursion (IsHere link) actions
@@ -140,24 +140,12 @@ heard_here (heard.Answer bytes talk) link name now d left on here = sends_here l
 heard_here (heard.Waits talk) link name now d left on here = here
 heard_here (heard.Asked line c talk) link name now d left on here = call_here link c line talk name now d left on here
 
-on_here : (link : ℕ) (talk : Option Talk) (work : Desk) (left : List (List ℕ)) (later : Service Desk Talk) → ClosesLast link work.work.actions talk →
-    ((work : Desk) (talk : Talk) (left : List (List ℕ)) → AllHere link work.work.actions → PartHere link (later work talk left)) → PartHere link (then_talk work talk left later)
-on_here link None work left later is each = is
-on_here link (Some talk) work left later is each = each work talk left is
-
-part_here : (link : ℕ) (part : ServedPart Desk Talk) (later : Service Desk Talk) → PartHere link part →
-    ((work : Desk) (talk : Talk) (left : List (List ℕ)) → AllHere link work.work.actions → PartHere link (later work talk left)) → PartHere link (then_open part later)
-part_here link (Err why) later is each = tt
-part_here link (Ok part) later is each = on_here link part.value.1 part.value.0 part.left later is each
-
-pub units_here : (link : ℕ) (name : List ℕ) (now : ℕ) (units : List (List ℕ)) (why : Option UnitRefused) (d : Desk) (talk : Talk) (left : List (List ℕ)) → AllHere link d.work.actions →
-    PartHere link (served_by (controller_server name now link) units why d talk left)
-units_here link name now [] None d talk left here = here
-units_here link name now [] (Some why) d talk left here = (d.work.actions, _, refl, here)
-units_here link name now (bytes ∷ units) why d talk left here =
-    part_here link (by_heard (hear link bytes talk) link name now d left) (λ later said rest. served_by (controller_server name now link) units why later said rest)
-    (heard_here (hear link bytes talk) link name now d left (read_on (unit_of bytes) link talk) here)
-    (λ later said rest there. units_here link name now units why later said rest there)
+here_stays : (link : ℕ) (name : List ℕ) (now : ℕ) → StaysServing (controller_server name now link) (PartHere link)
+here_stays link name now = record {
+  spent = λ why. tt;
+  unit = λ bytes d talk left here. heard_here (hear link bytes talk) link name now d left (read_on (unit_of bytes) link talk) here;
+  refusal = λ why d talk left here. (d.work.actions, _, refl, here);
+}
 
 -- ---- a step of a controller
 
@@ -188,7 +176,7 @@ link_front None link piece c running now left = no_front link
 link_front (Some there) link piece c running now left =
     let cut : Cut = cut_stream (there.rest ++ piece) in
     served_front link c (served_cut (controller_server c.name now link) cut (first_desk c.table running) there.talk left) cut.rest (take_out same_number link running.links) left
-    (units_here link c.name now cut.units cut.refused (first_desk c.table running) there.talk left tt)
+    (served_stays (controller_server c.name now link) (PartHere link) (here_stays link c.name now) cut (first_desk c.table running) there.talk left tt)
 
 running_front : (running : Option Running) (link : ℕ) (piece : List ℕ) (c : ControllerState) (now : ℕ) (left : List (List ℕ)) →
     HasFront link (actions_by (step_on running c (event.Bytes link piece) now left).answer)

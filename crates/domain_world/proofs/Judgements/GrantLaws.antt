@@ -9,11 +9,8 @@ use Rattle.authenticators.specs.SecureChannels.{SecureChannelState, key_of_chann
 use Rattle.outside.specs.Drawing.{Drawing}
 use Rattle.outside.specs.Machine.{step_by, then_part}
 use Rattle.outside.specs.declared.action.Action.{Action}
-use Rattle.outside.specs.declared.action.Action.TheVariants as action
 use Rattle.outside.specs.declared.action.Judged.{Judged}
-use Rattle.outside.specs.declared.action.Judged.TheVariants as judged
 use Rattle.outside.specs.declared.event.Event.{Event}
-use Rattle.outside.specs.declared.event.Event.TheVariants as event
 use Rattle.rpc_units.specs.Stream.{cut_stream}
 use Rattle.logon_stubs.specs.declared.info.NetworkInfo.{NetworkInfo}
 use Rattle.logon_stubs.specs.declared.info.Verdict.{Verdict}
@@ -21,7 +18,7 @@ use Rattle.account_table.specs.AccountTable.{AccountTable}
 use Rattle.account_table.specs.Changes.{DifferInCounts}
 use Rattle.account_table.proofs.ChangeLaws.{differs-again, differs-none}
 use Rattle.end_links.specs.Links.{LinkState}
-use Rattle.end_links.specs.Serving.{ServedPart, ServedUnit, served_units, units_on, units_then}
+use Rattle.end_links.specs.Serving.{ServedUnit, served_units}
 use Rattle.domain_controller.specs.Hearing.{hear}
 use Rattle.domain_controller.proofs.CountLaws.{PartCounts, counts_by_verdict, heard-differs, part-differs}
 use Rattle.domain_controller.specs.Laws.{is_passed}
@@ -53,6 +50,10 @@ use Rattle.domain_world.proofs.Challenges.MessageOnceLaws.{set_cases}
 use Rattle.domain_world.proofs.Frames.FrameLaws.{Fact, HoldsAfter, HoldsIn, Stays, StaysWritten, run_stays}
 use Rattle.domain_world.proofs.Judgements.JudgedLaws.{AreRight, HoldsIf, IsServedBy, answers_hold, are_if_taken, heard_holds, judged_hold, judged_rightly, onto_hold}
 use Rattle.domain_world.proofs.Judgements.ReplayLaws.{client_judged, member_judged}
+use Rattle.step_notes.proofs.ServedLaws.{served_such}
+use Rattle.outside.specs.declared.action.Action.TheVariants as action
+use Rattle.outside.specs.declared.action.Judged.TheVariants as judged
+use Rattle.outside.specs.declared.event.Event.TheVariants as event
 
 -- ---- a Logon call: its status is that of its verdict
 
@@ -97,31 +98,15 @@ module _ (name : List ℕ) (now : ℕ) (line : Line) (info : NetworkInfo) (valid
 abbrev pub IsServedFrom : List ℕ → ℕ → ℕ → AccountTable → ServedUnit Desk Talk → Type 0
 IsServedFrom name now link table unit = DifferInCounts table unit.work.table × IsServedBy (controller_server name now link) unit
 
--- what is served later is so, where it finds such accounts
-abbrev pub AreServedFrom : List ℕ → ℕ → ℕ → AccountTable → (Desk → Talk → List (List ℕ) → List (ServedUnit Desk Talk)) → Type 0
-AreServedFrom name now link table later =
-    (d : Desk) (talk : Talk) (left : List (List ℕ)) → DifferInCounts table d.table → AllByRecursion (IsServedFrom name now link table) (later d talk left)
-
-module _ (name : List ℕ) (now link : ℕ) where
-  on_served : (table : AccountTable) (later : Desk → Talk → List (List ℕ) → List (ServedUnit Desk Talk)) (d : Desk) (talk : Option Talk) (left : List (List ℕ)) →
-      AreServedFrom name now link table later → DifferInCounts table d.table → AllByRecursion (IsServedFrom name now link table) (units_on d talk left later)
-  on_served table later d None left each is = tt
-  on_served table later d (Some talk) left each is = each d talk left is
-
-  then_served : (table : AccountTable) (later : Desk → Talk → List (List ℕ) → List (ServedUnit Desk Talk)) (part : ServedPart Desk Talk) →
-      AreServedFrom name now link table later → PartCounts table part → AllByRecursion (IsServedFrom name now link table) (units_then part later)
-  then_served table later (Err why) each is = tt
-  then_served table later (Ok part) each is = on_served table later part.value.0 part.value.1 part.left each is
-
-  units_served : (table : AccountTable) (units : List (List ℕ)) →
-      AreServedFrom name now link table (λ d talk left. served_units (controller_server name now link) units d talk left)
-  units_served table [] d talk left is = tt
-  units_served table (bytes ∷ units) d talk left is = (
-    (is, refl),
-    then_served table (λ later said rest. served_units (controller_server name now link) units later said rest) (by_heard (hear link bytes talk) link name now d left)
-        (units_served table units)
-        (part-differs table d.table (by_heard (hear link bytes talk) link name now d left) is (heard-differs (hear link bytes talk) link name now d left)),
-  )
+units_served : (name : List ℕ) (now link : ℕ) (table : AccountTable) (units : List (List ℕ)) (d : Desk) (talk : Talk) (left : List (List ℕ)) → DifferInCounts table d.table →
+    AllByRecursion (IsServedFrom name now link table) (served_units (controller_server name now link) units d talk left)
+units_served name now link table units d talk left is =
+    served_such (controller_server name now link) (PartCounts table) (IsServedFrom name now link table)
+    (λ bytes d talk left is. (
+      (is, refl),
+      part-differs table d.table (by_heard (hear link bytes talk) link name now d left) is (heard-differs (hear link bytes talk) link name now d left),
+    ))
+    units d talk left is
 
 -- ---- a step of a controller
 

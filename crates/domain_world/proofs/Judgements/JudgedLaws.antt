@@ -10,7 +10,7 @@ use Rattle.outside.specs.declared.event.Event.TheVariants as event
 use Rattle.logon_stubs.specs.declared.calls.Call.TheVariants as call
 use Rattle.logon_stubs.specs.declared.calls.LogonCall.{LogonCall}
 use Rattle.end_links.specs.Links.{LinkState}
-use Rattle.end_links.specs.Serving.{Server, ServedPart, ServedUnit, served_units, units_on, units_then}
+use Rattle.end_links.specs.Serving.{Server, ServedPart, ServedUnit, served_units}
 use Rattle.rpc_units.specs.Stream.{cut_stream}
 use Rattle.domain_controller.specs.Hearing.{hear}
 use Rattle.domain_controller.specs.Machine.{Desk, answer_logon, by_heard, controller_server}
@@ -35,6 +35,7 @@ use Rattle.world_moves.specs.declared.plan.Plan.{Plan}
 use Rattle.world_moves.specs.declared.state.State.{State}
 use Rattle.domain_world.specs.Past.{Coming, answers_of, at_controller, controller_of, first_of, judged_of, later_of, note_at, note_client, note_controller, note_member, note_messages, numbers_on, onto, past, with_reply}
 use Rattle.step_notes.proofs.Controllers.JudgedStepLaws.{by_names, told_right}
+use Rattle.step_notes.proofs.ServedLaws.{served_such}
 use Rattle.domain_world.proofs.Frames.TurnFrameLaws.{notes_keep}
 use Rattle.domain_world.proofs.Frames.BookFrameLaws.{book_holds}
 
@@ -90,23 +91,9 @@ unit_right w link unit is = heard_holds IsJudgedRight (hear link unit.bytes unit
 
 -- ---- the units of a stream
 
-module _ {W T : Type 0} where
-  are_on : (P : ServedUnit W T → Type 0) (later : W → T → List (List ℕ) → List (ServedUnit W T)) → ((work : W) (talk : T) (left : List (List ℕ)) → AllByRecursion P (later work talk left)) →
-      (work : W) (talk : Option T) (left : List (List ℕ)) → AllByRecursion P (units_on work talk left later)
-  are_on P later each work None left = tt
-  are_on P later each work (Some talk) left = each work talk left
-
-  are_then : (P : ServedUnit W T → Type 0) (later : W → T → List (List ℕ) → List (ServedUnit W T)) → ((work : W) (talk : T) (left : List (List ℕ)) → AllByRecursion P (later work talk left)) →
-      (part : ServedPart W T) → AllByRecursion P (units_then part later)
-  are_then P later each (Err why) = tt
-  are_then P later each (Ok part) = are_on P later each part.value.0 part.value.1 part.left
-
-  pub are_served : (server : Server W T) (units : List (List ℕ)) (work : W) (talk : T) (left : List (List ℕ)) → AllByRecursion (IsServedBy server) (served_units server units work talk left)
-  are_served server [] work talk left = tt
-  are_served server (bytes ∷ units) work talk left = (
-    refl,
-    are_then (IsServedBy server) (λ later said rest. served_units server units later said rest) (λ later said rest. are_served server units later said rest) (server.unit bytes work talk left),
-  )
+pub are_served : {W T : Type 0} (server : Server W T) (units : List (List ℕ)) (work : W) (talk : T) (left : List (List ℕ)) → AllByRecursion (IsServedBy server) (served_units server units work talk left)
+are_served server units work talk left =
+    served_such server (λ part. Unit {0}) (IsServedBy server) (λ bytes work talk left any. (refl, tt)) units work talk left tt
 
 pub are_if_taken : {U : Type 0} (P : U → Type 0) (answer : Result (List Action) StepRefused) (units : List U) → AllByRecursion P units → AllByRecursion P (units_if_taken answer units)
 are_if_taken P (Ok actions) units each = each

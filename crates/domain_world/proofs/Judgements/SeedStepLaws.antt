@@ -1,6 +1,6 @@
 -- The seeds of the channels that controllers keep, through each step of an end.
 -- It serves `controllers_grant_who_may_log_on`, `replays_pass_by_sum`, `replies_carry_their_judgement` and 3 more.
-use Rattle.std.proofs.Common.{◌≡◌, ◌≢◌, ℕ, Bool, true, false, List, [], ◌∷◌, ◌++◌, length, map, Option, Some, None, Ok, Err, refl, sym, subst, ◌∙◌, inl, inr, slice_get, slice_set}
+use Rattle.std.proofs.Common.{◌≡◌, ◌≢◌, ℕ, Bool, true, false, List, [], ◌∷◌, ◌++◌, length, map, Option, Some, None, Ok, Err, refl, sym, ap, subst, ◌∙◌, inl, inr, slice_get, slice_set}
 use Rattle.std.specs.Prelude.{nat_le}
 use Rattle.std.specs.List.{AllByRecursion}
 use Rattle.wire_base.specs.Maps.{lookup, same_number, take_out}
@@ -11,14 +11,13 @@ use Rattle.outside.specs.declared.event.Event.TheVariants as event
 use Rattle.outside.specs.Drawing.{Drawing, IsRest}
 use Rattle.outside.specs.Machine.{step_by, then_part}
 use Rattle.outside.proofs.DrawLaws.{IsRest-later, IsRest-nothing, IsRest-refl, IsRest-trans}
-use Rattle.rpc_units.specs.declared.refused.UnitRefused.{UnitRefused}
-use Rattle.rpc_units.specs.Stream.{cut_stream}
+use Rattle.rpc_units.specs.Stream.{Cut, cut_stream}
 use Rattle.logon_stubs.specs.declared.calls.Call.TheVariants as call
 use Rattle.logon_stubs.specs.declared.calls.ChallengeCall.{ChallengeCall}
 use Rattle.account_table.specs.AccountTable.{AccountTable}
 use Rattle.account_table.specs.LookUps.{knows_in}
 use Rattle.end_links.specs.Links.{LinkState}
-use Rattle.end_links.specs.Serving.{ServedPart, Service, served_by, served_cut, then_open, then_talk, ServedUnit, served_units, units_on, units_then}
+use Rattle.end_links.specs.Serving.{ServedPart, served_cut, ServedUnit, served_units}
 use Rattle.domain_controller.specs.Hearing.{hear}
 use Rattle.domain_controller.specs.Machine.{Desk, account_for, answer_logon, by_heard, controller_server, draw_challenge}
 use Rattle.domain_controller.specs.State.{State as ControllerState}
@@ -36,6 +35,7 @@ use Rattle.step_notes.specs.Served.{units_if_taken, work_after}
 use Rattle.world_moves.specs.Ends.{EndStates, controller_step}
 use Rattle.domain_world.specs.Claims.{moved_on}
 use Rattle.domain_world.specs.Past.{first_of, judged_of, later_of, onto, with_reply}
+use Rattle.step_notes.proofs.ServedLaws.{StaysNoted, served_mapped}
 use Rattle.domain_world.proofs.Challenges.MessageOnceLaws.{set_cases}
 use Rattle.domain_world.proofs.Judgements.SeedLaws.{AreApart, AreKept, AreUnheard, IsInOrder, IsSpent, account_opened, channel_from, drawn_order, judged_as, judged_order, keeps_all, kept_on, logon_kept, others_unmoved, pair_kept}
 use Rattle.domain_world.proofs.Judgements.ToldLaws.{IsNoBytes, standing_at, step_after, step_link}
@@ -165,37 +165,45 @@ onto_reply : (j : Option Judging) (number : Option ℕ) (later judgings : List J
 onto_reply None number later judgings = refl
 onto_reply (Some j) number later judgings = refl
 
-abbrev pub LaterGo : ℕ → Where → Service Desk Talk → (Desk → Talk → List (List ℕ) → List (ServedUnit Desk Talk)) → Type 0
-LaterGo link w later rest =
-    (d : Desk) (talk : Talk) (left : List (List ℕ)) (numbers : List ℕ) (judgings : List Judging) → IsInOrder judgings left → AreKept judgings left w.controller d.work.computers →
-    PartGoes judgings (judged_at link w (rest d talk left) numbers judgings) left w.controller (later d talk left)
+-- the numbers that are left for what is sent behind these
+abbrev numbers_left : List Answered → List ℕ → List ℕ
+numbers_left [] numbers = numbers
+numbers_left (one ∷ answers) numbers = numbers_left answers (later_of one.sends numbers)
 
-module _ (link : ℕ) (w : Where) (later : Service Desk Talk) (rest : Desk → Talk → List (List ℕ) → List (ServedUnit Desk Talk)) (each : LaterGo link w later rest) where
-  talk_goes : (judgings middle : List Judging) (left some : List (List ℕ)) (numbers : List ℕ) (d : Desk) (talk : Option Talk) → Goes judgings middle left some w.controller d.work.computers →
-      PartGoes judgings (judged_at link w (units_on d talk some rest) numbers middle) left w.controller (then_talk d talk some later)
-  talk_goes judgings middle left some numbers d None goes = goes
-  talk_goes judgings middle left some numbers d (Some talk) goes =
-      goes_on judgings middle (judged_at link w (rest d talk some) numbers middle) left some w.controller d.work.computers (later d talk some) goes
-      (each d talk some numbers middle goes.order goes.kept)
+judged_more : (answers : List Answered) (one : Answered) (numbers : List ℕ) (judgings : List Judging) →
+    onto (judged_of (answers ++ one ∷ []) numbers) judgings
+    ≡ with_judging one.judging (first_of (numbers_left answers numbers)) (onto (judged_of answers numbers) judgings)
+judged_more [] one numbers judgings = onto_reply one.judging (first_of numbers) [] judgings
+judged_more (first ∷ answers) one numbers judgings =
+    let later : List ℕ = later_of first.sends numbers in
+    onto_reply first.judging (first_of numbers) (judged_of (answers ++ one ∷ []) later) judgings
+    ∙ judged_more answers one later (with_judging first.judging (first_of numbers) judgings)
+    ∙ ap (λ (all : List Judging). with_judging one.judging (first_of (numbers_left answers later)) all)
+    (sym (onto_reply first.judging (first_of numbers) (judged_of answers later) judgings))
 
-  part_goes : (judgings middle : List Judging) (left : List (List ℕ)) (numbers : List ℕ) (part : ServedPart Desk Talk) → PartGoes judgings middle left w.controller part →
-      PartGoes judgings (judged_at link w (units_then part rest) numbers middle) left w.controller (then_open part later)
-  part_goes judgings middle left numbers (Err why) goes = tt
-  part_goes judgings middle left numbers (Ok part) goes = talk_goes judgings middle left part.left numbers part.value.0 part.value.1 goes
+goes_stay : (link : ℕ) (w : Where) (judgings : List Judging) (left : List (List ℕ)) (numbers : List ℕ) →
+    StaysNoted (controller_server w.name w.moment link) (λ (unit : ServedUnit Desk Talk). answer_on link w unit ∷ [])
+    (λ answers part. PartGoes judgings (onto (judged_of answers numbers) judgings) left w.controller part)
+goes_stay link w judgings left numbers = record {
+  unit = λ answers bytes d talk some goes.
+      let part : ServedPart Desk Talk = by_heard (hear link bytes talk) link w.name w.moment d some in
+      let one : Answered = heard_answer (hear link bytes talk) w d (work_after part) in
+      let middle : List Judging = onto (judged_of answers numbers) judgings in
+      let number : Option ℕ = first_of (numbers_left answers numbers) in
+      subst (λ (now : List Judging). PartGoes judgings now left w.controller part) (sym (judged_more answers one numbers judgings))
+      (goes_on judgings middle (with_judging one.judging number middle) left some w.controller d.work.computers part goes
+      (heard_goes middle w d (hear link bytes talk) link number some goes.order goes.kept));
+  refusal = λ answers why d talk some goes. goes;
+}
 
-units_go : (link : ℕ) (w : Where) (units : List (List ℕ)) (why : Option UnitRefused) →
-    LaterGo link w (λ d talk left. served_by (controller_server w.name w.moment link) units why d talk left) (λ d talk left. served_units (controller_server w.name w.moment link) units d talk left)
-units_go link w [] None d talk left numbers judgings order kept = stays judgings left w.controller d.work.computers order kept
-units_go link w [] (Some why) d talk left numbers judgings order kept = stays judgings left w.controller d.work.computers order kept
-units_go link w (bytes ∷ units) why d talk left numbers judgings order kept =
-    let part : ServedPart Desk Talk = by_heard (hear link bytes talk) link w.name w.moment d left in
-    let one : Answered = heard_answer (hear link bytes talk) w d (work_after part) in
-    let rest = λ (later : Desk) (said : Talk) (some : List (List ℕ)). served_units (controller_server w.name w.moment link) units later said some in
-    let later = λ (next : Desk) (said : Talk) (some : List (List ℕ)). served_by (controller_server w.name w.moment link) units why next said some in
-    subst (λ (now : List Judging). PartGoes judgings now left w.controller (then_open part later))
-    (sym (onto_reply one.judging (first_of numbers) (judged_of (map (answer_on link w) (units_then part rest)) (later_of one.sends numbers)) judgings))
-    (part_goes link w later rest (units_go link w units why) judgings (with_judging one.judging (first_of numbers) judgings) left (later_of one.sends numbers) part
-    (heard_goes judgings w d (hear link bytes talk) link (first_of numbers) left order kept))
+units_go : (link : ℕ) (w : Where) (cut : Cut) (d : Desk) (talk : Talk) (left : List (List ℕ)) (numbers : List ℕ) (judgings : List Judging) → IsInOrder judgings left →
+    AreKept judgings left w.controller d.work.computers →
+    PartGoes judgings (judged_at link w (served_units (controller_server w.name w.moment link) cut.units d talk left) numbers judgings) left w.controller
+    (served_cut (controller_server w.name w.moment link) cut d talk left)
+units_go link w cut d talk left numbers judgings order kept =
+    served_mapped (controller_server w.name w.moment link) (answer_on link w)
+    (λ answers part. PartGoes judgings (onto (judged_of answers numbers) judgings) left w.controller part) (goes_stay link w judgings left numbers) cut d talk left
+    (stays judgings left w.controller d.work.computers order kept)
 
 -- ---- a step of a controller
 
@@ -240,7 +248,7 @@ link_step (Some there) judgings at controller unit link piece c running now left
     let cut = cut_stream (there.rest ++ piece) in
     part_step judgings link w c (served_cut (controller_server c.name now link) cut (first_desk c.table running) there.talk left) (units_at (Some there) link piece c running now left) cut.rest
     (take_out same_number link running.links) left numbers order
-    (units_go link w cut.units cut.refused (first_desk c.table running) there.talk left numbers judgings order kept)
+    (units_go link w cut (first_desk c.table running) there.talk left numbers judgings order kept)
 
 bytes_step : (running : Option Running) (judgings : List Judging) (at controller : ℕ) (unit : Option ℕ) (link : ℕ) (piece : List ℕ) (c : ControllerState) (now : ℕ) (left : List (List ℕ))
     (numbers : List ℕ) → IsInOrder judgings left → AreKeptIf judgings left controller c.running → AreKeptIf judgings left controller running →

@@ -7,7 +7,6 @@ use Rattle.outside.specs.Drawing.{Drawing}
 use Rattle.outside.specs.Machine.{step_by, then_part}
 use Rattle.outside.specs.declared.event.Event.{Event}
 use Rattle.outside.specs.declared.event.Event.TheVariants as event
-use Rattle.rpc_units.specs.declared.refused.UnitRefused.{UnitRefused}
 use Rattle.rpc_units.specs.Stream.{Cut, cut_stream}
 use Rattle.logon_stubs.specs.declared.calls.Call.{Call}
 use Rattle.logon_stubs.specs.declared.calls.Call.TheVariants as call
@@ -16,7 +15,7 @@ use Rattle.logon_stubs.specs.declared.calls.LogonCall.{LogonCall}
 use Rattle.authenticators.specs.Channels.{ChannelIdentity}
 use Rattle.account_table.specs.AccountTable.{AccountTable}
 use Rattle.end_links.specs.Links.{LinkState}
-use Rattle.end_links.specs.Serving.{ServedPart, served_by, then_open, then_talk, ServedUnit, served_units, units_on, units_then}
+use Rattle.end_links.specs.Serving.{ServedPart, served_cut, ServedUnit, served_units}
 use Rattle.domain_controller.specs.Hearing.{hear}
 use Rattle.domain_controller.specs.Machine.{Desk, answer_logon, by_heard, controller_server, draw_challenge}
 use Rattle.domain_controller.specs.State.{State as ControllerState}
@@ -44,6 +43,7 @@ use Rattle.world_moves.specs.Links.{acceptor_of}
 use Rattle.world_moves.specs.World.{first_world}
 use Rattle.domain_world.specs.Claims.Tables.{AreByEarlier, IsLeft, TablesFollowVerdicts, accounts_after, accounts_if, left_by, left_if}
 use Rattle.domain_world.specs.Past.{Coming, answers_of, at_controller, first_of, judged_of, later_of, note_at, note_controller, numbers_on, onto, past, with_reply}
+use Rattle.step_notes.proofs.ServedLaws.{StaysNoted, served_mapped}
 use Rattle.domain_world.proofs.Challenges.MessageOnceLaws.{each_put}
 use Rattle.domain_world.proofs.Frames.FrameLaws.{Fact, HoldsAfter, HoldsIn, IsQuiet, Stays, StaysWritten, run_stays}
 use Rattle.domain_world.proofs.Judgements.GrantLaws.{first_planned}
@@ -136,38 +136,41 @@ module _ (w : Where) (d : Desk) where
 
 -- ---- the units of a stream
 
--- what is served from there on: each call is judged by the accounts as those before it left them, and the last ones are
--- what is left
-pub record Chains (w : Where) (link : ℕ) (table : AccountTable) (units : List (ServedUnit Desk Talk)) (part : ServedPart Desk Talk) : Type 0 where
-  pub chained : AreChained w.controller table (map (answer_on link w) units)
-  pub left : HasTable (left_behind table (map (answer_on link w) units)) part
+-- what was served so far: each call is judged by the accounts as those before it left them, and the last ones are what
+-- is left
+pub record Chains (controller : ℕ) (table : AccountTable) (answers : List Answered) (part : ServedPart Desk Talk) : Type 0 where
+  pub chained : AreChained controller table answers
+  pub left : HasTable (left_behind table answers) part
 
-module _ (w : Where) (link : ℕ) (units : List (List ℕ)) (why : Option UnitRefused)
-    (later : (d : Desk) (talk : Talk) (left : List (List ℕ)) → Chains w link d.table (served_units (controller_server w.name w.moment link) units d talk left) (served_by (controller_server w.name w.moment link) units why d talk left)) where
-  said_chains : (d : Desk) (said : Option Talk) (left : List (List ℕ)) →
-      Chains w link d.table (units_on d said left (λ next talk rest. served_units (controller_server w.name w.moment link) units next talk rest))
-      (then_talk d said left (λ next talk rest. served_by (controller_server w.name w.moment link) units why next talk rest))
-  said_chains d None left = record { chained = tt; left = refl }
-  said_chains d (Some talk) left = later d talk left
+chained_more : (controller : ℕ) (answers : List Answered) (one : Answered) (table : AccountTable) → AreChained controller table answers →
+    IsBy controller (left_behind table answers) one.judging → AreChained controller table (answers ++ one ∷ [])
+chained_more controller [] one table chained by = (by, tt)
+chained_more controller (first ∷ answers) one table chained by =
+    (chained.0, chained_more controller answers one (left_of table first.judging) chained.1 by)
 
-  part_chains : (part : ServedPart Desk Talk) (table : AccountTable) → HasTable table part →
-      Chains w link table (units_then part (λ next talk rest. served_units (controller_server w.name w.moment link) units next talk rest))
-      (then_open part (λ next talk rest. served_by (controller_server w.name w.moment link) units why next talk rest))
-  part_chains (Err refused) table is = record { chained = tt; left = tt }
-  part_chains (Ok part) table is =
-      subst (λ (t : AccountTable). Chains w link t (units_on part.value.0 part.value.1 part.left (λ next talk rest. served_units (controller_server w.name w.moment link) units next talk rest))
-      (then_talk part.value.0 part.value.1 part.left (λ next talk rest. served_by (controller_server w.name w.moment link) units why next talk rest))) is
-      (said_chains part.value.0 part.value.1 part.left)
+left_more : (answers : List Answered) (one : Answered) (table : AccountTable) → left_behind table (answers ++ one ∷ []) ≡ left_of (left_behind table answers) one.judging
+left_more [] one table = refl
+left_more (first ∷ answers) one table = left_more answers one (left_of table first.judging)
 
-units_chain : (w : Where) (link : ℕ) (units : List (List ℕ)) (why : Option UnitRefused) (d : Desk) (talk : Talk) (left : List (List ℕ)) →
-    Chains w link d.table (served_units (controller_server w.name w.moment link) units d talk left) (served_by (controller_server w.name w.moment link) units why d talk left)
-units_chain w link [] None d talk left = record { chained = tt; left = refl }
-units_chain w link [] (Some why) d talk left = record { chained = tt; left = refl }
-units_chain w link (bytes ∷ units) why d talk left =
-    let part : ServedPart Desk Talk = by_heard (hear link bytes talk) link w.name w.moment d left in
-    let one : Answers w.controller d.table (heard_answer (hear link bytes talk) w d (work_after part)) part = heard_answers w d (hear link bytes talk) left link in
-    let rest = part_chains w link units why (units_chain w link units why) part (left_of d.table (heard_answer (hear link bytes talk) w d (work_after part)).judging) one.leaves in
-    record { chained = (one.by, rest.chained); left = rest.left }
+chains_stay : (w : Where) (link : ℕ) (table : AccountTable) →
+    StaysNoted (controller_server w.name w.moment link) (λ (unit : ServedUnit Desk Talk). answer_on link w unit ∷ []) (Chains w.controller table)
+chains_stay w link table = record {
+  unit = λ answers bytes d talk left before.
+      let part : ServedPart Desk Talk = by_heard (hear link bytes talk) link w.name w.moment d left in
+      let one : Answered = heard_answer (hear link bytes talk) w d (work_after part) in
+      let its : Answers w.controller d.table one part = heard_answers w d (hear link bytes talk) left link in
+      record {
+        chained = chained_more w.controller answers one table before.chained (subst (λ (t : AccountTable). IsBy w.controller t one.judging) before.left its.by);
+        left = subst (λ (t : AccountTable). HasTable t part) (ap (λ (t : AccountTable). left_of t one.judging) before.left ∙ sym (left_more answers one table)) its.leaves;
+      };
+  refusal = λ answers why d talk left before. record { chained = before.chained; left = before.left };
+}
+
+units_chain : (w : Where) (link : ℕ) (cut : Cut) (d : Desk) (talk : Talk) (left : List (List ℕ)) →
+    Chains w.controller d.table (map (answer_on link w) (served_units (controller_server w.name w.moment link) cut.units d talk left)) (served_cut (controller_server w.name w.moment link) cut d talk left)
+units_chain w link cut d talk left =
+    served_mapped (controller_server w.name w.moment link) (answer_on link w) (Chains w.controller d.table) (chains_stay w link d.table) cut d talk left
+    (record { chained = tt; left = refl })
 
 -- ---- a step
 
@@ -199,9 +202,9 @@ link_chains None w c running number piece left others named = (tt, refl)
 link_chains (Some link) w c running number piece left others named =
     let cut : Cut = cut_stream (link.rest ++ piece) in
     let d : Desk = first_desk c.table running in
-    let all = subst (λ (name : List ℕ). Chains w number d.table (served_units (controller_server name w.moment number) cut.units d link.talk left)
-    (served_by (controller_server name w.moment number) cut.units cut.refused d link.talk left)) named (units_chain w number cut.units cut.refused d link.talk left) in
-    (all.chained, after_table (served_by (controller_server c.name w.moment number) cut.units cut.refused d link.talk left) _ cut.rest number others all.left)
+    let all = subst (λ (name : List ℕ). Chains w.controller d.table (map (answer_on number w) (served_units (controller_server name w.moment number) cut.units d link.talk left))
+    (served_cut (controller_server name w.moment number) cut d link.talk left)) named (units_chain w number cut d link.talk left) in
+    (all.chained, after_table (served_cut (controller_server c.name w.moment number) cut d link.talk left) _ cut.rest number others all.left)
 
 by_chains : (running : Option Running) (w : Where) (c : ControllerState) (number : ℕ) (piece : List ℕ) (left : List (List ℕ)) → w.name ≡ c.name →
     StepChains w.controller c.table

@@ -3,7 +3,7 @@
 use Rattle.std.proofs.Common.{◌≡◌, ℕ, Bool, true, false, cond, List, [], ◌∷◌, ◌++◌, length, map, Option, Some, None, Ok, Err, refl, sym, ap, ◌∙◌, subst, slice_get}
 use Rattle.std.specs.List.{AllByRecursion}
 use Rattle.std.specs.Prelude.{flat_map, nat_le}
-use Rattle.std.proofs.lemmas.List.{append_assoc, append-nil}
+use Rattle.std.proofs.lemmas.List.{append_assoc, append-nil, flat_map_more}
 use Rattle.std.proofs.lemmas.List.Concat.{flat_map-append}
 use Rattle.wire_base.specs.Maps.{lookup, same_number, take_out}
 use Rattle.wire_base.specs.Names.{same_name}
@@ -12,35 +12,27 @@ use Rattle.channel_keys.specs.Flags.{rc4_flag}
 use Rattle.authenticators.specs.Channels.{ChannelIdentity}
 use Rattle.authenticators.specs.SecureChannels.{SecureChannelState}
 use Rattle.outside.specs.declared.action.Action.{Action}
-use Rattle.outside.specs.declared.action.Action.TheVariants as action
 use Rattle.outside.specs.declared.action.CloseCause.{CloseCause}
-use Rattle.outside.specs.declared.action.CloseCause.TheVariants as close
 use Rattle.outside.specs.declared.action.Judged.{Judged}
-use Rattle.outside.specs.declared.action.Judged.TheVariants as judged
 use Rattle.outside.specs.declared.event.Event.{Event}
-use Rattle.outside.specs.declared.event.Event.TheVariants as event
 use Rattle.outside.specs.Drawing.{Drawing}
 use Rattle.outside.specs.Machine.{Stepped, step_by, then_part}
-use Rattle.rpc_units.specs.declared.refused.UnitRefused.{UnitRefused}
 use Rattle.rpc_units.specs.Numbers.{nca_op_rng_error}
-use Rattle.rpc_units.specs.Stream.{cut_stream}
+use Rattle.rpc_units.specs.Stream.{cut_stream, Cut}
 use Rattle.logon_stubs.specs.declared.calls.AuthCall.{AuthCall}
-use Rattle.logon_stubs.specs.declared.calls.Call.TheVariants as call
 use Rattle.logon_stubs.specs.declared.calls.ChallengeCall.{ChallengeCall}
 use Rattle.logon_stubs.specs.declared.calls.LogonCall.{LogonCall}
 use Rattle.logon_stubs.specs.declared.calls.Reply.{Reply}
-use Rattle.logon_stubs.specs.declared.calls.Reply.TheVariants as reply
 use Rattle.account_table.specs.declared.account.Account.{Account}
 use Rattle.account_table.specs.LookUps.{knows_in}
 use Rattle.end_links.specs.Links.{LinkState}
-use Rattle.end_links.specs.Serving.{ServedPart, Service, served_by, served_cut, then_open, then_talk, ServedUnit, served_units, units_on, units_then}
+use Rattle.end_links.specs.Serving.{ServedPart, served_cut, ServedUnit, served_units}
 use Rattle.domain_controller.specs.Hearing.{hear}
 use Rattle.domain_controller.specs.Machine.{Desk, account_for, answer_logon, by_heard, channel_for, controller_server, draw_challenge, judge_account, judge_offer, judge_pair, open_channel, put_pair_if, send_fault, send_reply, take_pair}
 use Rattle.domain_controller.specs.Laws.{judges_call}
 use Rattle.domain_controller.specs.State.{State as ControllerState}
 use Rattle.domain_controller.specs.Step.{LinkMap, StepPart, after_units, first_desk, halted, open_by, serve_on, start_turn, state_after, step_on}
 use Rattle.domain_controller.specs.declared.hearing.Heard.{Heard}
-use Rattle.domain_controller.specs.declared.hearing.Heard.TheVariants as heard
 use Rattle.domain_controller.specs.declared.line.Line.{Line}
 use Rattle.domain_controller.specs.declared.state.Computers.{Computers}
 use Rattle.domain_controller.specs.declared.state.ChallengePair.{ChallengePair}
@@ -60,7 +52,6 @@ use Rattle.world_moves.specs.declared.moves.Move.{Move}
 use Rattle.world_moves.specs.declared.plan.Plan.{Plan}
 use Rattle.world_moves.specs.declared.state.State.{State}
 use Rattle.world_moves.specs.Acting.{Given, given_by, hear_and_act}
-use Rattle.world_moves.specs.Acting as acting
 use Rattle.world_moves.specs.Ends.{EndStates, actions_by, controller_step}
 use Rattle.world_moves.specs.Links.{acceptor_of}
 use Rattle.world_moves.specs.Moving.{begun, with_link}
@@ -70,6 +61,15 @@ use Rattle.step_notes.proofs.Controllers.JudgedStepLaws.{Told, by_names, how_is}
 use Rattle.domain_world.proofs.Judgements.JudgedLaws.{AreRight, judged_rightly}
 use Rattle.domain_world.proofs.Frames.TurnFrameLaws.{turns_judged, turns_judgements}
 use Rattle.domain_world.proofs.Frames.EndFrameLaws.{EndFact, IsCalm, KeepsEnds, ends_after}
+use Rattle.step_notes.proofs.ServedLaws.{StaysNoted, served_mapped}
+use Rattle.outside.specs.declared.action.Action.TheVariants as action
+use Rattle.outside.specs.declared.action.CloseCause.TheVariants as close
+use Rattle.outside.specs.declared.action.Judged.TheVariants as judged
+use Rattle.outside.specs.declared.event.Event.TheVariants as event
+use Rattle.logon_stubs.specs.declared.calls.Call.TheVariants as call
+use Rattle.logon_stubs.specs.declared.calls.Reply.TheVariants as reply
+use Rattle.domain_controller.specs.declared.hearing.Heard.TheVariants as heard
+use Rattle.world_moves.specs.Acting as acting
 
 -- ---- what is told of calls
 
@@ -204,35 +204,24 @@ heard_told (heard.Asked line (call.Logon c) talk) w link d left =
 abbrev pub all_told : ℕ → Where → List (ServedUnit Desk Talk) → List JudgementTold
 all_told link w units = answered (map (answer_on link w) units)
 
-on_told : (w : Where) (link : ℕ) (talk : Option Talk) (work : Desk) (left : List (List ℕ)) (base own : List JudgementTold) (later : Service Desk Talk)
-    (rest : Desk → Talk → List (List ℕ) → List (ServedUnit Desk Talk)) → acted w work.work.actions ≡ base ++ own →
-    ((work : Desk) (talk : Talk) (left : List (List ℕ)) → Follows w (acted w work.work.actions ++ all_told link w (rest work talk left)) (later work talk left)) →
-    Follows w (base ++ (own ++ all_told link w (units_on work talk left rest))) (then_talk work talk left later)
-on_told w link None work left base own later rest is each = is ∙ ap (λ more. base ++ more) (sym (append-nil own))
-on_told w link (Some talk) work left base own later rest is each =
-    subst (λ told. Follows w told (later work talk left))
-    (ap (λ before. before ++ all_told link w (rest work talk left)) is ∙ append_assoc base own (all_told link w (rest work talk left)))
-    (each work talk left)
+told_more : (w : Where) (told own : List JudgementTold) (old : List Action) (part : ServedPart Desk Talk) → acted w old ≡ told → Follows w (acted w old ++ own) part → Follows w (told ++ own) part
+told_more w told own old part is follows = subst (λ (before : List JudgementTold). Follows w (before ++ own) part) is follows
 
-part_told : (w : Where) (link : ℕ) (part : ServedPart Desk Talk) (base own : List JudgementTold) (later : Service Desk Talk)
-    (rest : Desk → Talk → List (List ℕ) → List (ServedUnit Desk Talk)) → Follows w (base ++ own) part →
-    ((work : Desk) (talk : Talk) (left : List (List ℕ)) → Follows w (acted w work.work.actions ++ all_told link w (rest work talk left)) (later work talk left)) →
-    Follows w (base ++ (own ++ all_told link w (units_then part rest))) (then_open part later)
-part_told w link (Err why) base own later rest is each = tt
-part_told w link (Ok part) base own later rest is each = on_told w link part.value.1 part.value.0 part.left base own later rest is each
+told_stays : (w : Where) (link : ℕ) →
+    StaysNoted (controller_server w.name w.moment link) (λ (unit : ServedUnit Desk Talk). answer_on link w unit ∷ []) (λ answers part. Follows w (answered answers) part)
+told_stays w link = record {
+  unit = λ answers bytes d talk left is.
+      let part : ServedPart Desk Talk = by_heard (hear link bytes talk) link w.name w.moment d left in
+      let one : Answered = heard_answer (hear link bytes talk) w d (work_after part) in
+      subst (λ (told : List JudgementTold). Follows w told part) (flat_map_more (λ (one : Answered). telling_if one.judging) [] answers one)
+      (told_more w (answered answers) (telling_if one.judging) d.work.actions part is (heard_told (hear link bytes talk) w link d left));
+  refusal = λ answers why d talk left is. closes w d.work.actions link close.BadUnit ∙ is;
+}
 
-units_told : (w : Where) (link : ℕ) (units : List (List ℕ)) (why : Option UnitRefused) (d : Desk) (talk : Talk) (left : List (List ℕ)) →
-    Follows w (acted w d.work.actions ++ all_told link w (served_units (controller_server w.name w.moment link) units d talk left))
-    (served_by (controller_server w.name w.moment link) units why d talk left)
-units_told w link [] None d talk left = sym (append-nil (acted w d.work.actions))
-units_told w link [] (Some why) d talk left = no_more _ (acted w d.work.actions) (closes w d.work.actions link close.BadUnit)
-units_told w link (bytes ∷ units) why d talk left =
-    part_told w link (by_heard (hear link bytes talk) link w.name w.moment d left) (acted w d.work.actions)
-    (telling_if (heard_answer (hear link bytes talk) w d (work_after (by_heard (hear link bytes talk) link w.name w.moment d left))).judging)
-    (λ later said rest. served_by (controller_server w.name w.moment link) units why later said rest)
-    (λ later said rest. served_units (controller_server w.name w.moment link) units later said rest)
-    (heard_told (hear link bytes talk) w link d left)
-    (λ later said rest. units_told w link units why later said rest)
+units_told : (w : Where) (link : ℕ) (cut : Cut) (d : Desk) (talk : Talk) (left : List (List ℕ)) → acted w d.work.actions ≡ [] →
+    Follows w (all_told link w (served_units (controller_server w.name w.moment link) cut.units d talk left)) (served_cut (controller_server w.name w.moment link) cut d talk left)
+units_told w link cut d talk left none =
+    served_mapped (controller_server w.name w.moment link) (answer_on link w) (λ answers part. Follows w (answered answers) part) (told_stays w link) cut d talk left none
 
 -- ---- a step of a controller, when bytes come
 
@@ -266,7 +255,7 @@ link_told (Some there) at controller unit link piece c running now left =
     bytes_told (standing_at at controller unit c now) link c
     (served_cut (controller_server c.name now link) (cut_stream (there.rest ++ piece)) (first_desk c.table running) there.talk left)
     (units_at (Some there) link piece c running now left) (cut_stream (there.rest ++ piece)).rest (take_out same_number link running.links) left
-    (units_told (standing_at at controller unit c now) link (cut_stream (there.rest ++ piece)).units (cut_stream (there.rest ++ piece)).refused (first_desk c.table running) there.talk left)
+    (units_told (standing_at at controller unit c now) link (cut_stream (there.rest ++ piece)) (first_desk c.table running) there.talk left refl)
 
 step_told : (running : Option Running) (at controller : ℕ) (unit : Option ℕ) (link : ℕ) (piece : List ℕ) (c : ControllerState) (now : ℕ) (left : List (List ℕ)) →
     acted (standing_at at controller unit c now) (actions_by (step_on running c (event.Bytes link piece) now left).answer)

@@ -18,7 +18,7 @@ use Rattle.rpc_units.specs.Reading.{unit_of}
 use Rattle.rpc_units.specs.Stream.{cut_stream}
 use Rattle.end_links.specs.Links.{LinkState}
 use Rattle.end_links.specs.Sending.{joined_frames}
-use Rattle.end_links.specs.Serving.{ServedUnit, served_units, units_on}
+use Rattle.end_links.specs.Serving.{ServedPart, ServedUnit}
 use Rattle.channel_client.specs.declared.hearing.Hearing.{Hearing}
 use Rattle.channel_client.specs.declared.hearing.Hearing.TheVariants as hearing
 use Rattle.channel_client.specs.declared.judging.Judgement.{Judgement}
@@ -48,6 +48,7 @@ use Rattle.world_moves.specs.declared.moves.Move.{Move}
 use Rattle.world_moves.specs.declared.plan.Plan.{Plan}
 use Rattle.domain_world.specs.Claims.AskedFor.{AreSentForMessage, AsksForItsMessage, IsForItsMessage, IsOfMessage, MembersAskForMessages, SendsAskForMessages}
 use Rattle.domain_world.specs.Past.{past}
+use Rattle.step_notes.proofs.ServedLaws.{served_such}
 use Rattle.step_notes.proofs.Members.CallKeptLaws.{at_channel}
 use Rattle.step_notes.proofs.Members.CallLogonLaws.{calls_carry}
 use Rattle.step_notes.proofs.Members.KeptLogonLaws.{HasFor, IsFor, KeptIn, OfEach, each_found, turn_keeps}
@@ -79,25 +80,19 @@ module _ (Holds : Logons → Type 0) where
   if_hold (Ok actions) units all = all
   if_hold (Err why) units all = tt
 
-  said_hold : (units : List (List ℕ)) →
-      ((at : AtTurn) (talk : TurnTalk) (left : List (List ℕ)) → Holds at.work.logons → AllHold (served_units turn_server units at talk left)) →
-      (at : AtTurn) (said : Option TurnTalk) (left : List (List ℕ)) → HoldsBy said at.work.logons →
-      AllHold (units_on at said left (λ next talk rest. served_units turn_server units next talk rest))
-  said_hold units later at None left holds = tt
-  said_hold units later at (Some talk) left holds = later at talk left holds
+  abbrev pub HoldsPart : ServedPart AtTurn TurnTalk → Type 0
+  HoldsPart (Err why) = Unit {0}
+  HoldsPart (Ok part) = HoldsBy part.value.1 part.value.0.work.logons
 
   module _ (keeps : (unit : Result RpcUnit UnitRefused) (joiner : Option RpcUnit) (at : AtTurn) → Holds at.work.logons →
       HoldsBy (turn_unit unit joiner at).1 (turn_unit unit joiner at).0.work.logons) where
-    units_hold : (units : List (List ℕ)) (at : AtTurn) (talk : TurnTalk) (left : List (List ℕ)) → Holds at.work.logons → AllHold (served_units turn_server units at talk left)
-    units_hold [] at talk left holds = tt
-    units_hold (bytes ∷ units) at talk left holds =
-        let served : TurnServed = turn_unit (unit_of bytes) talk.joiner at in
-        (holds, said_hold units (units_hold units) served.0 served.1 left (keeps (unit_of bytes) talk.joiner at holds))
-
     by_hold : (hit : Bool) (said : LinkState TurnTalk) (number : ℕ) (piece : List ℕ) (running : Running) (left : List (List ℕ)) → Holds running.logons →
         AllHold (turn_units_by hit said number piece running left)
     by_hold false said number piece running left holds = tt
-    by_hold true said number piece running left holds = units_hold (cut_stream (said.rest ++ piece)).units (at_turn number (work_of running)) said.talk left holds
+    by_hold true said number piece running left holds =
+        served_such turn_server HoldsPart (λ (unit : ServedUnit AtTurn TurnTalk). Holds unit.work.work.logons)
+        (λ bytes at talk left holds. (holds, keeps (unit_of bytes) talk.joiner at holds))
+        (cut_stream (said.rest ++ piece)).units (at_turn number (work_of running)) said.talk left holds
 
     on_hold : (how : Dialling) (number : ℕ) (piece : List ℕ) (running : Running) (left : List (List ℕ)) → Holds running.logons → AllHold (turn_units_on how number piece running left)
     on_hold dialling.Nothing number piece running left holds = tt

@@ -24,7 +24,7 @@ use Rattle.logon_stubs.specs.declared.calls.LogonCall.{LogonCall}
 use Rattle.logon_stubs.proofs.WrittenLaws.{call_of-written_call, written_call-content}
 use Rattle.end_links.specs.Links.{LinkState}
 use Rattle.end_links.specs.Sending.{frames_of, joined_frames, request_of}
-use Rattle.end_links.specs.Serving.{ServedUnit, served_units, units_on}
+use Rattle.end_links.specs.Serving.{ServedPart, ServedUnit}
 use Rattle.end_links.proofs.BoundLaws.{frames_joined}
 use Rattle.channel_client.specs.declared.answers.Taken.{Taken}
 use Rattle.channel_client.specs.declared.answers.Taken.TheVariants as taken
@@ -55,6 +55,7 @@ use Rattle.member_server.specs.Turns.{TurnServed, do_taken, turn_by_join, turn_s
 use Rattle.step_notes.specs.CallLogons.{AsksForKept, IsStamped, IsStampedStep, info_at}
 use Rattle.step_notes.specs.MemberNotes.{TurnNote, asked_note, taken_note, taking_joined, taking_note, taking_read, turn_note, turn_units, turn_units_by, turn_units_in, turn_units_on}
 use Rattle.step_notes.specs.Served.{units_if_taken, work_after}
+use Rattle.step_notes.proofs.ServedLaws.{served_such}
 use Rattle.step_notes.proofs.Channels.ChannelNameLaws.{bound_at}
 use Rattle.step_notes.proofs.Members.CallKeptLaws.{TurnAsksBy, at_channel, turn_asks}
 use Rattle.step_notes.proofs.Members.TurnRequestLaws.{HasLogon, IsOfTurn, asked_after, first_logon, of_turn}
@@ -271,26 +272,22 @@ module _ (law : RequestersSendWhole) where
     abbrev pub AllReady : List (ServedUnit AtTurn TurnTalk) → Type 0
     AllReady units = AllByRecursion (IsReadyUnit Fits link controller) units
 
-    said_ready : (units : List (List ℕ)) → ((at : AtTurn) (talk : TurnTalk) (left : List (List ℕ)) → IsReady Fits link at → AllReady (served_units turn_server units at talk left)) →
-        (at : AtTurn) (said : Option TurnTalk) (left : List (List ℕ)) → ReadyBy said at →
-        AllReady (units_on at said left (λ next talk rest. served_units turn_server units next talk rest))
-    said_ready units later at None left ready = tt
-    said_ready units later at (Some talk) left ready = later at talk left ready
-
-    units_ready : (units : List (List ℕ)) (at : AtTurn) (talk : TurnTalk) (left : List (List ℕ)) → IsReady Fits link at → AllReady (served_units turn_server units at talk left)
-    units_ready [] at talk left ready = tt
-    units_ready (bytes ∷ units) at talk left ready =
-        let served : TurnServed = turn_unit (unit_of bytes) talk.joiner at in (
-          record { ready = ready; out = read_out controller at ready.asks ready.range (unit_of bytes) talk.joiner },
-          said_ready units (units_ready units) served.0 served.1 left
-              (ready_by served.1 served.0 (read_range link (unit_of bytes) talk.joiner at (record { on = ready.on; range = ready.range }))
-              (turn_asks (unit_of bytes) talk.joiner at ready.asks) (turn_keeps Fits (λ number. Unit {0}) (unit_of bytes) talk.joiner at ready.each)),
-        )
+    abbrev pub ReadyPart : ServedPart AtTurn TurnTalk → Type 0
+    ReadyPart (Err why) = Unit {0}
+    ReadyPart (Ok part) = ReadyBy part.value.1 part.value.0
 
     by_ready : (hit : Bool) (said : LinkState TurnTalk) (piece : List ℕ) (running : Running) (left : List (List ℕ)) → IsReady Fits link (at_turn link (work_of running)) →
         AllReady (turn_units_by hit said link piece running left)
     by_ready false said piece running left ready = tt
-    by_ready true said piece running left ready = units_ready (cut_stream (said.rest ++ piece)).units (at_turn link (work_of running)) said.talk left ready
+    by_ready true said piece running left ready =
+        served_such turn_server ReadyPart (IsReadyUnit Fits link controller)
+        (λ bytes at talk left ready.
+        let served : TurnServed = turn_unit (unit_of bytes) talk.joiner at in (
+          record { ready = ready; out = read_out controller at ready.asks ready.range (unit_of bytes) talk.joiner },
+          ready_by served.1 served.0 (read_range link (unit_of bytes) talk.joiner at (record { on = ready.on; range = ready.range }))
+              (turn_asks (unit_of bytes) talk.joiner at ready.asks) (turn_keeps Fits (λ number. Unit {0}) (unit_of bytes) talk.joiner at ready.each),
+        ))
+        (cut_stream (said.rest ++ piece)).units (at_turn link (work_of running)) said.talk left ready
 
     on_ready : (how : Dialling) (piece : List ℕ) (running : Running) (left : List (List ℕ)) → ReadyOn Fits link how running → AllReady (turn_units_on how link piece running left)
     on_ready dialling.Nothing piece running left ready = tt

@@ -23,7 +23,8 @@ use Rattle.rpc_units.specs.declared.unit.Trailer.{Trailer}
 use Rattle.rpc_units.specs.declared.unit.Unit.{Unit as RpcUnit}
 use Rattle.logon_stubs.specs.declared.info.NetworkInfo.{NetworkInfo}
 use Rattle.end_links.specs.Links.{LinkState}
-use Rattle.end_links.specs.Serving.{ServedPart, served_by, then_open, then_talk}
+use Rattle.end_links.specs.Serving.{ServedPart, served_cut}
+use Rattle.end_links.proofs.KeepLaws.{StaysServing, served_stays}
 use Rattle.channel_client.specs.Effects.{ArePlacesApart, IsCoherent, IsForFirst}
 use Rattle.channel_client.specs.Machine.{ask_by as ask_channel, ask_of, waiting_limit}
 use Rattle.channel_client.specs.declared.answers.AskRefused.{AskRefused}
@@ -159,24 +160,12 @@ module _ (pending : Pending) (kept : Logon) where
   unit_leads (phase.Out bound status) bytes joiner at left leads =
       same_leads at.logons (bound_unit (phase.Out bound status) bytes joiner at).0.logons (bound_idle (phase.Out bound status) bytes joiner at tt).0 leads
 
-  abbrev LaterLeads : List (List ℕ) → Option UnitRefused → Type 0
-  LaterLeads units why = (at : AtLink) (talk : Talk) (left : List (List ℕ)) → Leads pending kept at.logons → LinkLeads (served_by link_server units why at talk left)
-
-  said_leads : (units : List (List ℕ)) (why : Option UnitRefused) → LaterLeads units why → (at : AtLink) (said : Option Talk) (left : List (List ℕ)) → Leads pending kept at.logons →
-      LinkLeads (then_talk at said left (λ next talk rest. served_by link_server units why next talk rest))
-  said_leads units why later at None left leads = leads
-  said_leads units why later at (Some talk) left leads = later at talk left leads
-
-  then_leads : (units : List (List ℕ)) (why : Option UnitRefused) → LaterLeads units why → (part : ServedPart AtLink Talk) → LinkLeads part →
-      LinkLeads (then_open part (λ next talk rest. served_by link_server units why next talk rest))
-  then_leads units why later (Err refused) leads = tt
-  then_leads units why later (Ok part) leads = said_leads units why later part.value.0 part.value.1 part.left leads
-
-  units_lead : (units : List (List ℕ)) (why : Option UnitRefused) → LaterLeads units why
-  units_lead [] None at talk left leads = leads
-  units_lead [] (Some why) at talk left leads = leads
-  units_lead (bytes ∷ units) why at talk left leads =
-      then_leads units why (units_lead units why) (unit_by (is_fresh talk.phase) talk.phase bytes talk.joiner at left) (unit_leads talk.phase bytes talk.joiner at left leads)
+  leads_stay : StaysServing link_server LinkLeads
+  leads_stay = record {
+    spent = λ why. tt;
+    unit = λ bytes at talk left leads. unit_leads talk.phase bytes talk.joiner at left leads;
+    refusal = λ why at talk left leads. leads;
+  }
 
   -- ---- bytes on it
 
@@ -199,5 +188,5 @@ module _ (pending : Pending) (kept : Logon) where
   on_link_leads None number piece how w left leads = leads
   on_link_leads (Some link) number piece how w left leads =
       let cut : Cut = cut_stream (link.rest ++ piece) in
-      link_done (served_by link_server cut.units cut.refused (at_link number (without_link number w)) link.talk left) cut.rest number how (without_link number w)
-      (units_lead cut.units cut.refused (at_link number (without_link number w)) link.talk left leads)
+      link_done (served_cut link_server cut (at_link number (without_link number w)) link.talk left) cut.rest number how (without_link number w)
+      (served_stays link_server LinkLeads leads_stay cut (at_link number (without_link number w)) link.talk left leads)

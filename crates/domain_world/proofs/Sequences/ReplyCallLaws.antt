@@ -16,7 +16,7 @@ use Rattle.domain_world.specs.Claims.Replies.{IsReplyOfOne}
 use Rattle.domain_world.specs.Past.{Past, past}
 use Rattle.domain_world.proofs.Accepting.AnsweredLaws.{passed_of}
 use Rattle.domain_world.proofs.Accepting.CarriedLaws.{requested}
-use Rattle.domain_world.proofs.Accepting.PlacedLaws.{placed}
+use Rattle.domain_world.proofs.Accepting.ListPlaceLaws.{placed}
 use Rattle.domain_world.proofs.Judgements.ReplyLaws.{replies_carry}
 use Rattle.domain_world.proofs.Judgements.UnclashedLaws.{passes_unclashed}
 use Rattle.domain_world.proofs.Requests.MarkWayLaws.{marks_have_their_way}

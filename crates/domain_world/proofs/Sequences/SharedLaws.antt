@@ -41,7 +41,7 @@ use Rattle.domain_world.proofs.Accepting.AnsweredRunLaws.{is_proved}
 use Rattle.domain_world.proofs.Accepting.CarriedLaws.{answered as taken_answered, one_unit}
 use Rattle.domain_world.proofs.Accepting.UnitLaws.{heard_in}
 use Rattle.domain_world.proofs.Sequences.Own.OwnRunLaws.{sequences_own}
-use Rattle.domain_world.proofs.Accepting.PlacedLaws.{Placed, all_at, placed}
+use Rattle.domain_world.proofs.Accepting.ListPlaceLaws.{Placed, all_at, placed}
 use Rattle.domain_world.proofs.Judgements.MovedLaws.{moved_same}
 use Rattle.domain_world.proofs.Frames.DrawnRunLaws.{draws_differ}
 use Rattle.domain_world.proofs.Judgements.ReplayLaws.{on_if, seeds_kept}

@@ -22,7 +22,7 @@ use Rattle.logon_runs.proofs.Seen.SceneLaws.{got_same}
 use Rattle.logon_runs.proofs.Seen.WaitingLaws.{waiting_comes}
 
 -- the client begins so
-abbrev begun_so : ℕ → Beginning → State → Heard
+abbrev pub begun_so : ℕ → Beginning → State → Heard
 begun_so at beginning s = record {
   state = record s { ends = with_client at beginning.state s.ends; counts = add_counts s.counts (counts_of beginning.actions) };
   actions = beginning.actions;

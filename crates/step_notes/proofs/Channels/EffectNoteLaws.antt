@@ -1,41 +1,37 @@
 -- What is written down of a step of a requester is what its effect on the channel says.
 -- It serves `steps_are_noted_by_effect`.
-use Rattle.std.proofs.Common.{◌≡◌, ◌==◌, ◌&&◌, ℕ, Bool, true, false, List, [], ◌∷◌, inl, inr, Option, Some, None, Result, Ok, Err, refl, sym, ap, subst, length, nat_le}
+use Rattle.std.proofs.Common.{◌≡◌, ◌==◌, ◌&&◌, ℕ, Bool, true, false, List, [], ◌∷◌, inl, inr, Option, Some, None, refl, sym, ap, subst, length, nat_le}
 use Rattle.std.specs.Prelude.{bytes_eq}
 use Rattle.ntlm_flags.specs.Flags.{has_flag}
 use Rattle.channel_keys.specs.Flags.{rc4_flag}
 use Rattle.wire_base.specs.declared.authenticator.Authenticator.{Authenticator}
 use Rattle.authenticators.specs.SecureChannels.{SecureChannelState, after_return, is_awaited}
-use Rattle.rpc_units.specs.declared.unit.Unit.{Unit as RpcUnit}
-use Rattle.rpc_units.specs.declared.unit.Body.{Body}
-use Rattle.rpc_units.specs.declared.unit.Body.TheVariants.{Bind, BindAck, BindNak, Auth3, Request, Response, Fault}
-use Rattle.logon_stubs.specs.Calls.{reply_of}
 use Rattle.logon_stubs.specs.Status.{access_denied}
 use Rattle.logon_stubs.specs.declared.calls.Call.{Call}
-use Rattle.logon_stubs.specs.declared.calls.Call.TheVariants as call
 use Rattle.logon_stubs.specs.declared.calls.Reply.{Reply}
-use Rattle.logon_stubs.specs.declared.calls.Reply.TheVariants as reply
 use Rattle.logon_stubs.specs.declared.info.NetworkInfo.{NetworkInfo}
 use Rattle.logon_stubs.specs.declared.info.SamInfo.{SamInfo}
-use Rattle.logon_stubs.specs.declared.refused.StubRefused.{StubRefused}
 use Rattle.channel_client.specs.Effects.{MatchesCall, MatchesStep, effect_heard, effect_judged, effect_next, number_in, step_in, view_at, view_of}
-use Rattle.channel_client.specs.Machine.{act, after, ask_by, hear, hear_ack, hear_body, hear_by, hear_reply, hear_stub, is_accepting, judge, judge_auth, judge_awaited, judge_challenge, judge_credential, judge_flags, judge_level, judge_logon, judge_return, judge_status, level_asked, offered_flags, opnum_asked, place_of, question_of, server_credential, settle, start_by, wait_for, waiting_limit}
+use Rattle.channel_client.specs.Machine.{act, after, ask_by, hear, judge, judge_auth, judge_awaited, judge_challenge, judge_credential, judge_flags, judge_level, judge_logon, judge_return, judge_status, level_asked, offered_flags, place_of, question_of, server_credential, settle, start_by, wait_for, waiting_limit}
 use Rattle.channel_client.specs.State.{Requester}
 use Rattle.channel_client.specs.declared.hearing.Hearing.{Hearing}
-use Rattle.channel_client.specs.declared.hearing.Hearing.TheVariants as hearing
 use Rattle.channel_client.specs.declared.judging.Judgement.{Judgement}
-use Rattle.channel_client.specs.declared.judging.Judgement.TheVariants as judgement
 use Rattle.channel_client.specs.declared.state.Pending.{Pending}
 use Rattle.channel_client.specs.declared.state.Question.{Question}
-use Rattle.channel_client.specs.declared.state.Question.TheVariants as question
 use Rattle.channel_client.specs.declared.state.Standing.{Standing}
-use Rattle.channel_client.specs.declared.state.Standing.TheVariants as standing
 use Rattle.channel_client.specs.declared.state.Step.{Step}
-use Rattle.channel_client.specs.declared.state.Step.TheVariants as step
 use Rattle.channel_client.specs.declared.state.Waiting.{Waiting}
 use Rattle.step_notes.specs.EffectNotes.{IsNotedBy, StepsAreNoted, asks_opening, opening_out_of}
 use Rattle.step_notes.specs.MemberNotes.{asked_note, half_channel, taking_note, timestamp_bound}
 use Rattle.channel_events.proofs.ListLaws.{no_some}
+use Rattle.channel_client.proofs.EffectLaws.{HeardFits, heard_fits}
+use Rattle.logon_stubs.specs.declared.calls.Call.TheVariants as call
+use Rattle.logon_stubs.specs.declared.calls.Reply.TheVariants as reply
+use Rattle.channel_client.specs.declared.hearing.Hearing.TheVariants as hearing
+use Rattle.channel_client.specs.declared.judging.Judgement.TheVariants as judgement
+use Rattle.channel_client.specs.declared.state.Question.TheVariants as question
+use Rattle.channel_client.specs.declared.state.Standing.TheVariants as standing
+use Rattle.channel_client.specs.declared.state.Step.TheVariants as step
 
 -- ---- a logon that is asked, and a turn that starts
 
@@ -48,44 +44,6 @@ started_out : (turn : Option Pending) (logons : List Waiting) (s : Requester) (t
 started_out (Some p) logons s timestamp challenge is = refl
 started_out None [] s timestamp challenge is = refl
 started_out None (logon ∷ logons) s timestamp challenge is = sym (ap (λ (turn : Option Pending). asks_opening (step_in turn)) is)
-
--- ---- what a unit is heard as fits the turn
-
-abbrev pub IsHeardAt : Hearing → Option Step → Type 0
-IsHeardAt hearing.Skip turn = Unit {0}
-IsHeardAt (hearing.Next q frames) turn = (c : Call) × (turn ≡ Some (step.Bind c)) × (q ≡ question_of c)
-IsHeardAt (hearing.Reply q r) turn = turn ≡ Some (step.Reply q)
-IsHeardAt (hearing.Drop cause) turn = Unit {0}
-
-ack_at : (accepting : Bool) (st : Step) (receive next : ℕ) → IsHeardAt (hear_ack accepting st receive next) (Some st)
-ack_at false st receive next = tt
-ack_at true (step.Bind c) receive next = (c, refl, refl)
-ack_at true (step.Reply q) receive next = tt
-
-reply_at : (q : Question) (read : Result Reply StubRefused) → IsHeardAt (hear_reply q read) (Some (step.Reply q))
-reply_at q (Err why) = tt
-reply_at q (Ok r) = refl
-
-stub_at : (st : Step) (stub : List ℕ) → IsHeardAt (hear_stub st stub) (Some st)
-stub_at (step.Bind c) stub = tt
-stub_at (step.Reply q) stub = reply_at q (reply_of (opnum_asked q) stub)
-
-body_at : (body : Body) (st : Step) (next : ℕ) → IsHeardAt (hear_body body st next) (Some st)
-body_at (BindNak reason) st next = tt
-body_at (BindAck send receive group results) st next = ack_at (is_accepting results) st receive next
-body_at (Fault hint context status) st next = tt
-body_at (Response hint context stub) st next = stub_at st stub
-body_at (Bind send receive group contexts) st next = tt
-body_at (Request hint context opnum stub) st next = tt
-body_at Auth3 st next = tt
-
-numbered_at : (same : Bool) (p : Pending) (unit : RpcUnit) (next : ℕ) → IsHeardAt (hear_by same p unit next) (Some p.step)
-numbered_at false p unit next = tt
-numbered_at true p unit next = body_at unit.body p.step next
-
-heard_at : (turn : Option Pending) (unit : RpcUnit) (next : ℕ) → IsHeardAt (hear turn unit next) (step_in turn)
-heard_at None unit next = tt
-heard_at (Some p) unit next = numbered_at (unit.call == p.number) p unit next
 
 -- ---- both challenges are known only by the reply to the first call
 
@@ -206,7 +164,7 @@ next_noted controller s turn q c is asks m =
 
 -- ---- a unit
 
-heard_noted : (controller : ℕ) (s : Requester) (what : Hearing) (turn : Option Step) → turn ≡ step_in s.turn → IsHeardAt what turn → MatchesStep s.standing turn →
+heard_noted : (controller : ℕ) (s : Requester) (what : Hearing) (turn : Option Step) → turn ≡ step_in s.turn → HeardFits what turn → MatchesStep s.standing turn →
     IsNoted controller s what turn
 heard_noted controller s hearing.Skip turn at heard m = (refl, λ challenge under. ap asks_opening (sym at))
 heard_noted controller s (hearing.Next q frames) turn at heard m = next_noted controller s turn q heard.0 heard.1 heard.2 m
@@ -220,5 +178,5 @@ steps_are_noted = record {
   fresh = λ controller caller. refl;
   ask = λ s info. asked_out (nat_le waiting_limit (length s.waiting)) s info;
   start = λ s timestamp challenge. started_out s.turn s.waiting s timestamp challenge refl;
-  take = λ controller s unit c. heard_noted controller s (hear s.turn unit s.next_call) (step_in s.turn) refl (heard_at s.turn unit s.next_call) c.matches;
+  take = λ controller s unit c. heard_noted controller s (hear s.turn unit s.next_call) (step_in s.turn) refl (heard_fits s.turn unit s.next_call) c.matches;
 }

@@ -1,7 +1,7 @@
 -- Each unit that goes out on a link of a secure channel has its mark.
 -- It serves `units_have_their_marks`.
 use Rattle.std.proofs.Common.{◌≡◌, ℕ, Bool, true, false, List, [], ◌∷◌, ◌++◌, map, Option, Some, None, Result, Ok, Err, refl, sym, ap, ◌∙◌, subst, bytes_eq}
-use Rattle.std.proofs.lemmas.List.{append_assoc, append-nil}
+use Rattle.std.proofs.lemmas.List.{append_assoc, append-nil, flat_map_more}
 use Rattle.std.proofs.lemmas.List.Concat.{flat_map-append}
 use Rattle.wire_base.specs.Maps.{lookup, same_number, take_out}
 use Rattle.wire_base.specs.Names.{same_name}
@@ -25,7 +25,7 @@ use Rattle.rpc_units.specs.declared.unit.Trailer.{Trailer}
 use Rattle.rpc_units.specs.declared.unit.Unit.{Unit as RpcUnit}
 use Rattle.rpc_units.specs.Joining.{answer_of, open_after}
 use Rattle.rpc_units.specs.Reading.{unit_of}
-use Rattle.rpc_units.specs.Stream.{cut_stream}
+use Rattle.rpc_units.specs.Stream.{Cut, cut_stream}
 use Rattle.logon_stubs.specs.Calls.{call_of}
 use Rattle.logon_stubs.specs.declared.calls.AuthCall.{AuthCall}
 use Rattle.logon_stubs.specs.declared.calls.Call.{Call}
@@ -38,7 +38,7 @@ use Rattle.account_table.specs.LookUps.{knows_in}
 use Rattle.account_table.specs.declared.account.Account.{Account}
 use Rattle.end_links.specs.Agreed.{Agreed, accepts}
 use Rattle.end_links.specs.Links.{LinkState}
-use Rattle.end_links.specs.Serving.{ServedPart, Service, served_by, served_cut, then_open, then_talk, ServedUnit, served_units, units_on, units_then}
+use Rattle.end_links.specs.Serving.{ServedPart, served_cut, ServedUnit, served_units}
 use Rattle.channel_client.specs.Effects.{step_in}
 use Rattle.channel_client.specs.Machine.{take_of}
 use Rattle.channel_client.specs.State.{Requester}
@@ -70,6 +70,7 @@ use Rattle.step_notes.specs.Marking.{answered_marks, mark_if}
 use Rattle.step_notes.specs.MemberNotes.{asked_note, taken_note, taking_joined, taking_note, taking_read, turn_note}
 use Rattle.step_notes.specs.Records.{Judging}
 use Rattle.step_notes.specs.Served.{talk_after, units_if_taken, work_after}
+use Rattle.step_notes.proofs.ServedLaws.{StaysNoted, served_mapped}
 
 -- ---- sends
 
@@ -276,33 +277,22 @@ further (Ok part) old between link own more is each =
     ∙ append_assoc (links_sent old) (once_each link own) (once_each link more)
     ∙ ap (λ (rest : List ℕ). links_sent old ++ rest) (sym (once_append link own more))
 
-on_each : (w : Where) (link : ℕ) (talk : Option Talk) (work : Desk) (left : List (List ℕ)) (old : List Action) (own : List Mark) (later : Service Desk Talk)
-    (rest : Desk → Talk → List (List ℕ) → List (ServedUnit Desk Talk)) → links_sent work.work.actions ≡ links_sent old ++ once_each link own →
-    ((work : Desk) (talk : Talk) (left : List (List ℕ)) → SendsEach work.work.actions link (all_marks link w (rest work talk left)) (later work talk left)) →
-    SendsEach old link (own ++ all_marks link w (units_on work talk left rest)) (then_talk work talk left later)
-on_each w link None work left old own later rest is each =
-    is ∙ ap (λ (marks : List Mark). links_sent old ++ once_each link marks) (sym (append-nil own))
-on_each w link (Some talk) work left old own later rest is each =
-    further (later work talk left) old work.work.actions link own (all_marks link w (rest work talk left)) is (each work talk left)
+each_stays : (w : Where) (link : ℕ) (name : List ℕ) (now : ℕ) (old : List Action) →
+    StaysNoted (controller_server name now link) (λ (unit : ServedUnit Desk Talk). answer_on link w unit ∷ []) (λ answers part. SendsEach old link (answered_marks answers) part)
+each_stays w link name now old = record {
+  unit = λ answers bytes d talk left is.
+      let part : ServedPart Desk Talk = by_heard (hear link bytes talk) link name now d left in
+      let one : Answered = heard_answer (hear link bytes talk) w d (work_after part) in
+      subst (λ (marks : List Mark). SendsEach old link marks part) (flat_map_more marks_in [] answers one)
+      (further part old d.work.actions link (answered_marks answers) (marks_in one) is (heard_each (hear link bytes talk) w link name now d left (read_on (unit_of bytes) link talk)));
+  refusal = λ answers why d talk left is. none_more d.work.actions _ refl ∙ is;
+}
 
-part_each : (w : Where) (link : ℕ) (part : ServedPart Desk Talk) (old : List Action) (own : List Mark) (later : Service Desk Talk)
-    (rest : Desk → Talk → List (List ℕ) → List (ServedUnit Desk Talk)) → SendsEach old link own part →
-    ((work : Desk) (talk : Talk) (left : List (List ℕ)) → SendsEach work.work.actions link (all_marks link w (rest work talk left)) (later work talk left)) →
-    SendsEach old link (own ++ all_marks link w (units_then part rest)) (then_open part later)
-part_each w link (Err why) old own later rest is each = tt
-part_each w link (Ok part) old own later rest is each = on_each w link part.value.1 part.value.0 part.left old own later rest is each
-
-units_each : (w : Where) (link : ℕ) (name : List ℕ) (now : ℕ) (units : List (List ℕ)) (why : Option UnitRefused) (d : Desk) (talk : Talk) (left : List (List ℕ)) →
-    SendsEach d.work.actions link (all_marks link w (served_units (controller_server name now link) units d talk left)) (served_by (controller_server name now link) units why d talk left)
-units_each w link name now [] None d talk left = sym (append-nil (links_sent d.work.actions))
-units_each w link name now [] (Some why) d talk left = none_more d.work.actions _ refl ∙ sym (append-nil (links_sent d.work.actions))
-units_each w link name now (bytes ∷ units) why d talk left =
-    part_each w link (by_heard (hear link bytes talk) link name now d left) d.work.actions
-    (marks_in (heard_answer (hear link bytes talk) w d (work_after (by_heard (hear link bytes talk) link name now d left))))
-    (λ later said rest. served_by (controller_server name now link) units why later said rest)
-    (λ later said rest. served_units (controller_server name now link) units later said rest)
-    (heard_each (hear link bytes talk) w link name now d left (read_on (unit_of bytes) link talk))
-    (λ later said rest. units_each w link name now units why later said rest)
+units_each : (w : Where) (link : ℕ) (name : List ℕ) (now : ℕ) (cut : Cut) (d : Desk) (talk : Talk) (left : List (List ℕ)) →
+    SendsEach d.work.actions link (all_marks link w (served_units (controller_server name now link) cut.units d talk left)) (served_cut (controller_server name now link) cut d talk left)
+units_each w link name now cut d talk left =
+    served_mapped (controller_server name now link) (answer_on link w) (λ answers part. SendsEach d.work.actions link (answered_marks answers) part)
+    (each_stays w link name now d.work.actions) cut d talk left (sym (append-nil (links_sent d.work.actions)))
 
 -- ---- a step of a controller, when bytes come
 
@@ -331,7 +321,7 @@ link_each None w link piece c running now left actions is = let same : [] ≡ ac
 link_each (Some there) w link piece c running now left actions is =
     bytes_each w link c (served_cut (controller_server c.name now link) (cut_stream (there.rest ++ piece)) (first_desk c.table running) there.talk left)
     (units_at (Some there) link piece c running now left) (cut_stream (there.rest ++ piece)).rest (take_out same_number link running.links) left actions
-    (units_each w link c.name now (cut_stream (there.rest ++ piece)).units (cut_stream (there.rest ++ piece)).refused (first_desk c.table running) there.talk left) is
+    (units_each w link c.name now (cut_stream (there.rest ++ piece)) (first_desk c.table running) there.talk left) is
 
 step_each : (running : Option Running) (w : Where) (link : ℕ) (piece : List ℕ) (c : ControllerState) (now : ℕ) (left : List (List ℕ)) (actions : List Action) → IsEach w link piece c now left actions running
 step_each None w link piece c now left actions is = absurd cc

@@ -1,6 +1,6 @@
 -- For the law `passed_replies_are_read`: a walk over the units of a piece, of which each leaves the ranges
 -- (`SendsAreWhole` of domain_controller).
-use Rattle.std.proofs.Common.{◌<◌, ◌^◌, ◌++◌, ℕ, Bool, true, false, List, [], ◌∷◌, map, Option, Some, None, Result, Ok, Err, subst}
+use Rattle.std.proofs.Common.{◌<◌, ◌^◌, ◌++◌, ℕ, Bool, true, false, List, map, Option, Some, None, Result, Ok, Err, subst}
 use Rattle.std.specs.List.{AllByRecursion}
 use Rattle.wire_base.specs.Maps.{lookup, same_number}
 use Rattle.wire_base.specs.Names.{IsName}
@@ -8,17 +8,15 @@ use Rattle.authenticators.specs.Channels.{ChannelIdentity}
 use Rattle.authenticators.specs.SecureChannels.{key_of_channel}
 use Rattle.outside.specs.declared.action.Action.{Action}
 use Rattle.outside.specs.declared.action.StepRefused.{StepRefused}
-use Rattle.outside.specs.declared.event.Event.TheVariants as event
 use Rattle.rpc_units.specs.declared.unit.Unit.{Unit as RpcUnit}
 use Rattle.rpc_units.specs.Calls.{IsHeard, bytes_of_call}
 use Rattle.rpc_units.specs.Stream.{cut_stream}
 use Rattle.logon_stubs.specs.Parts.{IfThere}
-use Rattle.logon_stubs.specs.declared.calls.Call.TheVariants as call
 use Rattle.logon_stubs.specs.declared.calls.Reply.{Reply}
 use Rattle.logon_stubs.specs.Writing.{written_reply}
 use Rattle.end_links.specs.Links.{LinkState}
 use Rattle.end_links.specs.Sending.{response_of}
-use Rattle.end_links.specs.Serving.{ServedPart, ServedUnit, served_units, units_on, units_then}
+use Rattle.end_links.specs.Serving.{ServedUnit, served_units}
 use Rattle.domain_controller.specs.Hearing.{hear}
 use Rattle.domain_controller.specs.Machine.{Desk, controller_server}
 use Rattle.domain_controller.specs.ReadBack.{IsReadBack}
@@ -26,7 +24,6 @@ use Rattle.domain_controller.specs.State.{State as ControllerState}
 use Rattle.domain_controller.specs.Step.{first_desk, step_of}
 use Rattle.domain_controller.specs.Whole.{AreChallenges, InRangeDesk, InRangePart, InRangeRunning, InRangeState, InRangeTable, InRangeTalk}
 use Rattle.domain_controller.specs.declared.hearing.Heard.{Heard}
-use Rattle.domain_controller.specs.declared.hearing.Heard.TheVariants as heard
 use Rattle.domain_controller.specs.declared.state.Running.{Running}
 use Rattle.domain_controller.specs.declared.state.Talk.{Talk}
 use Rattle.domain_controller.proofs.ReadBackLaws.{replies_are_read_back}
@@ -36,6 +33,10 @@ use Rattle.step_notes.specs.JudgedInRange.{IsJudgedInRange, IsReadAsMade, Passed
 use Rattle.step_notes.specs.Records.{Judging}
 use Rattle.step_notes.specs.ReplySends.{IsItsReply, reply_passed, standing_at}
 use Rattle.step_notes.specs.Served.{units_if_taken, work_after}
+use Rattle.step_notes.proofs.ServedLaws.{all_mapped, served_such}
+use Rattle.outside.specs.declared.event.Event.TheVariants as event
+use Rattle.logon_stubs.specs.declared.calls.Call.TheVariants as call
+use Rattle.domain_controller.specs.declared.hearing.Heard.TheVariants as heard
 
 -- ---- a unit
 
@@ -70,29 +71,16 @@ answer_fits (heard.Asked line (call.Logoff c) talk) w before after name moment t
 abbrev AllFit : ℕ → Where → List (ServedUnit Desk Talk) → Type 0
 AllFit link w units = AllByRecursion AnswerFits (map (answer_on link w) units)
 
-on_fits : (link : ℕ) (w : Where) (work : Desk) (talk : Option Talk) (left : List (List ℕ)) (later : Desk → Talk → List (List ℕ) → List (ServedUnit Desk Talk)) →
-    InRangeDesk work → IfThere InRangeTalk talk → AreChallenges left →
-    ((work : Desk) (talk : Talk) (left : List (List ℕ)) → InRangeDesk work → InRangeTalk talk → AreChallenges left → AllFit link w (later work talk left)) →
-    AllFit link w (units_on work talk left later)
-on_fits link w work None left later fits limit eight each = tt
-on_fits link w work (Some talk) left later fits limit eight each = each work talk left fits limit eight
-
-then_fits : (link : ℕ) (w : Where) (part : ServedPart Desk Talk) (later : Desk → Talk → List (List ℕ) → List (ServedUnit Desk Talk)) → InRangePart part →
-    ((work : Desk) (talk : Talk) (left : List (List ℕ)) → InRangeDesk work → InRangeTalk talk → AreChallenges left → AllFit link w (later work talk left)) →
-    AllFit link w (units_then part later)
-then_fits link w (Err why) later fits each = tt
-then_fits link w (Ok part) later fits each = on_fits link w part.value.0 part.value.1 part.left later fits.0 fits.1 fits.2 each
-
 units_fit : (link : ℕ) (w : Where) (units : List (List ℕ)) (d : Desk) (talk : Talk) (left : List (List ℕ)) → IsName w.name → w.moment < 2 ^ 64 → InRangeDesk d → InRangeTalk talk → AreChallenges left →
     AllFit link w (served_units (controller_server w.name w.moment link) units d talk left)
-units_fit link w [] d talk left name moment fits limit eight = tt
-units_fit link w (bytes ∷ units) d talk left name moment fits limit eight =
-    let part : ServedPart Desk Talk = (controller_server w.name w.moment link).unit bytes d talk left in (
-      answer_fits (hear link bytes talk) w d (work_after part) name moment fits.table,
-      then_fits link w part (λ later said rest. served_units (controller_server w.name w.moment link) units later said rest)
-          (sends_are_whole.unit w.name w.moment link bytes d talk left name moment fits limit eight)
-          (λ later said rest. λ then_in talk_in eight_left. units_fit link w units later said rest name moment then_in talk_in eight_left),
-    )
+units_fit link w units d talk left name moment fits limit eight =
+    all_mapped AnswerFits (answer_on link w) (served_units (controller_server w.name w.moment link) units d talk left)
+    (served_such (controller_server w.name w.moment link) InRangePart (λ (served : ServedUnit Desk Talk). AnswerFits (answer_on link w served))
+    (λ bytes before said some range. (
+      answer_fits (hear link bytes said) w before (work_after ((controller_server w.name w.moment link).unit bytes before said some)) name moment range.0.table,
+      sends_are_whole.unit w.name w.moment link bytes before said some name moment range.0 range.1 range.2,
+    ))
+    units d talk left (fits, limit, eight))
 
 -- ---- a step
 

@@ -16,6 +16,7 @@ use Rattle.domain_controller.specs.Laws.{IsNext}
 use Rattle.domain_controller.specs.Machine.{Desk, answer_logon, desk, judge_channel, judge_return, put_channel, take_channel}
 use Rattle.domain_controller.specs.declared.line.Line.{Line}
 use Rattle.domain_controller.specs.declared.state.Computers.{Computers}
+use Rattle.domain_controller.proofs.PassLaws.{not_both, one_channel, one_given}
 use Rattle.step_notes.specs.ControllerNotes.{judged_in}
 use Rattle.step_notes.specs.Judged.{IsBarredBy, IsRightOf}
 
@@ -58,19 +59,6 @@ right_passed status computers c next free = record {
   barred = (λ is. absurd cc, λ barred. absurd (free barred));
   other = (λ is. absurd cc, λ both. absurd (both.0 next));
 }
-
-one_given : (given other : Authenticator) → Some given ≡ Some other → given ≡ other
-one_given given other is = cc
-
-one_channel : (computer other : List ℕ) (channel another : SecureChannelState) (computers : Computers) → Some computer ≡ Some other → lookup same_name computer computers.channels ≡ Some channel →
-    lookup same_name other computers.channels ≡ Some another → channel ≡ another
-one_channel computer other channel another computers is stands also =
-    let same : computer ≡ other = cc in
-    let both : Some channel ≡ Some another = sym stands ∙ ap (λ (n : List ℕ). lookup same_name n computers.channels) same ∙ also in
-    cc
-
-not_both : (channel other : SecureChannelState) (given more : Authenticator) → channel ≡ other → given ≡ more → passes_on channel given ≡ false → passes_on other more ≡ true → ⊥
-not_both channel other given more same alike fails passes = absurd cc
 
 same_pass : (channel other : SecureChannelState) (given more : Authenticator) → channel ≡ other → given ≡ more → passes_on channel given ≡ true → passes_on other more ≡ true
 same_pass channel other given more same alike passes = ap (λ (x : SecureChannelState). passes_on x more) (sym same) ∙ ap (λ (g : Authenticator). passes_on channel g) (sym alike) ∙ passes

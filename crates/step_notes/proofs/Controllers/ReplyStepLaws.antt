@@ -12,27 +12,21 @@ use Rattle.channel_keys.specs.Flags.{rc4_flag}
 use Rattle.authenticators.specs.Channels.{ChannelIdentity}
 use Rattle.authenticators.specs.SecureChannels.{SecureChannelState, key_of_channel, channel_of}
 use Rattle.outside.specs.declared.action.Action.{Action}
-use Rattle.outside.specs.declared.action.Action.TheVariants as action
-use Rattle.outside.specs.declared.action.CloseCause.TheVariants as close
 use Rattle.outside.specs.declared.action.Judged.{Judged}
-use Rattle.outside.specs.declared.event.Event.TheVariants as event
 use Rattle.outside.specs.Machine.{step_by, then_part}
-use Rattle.rpc_units.specs.declared.refused.UnitRefused.{UnitRefused}
-use Rattle.rpc_units.specs.Stream.{cut_stream}
+use Rattle.rpc_units.specs.Stream.{cut_stream, Cut}
 use Rattle.logon_stubs.specs.declared.calls.AuthCall.{AuthCall}
-use Rattle.logon_stubs.specs.declared.calls.Call.TheVariants as call
 use Rattle.logon_stubs.specs.declared.calls.ChallengeCall.{ChallengeCall}
 use Rattle.logon_stubs.specs.declared.calls.LogonCall.{LogonCall}
 use Rattle.account_table.specs.LookUps.{knows_in}
 use Rattle.account_table.specs.declared.account.Account.{Account}
 use Rattle.end_links.specs.Links.{LinkState}
-use Rattle.end_links.specs.Serving.{ServedPart, Service, served_by, served_cut, then_open, then_talk, ServedUnit, served_units, units_on, units_then}
+use Rattle.end_links.specs.Serving.{ServedPart, served_cut, ServedUnit, served_units}
 use Rattle.domain_controller.specs.Hearing.{hear}
 use Rattle.domain_controller.specs.Machine.{Desk, account_for, answer_challenge, answer_logon, by_heard, channel_for, controller_server, draw_challenge, judge_account, judge_offer, judge_pair, open_channel, put_pair_if, take_pair}
 use Rattle.domain_controller.specs.State.{State as ControllerState}
 use Rattle.domain_controller.specs.Step.{LinkMap, StepPart, after_units, first_desk, halted, serve_on, start_turn, state_after, step_on}
 use Rattle.domain_controller.specs.declared.hearing.Heard.{Heard}
-use Rattle.domain_controller.specs.declared.hearing.Heard.TheVariants as heard
 use Rattle.domain_controller.specs.declared.line.Line.{Line}
 use Rattle.domain_controller.specs.declared.state.ChallengePair.{ChallengePair}
 use Rattle.domain_controller.specs.declared.state.Running.{Running}
@@ -46,6 +40,12 @@ use Rattle.step_notes.specs.ReplySends.{AreSentFor, CarriesReply, IsItsReply, Is
 use Rattle.step_notes.specs.Served.{units_if_taken, work_after}
 use Rattle.step_notes.proofs.Controllers.JudgedStepLaws.{Told, by_names}
 use Rattle.step_notes.proofs.Controllers.ReplySendLaws.{IsSentAsPassed, dropped, passed_sends}
+use Rattle.step_notes.proofs.ServedLaws.{StaysNoted, served_mapped}
+use Rattle.outside.specs.declared.action.Action.TheVariants as action
+use Rattle.outside.specs.declared.action.CloseCause.TheVariants as close
+use Rattle.outside.specs.declared.event.Event.TheVariants as event
+use Rattle.logon_stubs.specs.declared.calls.Call.TheVariants as call
+use Rattle.domain_controller.specs.declared.hearing.Heard.TheVariants as heard
 
 -- ---- what is sent
 
@@ -216,56 +216,50 @@ heard_sent (heard.Asked line (call.Logoff c) talk) w link d left = record { new 
 
 -- ---- the units of a stream
 
-joined : (sends : Bool) (one : Answered) (new more : List (List ℕ)) (answers : List Answered) → IsSentIf sends one new (λ (rest : List (List ℕ)). AreSentFor [] rest) → AreSentFor answers more →
-    IsSentIf sends one (new ++ more) (λ (rest : List (List ℕ)). AreSentFor answers rest)
-joined false one [] more answers is each = each
-joined false one (bytes ∷ new) more answers is each = absurd is
-joined true one [] more answers is each = absurd is
-joined true one (bytes ∷ []) more answers is each = (is.0, each)
-joined true one (bytes ∷ other ∷ new) more answers is each = absurd is.1
+if_joined : (sends : Bool) (one : Answered) (new more : List (List ℕ)) (Holds Later : List (List ℕ) → Type 0) → ((rest : List (List ℕ)) → Holds rest → Later (rest ++ more)) →
+    IsSentIf sends one new Holds → IsSentIf sends one (new ++ more) Later
+if_joined false one new more Holds Later so is = so new is
+if_joined true one [] more Holds Later so is = absurd is
+if_joined true one (bytes ∷ new) more Holds Later so is = (is.0, so new is.1)
 
-further : (old between all : List Action) (one : Answered) (answers : List Answered) → IsSentBeside old (one ∷ []) between → IsSentBeside between answers all → IsSentBeside old (one ∷ answers) all
-further old between all one answers first then_more = record {
-  new = first.new ++ then_more.new;
-  is = then_more.is ∙ ap (λ (sent : List (List ℕ)). sent ++ then_more.new) first.is ∙ append_assoc (sends_in old) first.new then_more.new;
-  each = joined one.sends one first.new then_more.new answers first.each then_more.each;
+joined : (answers : List Answered) (one : Answered) (new more : List (List ℕ)) → AreSentFor answers new → AreSentFor (one ∷ []) more → AreSentFor (answers ++ one ∷ []) (new ++ more)
+joined [] one [] more each last = last
+joined [] one (bytes ∷ new) more each last = absurd each
+joined (first ∷ answers) one new more each last =
+    if_joined first.sends first new more (λ (rest : List (List ℕ)). AreSentFor answers rest) (λ (rest : List (List ℕ)). AreSentFor (answers ++ one ∷ []) rest)
+    (λ rest is. joined answers one rest more is last) each
+
+further : (old between all : List Action) (answers : List Answered) (one : Answered) → IsSentBeside old answers between → IsSentBeside between (one ∷ []) all → IsSentBeside old (answers ++ one ∷ []) all
+further old between all answers one first last = record {
+  new = first.new ++ last.new;
+  is = last.is ∙ ap (λ (sent : List (List ℕ)). sent ++ last.new) first.is ∙ append_assoc (sends_in old) first.new last.new;
+  each = joined answers one first.new last.new first.each last.each;
 }
 
-further_part : (old between : List Action) (part : ServedPart Desk Talk) (one : Answered) (answers : List Answered) → IsSentBeside old (one ∷ []) between → SendsFor between answers part →
-    SendsFor old (one ∷ answers) part
-further_part old between (Err why) one answers first more = tt
-further_part old between (Ok part) one answers first more = further old between part.value.0.work.actions one answers first more
+further_part : (old between : List Action) (part : ServedPart Desk Talk) (answers : List Answered) (one : Answered) → IsSentBeside old answers between → SendsFor between (one ∷ []) part →
+    SendsFor old (answers ++ one ∷ []) part
+further_part old between (Err why) answers one first last = tt
+further_part old between (Ok part) answers one first last = further old between part.value.0.work.actions answers one first last
 
 abbrev all_answers : ℕ → Where → List (ServedUnit Desk Talk) → List Answered
 all_answers link w units = map (answer_on link w) units
 
-on_sent : (w : Where) (link : ℕ) (talk : Option Talk) (work : Desk) (left : List (List ℕ)) (old : List Action) (one : Answered) (later : Service Desk Talk)
-    (rest : Desk → Talk → List (List ℕ) → List (ServedUnit Desk Talk)) → IsSentBeside old (one ∷ []) work.work.actions →
-    ((work : Desk) (talk : Talk) (left : List (List ℕ)) → SendsFor work.work.actions (all_answers link w (rest work talk left)) (later work talk left)) →
-    SendsFor old (one ∷ all_answers link w (units_on work talk left rest)) (then_talk work talk left later)
-on_sent w link None work left old one later rest is each = is
-on_sent w link (Some talk) work left old one later rest is each =
-    further_part old work.work.actions (later work talk left) one (all_answers link w (rest work talk left)) is (each work talk left)
+sent_stays : (w : Where) (link : ℕ) (old : List Action) →
+    StaysNoted (controller_server w.name w.moment link) (λ (unit : ServedUnit Desk Talk). answer_on link w unit ∷ []) (SendsFor old)
+sent_stays w link old = record {
+  unit = λ answers bytes d talk left before.
+      further_part old d.work.actions (by_heard (hear link bytes talk) link w.name w.moment d left) answers
+      (heard_answer (hear link bytes talk) w d (work_after (by_heard (hear link bytes talk) link w.name w.moment d left))) before
+      (heard_sent (hear link bytes talk) w link d left);
+  refusal = λ answers why d talk left before.
+      record { new = before.new; is = none_more d.work.actions (action.Close link close.BadUnit) refl ∙ before.is; each = before.each };
+}
 
-part_sent : (w : Where) (link : ℕ) (part : ServedPart Desk Talk) (old : List Action) (one : Answered) (later : Service Desk Talk)
-    (rest : Desk → Talk → List (List ℕ) → List (ServedUnit Desk Talk)) → SendsFor old (one ∷ []) part →
-    ((work : Desk) (talk : Talk) (left : List (List ℕ)) → SendsFor work.work.actions (all_answers link w (rest work talk left)) (later work talk left)) →
-    SendsFor old (one ∷ all_answers link w (units_then part rest)) (then_open part later)
-part_sent w link (Err why) old one later rest is each = tt
-part_sent w link (Ok part) old one later rest is each = on_sent w link part.value.1 part.value.0 part.left old one later rest is each
-
-units_sent : (w : Where) (link : ℕ) (units : List (List ℕ)) (why : Option UnitRefused) (d : Desk) (talk : Talk) (left : List (List ℕ)) →
-    SendsFor d.work.actions (all_answers link w (served_units (controller_server w.name w.moment link) units d talk left))
-    (served_by (controller_server w.name w.moment link) units why d talk left)
-units_sent w link [] None d talk left = nothing_new d.work.actions _ [] refl tt
-units_sent w link [] (Some why) d talk left = nothing_new d.work.actions _ [] (none_more d.work.actions (action.Close link close.BadUnit) refl) tt
-units_sent w link (bytes ∷ units) why d talk left =
-    part_sent w link (by_heard (hear link bytes talk) link w.name w.moment d left) d.work.actions
-    (heard_answer (hear link bytes talk) w d (work_after (by_heard (hear link bytes talk) link w.name w.moment d left)))
-    (λ later said rest. served_by (controller_server w.name w.moment link) units why later said rest)
-    (λ later said rest. served_units (controller_server w.name w.moment link) units later said rest)
-    (heard_sent (hear link bytes talk) w link d left)
-    (λ later said rest. units_sent w link units why later said rest)
+units_sent : (w : Where) (link : ℕ) (cut : Cut) (d : Desk) (talk : Talk) (left : List (List ℕ)) →
+    SendsFor d.work.actions (all_answers link w (served_units (controller_server w.name w.moment link) cut.units d talk left)) (served_cut (controller_server w.name w.moment link) cut d talk left)
+units_sent w link cut d talk left =
+    served_mapped (controller_server w.name w.moment link) (answer_on link w) (SendsFor d.work.actions) (sent_stays w link d.work.actions) cut d talk left
+    (nothing_new d.work.actions d.work.actions [] refl tt)
 
 -- ---- a step
 
@@ -298,7 +292,7 @@ module _ (at controller : ℕ) (unit : Option ℕ) (link : ℕ) (piece : List �
       bytes_sent (standing_at at controller unit c now) link c
       (served_cut (controller_server c.name now link) (cut_stream (there.rest ++ piece)) (first_desk c.table running) there.talk left)
       (units_at (Some there) link piece c running now left) (cut_stream (there.rest ++ piece)).rest (take_out same_number link running.links) left actions
-      (units_sent (standing_at at controller unit c now) link (cut_stream (there.rest ++ piece)).units (cut_stream (there.rest ++ piece)).refused (first_desk c.table running) there.talk left) is
+      (units_sent (standing_at at controller unit c now) link (cut_stream (there.rest ++ piece)) (first_desk c.table running) there.talk left) is
 
   step_sent : (running : Option Running) → (step_on running c (event.Bytes link piece) now left).answer ≡ Ok actions →
       AreSentFor (all_answers link (standing_at at controller unit c now) (units_if_taken (step_on running c (event.Bytes link piece) now left).answer (units_by running link piece c now left)))

@@ -1,6 +1,6 @@
 -- Each Logon call that goes out at a member carries the logon that it keeps under the place of the turn.
 -- It serves `calls_carry_their_logon`.
-use Rattle.std.proofs.Common.{◌≡◌, ℕ, ◌==◌, Bool, true, false, List, [], ◌∷◌, ◌++◌, Option, Some, None, Result, Ok, Err, refl, sym, ap, ap₂, subst, ◌∙◌}
+use Rattle.std.proofs.Common.{◌≡◌, ℕ, ◌==◌, Bool, true, false, List, ◌++◌, Option, Some, None, Result, Ok, Err, refl, sym, ap, ap₂, subst, ◌∙◌}
 use Rattle.std.specs.List.{AllByRecursion}
 use Rattle.authenticators.specs.Channels.{ChannelIdentity, channel_key}
 use Rattle.authenticators.specs.Sequences.{authenticator_of, next_seed}
@@ -19,7 +19,7 @@ use Rattle.logon_stubs.specs.declared.calls.Call.TheVariants as call
 use Rattle.logon_stubs.specs.declared.calls.LogonCall.{LogonCall}
 use Rattle.logon_stubs.specs.declared.info.NetworkInfo.{NetworkInfo}
 use Rattle.end_links.specs.Links.{LinkState}
-use Rattle.end_links.specs.Serving.{ServedUnit, served_units, units_on}
+use Rattle.end_links.specs.Serving.{ServedUnit}
 use Rattle.channel_client.specs.declared.answers.Taken.TheVariants as taken
 use Rattle.channel_client.specs.declared.caller.Caller.{Caller}
 use Rattle.channel_client.specs.declared.hearing.Hearing.{Hearing}
@@ -40,19 +40,19 @@ use Rattle.member_server.specs.declared.plan.MemberPlan.{MemberPlan}
 use Rattle.member_server.specs.declared.state.AtTurn.{AtTurn}
 use Rattle.member_server.specs.declared.state.Dialling.{Dialling}
 use Rattle.member_server.specs.declared.state.Dialling.TheVariants as dialling
-use Rattle.member_server.specs.declared.state.Logon.{Logon}
 use Rattle.member_server.specs.declared.state.Running.{Running}
 use Rattle.member_server.specs.declared.state.TurnTalk.{TurnTalk}
 use Rattle.member_server.specs.Laws.{is_dialled}
 use Rattle.member_server.specs.Machine.{at_turn, caller_of, step_of, work_of}
-use Rattle.member_server.specs.Turns.{TurnServed, do_taken, turn_by_join, turn_server, turn_unit}
+use Rattle.member_server.specs.Turns.{do_taken, turn_by_join, turn_server, turn_unit}
 use Rattle.step_notes.specs.CallLogons.{AsksForKept, AsksUnlessStopped, CallsCarryTheirLogon, CarriesItsLogon, CarriesNoted, HasSecret, IsForItsLogon, IsStamped, IsStampedStep, call_for, info_at}
 use Rattle.step_notes.specs.ChannelNames.{AreFramesOf}
 use Rattle.step_notes.specs.MemberNotes.{asked_note, taken_note, taking_joined, taking_note, taking_read, timestamp_bound, turn_units_by, turn_units_in, turn_units_on}
 use Rattle.step_notes.specs.Served.{units_if_taken}
 use Rattle.step_notes.proofs.Channels.ChannelNameLaws.{bound_at}
 use Rattle.step_notes.proofs.Members.TurnRequestLaws.{HasLogon, IsOfTurn, asked_after, first_logon, of_turn}
-use Rattle.step_notes.proofs.Members.CallKeptLaws.{TurnAsksBy, at_channel, fresh_asks, step_asks, turn_asks}
+use Rattle.step_notes.proofs.Members.CallKeptLaws.{TurnPartAsks, at_channel, fresh_asks, step_asks, turn_asks}
+use Rattle.step_notes.proofs.ServedLaws.{served_such}
 
 -- ---- a request that goes out
 
@@ -157,27 +157,13 @@ module _ (controller : ℕ) (at : AtTurn) (kept : AsksForKept true at.work.logon
 abbrev pub AllCarry : ℕ → List (ServedUnit AtTurn TurnTalk) → Type 0
 AllCarry controller units = AllByRecursion (CarriesItsLogon controller) units
 
-said_carries : (controller : ℕ) (units : List (List ℕ)) →
-    ((at : AtTurn) (talk : TurnTalk) (left : List (List ℕ)) → AsksForKept true at.work.logons → AllCarry controller (served_units turn_server units at talk left)) →
-    (at : AtTurn) (said : Option TurnTalk) (left : List (List ℕ)) → TurnAsksBy said at.work.logons →
-    AllCarry controller (units_on at said left (λ next talk rest. served_units turn_server units next talk rest))
-said_carries controller units later at None left kept = tt
-said_carries controller units later at (Some talk) left kept = later at talk left kept
-
-units_carry : (controller : ℕ) (units : List (List ℕ)) (at : AtTurn) (talk : TurnTalk) (left : List (List ℕ)) → AsksForKept true at.work.logons →
-    AllCarry controller (served_units turn_server units at talk left)
-units_carry controller [] at talk left kept = tt
-units_carry controller (bytes ∷ units) at talk left kept =
-    let served : TurnServed = turn_unit (unit_of bytes) talk.joiner at in (
-      read_carries controller at kept (unit_of bytes) talk.joiner,
-      said_carries controller units (units_carry controller units) served.0 served.1 left (turn_asks (unit_of bytes) talk.joiner at kept),
-    )
-
 by_carries : (hit : Bool) (controller : ℕ) (said : LinkState TurnTalk) (number : ℕ) (piece : List ℕ) (running : Running) (left : List (List ℕ)) → AsksForKept true running.logons →
     AllCarry controller (turn_units_by hit said number piece running left)
 by_carries false controller said number piece running left kept = tt
 by_carries true controller said number piece running left kept =
-    units_carry controller (cut_stream (said.rest ++ piece)).units (at_turn number (work_of running)) said.talk left kept
+    served_such turn_server TurnPartAsks (CarriesItsLogon controller)
+    (λ bytes at talk some asks. (read_carries controller at asks (unit_of bytes) talk.joiner, turn_asks (unit_of bytes) talk.joiner at asks))
+    (cut_stream (said.rest ++ piece)).units (at_turn number (work_of running)) said.talk left kept
 
 on_carries : (how : Dialling) (controller number : ℕ) (piece : List ℕ) (running : Running) (left : List (List ℕ)) → AsksForKept (is_dialled how) running.logons →
     AllCarry controller (turn_units_on how number piece running left)

@@ -31,8 +31,8 @@ use Rattle.rpc_units.specs.Joining.{answer_of, open_after}
 use Rattle.rpc_units.specs.Reading.{unit_of}
 use Rattle.rpc_units.specs.Stream.{Cut, cut_stream}
 use Rattle.end_links.specs.Links.{LinkState}
-use Rattle.end_links.specs.Serving.{ServedPart, served_by, then_open, then_talk, ServedUnit, served_units, units_on, units_then}
-use Rattle.end_links.proofs.KeepLaws.{StaysServing, served_stays}
+use Rattle.end_links.specs.Serving.{ServedPart, served_by, served_cut, ServedUnit, served_units}
+use Rattle.end_links.proofs.KeepLaws.{StaysServing, served_stays, unit_served}
 use Rattle.channel_client.specs.declared.answers.AskRefused.{AskRefused}
 use Rattle.channel_client.specs.declared.answers.AskRefused.TheVariants as ask_refused
 use Rattle.channel_client.specs.declared.answers.Taken.{Taken}
@@ -65,6 +65,7 @@ use Rattle.channel_events.specs.Marks.{OneOf}
 use Rattle.step_notes.specs.MemberNotes.{LinkAt, is_challenged, is_turn_link, link_units, link_units_by, link_units_in, link_units_on, message_after, message_by, message_kept, message_note}
 use Rattle.step_notes.specs.Records.{MessageTaken}
 use Rattle.step_notes.specs.Served.{units_if_taken}
+use Rattle.step_notes.proofs.ServedLaws.{served_noted}
 use Rattle.step_notes.proofs.Members.SameLogonLaws.{IsIdle, IsIdlePart, bound_idle, first_idle, held_idle}
 use Rattle.step_notes.proofs.Members.UnservedLaws.{IfUnserved, IfUnservedAfter, IfUnservedPart, LinksIn, Unserved, bound_serves, ended_serves, found_known, none_so, part_known}
 
@@ -429,72 +430,58 @@ challenged_notes X (Ok unit) bound challenge flags joiner w bytes at link late =
 
 -- ---- the units of a stream
 
--- X is known where the challenge of the link hasn't served
-abbrev pub LaterNote : Type 0 → LinkAt → List (List ℕ) → Option UnitRefused → Type 0
-LaterNote X w units why = (messages : List MessageTaken) (at : AtLink) (talk : Talk) (left : List (List ℕ)) → IfUnserved X talk.phase → at.link ≡ w.link →
-    OfEach (HasFor X w.at w.member messages) at.logons.asked →
-    LinkKeeps (HasFor X w.at w.member (messages ++ flat_map (message_note w) (served_units link_server units at talk left))) (served_by link_server units why at talk left)
+-- X is known where the challenge of the link hasn't served, and each logon that is kept has its message
+abbrev pub AreNoted : Type 0 → LinkAt → List MessageTaken → ServedPart AtLink Talk → Type 0
+AreNoted X w messages (Err why) = Unit {0}
+AreNoted X w messages (Ok part) =
+    IfUnservedAfter (λ (p : Phase). X) part.value.1 × (part.value.0.link ≡ w.link) × OfEach (HasFor X w.at w.member messages) part.value.0.logons.asked
 
-module _ (X : Type 0) (w : LinkAt) (units : List (List ℕ)) (why : Option UnitRefused) (later : LaterNote X w units why) where
-  said_notes : (messages : List MessageTaken) (at : AtLink) (said : Option Talk) (left : List (List ℕ)) → IfUnservedAfter (λ (p : Phase). X) said → at.link ≡ w.link →
-      OfEach (HasFor X w.at w.member messages) at.logons.asked →
-      LinkKeeps (HasFor X w.at w.member (messages ++ flat_map (message_note w) (units_on at said left (λ next talk rest. served_units link_server units next talk rest))))
-      (then_talk at said left (λ next talk rest. served_by link_server units why next talk rest))
-  said_notes messages at None left known link all = each_more X w messages [] at.logons.asked all
-  said_notes messages at (Some talk) left known link all = later messages at talk left known link all
+keeps_noted : (X : Type 0) (w : LinkAt) (messages : List MessageTaken) (part : ServedPart AtLink Talk) → AreNoted X w messages part → LinkKeeps (HasFor X w.at w.member messages) part
+keeps_noted X w messages (Err why) noted = tt
+keeps_noted X w messages (Ok part) noted = noted.2
 
-  -- behind what was written down of the unit
-  then_notes : (messages own : List MessageTaken) (at : AtLink) (said : Option Talk) (left : List (List ℕ)) → IfUnservedAfter (λ (p : Phase). X) said → at.link ≡ w.link →
-      OfEach (HasFor X w.at w.member (messages ++ own)) at.logons.asked →
-      LinkKeeps (HasFor X w.at w.member (messages ++ (own ++ flat_map (message_note w) (units_on at said left (λ next talk rest. served_units link_server units next talk rest)))))
-      (then_talk at said left (λ next talk rest. served_by link_server units why next talk rest))
-  then_notes messages own at said left known link all =
-      subst (λ (m : List MessageTaken). LinkKeeps (HasFor X w.at w.member m) (then_talk at said left (λ next talk rest. served_by link_server units why next talk rest)))
-      (append_assoc messages own (flat_map (message_note w) (units_on at said left (λ next talk rest. served_units link_server units next talk rest))))
-      (said_notes (messages ++ own) at said left known link all)
-
+module _ (X : Type 0) (w : LinkAt) where
   idle_notes : (messages : List MessageTaken) (part : ServedPart AtLink Talk) (at : AtLink) → IfUnservedPart (λ (p : Phase). X) part → IsIdlePart at part → at.link ≡ w.link →
-      OfEach (HasFor X w.at w.member messages) at.logons.asked →
-      LinkKeeps (HasFor X w.at w.member (messages ++ flat_map (message_note w) (units_then part (λ next talk rest. served_units link_server units next talk rest))))
-      (then_open part (λ next talk rest. served_by link_server units why next talk rest))
+      OfEach (HasFor X w.at w.member messages) at.logons.asked → AreNoted X w (messages ++ []) part
   idle_notes messages (Err refused) at known idle link all = tt
   idle_notes messages (Ok part) at known idle link all =
-      said_notes messages part.value.0 part.value.1 part.left known (idle.1 ∙ link) (subst (λ (l : Logons). OfEach (HasFor X w.at w.member messages) l.asked) (sym idle.0) all)
+      (known, idle.1 ∙ link, subst (λ (l : Logons). OfEach (HasFor X w.at w.member (messages ++ [])) l.asked) (sym idle.0) (each_more X w messages [] at.logons.asked all))
 
   -- a unit on a link whose challenge has served
   bound_notes : (p : Phase) (bytes : List ℕ) (joiner : Option RpcUnit) (messages : List MessageTaken) (at : AtLink) (left : List (List ℕ)) → IfUnserved ⊥ p → at.link ≡ w.link →
-      OfEach (HasFor X w.at w.member messages) at.logons.asked →
-      LinkKeeps (HasFor X w.at w.member (messages
-      ++ flat_map (message_note w) (units_on (bound_unit p bytes joiner at).0 (bound_unit p bytes joiner at).1 left (λ next talk rest. served_units link_server units next talk rest))))
-      (then_talk (bound_unit p bytes joiner at).0 (bound_unit p bytes joiner at).1 left (λ next talk rest. served_by link_server units why next talk rest))
+      OfEach (HasFor X w.at w.member messages) at.logons.asked → AreNoted X w (messages ++ []) (unit_by false p bytes joiner at left)
   bound_notes p bytes joiner messages at left served link all =
       let idle : IsIdle at (bound_unit p bytes joiner at).0 = bound_idle p bytes joiner at served in
-      said_notes messages (bound_unit p bytes joiner at).0 (bound_unit p bytes joiner at).1 left (none_so (λ (p : Phase). X) (bound_unit p bytes joiner at).1 (bound_serves p bytes joiner at)) (idle.1 ∙ link)
-      (subst (λ (l : Logons). OfEach (HasFor X w.at w.member messages) l.asked) (sym idle.0) all)
+      idle_notes messages (unit_by false p bytes joiner at left) at (none_so (λ (p : Phase). X) (bound_unit p bytes joiner at).1 (bound_serves p bytes joiner at)) idle link all
 
   unit_notes : (p : Phase) (bytes : List ℕ) (joiner : Option RpcUnit) (talk : Talk) (messages : List MessageTaken) (at : AtLink) (left : List (List ℕ)) → IfUnserved X p → at.link ≡ w.link →
       OfEach (HasFor X w.at w.member messages) at.logons.asked →
-      LinkKeeps (HasFor X w.at w.member (messages
-      ++ (message_by (is_challenged p) (record { bytes = bytes; work = at; talk = talk; left = left; part = unit_by (is_fresh p) p bytes joiner at left }) w
-      ++ flat_map (message_note w) (units_then (unit_by (is_fresh p) p bytes joiner at left) (λ next talk rest. served_units link_server units next talk rest)))))
-      (then_open (unit_by (is_fresh p) p bytes joiner at left) (λ next talk rest. served_by link_server units why next talk rest))
+      AreNoted X w
+      (messages ++ message_by (is_challenged p) (record { bytes = bytes; work = at; talk = talk; left = left; part = unit_by (is_fresh p) p bytes joiner at left }) w)
+      (unit_by (is_fresh p) p bytes joiner at left)
   unit_notes phase.Fresh bytes joiner talk messages at left known link all =
       let part : ServedPart AtLink Talk = first_unit (unit_of bytes) joiner at left in
       idle_notes messages part at (part_known X part known) (first_idle (unit_of bytes) joiner at left) link all
   unit_notes (phase.Challenged bound challenge flags) bytes joiner talk messages at left known link all =
       let served : Served = bound_unit (phase.Challenged bound challenge flags) bytes joiner at in
       let own : Notes X w bytes at served = challenged_notes X (unit_of bytes) bound challenge flags joiner w bytes at link known in
-      then_notes messages (message_after served.1 (Some served.0) w bytes) served.0 served.1 left
-      (none_so (λ (p : Phase). X) served.1 (bound_serves (phase.Challenged bound challenge flags) bytes joiner at)) (own.link ∙ link) (own.keeps messages all)
+      (none_so (λ (p : Phase). X) served.1 (bound_serves (phase.Challenged bound challenge flags) bytes joiner at), own.link ∙ link, own.keeps messages all)
   unit_notes (phase.Asked bound place held) bytes joiner talk messages at left known link all = bound_notes (phase.Asked bound place held) bytes joiner messages at left tt link all
   unit_notes (phase.In on) bytes joiner talk messages at left known link all = bound_notes (phase.In on) bytes joiner messages at left tt link all
   unit_notes (phase.Out bound status) bytes joiner talk messages at left known link all = bound_notes (phase.Out bound status) bytes joiner messages at left tt link all
 
-units_note : (X : Type 0) (w : LinkAt) (units : List (List ℕ)) (why : Option UnitRefused) → LaterNote X w units why
-units_note X w [] None messages at talk left known link all = each_more X w messages [] at.logons.asked all
-units_note X w [] (Some why) messages at talk left known link all = each_more X w messages [] at.logons.asked all
-units_note X w (bytes ∷ units) why messages at talk left known link all =
-    unit_notes X w units why (units_note X w units why) talk.phase bytes talk.joiner talk messages at left known link all
+  -- behind the messages that were taken before
+  units_note : (cut : Cut) (messages : List MessageTaken) (at : AtLink) (talk : Talk) (left : List (List ℕ)) → IfUnserved X talk.phase → at.link ≡ w.link →
+      OfEach (HasFor X w.at w.member messages) at.logons.asked →
+      AreNoted X w (messages ++ flat_map (message_note w) (served_units link_server cut.units at talk left)) (served_cut link_server cut at talk left)
+  units_note cut messages at talk left known link all =
+      served_noted link_server (message_note w) (λ taken part. AreNoted X w (messages ++ taken) part) (record {
+        unit = λ taken bytes at talk left noted.
+            subst (λ (m : List MessageTaken). AreNoted X w m (link_server.unit bytes at talk left))
+            (append_assoc messages taken (message_note w (unit_served link_server bytes at talk left)))
+            (unit_notes talk.phase bytes talk.joiner talk (messages ++ taken) at left noted.0 noted.1 noted.2);
+        refusal = λ taken why at talk left noted. (tt, noted.1, noted.2);
+      }) cut at talk left (known, link, each_more X w messages [] at.logons.asked all)
 
 -- ---- a step at which bytes come
 
@@ -509,8 +496,9 @@ module _ (May Own : ℕ → Type 0) (w : LinkAt) (piece : List ℕ) (running : R
       let cut : Cut = cut_stream (link.rest ++ piece) in
       let at : AtLink = at_link w.link (work_of running) in
       after_keeps (HasFor (May w.link) w.at w.member (messages ++ flat_map (message_note w) (served_units link_server cut.units at link.talk left))) Own
-      (served_by link_server cut.units cut.refused at link.talk left) cut.rest w.link how (without_link w.link (work_of running)) own
-      (units_note (May w.link) w cut.units cut.refused messages at link.talk left (found_known (λ (number : ℕ) (p : Phase). May number) w.link running.links link there links) refl all)
+      (served_cut link_server cut at link.talk left) cut.rest w.link how (without_link w.link (work_of running)) own
+      (keeps_noted (May w.link) w (messages ++ flat_map (message_note w) (served_units link_server cut.units at link.talk left)) (served_cut link_server cut at link.talk left)
+      (units_note (May w.link) w cut messages at link.talk left (found_known (λ (number : ℕ) (p : Phase). May number) w.link running.links link there links) refl all))
 
   bytes_if : (hit : Bool) (other : ℕ) (said : LinkState TurnTalk) (how : Dialling) → (other == w.link) ≡ hit → Own other → IfDialled Own how →
       PartKeeps (HasFor (May w.link) w.at w.member (messages ++ flat_map (message_note w) (link_units_by hit w.link piece running left))) Own

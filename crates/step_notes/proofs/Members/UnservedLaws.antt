@@ -1,7 +1,7 @@
 -- The links of a member whose challenge hasn't served: nothing is bound on them, or a CHALLENGE was sent. Only on such
 -- a link an AUTHENTICATE is taken, once. It serves `calls_carry_their_logon`, `requests_come_first`.
 use Rattle.std.proofs.Common.{◌≡◌, ◌≢◌, ℕ, ◌+◌, ◌==◌, Bool, true, false, List, [], ◌∷◌, ◌++◌, replicate, Option, Some, None, Result, Ok, Err, refl, sym, subst, ◌∙◌, nat_le, length, if◌then◌else◌}
-use Rattle.std.specs.Prelude.{flat_map}
+use Rattle.std.specs.Prelude.{IsTrue, flat_map}
 use Rattle.std.proofs.lemmas.Bool.{eqb-true, eqb-false}
 use Rattle.wire_base.specs.Maps.{lookup, put, take_out, same_number}
 use Rattle.outside.specs.declared.action.CloseCause.{CloseCause}
@@ -12,29 +12,22 @@ use Rattle.outside.specs.declared.action.StepRefused.{StepRefused}
 use Rattle.outside.specs.declared.event.Event.{Event}
 use Rattle.outside.specs.declared.event.Event.TheVariants as event
 use Rattle.outside.specs.Machine.{Part, step_by, then_part}
-use Rattle.ntlm_flags.specs.Flags.{agreed_flags}
-use Rattle.ntlm_messages.specs.declared.messages.Authenticate.{Authenticate}
-use Rattle.ntlm_messages.specs.declared.refused.MessageRefused.{MessageRefused}
-use Rattle.ntlm_messages.specs.Authenticate.{authenticate_of}
 use Rattle.rpc_units.specs.declared.refused.JoinRefused.{JoinRefused}
 use Rattle.rpc_units.specs.declared.refused.JoinRefused.TheVariants as join
 use Rattle.rpc_units.specs.declared.refused.UnitRefused.{UnitRefused}
 use Rattle.rpc_units.specs.declared.unit.Body.{Body}
 use Rattle.rpc_units.specs.declared.unit.Body.TheVariants.{Bind, BindAck, BindNak, Auth3, Request, Response, Fault}
-use Rattle.rpc_units.specs.declared.unit.Trailer.{Trailer}
 use Rattle.rpc_units.specs.declared.unit.Unit.{Unit as RpcUnit}
 use Rattle.rpc_units.specs.Joining.{answer_of, open_after}
 use Rattle.rpc_units.specs.Reading.{unit_of}
 use Rattle.rpc_units.specs.Stream.{Cut, cut_stream}
 use Rattle.end_links.specs.Agreed.{accepts}
 use Rattle.end_links.specs.Links.{LinkState}
-use Rattle.end_links.specs.Serving.{ServedPart, served_by, then_open, then_talk, ServedUnit, served_units, units_on, units_then}
-use Rattle.end_links.proofs.KeepLaws.{StaysServing, served_stays}
-use Rattle.channel_client.specs.declared.answers.AskRefused.{AskRefused}
-use Rattle.channel_client.specs.declared.answers.AskRefused.TheVariants as ask_refused
+use Rattle.end_links.specs.Serving.{ServedPart, served_by, served_cut, ServedUnit, served_units}
+use Rattle.end_links.proofs.KeepLaws.{StaysServing, comes_to, served_stays, unit_served}
 use Rattle.channel_client.specs.declared.answers.Taken.{Taken}
 use Rattle.channel_client.specs.declared.answers.Taken.TheVariants as taken
-use Rattle.channel_client.specs.Machine.{ask_of, can_start, lose_of, needs_challenge, start_of, take_of}
+use Rattle.channel_client.specs.Machine.{can_start, lose_of, needs_challenge, start_of, take_of}
 use Rattle.member_server.specs.declared.memo.Answer.{Answer}
 use Rattle.member_server.specs.declared.memo.Answer.TheVariants as answer
 use Rattle.member_server.specs.declared.outcomes.Ending.{Ending}
@@ -46,7 +39,6 @@ use Rattle.member_server.specs.declared.state.Dialling.{Dialling}
 use Rattle.member_server.specs.declared.state.Dialling.TheVariants as dialling
 use Rattle.member_server.specs.declared.state.LoggedOn.{LoggedOn}
 use Rattle.member_server.specs.declared.state.Logon.{Logon}
-use Rattle.member_server.specs.declared.state.Logons.{Logons}
 use Rattle.member_server.specs.declared.state.Phase.{Phase}
 use Rattle.member_server.specs.declared.state.Phase.TheVariants as phase
 use Rattle.member_server.specs.declared.state.Running.{Running}
@@ -54,21 +46,21 @@ use Rattle.member_server.specs.declared.state.Talk.{Talk}
 use Rattle.member_server.specs.declared.state.TurnTalk.{TurnTalk}
 use Rattle.member_server.specs.declared.state.Work.{Work}
 use Rattle.member_server.specs.Held.{held_limit, held_size}
-use Rattle.member_server.specs.Laws.{is_past}
+use Rattle.member_server.specs.Laws.{IsPast, is_past}
+use Rattle.member_server.proofs.LinkLaws.{serves_one_message}
 use Rattle.member_server.specs.Levels.{is_plain}
-use Rattle.rpc_units.specs.Numbers.{ntlm_provider}
 use Rattle.member_server.specs.Machine.{actions_in, after_turn, after_units, answer_dial, at_turn, by_event, bytes_by, bytes_on, bytes_on_link, close_link, close_turn, event_part, fail_dial, fresh_link, halted_state, open_by, serve_dialled, state_in, step_of, step_on, work_of}
 use Rattle.member_server.specs.Memo.{call_answer}
-use Rattle.member_server.specs.Messages.{ask_by, info_of, is_fit, take_auth3, take_message, take_trailer, wait_by, with_channel}
 use Rattle.member_server.specs.Outcomes.{after_link, at_link, end_found, end_logon, keep_link, phase_after, reach_link, tell_outcome, reach_in_map, reach_waiting, waiting_at, without_link, without_logon}
 use Rattle.unit_security.specs.declared.securing.Secured.{Secured}
 use Rattle.member_server.specs.Requests.{answer_call, body_asked, body_out, hold_by, join_by, join_opened, join_request, join_unit, open_request, reply, secure_reply, send_reply, send_secured, signed_cause, signed_unit, unit_asked, unit_in, unit_out, with_session}
 use Rattle.member_server.specs.State.{State as MemberState}
 use Rattle.member_server.specs.Turns.{DialWork, break_turn, dial_for, do_taken, ending_of, lose_turn, next_turn, tell_turn_closed, timestamp_of, turn_by, turn_by_join, turn_server, turn_unit, with_requester, with_work}
-use Rattle.member_server.specs.Units.{body_challenged, bound_unit, first_unit, is_fresh, link_server, serve_held, then_said, unit_by, unit_challenged}
+use Rattle.member_server.specs.Units.{bound_unit, first_unit, is_fresh, link_server, serve_held, then_said, unit_by}
 use Rattle.member_server.specs.Work.{Served}
 use Rattle.step_notes.specs.MemberNotes.{LinkAt, is_challenged, is_turn_link, link_if, link_units, link_units_by, link_units_in, link_units_on, taken_after, taken_by, taken_link}
 use Rattle.step_notes.specs.Served.{talk_after, units_if_taken}
+use Rattle.step_notes.proofs.ServedLaws.{served_noted}
 
 -- ---- how far a link is
 
@@ -130,49 +122,16 @@ part_known X (Ok part) known = said_known X part.value.1 known
 
 -- ---- a unit on a link on which something is bound: its challenge has served then
 
-wait_serves : (answer : Result ℕ AskRefused) (logons : Logons) (logon : Logon) (bound : Bound) (joiner : Option RpcUnit) (at : AtLink) →
-    HasServed (wait_by answer logons logon bound joiner at).1
-wait_serves (Ok place) logons logon bound joiner at = tt
-wait_serves (Err ask_refused.QueueFull) logons logon bound joiner at = tt
-wait_serves (Err ask_refused.Memory) logons logon bound joiner at = tt
+past_serves : (p : Phase) → IsTrue (is_past p) → IfUnserved ⊥ p
+past_serves phase.Fresh past = absurd cc
+past_serves (phase.Challenged bound challenge flags) past = absurd cc
+past_serves (phase.Asked bound place held) past = tt
+past_serves (phase.In on) past = tt
+past_serves (phase.Out bound status) past = tt
 
-ask_serves : (fit : Bool) (message : Authenticate) (agreed : ℕ) (challenge : List ℕ) (bound : Bound) (joiner : Option RpcUnit) (at : AtLink) →
-    HasServed (ask_by fit message agreed challenge bound joiner at).1
-ask_serves false message agreed challenge bound joiner at = tt
-ask_serves true message agreed challenge bound joiner at =
-    let asking = ask_of at.logons.channel (info_of message agreed challenge) in
-    wait_serves asking.answer (with_channel at.logons asking.state) _ bound joiner at
-
-message_serves : (message : Result Authenticate MessageRefused) (bound : Bound) (challenge : List ℕ) (flags : ℕ) (joiner : Option RpcUnit) (at : AtLink) →
-    HasServed (take_message message bound challenge flags joiner at).1
-message_serves (Err why) bound challenge flags joiner at = tt
-message_serves (Ok message) bound challenge flags joiner at =
-    ask_serves (is_fit bound.level (agreed_flags flags message.flags) message) message (agreed_flags flags message.flags) challenge bound joiner at
-
-trailer_serves : (is_ntlm : Bool) (trailer : Trailer) (bound : Bound) (challenge : List ℕ) (flags : ℕ) (joiner : Option RpcUnit) (at : AtLink) →
-    HasServed (take_trailer is_ntlm trailer bound challenge flags joiner at).1
-trailer_serves false trailer bound challenge flags joiner at = tt
-trailer_serves true trailer bound challenge flags joiner at = message_serves (authenticate_of trailer.value) bound challenge flags joiner at
-
-auth3_serves : (trailer : Option Trailer) (bound : Bound) (challenge : List ℕ) (flags : ℕ) (joiner : Option RpcUnit) (at : AtLink) →
-    HasServed (take_auth3 trailer bound challenge flags joiner at).1
-auth3_serves None bound challenge flags joiner at = tt
-auth3_serves (Some trailer) bound challenge flags joiner at = trailer_serves (trailer.kind == ntlm_provider) trailer bound challenge flags joiner at
-
-challenged_body : (body : Body) (trailer : Option Trailer) (bound : Bound) (challenge : List ℕ) (flags : ℕ) (joiner : Option RpcUnit) (at : AtLink) →
-    HasServed (body_challenged body trailer bound challenge flags joiner at).1
-challenged_body Auth3 trailer bound challenge flags joiner at = auth3_serves trailer bound challenge flags joiner at
-challenged_body (Bind send receive group contexts) trailer bound challenge flags joiner at = tt
-challenged_body (BindAck send receive group results) trailer bound challenge flags joiner at = tt
-challenged_body (BindNak reason) trailer bound challenge flags joiner at = tt
-challenged_body (Request hint context opnum stub) trailer bound challenge flags joiner at = tt
-challenged_body (Response hint context stub) trailer bound challenge flags joiner at = tt
-challenged_body (Fault hint context status) trailer bound challenge flags joiner at = tt
-
-challenged_serves : (unit : Result RpcUnit UnitRefused) (bound : Bound) (challenge : List ℕ) (flags : ℕ) (joiner : Option RpcUnit) (at : AtLink) →
-    HasServed (unit_challenged unit bound challenge flags joiner at).1
-challenged_serves (Err why) bound challenge flags joiner at = tt
-challenged_serves (Ok unit) bound challenge flags joiner at = challenged_body unit.body unit.trailer bound challenge flags joiner at
+challenged_serves : (said : Option Talk) → IsPast said → HasServed said
+challenged_serves None past = tt
+challenged_serves (Some talk) past = past_serves talk.phase past
 
 hold_serves : (fits : Bool) (bytes : List ℕ) (bound : Bound) (place : ℕ) (held : List (List ℕ)) (joiner : Option RpcUnit) (at : AtLink) →
     HasServed (hold_by fits bytes bound place held joiner at).1
@@ -274,7 +233,8 @@ out_serves (Ok unit) bound status joiner at = out_body unit.body unit.call bound
 
 pub bound_serves : (p : Phase) (bytes : List ℕ) (joiner : Option RpcUnit) (at : AtLink) → HasServed (bound_unit p bytes joiner at).1
 bound_serves phase.Fresh bytes joiner at = tt
-bound_serves (phase.Challenged bound challenge flags) bytes joiner at = challenged_serves (unit_of bytes) bound challenge flags joiner at
+bound_serves (phase.Challenged bound challenge flags) bytes joiner at =
+    challenged_serves (bound_unit (phase.Challenged bound challenge flags) bytes joiner at).1 (serves_one_message.past bound challenge flags bytes joiner at)
 bound_serves (phase.Asked bound place held) bytes joiner at = asked_serves (unit_of bytes) bytes bound place held joiner at
 bound_serves (phase.In on) bytes joiner at = in_serves (is_plain on.bound.level) bytes on joiner at
 bound_serves (phase.Out bound status) bytes joiner at = out_serves (unit_of bytes) bound status joiner at
@@ -306,69 +266,55 @@ TakesOne X link [] part = IfUnservedPart (λ (p : Phase). X) part
 TakesOne X link (one ∷ []) part = (one ≡ link) × X × IfUnservedPart (λ (p : Phase). ⊥) part
 TakesOne X link (one ∷ other ∷ more) part = ⊥
 
-abbrev pub LaterTake : LinkAt → List (List ℕ) → Option UnitRefused → Type 1
-LaterTake w units why = (X : Type 0) (at : AtLink) (talk : Talk) (left : List (List ℕ)) → IfUnserved X talk.phase →
-    TakesOne X w.link (flat_map (taken_link w) (served_units link_server units at talk left)) (served_by link_server units why at talk left)
+-- behind one that was taken none is
+behind_take : (X : Type 0) (link one : ℕ) (own : List ℕ) (part : ServedPart AtLink Talk) → one ≡ link → X → TakesOne ⊥ link own part → TakesOne X link (one ∷ own) part
+behind_take X link one [] part same known took = (same, known, took)
+behind_take X link one (other ∷ []) part same known took = absurd took.1
+behind_take X link one (other ∷ another ∷ more) part same known took = absurd took
 
-behind_take : (X : Type 0) (link : ℕ) (is_taken : Bool) (rest : List ℕ) (part : ServedPart AtLink Talk) → X → TakesOne ⊥ link rest part →
-    TakesOne X link (link_if is_taken link ++ rest) part
-behind_take X link false [] part known took = part_so (λ p. ⊥) (λ p. X) (λ p none. absurd none) part took
-behind_take X link true [] part known took = (refl, known, took)
-behind_take X link false (one ∷ []) part known took = absurd took.1
-behind_take X link true (one ∷ []) part known took = absurd took.1
-behind_take X link false (one ∷ other ∷ more) part known took = absurd took
-behind_take X link true (one ∷ other ∷ more) part known took = absurd took
+-- behind a CHALLENGE: the unit may be taken
+past_take : (X : Type 0) (link : ℕ) (is_taken : Bool) (at : AtLink) (talk : Talk) (left : List (List ℕ)) → X → IfUnserved ⊥ talk.phase →
+    TakesOne X link (link_if is_taken link) (comes_to at (Some talk) left)
+past_take X link false at talk left known served = none_so (λ p. X) (Some talk) served
+past_take X link true at talk left known served = (refl, known, served)
 
-module _ (X : Type 0) (w : LinkAt) (units : List (List ℕ)) (why : Option UnitRefused) (later : LaterTake w units why) where
-  said_take : (at : AtLink) (said : Option Talk) (left : List (List ℕ)) → IfUnservedAfter (λ p. X) said →
-      TakesOne X w.link (flat_map (taken_link w) (units_on at said left (λ next talk rest. served_units link_server units next talk rest)))
-      (then_talk at said left (λ next talk rest. served_by link_server units why next talk rest))
-  said_take at None left known = tt
-  said_take at (Some talk) left known = later X at talk left known
+challenged_take : (X : Type 0) (link : ℕ) (at : AtLink) (said : Option Talk) (left : List (List ℕ)) → X → HasServed said →
+    TakesOne X link (taken_after said link) (comes_to at said left)
+challenged_take X link at None left known served = tt
+challenged_take X link at (Some talk) left known served = past_take X link (is_past talk.phase) at talk left known served
 
-  part_take : (part : ServedPart AtLink Talk) → IfUnservedPart (λ p. X) part →
-      TakesOne X w.link (flat_map (taken_link w) (units_then part (λ next talk rest. served_units link_server units next talk rest)))
-      (then_open part (λ next talk rest. served_by link_server units why next talk rest))
-  part_take (Err refused) known = tt
-  part_take (Ok part) known = said_take part.value.0 part.value.1 part.left known
+unit_take : (X : Type 0) (w : LinkAt) (p : Phase) (bytes : List ℕ) (joiner : Option RpcUnit) (at : AtLink) (left : List (List ℕ)) → IfUnserved X p →
+    TakesOne X w.link (taken_by (is_challenged p) (talk_after (unit_by (is_fresh p) p bytes joiner at left)) w.link) (unit_by (is_fresh p) p bytes joiner at left)
+unit_take X w phase.Fresh bytes joiner at left known =
+    let part : ServedPart AtLink Talk = first_unit (unit_of bytes) joiner at left in part_known X part known
+unit_take X w (phase.Challenged bound challenge flags) bytes joiner at left known =
+    let served : Served = bound_unit (phase.Challenged bound challenge flags) bytes joiner at in
+    challenged_take X w.link served.0 served.1 left known (bound_serves (phase.Challenged bound challenge flags) bytes joiner at)
+unit_take X w (phase.Asked bound place held) bytes joiner at left known = none_so (λ p. X) _ (bound_serves (phase.Asked bound place held) bytes joiner at)
+unit_take X w (phase.In on) bytes joiner at left known = none_so (λ p. X) _ (bound_serves (phase.In on) bytes joiner at)
+unit_take X w (phase.Out bound status) bytes joiner at left known = none_so (λ p. X) _ (bound_serves (phase.Out bound status) bytes joiner at)
 
-  -- behind a CHALLENGE: the unit may be taken, and none after it
-  challenged_take : (at : AtLink) (said : Option Talk) (left : List (List ℕ)) → X → HasServed said →
-      TakesOne X w.link
-      (taken_after said w.link ++ flat_map (taken_link w) (units_on at said left (λ next talk rest. served_units link_server units next talk rest)))
-      (then_talk at said left (λ next talk rest. served_by link_server units why next talk rest))
-  challenged_take at None left known served = tt
-  challenged_take at (Some talk) left known served =
-      behind_take X w.link (is_past talk.phase) (flat_map (taken_link w) (served_units link_server units at talk left)) (served_by link_server units why at talk left) known
-      (later ⊥ at talk left served)
+more_take : (X : Type 0) (w : LinkAt) (taken : List ℕ) (bytes : List ℕ) (at : AtLink) (talk : Talk) (left : List (List ℕ)) → TakesOne X w.link taken (comes_to at (Some talk) left) →
+    TakesOne X w.link (taken ++ taken_link w (unit_served link_server bytes at talk left)) (link_server.unit bytes at talk left)
+more_take X w [] bytes at talk left took = unit_take X w talk.phase bytes talk.joiner at left took
+more_take X w (one ∷ []) bytes at talk left took =
+    behind_take X w.link one (taken_link w (unit_served link_server bytes at talk left)) (link_server.unit bytes at talk left) took.0 took.1
+    (unit_take ⊥ w talk.phase bytes talk.joiner at left took.2)
+more_take X w (one ∷ other ∷ more) bytes at talk left took = absurd took
 
-  bound_take : (p : Phase) (bytes : List ℕ) (joiner : Option RpcUnit) (at : AtLink) (left : List (List ℕ)) →
-      TakesOne X w.link
-      (flat_map (taken_link w) (units_on (bound_unit p bytes joiner at).0 (bound_unit p bytes joiner at).1 left (λ next talk rest. served_units link_server units next talk rest)))
-      (then_talk (bound_unit p bytes joiner at).0 (bound_unit p bytes joiner at).1 left (λ next talk rest. served_by link_server units why next talk rest))
-  bound_take p bytes joiner at left =
-      let served : Served = bound_unit p bytes joiner at in
-      said_take served.0 served.1 left (none_so (λ p. X) served.1 (bound_serves p bytes joiner at))
+shut_take : (X : Type 0) (link : ℕ) (taken : List ℕ) (at after : AtLink) (talk : Talk) (left : List (List ℕ)) → TakesOne X link taken (comes_to at (Some talk) left) →
+    TakesOne X link taken (comes_to after None left)
+shut_take X link [] at after talk left took = tt
+shut_take X link (one ∷ []) at after talk left took = (took.0, took.1, tt)
+shut_take X link (one ∷ other ∷ more) at after talk left took = absurd took
 
-  unit_take : (p : Phase) (bytes : List ℕ) (joiner : Option RpcUnit) (at : AtLink) (left : List (List ℕ)) → IfUnserved X p →
-      TakesOne X w.link
-      (taken_by (is_challenged p) (talk_after (unit_by (is_fresh p) p bytes joiner at left)) w.link
-      ++ flat_map (taken_link w) (units_then (unit_by (is_fresh p) p bytes joiner at left) (λ next talk rest. served_units link_server units next talk rest)))
-      (then_open (unit_by (is_fresh p) p bytes joiner at left) (λ next talk rest. served_by link_server units why next talk rest))
-  unit_take phase.Fresh bytes joiner at left known =
-      let part : ServedPart AtLink Talk = first_unit (unit_of bytes) joiner at left in
-      part_take part (part_known X part known)
-  unit_take (phase.Challenged bound challenge flags) bytes joiner at left known =
-      let served : Served = bound_unit (phase.Challenged bound challenge flags) bytes joiner at in
-      challenged_take served.0 served.1 left known (bound_serves (phase.Challenged bound challenge flags) bytes joiner at)
-  unit_take (phase.Asked bound place held) bytes joiner at left known = bound_take (phase.Asked bound place held) bytes joiner at left
-  unit_take (phase.In on) bytes joiner at left known = bound_take (phase.In on) bytes joiner at left
-  unit_take (phase.Out bound status) bytes joiner at left known = bound_take (phase.Out bound status) bytes joiner at left
-
-units_take : (w : LinkAt) (units : List (List ℕ)) (why : Option UnitRefused) → LaterTake w units why
-units_take w [] None X at talk left known = known
-units_take w [] (Some why) X at talk left known = tt
-units_take w (bytes ∷ units) why X at talk left known = unit_take X w units why (units_take w units why) talk.phase bytes talk.joiner at left known
+units_take : (w : LinkAt) (cut : Cut) (X : Type 0) (at : AtLink) (talk : Talk) (left : List (List ℕ)) → IfUnserved X talk.phase →
+    TakesOne X w.link (flat_map (taken_link w) (served_units link_server cut.units at talk left)) (served_cut link_server cut at talk left)
+units_take w cut X at talk left known =
+    served_noted link_server (taken_link w) (TakesOne X w.link) (record {
+      unit = more_take X w;
+      refusal = λ taken why at talk left took. shut_take X w.link taken at _ talk left took;
+    }) cut at talk left known
 
 -- ---- the links of a member
 
@@ -636,7 +582,7 @@ module _ (May : ℕ → Type 0) (w : LinkAt) (piece : List ℕ) (running : Runni
       let at : AtLink = at_link w.link (work_of running) in
       alone_took May (flat_map (taken_link w) (served_units link_server cut.units at link.talk left)) (served_by link_server cut.units cut.refused at link.talk left) cut.rest w.link how
       (without_link w.link (work_of running))
-      (units_take w cut.units cut.refused (May w.link) at link.talk left (found_known (λ n p. May n) w.link running.links link there all))
+      (units_take w cut (May w.link) at link.talk left (found_known (λ n p. May n) w.link running.links link there all))
       (taken_known (λ n p. May n) w.link running.links all)
 
   bytes_took_by : (how : Dialling) →

@@ -33,7 +33,7 @@ use Rattle.domain_world.specs.Accepting.ReadBack.{RepliesAreReadBack}
 use Rattle.domain_world.specs.Past.{Coming, answers_of, at_controller, judged_of, note_at, note_controller, numbers_on, Past, past}
 use Rattle.channel_events.proofs.ListLaws.{got_nothing}
 use Rattle.domain_world.proofs.Accepting.Heard.JudgedUnitLaws.{AllHeardSo, AnyAction, CarriedIf, HeardSo, IsCarriedCall, IsJudgedWell, IsWholeCarried, JudgedFact, JudgedStand, acts_stand, answer_holds, any_actions, any_heard, running_so, settled_stand, unit_so, whole_carried}
-use Rattle.domain_world.proofs.Accepting.PlacedLaws.{all_at}
+use Rattle.domain_world.proofs.Accepting.ListPlaceLaws.{all_at}
 use Rattle.domain_world.proofs.Accepting.Quiet.QuietStepLaws.{ControllerIsQuiet, QuietAction, QuietFact, QuietState}
 use Rattle.domain_world.proofs.Accepting.Quiet.QuietRunLaws.{has_bytes, quiet_first, quiet_keeps}
 use Rattle.domain_world.proofs.Frames.ComingLaws.{CameFrom}

@@ -62,7 +62,7 @@ use Rattle.domain_world.proofs.Accepting.Heard.JudgedRunLaws.{judged_stand}
 use Rattle.domain_world.proofs.Accepting.Heard.JudgedUnitLaws.{IsCarriedCall, IsJudgedWell, JudgedStand, route_of, same_carried}
 use Rattle.domain_world.proofs.Accepting.LetInStepLaws.{IsDialledBy}
 use Rattle.domain_world.proofs.Accepting.Heard.MarkSentLaws.{CarriesMark, IsRequestSent, SendsIf, controller_sends, member_sends}
-use Rattle.domain_world.proofs.Accepting.PlacedLaws.{Placed, all_at, placed}
+use Rattle.domain_world.proofs.Accepting.ListPlaceLaws.{Placed, all_at, placed}
 use Rattle.domain_world.proofs.Accepting.Quiet.QuietRunLaws.{comes_whole, has_bytes, quiet_first, quiet_keeps, whole_by}
 use Rattle.domain_world.proofs.Accepting.Quiet.QuietStepLaws.{MemberIsQuiet, QuietAction, QuietFact, QuietState}
 use Rattle.domain_world.proofs.Accepting.Quiet.QuietTurnLaws.{IfOn}

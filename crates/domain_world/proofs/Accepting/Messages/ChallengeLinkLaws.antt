@@ -1,20 +1,19 @@
 -- What bytes come to at a member: a CHALLENGE goes out on a link on which nothing was bound, and only one; and a
 -- message that is taken is for the CHALLENGE of its link. It serves `messages_are_taken_as_sent`.
-use Rattle.std.proofs.Common.{◌≡◌, ◌≢◌, ℕ, Bool, true, false, List, [], ◌∷◌, ◌++◌, ◌⊎◌, inl, inr, Option, Some, None, Result, Ok, Err, refl, sym, ◌∙◌, if◌then◌else◌}
+use Rattle.std.proofs.Common.{◌≡◌, ◌≢◌, ℕ, Bool, true, false, List, [], ◌∷◌, ◌++◌, ◌⊎◌, inl, inr, Option, Some, None, Result, Ok, Err, refl, sym, subst, ◌∙◌, if◌then◌else◌}
 use Rattle.std.specs.Prelude.{flat_map}
 use Rattle.std.proofs.lemmas.Bool.{eqb-false, eqb-true}
+use Rattle.std.proofs.lemmas.List.{flat_map_more}
 use Rattle.wire_base.specs.Maps.{lookup, same_number, take_out}
 use Rattle.outside.specs.declared.action.StepRefused.{StepRefused}
 use Rattle.outside.specs.declared.event.Event.TheVariants as event
 use Rattle.outside.specs.Machine.{Part, left_by, step_by}
-use Rattle.ntlm_messages.specs.Challenge.{written_challenge}
 use Rattle.rpc_units.specs.Reading.{unit_of}
 use Rattle.rpc_units.specs.Stream.{Cut, cut_stream}
-use Rattle.rpc_units.specs.declared.refused.UnitRefused.{UnitRefused}
 use Rattle.rpc_units.specs.declared.unit.Unit.{Unit as RpcUnit}
 use Rattle.end_links.specs.Links.{LinkState}
-use Rattle.end_links.specs.Serving.{ServedPart, served_by, then_open, then_talk, ServedUnit, served_units, units_on, units_then}
-use Rattle.member_server.specs.Binds.{challenge_message}
+use Rattle.end_links.specs.Serving.{ServedPart, served_cut, ServedUnit, served_units}
+use Rattle.end_links.proofs.KeepLaws.{comes_to, unit_served}
 use Rattle.member_server.specs.Machine.{actions_in, after_units, bytes_on, bytes_on_link, event_part, halted_state, state_in, step_of, step_on, work_of}
 use Rattle.member_server.specs.Outcomes.{at_link, without_link}
 use Rattle.member_server.specs.Rests.{first_rest}
@@ -29,12 +28,13 @@ use Rattle.member_server.specs.declared.state.Phase.TheVariants as phase
 use Rattle.member_server.specs.declared.state.Running.{Running}
 use Rattle.member_server.specs.declared.state.Talk.{Talk}
 use Rattle.member_server.specs.declared.state.Work.{Work}
-use Rattle.step_notes.specs.MemberNotes.{LinkAt, challenge_after, challenge_in, challenge_note, is_turn_link, link_units, link_units_by, link_units_in, link_units_on, message_after, message_note, next_draw}
+use Rattle.step_notes.specs.MemberNotes.{LinkAt, challenge_after, challenge_in, challenge_note, is_turn_link, link_units, link_units_by, link_units_in, link_units_on, message_after, message_note}
 use Rattle.step_notes.specs.Records.{ChallengeSent, MessageTaken}
 use Rattle.step_notes.specs.Served.{talk_after, units_if_taken}
-use Rattle.step_notes.proofs.Members.UnservedLaws.{DialWorkLinks, IfUnserved, IfUnservedAfter, IfUnservedPart, LinksIn, Unserved, after_known, bound_serves, bytes_hold, dialled_known, found_known, links_so, next_known, none_so, phase_so}
+use Rattle.step_notes.proofs.Members.UnservedLaws.{DialWorkLinks, HasServed, IfUnserved, IfUnservedAfter, IfUnservedPart, LinksIn, Unserved, after_known, bound_serves, bytes_hold, dialled_known, found_known, links_so, next_known, none_so, phase_so}
+use Rattle.step_notes.proofs.ServedLaws.{StaysBeside, served_beside}
 use Rattle.domain_world.proofs.Accepting.Messages.ChallengeReadLaws.{AreTakenWith, CanBeReadAfter, CanBeReadAt, CanBeReadPart, IsReadAs, IsTakenWith, challenged_with, first_reads, read_again}
-use Rattle.domain_world.proofs.Challenges.OwnLinkLaws.{unit_at}
+use Rattle.domain_world.proofs.Challenges.OwnLinkLaws.{served_bound, unit_at}
 use Rattle.domain_world.proofs.Frames.LeftLaws.{AreEights, eights_rest}
 use Rattle.domain_world.proofs.Frames.AllLaws.{all_join}
 
@@ -56,10 +56,6 @@ so_far Free More Sent Other so also (phase.Asked bound place held) known = tt
 so_far Free More Sent Other so also (phase.In on) known = tt
 so_far Free More Sent Other so also (phase.Out bound status) known = tt
 
--- what holds of no link on which nothing is bound holds of a link with whatever else
-none_free : (Free : Type 0) (Sent : List ℕ → ℕ → Type 0) (p : Phase) → IsSoFar ⊥ Sent p → IsSoFar Free Sent p
-none_free Free Sent p known = so_far ⊥ Free Sent Sent (λ none. absurd none) (λ challenge flags sent. sent) p known
-
 said_more : (Known More : Phase → Type 0) → ((p : Phase) → Known p → More p) → (said : Option Talk) → IfUnservedAfter Known said → IfUnservedAfter More said
 said_more Known More so None known = tt
 said_more Known More so (Some talk) known = phase_so (Known talk.phase) (More talk.phase) (so talk.phase) talk.phase known
@@ -72,17 +68,6 @@ part_more Known More so (Ok part) known = said_more Known More so part.value.1 k
 abbrev pub ReadOf : ChallengeSent → List ℕ → ℕ → Type 0
 ReadOf sent challenge flags = IsReadAs sent.bytes challenge flags
 
--- the CHALLENGE that is written down
-abbrev pub sent_as : List ℕ → ℕ → LinkAt → AtLink → List (List ℕ) → ChallengeSent
-sent_as challenge flags w at left = record {
-  at = w.at;
-  member = w.member;
-  link = w.link;
-  draw = next_draw w left;
-  challenge = challenge;
-  bytes = written_challenge (challenge_message flags at.logons.plan challenge);
-}
-
 -- ---- the units of a stream
 
 -- What the units of a link come to, by what was sent: no CHALLENGE, and each message that was taken is for what was
@@ -93,104 +78,123 @@ Comes w Free Sent (one ∷ []) messages part =
     Free × (one.link ≡ w.link) × AreTakenWith (ReadOf one) messages × IfUnservedPart (IsSoFar ⊥ (ReadOf one)) part
 Comes w Free Sent (one ∷ other ∷ more) messages part = ⊥
 
-abbrev pub LaterComes : LinkAt → List (List ℕ) → Option UnitRefused → Type 1
-LaterComes w units why = (Free : Type 0) (Sent : List ℕ → ℕ → Type 0) (at : AtLink) (talk : Talk) (left : List (List ℕ)) → IfUnserved (IsSoFar Free Sent talk.phase) talk.phase → AreEights left →
-    Comes w Free Sent (flat_map (challenge_note w) (served_units link_server units at talk left)) (flat_map (message_note w) (served_units link_server units at talk left))
-    (served_by link_server units why at talk left)
+-- and no message is taken while nothing is bound
+abbrev pub NoneFresh : List MessageTaken → Option Talk → Type 0
+NoneFresh messages None = Unit {0}
+NoneFresh messages (Some talk) = is_fresh talk.phase ≡ true → messages ≡ []
 
--- a CHALLENGE is sent before what goes on without another
-sent_before : (w : LinkAt) (Free : Type 0) (Sent : List ℕ → ℕ → Type 0) (one : ChallengeSent) (sent : List ChallengeSent) (messages : List MessageTaken) (part : ServedPart AtLink Talk) → Free →
-    one.link ≡ w.link → Comes w ⊥ (ReadOf one) sent messages part → Comes w Free Sent (one ∷ sent) messages part
-sent_before w Free Sent one [] messages part free same comes = (free, same, comes.0, comes.1)
-sent_before w Free Sent one (other ∷ []) messages part free same comes = absurd comes.0
-sent_before w Free Sent one (other ∷ another ∷ more) messages part free same comes = absurd comes
+abbrev pub NoneFreshPart : List MessageTaken → ServedPart AtLink Talk → Type 0
+NoneFreshPart messages (Err why) = Unit {0}
+NoneFreshPart messages (Ok part) = NoneFresh messages part.value.1
 
--- messages are taken before what goes on without a CHALLENGE
-taken_before : (w : LinkAt) (Free : Type 0) (Sent : List ℕ → ℕ → Type 0) (front : List MessageTaken) (sent : List ChallengeSent) (messages : List MessageTaken) (part : ServedPart AtLink Talk) →
-    AreTakenWith Sent front → Comes w ⊥ Sent sent messages part → Comes w Free Sent sent (front ++ messages) part
-taken_before w Free Sent front [] messages part all comes =
-    (all_join (λ (one : MessageTaken). IsTakenWith Sent one.bytes one.logon) front messages all comes.0, part_more (IsSoFar ⊥ Sent) (IsSoFar Free Sent) (none_free Free Sent) part comes.1)
-taken_before w Free Sent front (other ∷ []) messages part all comes = absurd comes.0
-taken_before w Free Sent front (other ∷ another ∷ more) messages part all comes = absurd comes
+said_none : (said : Option Talk) → NoneFresh [] said
+said_none None = tt
+said_none (Some talk) = λ fresh. refl
 
-module _ (w : LinkAt) (units : List (List ℕ)) (why : Option UnitRefused) (later : LaterComes w units why) where
-  said_comes : (Free : Type 0) (Sent : List ℕ → ℕ → Type 0) (at : AtLink) (said : Option Talk) (left : List (List ℕ)) → IfUnservedAfter (IsSoFar Free Sent) said → AreEights left →
-      Comes w Free Sent (flat_map (challenge_note w) (units_on at said left (λ next talk rest. served_units link_server units next talk rest)))
-      (flat_map (message_note w) (units_on at said left (λ next talk rest. served_units link_server units next talk rest)))
-      (then_talk at said left (λ next talk rest. served_by link_server units why next talk rest))
-  said_comes Free Sent at None left known eights = (tt, tt)
-  said_comes Free Sent at (Some talk) left known eights = later Free Sent at talk left known eights
+part_none : (part : ServedPart AtLink Talk) → NoneFreshPart [] part
+part_none (Err why) = tt
+part_none (Ok part) = said_none part.value.1
+
+served_none : (messages : List MessageTaken) (said : Option Talk) → HasServed said → NoneFresh messages said
+served_none messages None served = tt
+served_none messages (Some talk) served = λ fresh. let bound : is_fresh talk.phase ≡ false = served_bound talk.phase served in absurd cc
+
+module _ (w : LinkAt) (Free : Type 0) (Sent : List ℕ → ℕ → Type 0) where
+  abbrev ComesSo : List ChallengeSent → List MessageTaken → ServedPart AtLink Talk → Type 0
+  ComesSo sent messages part = Comes w Free Sent sent messages part × NoneFreshPart messages part × AreEights (left_by part)
 
   -- behind a unit where nothing was bound
-  fresh_comes : (Free : Type 0) (Sent : List ℕ → ℕ → Type 0) (p : Phase) (joiner : Option RpcUnit) (next at : AtLink) (rest left : List (List ℕ)) → Free → CanBeReadAt at.logons.plan p →
-      AreEights rest →
-      Comes w Free Sent (challenge_in p w at left ++ flat_map (challenge_note w) (served_units link_server units next (record { joiner = joiner; phase = p }) rest))
-      (flat_map (message_note w) (served_units link_server units next (record { joiner = joiner; phase = p }) rest))
-      (served_by link_server units why next (record { joiner = joiner; phase = p }) rest)
-  fresh_comes Free Sent phase.Fresh joiner next at rest left free can eights = later Free Sent next (record { joiner = joiner; phase = phase.Fresh }) rest free eights
-  fresh_comes Free Sent (phase.Challenged bound challenge flags) joiner next at rest left free can eights =
-      let talk : Talk = record { joiner = joiner; phase = phase.Challenged bound challenge flags } in
-      let one : ChallengeSent = sent_as challenge flags w at left in
-      sent_before w Free Sent one (flat_map (challenge_note w) (served_units link_server units next talk rest)) (flat_map (message_note w) (served_units link_server units next talk rest))
-      (served_by link_server units why next talk rest) free refl
-      (later ⊥ (ReadOf one) next talk rest (read_again at.logons.plan challenge flags can) eights)
-  fresh_comes Free Sent (phase.Asked bound place held) joiner next at rest left free can eights =
-      later Free Sent next (record { joiner = joiner; phase = phase.Asked bound place held }) rest tt eights
-  fresh_comes Free Sent (phase.In on) joiner next at rest left free can eights = later Free Sent next (record { joiner = joiner; phase = phase.In on }) rest tt eights
-  fresh_comes Free Sent (phase.Out bound status) joiner next at rest left free can eights = later Free Sent next (record { joiner = joiner; phase = phase.Out bound status }) rest tt eights
+  phase_comes : (p : Phase) (joiner : Option RpcUnit) (next at : AtLink) (rest left : List (List ℕ)) → Free → CanBeReadAt at.logons.plan p →
+      Comes w Free Sent (challenge_in p w at left) [] (comes_to next (Some (record { joiner = joiner; phase = p })) rest)
+  phase_comes phase.Fresh joiner next at rest left free can = (tt, free)
+  phase_comes (phase.Challenged bound challenge flags) joiner next at rest left free can = (free, refl, tt, read_again at.logons.plan challenge flags can)
+  phase_comes (phase.Asked bound place held) joiner next at rest left free can = (tt, tt)
+  phase_comes (phase.In on) joiner next at rest left free can = (tt, tt)
+  phase_comes (phase.Out bound status) joiner next at rest left free can = (tt, tt)
 
-  after_comes : (Free : Type 0) (Sent : List ℕ → ℕ → Type 0) (said : Option Talk) (next at : AtLink) (rest left : List (List ℕ)) → Free → CanBeReadAfter at.logons.plan said → AreEights rest →
-      Comes w Free Sent (challenge_after said w at left ++ flat_map (challenge_note w) (units_on next said rest (λ later_at talk more. served_units link_server units later_at talk more)))
-      (flat_map (message_note w) (units_on next said rest (λ later_at talk more. served_units link_server units later_at talk more)))
-      (then_talk next said rest (λ later_at talk more. served_by link_server units why later_at talk more))
-  after_comes Free Sent None next at rest left free can eights = (tt, tt)
-  after_comes Free Sent (Some talk) next at rest left free can eights = fresh_comes Free Sent talk.phase talk.joiner next at rest left free can eights
+  said_comes : (said : Option Talk) (next at : AtLink) (rest left : List (List ℕ)) → Free → CanBeReadAfter at.logons.plan said →
+      Comes w Free Sent (challenge_after said w at left) [] (comes_to next said rest)
+  said_comes None next at rest left free can = (tt, tt)
+  said_comes (Some talk) next at rest left free can = phase_comes talk.phase talk.joiner next at rest left free can
 
-  first_comes : (Free : Type 0) (Sent : List ℕ → ℕ → Type 0) (part : ServedPart AtLink Talk) (at : AtLink) (left : List (List ℕ)) → Free → CanBeReadPart at.logons.plan part →
-      AreEights (left_by part) →
-      Comes w Free Sent (challenge_after (talk_after part) w at left ++ flat_map (challenge_note w) (units_then part (λ next talk more. served_units link_server units next talk more)))
-      (flat_map (message_note w) (units_then part (λ next talk more. served_units link_server units next talk more)))
-      (then_open part (λ next talk more. served_by link_server units why next talk more))
-  first_comes Free Sent (Err refused) at left free can eights = (tt, tt)
-  first_comes Free Sent (Ok part) at left free can eights = after_comes Free Sent part.value.1 part.value.0 at part.left left free can eights
+  first_comes : (part : ServedPart AtLink Talk) (at : AtLink) (left : List (List ℕ)) → Free → CanBeReadPart at.logons.plan part →
+      Comes w Free Sent (challenge_after (talk_after part) w at left) [] part
+  first_comes (Err why) at left free can = (tt, tt)
+  first_comes (Ok part) at left free can = said_comes part.value.1 part.value.0 at part.left left free can
 
-  -- behind a unit where something was bound, of which that was taken
-  bound_comes : (Free : Type 0) (Sent : List ℕ → ℕ → Type 0) (front : List MessageTaken) (p : Phase) (bytes : List ℕ) (joiner : Option RpcUnit) (at : AtLink) (left : List (List ℕ)) →
-      AreTakenWith Sent front → AreEights left →
-      Comes w Free Sent
-      (flat_map (challenge_note w) (units_on (bound_unit p bytes joiner at).0 (bound_unit p bytes joiner at).1 left (λ next talk rest. served_units link_server units next talk rest)))
-      (front ++ flat_map (message_note w) (units_on (bound_unit p bytes joiner at).0 (bound_unit p bytes joiner at).1 left (λ next talk rest. served_units link_server units next talk rest)))
-      (then_talk (bound_unit p bytes joiner at).0 (bound_unit p bytes joiner at).1 left (λ next talk rest. served_by link_server units why next talk rest))
-  bound_comes Free Sent front p bytes joiner at left all eights =
-      let served : Served = bound_unit p bytes joiner at in
-      let rest : List (ServedUnit AtLink Talk) = units_on served.0 served.1 left (λ next talk more. served_units link_server units next talk more) in
-      taken_before w Free Sent front (flat_map (challenge_note w) rest) (flat_map (message_note w) rest)
-      (then_talk served.0 served.1 left (λ next talk more. served_by link_server units why next talk more)) all
-      (said_comes ⊥ Sent served.0 served.1 left (none_so (IsSoFar ⊥ Sent) served.1 (bound_serves p bytes joiner at)) eights)
-
-  unit_comes : (Free : Type 0) (Sent : List ℕ → ℕ → Type 0) (p : Phase) (bytes : List ℕ) (joiner : Option RpcUnit) (at : AtLink) (left : List (List ℕ)) →
-      IfUnserved (IsSoFar Free Sent p) p → AreEights left →
-      Comes w Free Sent
-      (flat_map (challenge_note w) (unit_at (is_fresh p) p bytes joiner at left
-      ∷ units_then (unit_by (is_fresh p) p bytes joiner at left) (λ next talk rest. served_units link_server units next talk rest)))
-      (flat_map (message_note w) (unit_at (is_fresh p) p bytes joiner at left
-      ∷ units_then (unit_by (is_fresh p) p bytes joiner at left) (λ next talk rest. served_units link_server units next talk rest)))
-      (then_open (unit_by (is_fresh p) p bytes joiner at left) (λ next talk rest. served_by link_server units why next talk rest))
-  unit_comes Free Sent phase.Fresh bytes joiner at left known eights =
+  fresh_comes : (sent : List ChallengeSent) (messages : List MessageTaken) (bytes : List ℕ) (joiner : Option RpcUnit) (at : AtLink) (left : List (List ℕ)) →
+      ComesSo sent messages (comes_to at (Some (record { joiner = joiner; phase = phase.Fresh })) left) →
+      ComesSo (sent ++ challenge_after (talk_after (first_unit (unit_of bytes) joiner at left)) w at left) (messages ++ []) (first_unit (unit_of bytes) joiner at left)
+  fresh_comes [] messages bytes joiner at left comes =
       let part : ServedPart AtLink Talk = first_unit (unit_of bytes) joiner at left in
-      first_comes Free Sent part at left known (first_reads (unit_of bytes) joiner at left eights) (eights_rest (left_by part) left (first_rest (unit_of bytes) joiner at left) eights)
-  unit_comes Free Sent (phase.Challenged bound challenge flags) bytes joiner at left known eights =
-      let served : Served = bound_unit (phase.Challenged bound challenge flags) bytes joiner at in
-      bound_comes Free Sent (message_after served.1 (Some served.0) w bytes) (phase.Challenged bound challenge flags) bytes joiner at left
-      (challenged_with Sent w bytes (unit_of bytes) bound challenge flags joiner at known refl) eights
-  unit_comes Free Sent (phase.Asked bound place held) bytes joiner at left known eights = bound_comes Free Sent [] (phase.Asked bound place held) bytes joiner at left tt eights
-  unit_comes Free Sent (phase.In on) bytes joiner at left known eights = bound_comes Free Sent [] (phase.In on) bytes joiner at left tt eights
-  unit_comes Free Sent (phase.Out bound status) bytes joiner at left known eights = bound_comes Free Sent [] (phase.Out bound status) bytes joiner at left tt eights
+      subst (λ (m : List MessageTaken). ComesSo (challenge_after (talk_after part) w at left) (m ++ []) part) (sym (comes.1 refl)) (
+        first_comes part at left comes.0.1 (first_reads (unit_of bytes) joiner at left comes.2),
+        part_none part,
+        eights_rest (left_by part) left (first_rest (unit_of bytes) joiner at left) comes.2,
+      )
+  fresh_comes (one ∷ []) messages bytes joiner at left comes = absurd comes.0.3
+  fresh_comes (one ∷ other ∷ more) messages bytes joiner at left comes = absurd comes.0
 
-units_come : (w : LinkAt) (units : List (List ℕ)) (why : Option UnitRefused) → LaterComes w units why
-units_come w [] None Free Sent at talk left known eights = (tt, known)
-units_come w [] (Some why) Free Sent at talk left known eights = (tt, tt)
-units_come w (bytes ∷ units) why Free Sent at talk left known eights = unit_comes w units why (units_come w units why) Free Sent talk.phase bytes talk.joiner at left known eights
+  -- a unit where something was bound, of which that was taken
+  taken_comes : (sent : List ChallengeSent) (messages own : List MessageTaken) (p : Phase) (bytes : List ℕ) (joiner : Option RpcUnit) (at : AtLink) (left : List (List ℕ)) →
+      ((More : Type 0) (Other : List ℕ → ℕ → Type 0) → IfUnserved (IsSoFar More Other p) p → AreTakenWith Other own) →
+      Comes w Free Sent sent messages (comes_to at (Some (record { joiner = joiner; phase = p })) left) →
+      Comes w Free Sent (sent ++ []) (messages ++ own) (unit_by false p bytes joiner at left)
+  taken_comes [] messages own p bytes joiner at left all comes = (
+    all_join (λ (one : MessageTaken). IsTakenWith Sent one.bytes one.logon) messages own comes.0 (all Free Sent comes.1),
+    none_so (IsSoFar Free Sent) (bound_unit p bytes joiner at).1 (bound_serves p bytes joiner at),
+  )
+  taken_comes (one ∷ []) messages own p bytes joiner at left all comes = (
+    comes.0,
+    comes.1,
+    all_join (λ (taken : MessageTaken). IsTakenWith (ReadOf one) taken.bytes taken.logon) messages own comes.2 (all ⊥ (ReadOf one) comes.3),
+    none_so (IsSoFar ⊥ (ReadOf one)) (bound_unit p bytes joiner at).1 (bound_serves p bytes joiner at),
+  )
+  taken_comes (one ∷ other ∷ more) messages own p bytes joiner at left all comes = absurd comes
+
+  bound_comes : (sent : List ChallengeSent) (messages own : List MessageTaken) (p : Phase) (bytes : List ℕ) (joiner : Option RpcUnit) (at : AtLink) (left : List (List ℕ)) →
+      ((More : Type 0) (Other : List ℕ → ℕ → Type 0) → IfUnserved (IsSoFar More Other p) p → AreTakenWith Other own) →
+      ComesSo sent messages (comes_to at (Some (record { joiner = joiner; phase = p })) left) → ComesSo (sent ++ []) (messages ++ own) (unit_by false p bytes joiner at left)
+  bound_comes sent messages own p bytes joiner at left all comes =
+      (taken_comes sent messages own p bytes joiner at left all comes.0, served_none (messages ++ own) (bound_unit p bytes joiner at).1 (bound_serves p bytes joiner at), comes.2)
+
+  unit_comes : (sent : List ChallengeSent) (messages : List MessageTaken) (p : Phase) (bytes : List ℕ) (joiner : Option RpcUnit) (at : AtLink) (left : List (List ℕ)) →
+      ComesSo sent messages (comes_to at (Some (record { joiner = joiner; phase = p })) left) →
+      ComesSo (sent ++ challenge_note w (unit_at (is_fresh p) p bytes joiner at left)) (messages ++ message_note w (unit_at (is_fresh p) p bytes joiner at left))
+      (unit_by (is_fresh p) p bytes joiner at left)
+  unit_comes sent messages phase.Fresh bytes joiner at left comes = fresh_comes sent messages bytes joiner at left comes
+  unit_comes sent messages (phase.Challenged bound challenge flags) bytes joiner at left comes =
+      let served : Served = bound_unit (phase.Challenged bound challenge flags) bytes joiner at in
+      bound_comes sent messages (message_after served.1 (Some served.0) w bytes) (phase.Challenged bound challenge flags) bytes joiner at left
+      (λ More Other known. challenged_with Other w bytes (unit_of bytes) bound challenge flags joiner at known refl) comes
+  unit_comes sent messages (phase.Asked bound place held) bytes joiner at left comes = bound_comes sent messages [] (phase.Asked bound place held) bytes joiner at left (λ More Other known. tt) comes
+  unit_comes sent messages (phase.In on) bytes joiner at left comes = bound_comes sent messages [] (phase.In on) bytes joiner at left (λ More Other known. tt) comes
+  unit_comes sent messages (phase.Out bound status) bytes joiner at left comes = bound_comes sent messages [] (phase.Out bound status) bytes joiner at left (λ More Other known. tt) comes
+
+  shut_comes : (sent : List ChallengeSent) (messages : List MessageTaken) (at after : AtLink) (talk : Talk) (left : List (List ℕ)) → Comes w Free Sent sent messages (comes_to at (Some talk) left) →
+      Comes w Free Sent sent messages (comes_to after None left)
+  shut_comes [] messages at after talk left comes = (comes.0, tt)
+  shut_comes (one ∷ []) messages at after talk left comes = (comes.0, comes.1, comes.2, tt)
+  shut_comes (one ∷ other ∷ more) messages at after talk left comes = absurd comes
+
+  comes_stay : StaysBeside link_server (λ done part. ComesSo (flat_map (challenge_note w) done) (flat_map (message_note w) done) part)
+  comes_stay = record {
+    unit = λ done bytes at talk left comes.
+        let one : ServedUnit AtLink Talk = unit_served link_server bytes at talk left in
+        let part : ServedPart AtLink Talk = link_server.unit bytes at talk left in
+        subst (λ (sent : List ChallengeSent). ComesSo sent (flat_map (message_note w) (done ++ one ∷ [])) part) (flat_map_more (challenge_note w) [] done one)
+        (subst (λ (messages : List MessageTaken). ComesSo (flat_map (challenge_note w) done ++ challenge_note w one) messages part) (flat_map_more (message_note w) [] done one)
+        (unit_comes (flat_map (challenge_note w) done) (flat_map (message_note w) done) talk.phase bytes talk.joiner at left comes));
+    refusal = λ done why at talk left comes.
+        (shut_comes (flat_map (challenge_note w) done) (flat_map (message_note w) done) at _ talk left comes.0, tt, comes.2);
+  }
+
+  units_come : (cut : Cut) (at : AtLink) (talk : Talk) (left : List (List ℕ)) → IfUnserved (IsSoFar Free Sent talk.phase) talk.phase → AreEights left →
+      Comes w Free Sent (flat_map (challenge_note w) (served_units link_server cut.units at talk left)) (flat_map (message_note w) (served_units link_server cut.units at talk left))
+      (served_cut link_server cut at talk left)
+  units_come cut at talk left known eights =
+      (served_beside link_server (λ done part. ComesSo (flat_map (challenge_note w) done) (flat_map (message_note w) done) part) comes_stay cut at talk left
+      ((tt, known), λ fresh. refl, eights)).0
 
 -- ---- bytes
 
@@ -257,9 +261,9 @@ module _ (w : LinkAt) (Free : ℕ → Type 0) (Sent : ℕ → List ℕ → ℕ �
       let cut : Cut = cut_stream (link.rest ++ piece) in
       let at : AtLink = at_link w.link (work_of running) in
       let units : List (ServedUnit AtLink Talk) = served_units link_server cut.units at link.talk left in
-      alone_come (flat_map (challenge_note w) units) (flat_map (message_note w) units) (served_by link_server cut.units cut.refused at link.talk left) cut.rest how
+      alone_come (flat_map (challenge_note w) units) (flat_map (message_note w) units) (served_cut link_server cut at link.talk left) cut.rest how
       (without_link w.link (work_of running))
-      (units_come w cut.units cut.refused (Free w.link) (Sent w.link) at link.talk left (found_known (KnownAt Free Sent) w.link running.links link there all) eights)
+      (units_come w (Free w.link) (Sent w.link) cut at link.talk left (found_known (KnownAt Free Sent) w.link running.links link there all) eights)
       (taken_known (KnownAt Free Sent) w.link running.links all)
 
   dial_work_comes : (running : Running) (how : Dialling) → Unserved (KnownAt Free Sent) running.links →

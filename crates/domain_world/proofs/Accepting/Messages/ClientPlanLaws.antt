@@ -1,6 +1,6 @@
 -- A client goes by one plan through its steps, and what it makes is the answer of that plan.
 -- It serves `messages_are_made`.
-use Rattle.std.proofs.Common.{◌≡◌, ◌==◌, ℕ, Bool, true, false, List, [], ◌∷◌, ◌++◌, Option, Some, None, Result, Ok, Err, refl, sym, subst, ◌∙◌}
+use Rattle.std.proofs.Common.{◌≡◌, ◌==◌, ℕ, Bool, true, false, List, ◌++◌, Option, Some, None, Result, Ok, Err, refl, sym, subst, ◌∙◌}
 use Rattle.std.specs.Prelude.{flat_map}
 use Rattle.outside.specs.Machine.{Part, left_by, step_by, then_part}
 use Rattle.outside.specs.declared.action.Action.{Action}
@@ -8,10 +8,10 @@ use Rattle.outside.specs.declared.action.StepRefused.{StepRefused}
 use Rattle.outside.specs.declared.event.Event.{Event}
 use Rattle.outside.specs.declared.event.Event.TheVariants as event
 use Rattle.ntlm_flags.specs.Flags.{has_flag, negotiate_key_exch}
-use Rattle.rpc_units.specs.declared.refused.UnitRefused.{UnitRefused}
 use Rattle.rpc_units.specs.Stream.{Cut, cut_stream}
 use Rattle.end_links.specs.Links.{LinkState}
-use Rattle.end_links.specs.Serving.{ServedPart, served_by, then_open, then_talk, ServedUnit, served_units, units_on, units_then}
+use Rattle.end_links.specs.Serving.{ServedPart, served_cut, ServedUnit, served_units}
+use Rattle.end_links.proofs.KeepLaws.{StaysServing, served_stays}
 use Rattle.logon_client.specs.Answering.{answer_of, auth3_of, drawn_for}
 use Rattle.logon_client.specs.Leaving.{client_leaves}
 use Rattle.logon_client.specs.Machine.{actions_after, after_stream, answers, answers_by, answers_part, by_close, by_event, by_piece, client_server, halted, hear, serve_heard, state_after, step_by_outcome, step_by_running, step_of, terms_of, work_of}
@@ -34,10 +34,11 @@ use Rattle.step_notes.specs.ClientNotes.{ClientAt, made_note, units_by, units_if
 use Rattle.step_notes.specs.MemberNotes.{message_in}
 use Rattle.step_notes.specs.Records.{MessageMade}
 use Rattle.step_notes.specs.Served.{units_if_taken}
+use Rattle.step_notes.proofs.ServedLaws.{served_such}
 use Rattle.domain_world.specs.Accepting.KeysMade.{IsMadeFrom}
 use Rattle.domain_world.proofs.Accepting.Messages.ClientOfferLaws.{AreMadeFrom, HasNames, HeardOf, asks_of, heard_of, made_from}
 use Rattle.domain_world.proofs.Frames.LeftLaws.{AreEights, eights_rest}
-use Rattle.domain_world.proofs.Frames.AllLaws.{all_join}
+use Rattle.domain_world.proofs.Frames.AllLaws.{all_lists}
 
 -- ---- the plan is kept
 
@@ -68,50 +69,27 @@ served_goes bytes plan work talk left is =
 
 -- ---- the units of a stream
 
-abbrev pub LaterGo : ClientPlan → List (List ℕ) → Option UnitRefused → Type 0
-LaterGo plan units why = (work : Work) (talk : Talk) (left : List (List ℕ)) → work.task ≡ plan → GoesBy plan (served_by client_server units why work talk left)
+goes_stay : (plan : ClientPlan) → StaysServing client_server (GoesBy plan)
+goes_stay plan = record {
+  spent = λ why. tt;
+  unit = λ bytes work talk left is. served_goes bytes plan work talk left is;
+  refusal = λ why work talk left is. is;
+}
 
-module _ (plan : ClientPlan) (units : List (List ℕ)) (why : Option UnitRefused) (later : LaterGo plan units why) where
-  said_goes : (work : Work) (said : Option Talk) (left : List (List ℕ)) → work.task ≡ plan →
-      GoesBy plan (then_talk work said left (λ next talk rest. served_by client_server units why next talk rest))
-  said_goes work None left is = is
-  said_goes work (Some talk) left is = later work talk left is
-
-  part_goes : (part : ServedPart Work Talk) → GoesBy plan part → GoesBy plan (then_open part (λ next talk rest. served_by client_server units why next talk rest))
-  part_goes (Err refused) goes = tt
-  part_goes (Ok part) goes = said_goes part.value.0 part.value.1 part.left goes
-
-units_go : (plan : ClientPlan) (units : List (List ℕ)) (why : Option UnitRefused) → LaterGo plan units why
-units_go plan [] None work talk left is = is
-units_go plan [] (Some why) work talk left is = is
-units_go plan (bytes ∷ units) why work talk left is = part_goes plan units why (units_go plan units why) (client_server.unit bytes work talk left) (served_goes bytes plan work talk left is)
-
-abbrev pub LaterMade : ClientAt → ClientPlan → List (List ℕ) → Type 0
-LaterMade w plan units = (work : Work) (talk : Talk) (left : List (List ℕ)) → work.task ≡ plan → AreEights left →
+units_made : (w : ClientAt) (plan : ClientPlan) → HasNames plan → (units : List (List ℕ)) (work : Work) (talk : Talk) (left : List (List ℕ)) → work.task ≡ plan → AreEights left →
     AreMadeFrom (flat_map (made_note w) (served_units client_server units work talk left))
-
-module _ (w : ClientAt) (plan : ClientPlan) (units : List (List ℕ)) (later : LaterMade w plan units) where
-  said_made : (work : Work) (said : Option Talk) (left : List (List ℕ)) → work.task ≡ plan → AreEights left →
-      AreMadeFrom (flat_map (made_note w) (units_on work said left (λ next talk rest. served_units client_server units next talk rest)))
-  said_made work None left is eights = tt
-  said_made work (Some talk) left is eights = later work talk left is eights
-
-  part_made : (part : ServedPart Work Talk) → GoesBy plan part → AreEights (left_by part) →
-      AreMadeFrom (flat_map (made_note w) (units_then part (λ next talk rest. served_units client_server units next talk rest)))
-  part_made (Err refused) goes eights = tt
-  part_made (Ok part) goes eights = said_made part.value.0 part.value.1 part.left goes eights
-
-units_made : (w : ClientAt) (plan : ClientPlan) → HasNames plan → (units : List (List ℕ)) → LaterMade w plan units
-units_made w plan names [] work talk left is eights = tt
-units_made w plan names (bytes ∷ units) work talk left is eights =
-    let part : ServedPart Work Talk = client_server.unit bytes work talk left in
-    all_join (λ (one : MessageMade). IsMadeFrom one)
-    (made_note w (record { bytes = bytes; work = work; talk = talk; left = left; part = part }))
-    (flat_map (made_note w) (units_then part (λ next said rest. served_units client_server units next said rest)))
-    (made_from (hear bytes talk work) plan (message_in bytes) left w
-    (subst (λ (p : ClientPlan). HeardOf p (message_in bytes) (hear bytes talk work)) is (heard_of bytes talk work)) names eights)
-    (part_made w plan units (units_made w plan names units) part (served_goes bytes plan work talk left is)
-    (eights_rest (left_by part) left (client_leaves.unit bytes work talk left) eights))
+units_made w plan names units work talk left is eights =
+    all_lists (λ (one : MessageMade). IsMadeFrom one) (made_note w) (served_units client_server units work talk left)
+    (served_such client_server (λ part. GoesBy plan part × AreEights (left_by part)) (λ (served : ServedUnit Work Talk). AreMadeFrom (made_note w served))
+    (λ bytes work talk left known. (
+      made_from (hear bytes talk work) plan (message_in bytes) left w
+          (subst (λ (p : ClientPlan). HeardOf p (message_in bytes) (hear bytes talk work)) known.0 (heard_of bytes talk work)) names known.1,
+      (
+        served_goes bytes plan work talk left known.0,
+        eights_rest (left_by (client_server.unit bytes work talk left)) left (client_leaves.unit bytes work talk left) known.1,
+      ),
+    ))
+    units work talk left (is, eights))
 
 -- ---- a step
 
@@ -127,7 +105,8 @@ piece_goes : (own : Bool) (piece : List ℕ) (link : LinkState Talk) (plan : Cli
 piece_goes false piece link plan now left = refl
 piece_goes true piece link plan now left =
     let cut : Cut = cut_stream (link.rest ++ piece) in
-    stream_goes plan cut.rest (served_by client_server cut.units cut.refused (work_of plan now) link.talk left) (units_go plan cut.units cut.refused (work_of plan now) link.talk left refl)
+    stream_goes plan cut.rest (served_cut client_server cut (work_of plan now) link.talk left)
+    (served_stays client_server (GoesBy plan) (goes_stay plan) cut (work_of plan now) link.talk left refl)
 
 close_goes : (own : Bool) (link : LinkState Talk) (plan : ClientPlan) (now : ℕ) (left : List (List ℕ)) → GoesAfter plan (by_close own link (work_of plan now) left)
 close_goes false link plan now left = refl

@@ -32,7 +32,7 @@ use Rattle.domain_world.specs.Accepting.KeysMade.{IsMadeFrom, MessagesAreMade}
 use Rattle.domain_world.specs.Past.{Coming, controller_of, note_at, note_client, note_controller, note_member, note_messages, numbers_on, past}
 use Rattle.domain_world.proofs.Accepting.Messages.ClientOfferLaws.{AreMadeFrom, HasNames}
 use Rattle.domain_world.proofs.Accepting.Messages.ClientPlanLaws.{NamesIn, client_made, names_stay}
-use Rattle.domain_world.proofs.Accepting.PlacedLaws.{all_at}
+use Rattle.domain_world.proofs.Accepting.ListPlaceLaws.{all_at}
 use Rattle.domain_world.proofs.Challenges.MessageOnceLaws.{each_put}
 use Rattle.domain_world.proofs.Frames.FrameLaws.{HoldsAfter, HoldsByPlans, PlannedFact, StaysByPlans, StaysWrittenByPlans, run_stays_by_plans}
 use Rattle.domain_world.proofs.Frames.LeftLaws.{AreEights, client_left, controller_left, first_eights, member_left}

@@ -40,7 +40,7 @@ use Rattle.domain_world.specs.Past.{Coming, Past, at_member, change_if, change_m
 use Rattle.channel_events.proofs.ListLaws.{got_behind}
 use Rattle.domain_world.proofs.Accepting.Messages.ChallengeLinkLaws.{BytesCome, KnownAfter, KnownAt, ReadOf, bytes_come, so_far}
 use Rattle.domain_world.proofs.Accepting.Messages.ChallengeReadLaws.{AreTakenWith, IsTakenWith}
-use Rattle.domain_world.proofs.Accepting.PlacedLaws.{all_at, all_by_place, apart_same, placed}
+use Rattle.domain_world.proofs.Accepting.ListPlaceLaws.{all_at, all_by_place, apart_same, placed}
 use Rattle.domain_world.proofs.Challenges.MessageOnceLaws.{each_put, fresh_links, member_is, quiet_opens, route_is}
 use Rattle.domain_world.proofs.Challenges.OwnLinkLaws.{IsLinkIn, IsTakenIn, all_so, all_taken, link_more, one_behind, one_earlier}
 use Rattle.domain_world.proofs.Frames.FrameLaws.{Fact, HoldsAfter, HoldsIn, Stays, StaysWritten, run_stays}
