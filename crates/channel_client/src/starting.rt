@@ -49,10 +49,12 @@ pub(crate) fn begin_with(
     ensures unchanged { OnErr result (standing.new ≡ standing.old) }
     ensures writable { IfOk result (λ call. CanWriteCall call) }
 {
-    match standing {
-        Standing::Nothing => challenge_call(alloc, caller, challenge),
+    if let Standing::Open(channel) = standing {
+        return logon_call(alloc, caller, channel, timestamp, info);
+    }
+    match &*standing {
         Standing::Half { client, server } => auth_call(alloc, caller, *client, *server),
-        Standing::Open(channel) => logon_call(alloc, caller, channel, timestamp, info),
+        Standing::Nothing | Standing::Open(_) => challenge_call(alloc, caller, challenge),
     }
 }
 

@@ -22,7 +22,7 @@ use Rattle.channel_events.specs.Marks.{Calling, ReplyTo}
 use Rattle.step_notes.specs.ControllerNotes.{channel_by, channel_in, has_passed}
 use Rattle.step_notes.specs.Judged.{channel_if}
 use Rattle.step_notes.specs.Marking.{clashes, is_channel}
-use Rattle.step_notes.specs.Records.{Judging, timestamp_in}
+use Rattle.step_notes.specs.Records.{Judging, computer_in, given_in, timestamp_in}
 use Rattle.world_moves.specs.declared.links.Route.TheVariants.{ToMember}
 use Rattle.world_moves.specs.declared.moves.Move.{Move}
 use Rattle.world_moves.specs.declared.plan.Plan.{Plan}
@@ -32,7 +32,7 @@ use Rattle.world_moves.specs.World.{first_world}
 use Rattle.domain_world.specs.Claims.{IsAccepted, PassesTheNextCredential, Wraps, moved_if, moved_on, passed_on, judged_timestamp}
 use Rattle.domain_world.specs.Headline.{IsClaimed, Proved}
 use Rattle.domain_world.specs.Past.{past}
-use Rattle.claim_examples.specs.ClaimExamples.{OfAll, OfClashes, OfCredentials, OfReplays, OfTakenAnswers, OfWraps, call_with, elsewhere, judged_as, judged_once, last_timestamp, message, next_call, no_computers, on_channel, passed_in, second_timestamp, seed_after_one, small_challenge, small_channel, small_computers, small_name, small_seed, taken_in, third_timestamp, told_as, whole_book, whole_call, whole_run}
+use Rattle.claim_examples.specs.ClaimExamples.{OfAll, OfClashes, OfCredentials, OfReplays, OfTakenAnswers, OfWraps, elsewhere, judged_as, judged_once, last_timestamp, message, next_call, no_computers, on_channel, passed_in, second_timestamp, seed_after_one, small_challenge, small_channel, small_computers, small_name, small_seed, taken_in, third_timestamp, told_as, whole_book, whole_call, whole_run}
 use Rattle.claim_examples.specs.TellApart.{ClaimsTellApart}
 use Rattle.step_notes.proofs.Controllers.JudgedStepLaws.{next_unbarred, right_passed}
 use Rattle.claim_examples.proofs.CompletenessLaws.{of_completeness, of_success}
@@ -147,7 +147,7 @@ of_computer controller (Some computer) computers channel is = of_state controlle
 
 of_call : (passes : Bool) (j : Judging) (channel : ChannelIdentity) → is_channel (channel_if passes j) channel ≡ true → j.controller ≡ channel.controller
 of_call false j channel is = absurd cc
-of_call true j channel is = of_computer j.controller j.logon.computer j.computers channel is
+of_call true j channel is = of_computer j.controller (computer_in j.asked) j.computers channel is
 
 pub its_controller : (channel : ChannelIdentity) (j : Judging) → passed_on channel j ≡ true → j.controller ≡ channel.controller
 its_controller channel j is = of_call (has_passed j.how) j channel is
@@ -216,7 +216,7 @@ of_clashes = record {
 of_answers : OfTakenAnswers
 of_answers = record { meets = refl; other_link = refl; other_reply = refl; other_call = refl; barred = refl }
 
-stamps_apart : (second first j other : Judging) → second ≡ j → first ≡ other → second.logon.authenticator ≡ first.logon.authenticator → judged_timestamp j ≡ judged_timestamp other
+stamps_apart : (second first j other : Judging) → second ≡ j → first ≡ other → given_in second.asked ≡ given_in first.asked → judged_timestamp j ≡ judged_timestamp other
 stamps_apart second first j other is also same = sym (ap judged_timestamp is) ∙ ap timestamp_in same ∙ ap judged_timestamp also
 
 of_replays : OfReplays
@@ -254,7 +254,7 @@ of_replays = record {
 pub no_channel : (computer : List ℕ) (channel : SecureChannelState) → lookup same_name computer no_computers.channels ≡ Some channel → ⊥
 no_channel computer channel is = absurd cc
 
-pub next_at : (seed : List ℕ) → IsNext (small_computers seed) (call_with (authenticator_of (key_of_channel (small_channel seed)) seed 0))
+pub next_at : (seed : List ℕ) → IsNext (small_computers seed) (Some (codes "FILE1")) (Some (authenticator_of (key_of_channel (small_channel seed)) seed 0))
 next_at seed = record {
   computer = codes "FILE1";
   given = authenticator_of (key_of_channel (small_channel seed)) seed 0;
@@ -265,7 +265,7 @@ next_at seed = record {
   passes = refl;
 }
 
-next_small : IsNext (small_computers []) next_call.logon
+next_small : IsNext (small_computers []) (computer_in next_call.asked) (given_in next_call.asked)
 next_small = next_at []
 
 passed_next : PassesTheNextCredential (judged_once next_call (told_as (judged.Passed 0) ∷ []))
@@ -274,7 +274,7 @@ passed_next = (
     at = refl;
     controller = refl;
     how = refl;
-    right = right_passed 0 (small_computers []) next_call.logon next_small (next_unbarred (small_computers []) next_call.logon next_small);
+    right = right_passed 0 (small_computers []) (computer_in next_call.asked) (given_in next_call.asked) next_small (next_unbarred (small_computers []) (computer_in next_call.asked) (given_in next_call.asked) next_small);
   },
   tt,
 )
@@ -321,7 +321,7 @@ accepted_whole = record {
   unused = inl (record { link = refl; challenge = refl; drawn = refl; only = only_draw small_challenge; first = refl });
 }
 
-next_whole : IsNext (small_computers small_seed) whole_call.logon
+next_whole : IsNext (small_computers small_seed) (computer_in whole_call.asked) (given_in whole_call.asked)
 next_whole = next_at small_seed
 
 of_all : OfAll
@@ -337,7 +337,7 @@ of_all = record {
         at = refl;
         controller = refl;
         how = refl;
-        right = right_passed 0 (small_computers small_seed) whole_call.logon next_whole (next_unbarred (small_computers small_seed) whole_call.logon next_whole);
+        right = right_passed 0 (small_computers small_seed) (computer_in whole_call.asked) (given_in whole_call.asked) next_whole (next_unbarred (small_computers small_seed) (computer_in whole_call.asked) (given_in whole_call.asked) next_whole);
       },
       tt,
     );

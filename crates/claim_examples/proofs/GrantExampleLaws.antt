@@ -45,7 +45,7 @@ use Rattle.domain_controller.specs.Machine.{Desk, answer_logon, judge_info}
 use Rattle.domain_controller.specs.declared.line.Line.{Line}
 use Rattle.step_notes.specs.ControllerNotes.{Where, judging_of}
 use Rattle.step_notes.specs.GrantSends.{IsSentAsGranted, actions_granting, reply_granted}
-use Rattle.step_notes.specs.Records.{Judging}
+use Rattle.step_notes.specs.Records.{Judging, computer_in, given_in, network_in}
 use Rattle.domain_world.specs.Claims.{info_asked}
 use Rattle.domain_world.specs.Claims.Counts.{RaisesCount}
 use Rattle.domain_world.specs.Claims.Grants.{IsToBeGranted}
@@ -101,16 +101,8 @@ unfolding place_in same_name names.upper_of units_of
 verifies_counted count = granted_small.verifies
 
 -- at level 2 it is the next one too
-next_two : IsNext next_call.computers (at_level 2).logon
-next_two = record {
-  computer = (next_at []).computer;
-  given = (next_at []).given;
-  channel = (next_at []).channel;
-  named = (next_at []).named;
-  there = (next_at []).there;
-  stands = (next_at []).stands;
-  passes = (next_at []).passes;
-}
+next_two : IsNext next_call.computers (computer_in (at_level 2).asked) (given_in (at_level 2).asked)
+next_two = next_at []
 
 of_grants : OfGrants
 of_grants = record {
@@ -263,7 +255,7 @@ abbrev key_in_reply : Result Reply StubRefused → List ℕ
 key_in_reply (Ok (reply.Logon value)) = key_if value.info
 key_in_reply _ = []
 
-account_small : account_in small_table.accounts next_call.logon.info.user ≡ Some small_account
+account_small : account_in small_table.accounts (network_in next_call.asked).info.user ≡ Some small_account
 unfolding place_in same_name names.upper_of units_of
 account_small = refl
 
@@ -324,7 +316,7 @@ raised = record {
 }
 
 locked_at : (place : ℕ) (before after : Account) → slice_get locked_call.table.accounts place ≡ Some before →
-    slice_get (judge_info locked_call.table locked_call.name locked_call.moment locked_call.logon.info locked_call.logon.validation).table.accounts place ≡ Some after →
+    slice_get (judge_info locked_call.table locked_call.name locked_call.moment (network_in locked_call.asked).info (network_in locked_call.asked).validation).table.accounts place ≡ Some after →
     before.bad_count < after.bad_count → ⊥
 unfolding judgement_of table_after route_in place_in same_name names.upper_of units_of
 locked_at zero before after was is grew =

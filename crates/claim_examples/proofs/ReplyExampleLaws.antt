@@ -16,7 +16,7 @@ use Rattle.domain_controller.specs.Laws.{IsNext}
 use Rattle.domain_controller.specs.Machine.{status_of}
 use Rattle.channel_events.specs.Marks.{Mark, Plain, ReplyTo}
 use Rattle.step_notes.specs.ControllerNotes.{channel_by}
-use Rattle.step_notes.specs.Records.{Judging, Sent}
+use Rattle.step_notes.specs.Records.{Judging, Sent, computer_in, given_in, network_in}
 use Rattle.step_notes.specs.ReplySends.{IsReplyOfCall, verdict_passed}
 use Rattle.world_moves.specs.declared.bag.BagUnit.{BagUnit}
 use Rattle.domain_world.specs.Claims.Replies.{IsReplyOfOne, RepliesCarryTheirJudgement}
@@ -64,7 +64,7 @@ the_reply bytes channel call request j claim = elim (claim 0 _ (sent_at 6 (Reply
 passed_small : channel_by 0 (codes "FILE1") (lookup same_name (codes "FILE1") (small_computers []).channels) ≡ Some small_name
 passed_small = ap (channel_by 0 (codes "FILE1")) (kept_small [])
 
-next_small : IsNext (small_computers []) next_call.logon
+next_small : IsNext (small_computers []) (computer_in next_call.asked) (given_in next_call.asked)
 next_small = record {
   computer = codes "FILE1";
   given = authenticator_of (key_of_channel (small_channel [])) [] 0;
@@ -77,7 +77,7 @@ next_small = record {
 
 status_small : status_of (verdict_passed next_call) ≡ 0
 status_small =
-    granted_status small_table next_call.name next_call.moment next_call.logon.info next_call.logon.validation (inr refl) (may_small next_call.moment) granted_small.verifies
+    granted_status small_table next_call.name next_call.moment (network_in next_call.asked).info (network_in next_call.asked).validation (inr refl) (may_small next_call.moment) granted_small.verifies
 
 other_controller : (one other : ChannelIdentity) → one.controller ≡ 0 → other.controller ≡ 1 → one ≡ other → ⊥
 other_controller one other is also same = absurd (let never : 0 ≡ 1 = sym is ∙ ap ChannelIdentity.controller same ∙ also in cc)

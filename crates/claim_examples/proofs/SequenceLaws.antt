@@ -4,7 +4,6 @@ use Rattle.std.proofs.Common.{◌≡◌, ◌≢◌, ℕ, zero, suc, true, false,
 use Rattle.std.specs.Prelude.{◌%◌, ◌^◌, AllPairs, codes, ◌⊎◌}
 use Rattle.wire_base.specs.Maps.{lookup}
 use Rattle.wire_base.specs.Names.{same_name}
-use Rattle.wire_base.specs.Names as names
 use Rattle.authenticators.specs.Channels.{ChannelIdentity, SameChannel}
 use Rattle.authenticators.specs.Sequences.{moved_by}
 use Rattle.authenticators.proofs.SeedLaws.{IsBlock-add_to, add_to-same}
@@ -12,7 +11,6 @@ use Rattle.channel_keys.proofs.CredLaws.{IsBlock-cred_of}
 use Rattle.authenticators.specs.SecureChannels.{channel_of, SecureChannelState}
 use Rattle.channel_client.specs.Effects.{View}
 use Rattle.channel_client.specs.declared.state.Standing.{Standing}
-use Rattle.channel_client.specs.declared.state.Standing.TheVariants as standing
 use Rattle.channel_client.specs.declared.state.Pending.{Pending}
 use Rattle.member_server.specs.State.{State as MemberState}
 use Rattle.member_server.specs.declared.state.Running.{Running as MemberRunning}
@@ -22,12 +20,15 @@ use Rattle.channel_events.specs.Marks.{Calling, Mark, Opened, Opening, ReplyTo}
 use Rattle.channel_events.specs.Requests.{Holds}
 use Rattle.channel_events.specs.Seeds.{channel_seed}
 use Rattle.channel_events.specs.Sound.{Accepted, Sound, passed_units}
-use Rattle.step_notes.specs.Records.{Book, blank}
+use Rattle.step_notes.specs.Records.{Book, blank, OfMember}
 use Rattle.domain_world.specs.Claims.SharedSequences.{IsBeforeTurn, Keeps, SequencesAreShared, Stands, any_foreign, timestamps_on}
 use Rattle.domain_world.specs.Past.{controller_of}
 use Rattle.claim_examples.specs.ClaimExamples.{OfInStep, OfSequences, OfSoundness, keeping_controller, keeping_running, one_call, one_turn, small_channel, open_member, open_running, passed_from, run_open, seed_after_one, seed_after_two, small_computers, small_name, small_seed, small_turn, small_view, small_views, turn_out, two_turns, whole_history, whole_view, world_open}
 use Rattle.channel_events.proofs.ListLaws.{got_nothing, moved_none}
 use Rattle.channel_events.proofs.SameLaws.{same_self}
+use Rattle.domain_world.proofs.Frames.RequesterLaws.{StandsAtMember, stands_at}
+use Rattle.wire_base.specs.Names as names
+use Rattle.channel_client.specs.declared.state.Standing.TheVariants as standing
 
 pub one_apart : {T : Type 0} (R : T → T → Type 0) (x : T) → AllPairs R (x ∷ [])
 one_apart R x i j d before within = absurd (omega arith)
@@ -47,9 +48,10 @@ one_member turn seed other zero state at = (refl, cc)
 one_member turn seed other (suc member) state at = absurd cc
 
 -- the channel that stands at the member is this one
-the_channel : (turn : Option Pending) (seed other : List ℕ) (member : ℕ) (channel : ChannelIdentity) (o : SecureChannelState) → (stands : Stands (world_open turn seed other).state member channel o) →
-    (member ≡ 0) × (channel ≡ small_name) × (o.seed ≡ seed) × (stands.turn ≡ turn)
-the_channel turn seed other member channel o stands =
+the_channel : (turn : Option Pending) (seed other : List ℕ) (member : ℕ) (channel : ChannelIdentity) (o : SecureChannelState) → (its : Stands (world_open turn seed other).state (OfMember member) channel o) →
+    (member ≡ 0) × (channel ≡ small_name) × (o.seed ≡ seed) × (its.turn ≡ turn)
+the_channel turn seed other member channel o its =
+    let stands : StandsAtMember (world_open turn seed other).state member channel o its.turn = stands_at (world_open turn seed other).state member channel o its in
     let one = one_member turn seed other member stands.state stands.at in
     let runs : Some (open_running turn seed) ≡ Some stands.running = ap MemberState.running one.1 ∙ stands.runs in
     let running : open_running turn seed ≡ stands.running = cc in
@@ -77,9 +79,9 @@ the_kept turn seed other channel c is keeps =
     let one : small_channel other ≡ c = cc in
     ap SecureChannelState.seed (sym one)
 
-abbrev pub stands_small : (turn : Option Pending) (seed other : List ℕ) → Stands (world_open turn seed other).state 0 small_name (small_channel seed)
+abbrev pub stands_small : (turn : Option Pending) (seed other : List ℕ) → Stands (world_open turn seed other).state (OfMember 0) small_name (small_channel seed)
 stands_small turn seed other =
-    record { state = open_member turn seed; running = open_running turn seed; at = refl; runs = refl; open_so = refl; is = refl; turn = turn; is_turn = refl }
+    record { requester = (open_running turn seed).logons.channel; at = refl; open_so = refl; is = refl; turn = turn; is_turn = refl }
 
 keeps_small : (turn : Option Pending) (seed other : List ℕ) → Keeps (world_open turn seed other).state 0 (codes "FILE1") (small_channel other)
 keeps_small turn seed other = record { state = keeping_controller other; running = keeping_running other; at = refl; runs = refl; kept = kept_small other }
@@ -88,16 +90,16 @@ pub same_small : SameChannel small_name small_name
 same_small = same_self small_name
 
 -- a run shares its sequence where its one channel does
-pub shares_by : (book : Book) (turn : Option Pending) (seed other timestamps : List ℕ) → timestamps_on 0 small_name book.turns ≡ timestamps → seed ≡ channel_seed small_name timestamps →
+pub shares_by : (book : Book) (turn : Option Pending) (seed other timestamps : List ℕ) → timestamps_on (OfMember 0) small_name book.turns ≡ timestamps → seed ≡ channel_seed small_name timestamps →
     (any_foreign small_name book.judged ≡ false → (other ≡ seed) ⊎ IsBeforeTurn turn other small_name timestamps) → SequencesAreShared (run_open book turn seed other)
-shares_by book turn seed other timestamps are own each member = record {
+shares_by book turn seed other timestamps are own each (OfMember member) = record {
   own = λ channel o stands.
       let it = the_channel turn seed other member channel o stands in
       it.2
       ∙ own
       ∙ ap (λ (all : List ℕ). channel_seed small_name all) (sym are)
-      ∙ ap (λ (one : ChannelIdentity). channel_seed one (timestamps_on 0 one book.turns)) (sym it.1)
-      ∙ ap (λ (m : ℕ). channel_seed channel (timestamps_on m channel book.turns)) (sym it.0);
+      ∙ ap (λ (one : ChannelIdentity). channel_seed one (timestamps_on (OfMember 0) one book.turns)) (sym it.1)
+      ∙ ap (λ (m : ℕ). channel_seed channel (timestamps_on (OfMember m) channel book.turns)) (sym it.0);
   other = λ channel o c stands keeps same none.
       let it = the_channel turn seed other member channel o stands in
       let kept : c.seed ≡ other = the_kept turn seed other channel c it.1 keeps in
@@ -108,7 +110,7 @@ shares_by book turn seed other timestamps are own each member = record {
           is_out = it.3 ∙ before.is_out;
           earlier = before.earlier;
           last = before.last;
-          all = ap (λ (m : ℕ). timestamps_on m channel book.turns) it.0 ∙ ap (λ (one : ChannelIdentity). timestamps_on 0 one book.turns) it.1 ∙ are ∙ before.all;
+          all = ap (λ (m : ℕ). timestamps_on (OfMember m) channel book.turns) it.0 ∙ ap (λ (one : ChannelIdentity). timestamps_on (OfMember 0) one book.turns) it.1 ∙ are ∙ before.all;
           seed_before = kept ∙ before.seed_before ∙ ap (λ (one : ChannelIdentity). channel_seed one before.earlier) (sym it.1);
         })
       ];
@@ -116,8 +118,8 @@ shares_by book turn seed other timestamps are own each member = record {
 
 -- what is said of it then
 pub shared_small : (book : Book) (turn : Option Pending) (seed other : List ℕ) → SequencesAreShared (run_open book turn seed other) → any_foreign small_name book.judged ≡ false →
-    (other ≡ seed) ⊎ IsBeforeTurn turn other small_name (timestamps_on 0 small_name book.turns)
-shared_small book turn seed other claim none = (claim 0).other small_name (small_channel seed) (small_channel other) (stands_small turn seed other) (keeps_small turn seed other) same_small none
+    (other ≡ seed) ⊎ IsBeforeTurn turn other small_name (timestamps_on (OfMember 0) small_name book.turns)
+shared_small book turn seed other claim none = (claim (OfMember 0)).other small_name (small_channel seed) (small_channel other) (stands_small turn seed other) (keeps_small turn seed other) same_small none
 
 -- a seed has 8 bytes
 pub not_one_byte : 1 ∷ [] ≡ small_seed → ⊥
@@ -144,11 +146,11 @@ none_two is = absurd (omega (arith, moved_none, moved_two, seeds_apart [] (0 ∷
 pub no_turn : (seed timestamps : List ℕ) → IsBeforeTurn None seed small_name timestamps → ⊥
 no_turn seed timestamps before = absurd (let none : None ≡ Some before.pending = before.is_out in cc)
 
-pub one_stamp : timestamps_on 0 small_name (small_turn ∷ []) ≡ 0 ∷ []
+pub one_stamp : timestamps_on (OfMember 0) small_name (small_turn ∷ []) ≡ 0 ∷ []
 unfolding same_name names.upper_of
 one_stamp = refl
 
-two_stamps : timestamps_on 0 small_name (small_turn ∷ small_turn ∷ []) ≡ 0 ∷ 0 ∷ []
+two_stamps : timestamps_on (OfMember 0) small_name (small_turn ∷ small_turn ∷ []) ≡ 0 ∷ 0 ∷ []
 unfolding same_name names.upper_of
 two_stamps = refl
 
@@ -171,7 +173,7 @@ foreign_small = refl
 pub of_sequences : OfSequences
 of_sequences = record {
   meets = shares_by blank None small_seed small_seed [] refl refl (λ none. inl refl);
-  fails = λ claim. not_one_byte ((claim 0).own small_name (small_channel (1 ∷ [])) (stands_small None (1 ∷ []) small_seed));
+  fails = λ claim. not_one_byte ((claim (OfMember 0)).own small_name (small_channel (1 ∷ [])) (stands_small None (1 ∷ []) small_seed));
   fails_other = λ claim. elim (shared_small blank None small_seed (1 ∷ []) claim refl) [ inl is ↦ not_one_byte is | inr before ↦ no_turn _ _ before ];
   turn_passed = shares_by one_turn (Some turn_out) seed_after_one seed_after_one (0 ∷ []) one_stamp refl (λ none. inl refl);
   turn_behind = shares_by one_turn (Some turn_out) seed_after_one small_seed (0 ∷ []) one_stamp refl

@@ -5,14 +5,11 @@ use Rattle.std.specs.Prelude.{◌%◌, ◌^◌, codes, ◌⊎◌}
 use Rattle.std.specs.List.{AllByRecursion}
 use Rattle.wire_base.specs.Maps.{lookup}
 use Rattle.wire_base.specs.Names.{same_name}
-use Rattle.wire_base.specs.Names as names
-use Rattle.outside.specs.declared.action.Judged.TheVariants as judged
 use Rattle.authenticators.specs.Channels.{ChannelIdentity, SameChannel}
 use Rattle.authenticators.specs.Sequences.{moved_by}
 use Rattle.authenticators.specs.SecureChannels.{channel_of, SecureChannelState}
 use Rattle.authenticators.proofs.SeedLaws.{add_to-same}
 use Rattle.channel_client.specs.declared.state.Pending.{Pending}
-use Rattle.channel_client.specs.declared.state.Standing.TheVariants as standing
 use Rattle.domain_controller.specs.State.{State as ControllerState}
 use Rattle.domain_controller.specs.declared.state.Running.{Running as ControllerRunning}
 use Rattle.member_server.specs.State.{State as MemberState}
@@ -20,16 +17,20 @@ use Rattle.member_server.specs.declared.state.Running.{Running as MemberRunning}
 use Rattle.channel_events.specs.Marks.{Calling, OneOf, Plain, ReplyTo}
 use Rattle.channel_events.proofs.ListLaws.{got_nothing, one_weaker, some_is}
 use Rattle.step_notes.specs.ControllerNotes.{has_passed}
-use Rattle.step_notes.specs.Records.{Book, Judging, LogonTurn, Sent, blank}
+use Rattle.step_notes.specs.Records.{Book, Judging, LogonTurn, Sent, blank, OfMember}
 use Rattle.world_moves.specs.declared.links.EndId.TheVariants.{Member, Client}
 use Rattle.world_moves.specs.declared.state.State.{State}
 use Rattle.domain_world.specs.Accepting.Sequences.{AnswersCall, AreSoFar, CallsOfTurns, HavePassed, IsMadeOn, IsPassedIn, TurnsAreCalled, stamps_of}
 use Rattle.channel_events.specs.Seeds.{channel_seed}
 use Rattle.domain_world.specs.Claims.SharedSequences.{HasOneTurnOut, IsBeforeTurn, Keeps, SequencesAreOwn, SequencesAreShared, Stands, any_foreign, dials_of, timestamps_on}
 use Rattle.domain_world.specs.Past.{controller_of, sent_at}
-use Rattle.claim_examples.specs.ClaimExamples.{elsewhere, judged_as, on_channel, one_turn, small_channel, open_member, open_running, seed_after_one, small_name, small_seed, small_turn, turn_out}
+use Rattle.claim_examples.specs.ClaimExamples.{elsewhere, judged_as, on_channel, one_turn, small_channel, open_running, seed_after_one, small_name, small_seed, small_turn, turn_out}
 use Rattle.claim_examples.specs.SequenceMisses.{OfCalls, OfOneTurn, OfReplyCalls, OfSequenceMisses, SequencesTellApart, called_once, controller_on, empty_unit, in_unit, judged_outside, kept_whole, member_on, mixed_turns, moved_seed, passed_then, replied, replied_for, run_by, run_dials, run_small, sent_as, whole_name}
 use Rattle.claim_examples.proofs.SequenceLaws.{no_turn, not_one_byte, one_stamp, same_small, shared_small}
+use Rattle.domain_world.proofs.Frames.RequesterLaws.{StandsAtMember, stands_at}
+use Rattle.wire_base.specs.Names as names
+use Rattle.outside.specs.declared.action.Judged.TheVariants as judged
+use Rattle.channel_client.specs.declared.state.Standing.TheVariants as standing
 
 -- ---- one member, whose channel stands
 
@@ -47,9 +48,10 @@ module _ (book : Book) (turn : Option Pending) (o : SecureChannelState) (name : 
   abbrev its_name : ChannelIdentity
   its_name = channel_of 0 (codes "FILE1") o
 
-  the_channel : (member : ℕ) (channel : ChannelIdentity) (p : SecureChannelState) → (stands : Stands (run_by book turn o name c).world.state member channel p) →
-      (member ≡ 0) × (channel ≡ its_name) × (o ≡ p) × (stands.turn ≡ turn)
-  the_channel member channel p stands =
+  the_channel : (member : ℕ) (channel : ChannelIdentity) (p : SecureChannelState) → (its : Stands (run_by book turn o name c).world.state (OfMember member) channel p) →
+      (member ≡ 0) × (channel ≡ its_name) × (o ≡ p) × (its.turn ≡ turn)
+  the_channel member channel p its =
+      let stands : StandsAtMember (run_by book turn o name c).world.state member channel p its.turn = stands_at (run_by book turn o name c).world.state member channel p its in
       let one = one_member turn o member stands.state stands.at in
       let runs : Some (running_on turn o) ≡ Some stands.running = ap MemberState.running one.1 ∙ stands.runs in
       let running : running_on turn o ≡ stands.running = cc in
@@ -64,16 +66,16 @@ module _ (book : Book) (turn : Option Pending) (o : SecureChannelState) (name : 
         sym (ap (λ (r : MemberRunning). r.logons.channel.turn) running ∙ stands.is_turn),
       )
 
-  its_own : SequencesAreOwn (run_by book turn o name c) → o.seed ≡ channel_seed its_name (timestamps_on 0 its_name book.turns)
-  its_own claim = claim 0 its_name o (record { state = member_on turn o; running = running_on turn o; at = refl; runs = refl; open_so = refl; is = refl; turn = turn; is_turn = refl })
+  its_own : SequencesAreOwn (run_by book turn o name c) → o.seed ≡ channel_seed its_name (timestamps_on (OfMember 0) its_name book.turns)
+  its_own claim = claim (OfMember 0) its_name o (record { requester = (running_on turn o).logons.channel; at = refl; open_so = refl; is = refl; turn = turn; is_turn = refl })
 
-  own_by : o.seed ≡ channel_seed its_name (timestamps_on 0 its_name book.turns) → SequencesAreOwn (run_by book turn o name c)
-  own_by own member channel p stands =
+  own_by : o.seed ≡ channel_seed its_name (timestamps_on (OfMember 0) its_name book.turns) → SequencesAreOwn (run_by book turn o name c)
+  own_by own (OfMember member) channel p stands =
       let it = the_channel member channel p stands in
       ap SecureChannelState.seed (sym it.2)
       ∙ own
-      ∙ ap (λ (one : ChannelIdentity). channel_seed one (timestamps_on 0 one book.turns)) (sym it.1)
-      ∙ ap (λ (m : ℕ). channel_seed channel (timestamps_on m channel book.turns)) (sym it.0)
+      ∙ ap (λ (one : ChannelIdentity). channel_seed one (timestamps_on (OfMember 0) one book.turns)) (sym it.1)
+      ∙ ap (λ (m : ℕ). channel_seed channel (timestamps_on (OfMember m) channel book.turns)) (sym it.0)
 
   -- what is kept of it at the controller
   the_kept : (channel : ChannelIdentity) (d : SecureChannelState) → channel ≡ its_name → Keeps (run_by book turn o name c).world.state channel.controller channel.computer d →
@@ -88,11 +90,11 @@ module _ (book : Book) (turn : Option Pending) (o : SecureChannelState) (name : 
       ap (λ (r : ControllerRunning). lookup same_name (codes "FILE1") r.computers.channels) running ∙ kept.kept
 
   -- the run shares its sequence where its one channel does
-  shares_by : (timestamps : List ℕ) → timestamps_on 0 its_name book.turns ≡ timestamps → o.seed ≡ channel_seed its_name timestamps →
+  shares_by : (timestamps : List ℕ) → timestamps_on (OfMember 0) its_name book.turns ≡ timestamps → o.seed ≡ channel_seed its_name timestamps →
       ((d : SecureChannelState) → lookup same_name (codes "FILE1") ((name, c) ∷ []) ≡ Some d → SameChannel (channel_of 0 (codes "FILE1") d) its_name →
       any_foreign its_name book.judged ≡ false → (d.seed ≡ o.seed) ⊎ IsBeforeTurn turn d.seed its_name timestamps) → SequencesAreShared (run_by book turn o name c)
-  shares_by timestamps are own each member = record {
-    own = λ channel p stands. own_by (own ∙ ap (λ (all : List ℕ). channel_seed its_name all) (sym are)) member channel p stands;
+  shares_by timestamps are own each (OfMember member) = record {
+    own = λ channel p stands. own_by (own ∙ ap (λ (all : List ℕ). channel_seed its_name all) (sym are)) (OfMember member) channel p stands;
     other = λ channel p d stands keeps same none.
         let it = the_channel member channel p stands in
         let same_its : SameChannel (channel_of 0 (codes "FILE1") d) its_name = subst (λ (one : ChannelIdentity). SameChannel (channel_of one.controller one.computer d) one) it.1 same in
@@ -103,7 +105,7 @@ module _ (book : Book) (turn : Option Pending) (o : SecureChannelState) (name : 
             is_out = it.3 ∙ before.is_out;
             earlier = before.earlier;
             last = before.last;
-            all = ap (λ (m : ℕ). timestamps_on m channel book.turns) it.0 ∙ ap (λ (one : ChannelIdentity). timestamps_on 0 one book.turns) it.1 ∙ are ∙ before.all;
+            all = ap (λ (m : ℕ). timestamps_on (OfMember m) channel book.turns) it.0 ∙ ap (λ (one : ChannelIdentity). timestamps_on (OfMember 0) one book.turns) it.1 ∙ are ∙ before.all;
             seed_before = before.seed_before ∙ ap (λ (one : ChannelIdentity). channel_seed one before.earlier) (sym it.1);
           })
         ];
@@ -111,17 +113,17 @@ module _ (book : Book) (turn : Option Pending) (o : SecureChannelState) (name : 
 
   -- what is said of it then
   shared : SequencesAreShared (run_by book turn o name c) → lookup same_name (codes "FILE1") ((name, c) ∷ []) ≡ Some c → SameChannel (channel_of 0 (codes "FILE1") c) its_name →
-      any_foreign its_name book.judged ≡ false → (c.seed ≡ o.seed) ⊎ IsBeforeTurn turn c.seed its_name (timestamps_on 0 its_name book.turns)
+      any_foreign its_name book.judged ≡ false → (c.seed ≡ o.seed) ⊎ IsBeforeTurn turn c.seed its_name (timestamps_on (OfMember 0) its_name book.turns)
   shared claim kept same none =
-      (claim 0).other its_name o c
-      (record { state = member_on turn o; running = running_on turn o; at = refl; runs = refl; open_so = refl; is = refl; turn = turn; is_turn = refl })
+      (claim (OfMember 0)).other its_name o c
+      (record { requester = (running_on turn o).logons.channel; at = refl; open_so = refl; is = refl; turn = turn; is_turn = refl })
       (record { state = controller_on name c; running = record { computers = record { pending = []; channels = (name, c) ∷ [] }; links = [] }; at = refl; runs = refl; kept = kept })
       same none
 
 -- ---- the channel with two turns
 
 -- turns of another member, or on another channel, are none of its own
-whole_stamps : timestamps_on 0 whole_name mixed_turns.turns ≡ 5 ∷ 7 ∷ []
+whole_stamps : timestamps_on (OfMember 0) whole_name mixed_turns.turns ≡ 5 ∷ 7 ∷ []
 unfolding same_name names.upper_of
 whole_stamps = refl
 
@@ -165,7 +167,7 @@ the_earlier (one ∷ []) last is = cc
 the_earlier (one ∷ two ∷ earlier) last is = absurd (not_nothing earlier last (let rest : [] ≡ earlier ++ last ∷ [] = cc in rest))
 
 -- moved by 8, the controller is before no turn that is out
-not_before : IsBeforeTurn (Some turn_out) (moved_seed 8) whole_name (timestamps_on 0 whole_name mixed_turns.turns) → ⊥
+not_before : IsBeforeTurn (Some turn_out) (moved_seed 8) whole_name (timestamps_on (OfMember 0) whole_name mixed_turns.turns) → ⊥
 not_before before =
     let earlier : before.earlier ≡ 5 ∷ [] = the_earlier before.earlier before.last (sym whole_stamps ∙ before.all) in
     let is : moved_seed 8 ≡ moved_seed 6 = before.seed_before ∙ ap (λ (all : List ℕ). channel_seed whole_name all) earlier ∙ sym before_seed in
@@ -212,17 +214,17 @@ of_sequence_misses = record {
     | inr before ↦ not_before before
   ];
   fails_out = λ claim.
-      let is : moved_seed 12 ≡ moved_seed 14 = its_own mixed_turns (Some turn_out) (kept_whole (moved_seed 12)) (codes "FILE1") (kept_whole (moved_seed 12)) (λ member channel o stands. (claim member).own channel o stands)
+      let is : moved_seed 12 ≡ moved_seed 14 = its_own mixed_turns (Some turn_out) (kept_whole (moved_seed 12)) (codes "FILE1") (kept_whole (moved_seed 12)) (λ who channel o stands. (claim who).own channel o stands)
       ∙ ap (λ (all : List ℕ). channel_seed whole_name all) whole_stamps ∙ sym whole_seed in
       absurd (omega (arith, seeds_apart 12 14 is));
   other_channel = shares_by mixed_turns None (kept_whole (moved_seed 14)) (codes "FILE1") (record (kept_whole []) { server = [] }) (5 ∷ 7 ∷ []) whole_stamps whole_seed
       (λ d found same none. absurd (let never : [] ≡ whole_name.server = sym (no_server d found) ∙ same.server in cc));
   fails_second = λ claim.
-      not_one_byte ((claim 1).own small_name (small_channel (1 ∷ []))
-      (record { state = open_member None (1 ∷ []); running = open_running None (1 ∷ []); at = refl; runs = refl; open_so = refl; is = refl; turn = None; is_turn = refl }));
+      not_one_byte ((claim (OfMember 1)).own small_name (small_channel (1 ∷ []))
+      (record { requester = (open_running None (1 ∷ [])).logons.channel; at = refl; open_so = refl; is = refl; turn = None; is_turn = refl }));
   fails_controller = λ claim. elim
-      ((claim 0).other second_name (small_channel small_seed) (small_channel (1 ∷ []))
-      (record { state = open_member None small_seed; running = open_running None small_seed; at = refl; runs = refl; open_so = refl; is = refl; turn = None; is_turn = refl })
+      ((claim (OfMember 0)).other second_name (small_channel small_seed) (small_channel (1 ∷ []))
+      (record { requester = (open_running None small_seed).logons.channel; at = refl; open_so = refl; is = refl; turn = None; is_turn = refl })
       (record { state = controller_on (codes "FILE1") (small_channel (1 ∷ [])); running = record { computers = record { pending = []; channels = (codes "FILE1", small_channel (1 ∷ [])) ∷ [] }; links = [] }; at = refl; runs = refl; kept = kept_small (1 ∷ []) })
       (record { controller = refl; computer = refl; secret = refl; client = refl; server = refl; flags = refl }) refl) [
         | inl is ↦ not_one_byte is
@@ -282,16 +284,16 @@ of_one_turn = record {
 abbrev o_small : SecureChannelState
 o_small = small_channel seed_after_one
 
-abbrev stands_small : (book : Book) (turn : Option Pending) → Stands (run_small book turn).world.state 0 small_name o_small
-stands_small book turn = record { state = member_on turn o_small; running = running_on turn o_small; at = refl; runs = refl; open_so = refl; is = refl; turn = turn; is_turn = refl }
+abbrev stands_small : (book : Book) (turn : Option Pending) → Stands (run_small book turn).world.state (OfMember 0) small_name o_small
+stands_small book turn = record { requester = (running_on turn o_small).logons.channel; at = refl; open_so = refl; is = refl; turn = turn; is_turn = refl }
 
 -- the calls of the one channel are those of all
-calls_by : (book : Book) (turn : Option Pending) → CallsOfTurns (run_small book turn) small_name turn (timestamps_on 0 small_name book.turns) → TurnsAreCalled (run_small book turn)
-calls_by book turn calls member channel o stands =
+calls_by : (book : Book) (turn : Option Pending) → CallsOfTurns (run_small book turn) small_name turn (timestamps_on (OfMember 0) small_name book.turns) → TurnsAreCalled (run_small book turn)
+calls_by book turn calls (OfMember member) channel o stands =
     let it = the_channel book turn o_small (codes "FILE1") (small_channel seed_after_one) member channel o stands in
-    subst (λ (k : ℕ). CallsOfTurns (run_small book turn) channel stands.turn (timestamps_on k channel book.turns)) (sym it.0)
-    (subst (λ (one : ChannelIdentity). CallsOfTurns (run_small book turn) one stands.turn (timestamps_on 0 one book.turns)) (sym it.1)
-    (subst (λ (t : Option Pending). CallsOfTurns (run_small book turn) small_name t (timestamps_on 0 small_name book.turns)) (sym it.3) calls))
+    subst (λ (k : ℕ). CallsOfTurns (run_small book turn) channel stands.turn (timestamps_on (OfMember k) channel book.turns)) (sym it.0)
+    (subst (λ (one : ChannelIdentity). CallsOfTurns (run_small book turn) one stands.turn (timestamps_on (OfMember 0) one book.turns)) (sym it.1)
+    (subst (λ (t : Option Pending). CallsOfTurns (run_small book turn) small_name t (timestamps_on (OfMember 0) small_name book.turns)) (sym it.3) calls))
 
 -- the one call is that of unit 0
 only_call : (n number timestamp : ℕ) (sent : Sent) (other : ChannelIdentity) → slice_get (sent_at 0 (Calling small_name 3 0) ∷ []) n ≡ Some sent → sent.mark ≡ Calling other number timestamp → OneOf (λ (one : ℕ × ℕ). one.0 ≡ n) ((0, 0) ∷ [])
@@ -299,7 +301,7 @@ only_call zero number timestamp sent other there mark = inl refl
 only_call (suc n) number timestamp sent other there mark = absurd (let none : None ≡ Some sent = there in cc)
 
 once : (judged : List Judging) (turn : Option Pending) → AreSoFar (run_small (called_once judged) turn) turn ((0, 0) ∷ []) (0 ∷ []) →
-    CallsOfTurns (run_small (called_once judged) turn) small_name turn (timestamps_on 0 small_name (called_once judged).turns)
+    CallsOfTurns (run_small (called_once judged) turn) small_name turn (timestamps_on (OfMember 0) small_name (called_once judged).turns)
 once judged turn far = record {
   made = (0, 0) ∷ [];
   each = (record { sent = sent_at 0 (Calling small_name 3 0); there = refl; number = 3; mark = refl }, tt);
@@ -311,8 +313,8 @@ once judged turn far = record {
 -- where no turn is out, each call passed; so there is one that passed
 one_passed : (book : Book) → book.turns ≡ small_turn ∷ [] → TurnsAreCalled (run_small book None) → OneOf (λ (j : Judging). has_passed j.how ≡ true) book.judged
 one_passed book turns claim =
-    let calls : CallsOfTurns (run_small book None) small_name None (timestamps_on 0 small_name book.turns) = claim 0 small_name o_small (stands_small book None) in
-    let stamps : timestamps_on 0 small_name book.turns ≡ 0 ∷ [] = ap (λ (all : List LogonTurn). timestamps_on 0 small_name all) turns ∙ one_stamp in
+    let calls : CallsOfTurns (run_small book None) small_name None (timestamps_on (OfMember 0) small_name book.turns) = claim (OfMember 0) small_name o_small (stands_small book None) in
+    let stamps : timestamps_on (OfMember 0) small_name book.turns ≡ 0 ∷ [] = ap (λ (all : List LogonTurn). timestamps_on (OfMember 0) small_name all) turns ∙ one_stamp in
     elim calls.far [
       | inl quiet ↦ its_call calls.made (sym stamps ∙ quiet.0) quiet.1
       | inr rest ↦ elim rest [
@@ -335,8 +337,8 @@ record TheCall (book : Book) : Type 0 where
 
 the_call : (book : Book) → book.turns ≡ small_turn ∷ [] → TurnsAreCalled (run_small book None) → TheCall book
 the_call book turns claim =
-    let calls : CallsOfTurns (run_small book None) small_name None (timestamps_on 0 small_name book.turns) = claim 0 small_name o_small (stands_small book None) in
-    let stamps : timestamps_on 0 small_name book.turns ≡ 0 ∷ [] = ap (λ (all : List LogonTurn). timestamps_on 0 small_name all) turns ∙ one_stamp in
+    let calls : CallsOfTurns (run_small book None) small_name None (timestamps_on (OfMember 0) small_name book.turns) = claim (OfMember 0) small_name o_small (stands_small book None) in
+    let stamps : timestamps_on (OfMember 0) small_name book.turns ≡ 0 ∷ [] = ap (λ (all : List LogonTurn). timestamps_on (OfMember 0) small_name all) turns ∙ one_stamp in
     elim calls.far [
       | inl quiet ↦ only calls.made (sym stamps ∙ quiet.0) calls.each (λ n number stamp sent there mark. calls.every n number stamp sent small_name there mark refl)
       | inr rest ↦ elim rest [

@@ -15,7 +15,7 @@ use Rattle.logon_client.specs.declared.plan.AuthKind.TheVariants.{V2}
 use Rattle.member_server.specs.declared.plan.MemberPlan.{MemberPlan}
 use Rattle.channel_events.proofs.ListLaws.{one_found}
 use Rattle.channel_events.specs.Marks.{OneOf}
-use Rattle.step_notes.specs.Records.{Judging}
+use Rattle.step_notes.specs.Records.{Judging, network_in}
 use Rattle.world_moves.specs.declared.moves.Move.{Move}
 use Rattle.world_moves.specs.declared.moves.Move.TheVariants as move
 use Rattle.world_moves.specs.Forms.{HasMoveForm, IsClientPlan, IsSchedule}
@@ -193,14 +193,14 @@ bind_waits come =
     let some = an_example_logs_on.comes.seen.bind.units in
     absurd cc
 
-zeros_travel : (run : Past) (moves : List Move) → OneOf (λ (j : Judging). (j.how ≡ Some (judged.Passed 0)) × TravelsAsZeros j j.logon.info) run.book.judged → ComesOneAtATime run moves → ⊥
+zeros_travel : (run : Past) (moves : List Move) → OneOf (λ (j : Judging). (j.how ≡ Some (judged.Passed 0)) × TravelsAsZeros j (network_in j.asked).info) run.book.judged → ComesOneAtATime run moves → ⊥
 zeros_travel run moves one come =
-    let found = one_found (λ (j : Judging). (j.how ≡ Some (judged.Passed 0)) × TravelsAsZeros j j.logon.info)
-    (λ (j : Judging). j.how ≡ Some (judged.Passed 0) → TravelsAsZeros j j.logon.info → ⊥) run.book.judged come.keys one in
+    let found = one_found (λ (j : Judging). (j.how ≡ Some (judged.Passed 0)) × TravelsAsZeros j (network_in j.asked).info)
+    (λ (j : Judging). j.how ≡ Some (judged.Passed 0) → TravelsAsZeros j (network_in j.asked).info → ⊥) run.book.judged come.keys one in
     found.2 found.1.0 found.1.1
 
 none_granted : (calls : List Judging) → AllByRecursion (λ (j : Judging). j.how ≡ Some (judged.Passed 0) → ⊥) calls →
-    AllByRecursion (λ (j : Judging). j.how ≡ Some (judged.Passed 0) → TravelsAsZeros j j.logon.info → ⊥) calls
+    AllByRecursion (λ (j : Judging). j.how ≡ Some (judged.Passed 0) → TravelsAsZeros j (network_in j.asked).info → ⊥) calls
 none_granted [] none = tt
 none_granted (j ∷ js) none = ((λ how zeros. none.0 how), none_granted js none.1)
 

@@ -47,7 +47,7 @@ use Rattle.channel_events.specs.Sound.{AreInStep, History, Sound}
 use Rattle.step_notes.specs.ControllerNotes.{passing}
 use Rattle.step_notes.specs.Marking.{clashes}
 use Rattle.step_notes.specs.MemberNotes.{no_note}
-use Rattle.step_notes.specs.Records.{Book, ChallengeSent, Judging, JudgementTold, LogonTurn, MessageMade, MessageTaken, OutcomeTold, blank}
+use Rattle.step_notes.specs.Records.{Book, ChallengeSent, Judging, JudgementTold, LogonTurn, MessageMade, MessageTaken, Network, OfMember, OutcomeTold, blank}
 use Rattle.world_moves.specs.declared.links.Route.{Route}
 use Rattle.world_moves.specs.declared.links.Route.TheVariants.{ToController, ToMember}
 use Rattle.world_moves.specs.declared.plan.Plan.{Plan}
@@ -183,7 +183,7 @@ judging = record {
   name = codes "PDC";
   unit = Some 7;
   number = 3;
-  logon = call_with (record { credential = []; timestamp = 0 });
+  asked = Network (call_with (record { credential = []; timestamp = 0 }));
   table = small_table;
   computers = no_computers;
   moment = 0;
@@ -238,7 +238,7 @@ small_computers seed = record { pending = []; channels = (codes "FILE1", small_c
 -- a call on it that passed, with an authenticator of this timestamp
 abbrev pub on_channel : ℕ → Judging
 on_channel timestamp = record judging {
-  logon = call_with (record { credential = []; timestamp = timestamp });
+  asked = Network (call_with (record { credential = []; timestamp = timestamp }));
   computers = small_computers [];
 }
 
@@ -426,7 +426,7 @@ seed_after_two = channel_seed small_name (0 ∷ 0 ∷ [])
 
 -- a turn of the member
 abbrev pub small_turn : LogonTurn
-small_turn = record { member = 0; channel = small_name; timestamp = 0 }
+small_turn = record { requester = OfMember 0; channel = small_name; timestamp = 0 }
 
 abbrev pub one_turn : Book
 one_turn = record blank { turns = small_turn ∷ [] }
@@ -623,8 +623,11 @@ pub record OfKeys : Type 0 where
 -- ---- credentials
 
 -- a call with the next credential of the channel
+abbrev pub next_logon : LogonCall
+next_logon = call_with (authenticator_of (key_of_channel (small_channel [])) [] 0)
+
 abbrev pub next_call : Judging
-next_call = record (on_channel 0) { logon = call_with (authenticator_of (key_of_channel (small_channel [])) [] 0) }
+next_call = record (on_channel 0) { asked = Network next_logon }
 
 abbrev pub told_as : Judged → JudgementTold
 told_as how = record { at = 6; controller = 0; how = how }
@@ -649,7 +652,7 @@ pub record OfCredentials : Type 0 where
 -- the call, with the next credential of the channel, in unit 7, and the answer, in unit 8
 abbrev pub whole_call : Judging
 whole_call = record judging {
-  logon = call_with (authenticator_of (key_of_channel (small_channel small_seed)) small_seed 0);
+  asked = Network (call_with (authenticator_of (key_of_channel (small_channel small_seed)) small_seed 0));
   computers = small_computers small_seed;
 }
 

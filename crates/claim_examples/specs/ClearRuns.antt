@@ -5,7 +5,7 @@ use Rattle.std.specs.List.{AllByRecursion}
 use Rattle.authenticators.specs.Channels.{ChannelIdentity, SameChannel}
 use Rattle.authenticators.specs.SecureChannels.{SecureChannelState, channel_of}
 use Rattle.channel_events.specs.Marks.{OneOf}
-use Rattle.step_notes.specs.Records.{OutcomeTold}
+use Rattle.step_notes.specs.Records.{OutcomeTold, RequesterId}
 use Rattle.world_moves.specs.declared.plan.Plan.{Plan}
 use Rattle.world_moves.specs.Choosing.{chosen_place}
 use Rattle.world_moves.specs.Counting.{is_in}
@@ -34,14 +34,14 @@ pub record LetsInClearly (run : Past) : Type 0 where
   pub told : OneOf (IsLetIn run) run.book.told
   pub accepted : AcceptsOnlyGranted run → OneOf (IsAccepted run) run.book.messages
 
--- A channel stands at a member of the run, the controller of its plan keeps it, and both have one seed. That no call
--- from outside passed on it isn't said.
+-- A channel stands at a requester of the run, the controller that it asks keeps it, and both have one seed. That no
+-- call from outside passed on it isn't said.
 pub record HasSharedChannel (run : Past) : Type 0 where
-  pub member : ℕ
+  pub who : RequesterId
   pub channel : ChannelIdentity
   pub o : SecureChannelState
   pub c : SecureChannelState
-  pub stands : Stands run.world.state member channel o
+  pub stands : Stands run.world.state who channel o
   pub keeps : Keeps run.world.state channel.controller channel.computer c
   pub same : SameChannel (channel_of channel.controller channel.computer c) channel
   pub seed : c.seed ≡ o.seed

@@ -17,12 +17,12 @@ use Rattle.domain_controller.specs.Machine.{Desk, answer_logon}
 use Rattle.domain_controller.specs.declared.line.Line.{Line}
 use Rattle.step_notes.specs.ControllerNotes.{Where, judging_of, new_actions}
 use Rattle.step_notes.specs.GrantSends.{IsSentAsGranted, actions_granting, info_granted}
-use Rattle.step_notes.specs.Records.{Judging, MessageTaken, blank}
+use Rattle.step_notes.specs.Records.{Judging, MessageTaken, Network, blank}
 use Rattle.domain_world.specs.Claims.{info_asked}
 use Rattle.domain_world.specs.Claims.Counts.{EachCallRaisesOnce, RaisesCount}
 use Rattle.domain_world.specs.Claims.Grants.{GrantsWhoMayLogOn}
 use Rattle.domain_world.specs.Past.{Past}
-use Rattle.claim_examples.specs.ClaimExamples.{elsewhere, judged_as, judging, next_call, small_account, small_channel, small_computers, small_hash, small_plan, small_table, small_world, with_response}
+use Rattle.claim_examples.specs.ClaimExamples.{elsewhere, judged_as, judging, next_call, next_logon, small_account, small_channel, small_computers, small_hash, small_plan, small_table, small_world, with_response}
 
 -- one call was judged in a run from a plan with this table
 abbrev pub judged_from : AccountTable → Judging → Past
@@ -47,10 +47,10 @@ empty_table = record small_table { accounts = [] }
 
 -- the call asks for this message, or at that level, in place of its own
 abbrev pub asking_for : MessageTaken → Judging
-asking_for message = record next_call { logon = record next_call.logon { info = info_asked message } }
+asking_for message = record next_call { asked = Network (record next_logon { info = info_asked message }) }
 
 abbrev pub at_level : ℕ → Judging
-at_level level = record next_call { logon = record next_call.logon { validation = level } }
+at_level level = record next_call { asked = Network (record next_logon { validation = level }) }
 
 -- Grants: of a call with the next credential of its channel, for ann, whose response is hers; and of her account
 -- disabled, where it is refused.
@@ -81,7 +81,7 @@ abbrev pub small_desk : Desk
 small_desk = record { table = small_table; work = record { computers = small_computers []; actions = [] } }
 
 abbrev pub small_call : LogonCall
-small_call = next_call.logon
+small_call = next_logon
 
 -- a line with frames of at most 5,840 bytes; and the reply to that call, with this key in it
 abbrev pub small_line : Line

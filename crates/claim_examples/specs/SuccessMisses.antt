@@ -12,7 +12,7 @@ use Rattle.logon_client.specs.declared.outcome.RefusedCause.TheVariants as refus
 use Rattle.logon_client.specs.declared.plan.AuthKind.{AuthKind}
 use Rattle.logon_client.specs.declared.plan.AuthKind.TheVariants.{V2}
 use Rattle.channel_events.specs.Marks.{OneOf}
-use Rattle.step_notes.specs.Records.{Judging, OutcomeTold}
+use Rattle.step_notes.specs.Records.{Judging, OutcomeTold, network_in}
 use Rattle.world_moves.specs.declared.links.Route.TheVariants.{ToMember}
 use Rattle.world_moves.specs.declared.moves.Move.{Move}
 use Rattle.world_moves.specs.declared.moves.Move.TheVariants as move
@@ -143,7 +143,7 @@ pub record OfMoves : Type 0 where
   pub fails_again : ComesOneAtATime (past two_lost again_moves) again_moves → ⊥
   pub fails_unit : ComesOneAtATime (past example.ann_plan bind_moves) bind_moves → ⊥
   pub fails_others : AllByRecursion (λ (what : Move). (run : Past) → ComesOneAtATime run (what ∷ []) → ⊥) others
-  pub fails_zeros : (run : Past) (moves : List Move) → OneOf (λ (j : Judging). (j.how ≡ Some (judged.Passed 0)) × TravelsAsZeros j j.logon.info) run.book.judged →
+  pub fails_zeros : (run : Past) (moves : List Move) → OneOf (λ (j : Judging). (j.how ≡ Some (judged.Passed 0)) × TravelsAsZeros j (network_in j.asked).info) run.book.judged →
       ComesOneAtATime run moves → ⊥
   pub others_judged : (run : Past) (moves : List Move) (calls : List Judging) → AllByRecursion (λ (j : Judging). j.how ≡ Some (judged.Passed 0) → ⊥) calls →
       ComesOneAtATime run moves → ComesOneAtATime (judging_as run calls) moves

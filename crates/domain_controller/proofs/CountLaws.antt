@@ -6,12 +6,10 @@ use Rattle.wire_base.specs.Names.{same_name}
 use Rattle.wire_base.specs.declared.authenticator.Authenticator.{Authenticator}
 use Rattle.authenticators.specs.SecureChannels.{SecureChannelState, key_of_channel, passes_on, return_by, channel_by}
 use Rattle.outside.specs.declared.event.Event.{Event}
-use Rattle.outside.specs.declared.event.Event.TheVariants as event
 use Rattle.outside.specs.declared.action.StepRefused.{StepRefused}
 use Rattle.outside.specs.Machine.{step_by, then_part}
 use Rattle.rpc_units.specs.Stream.{cut_stream}
 use Rattle.logon_stubs.specs.declared.calls.Call.{Call}
-use Rattle.logon_stubs.specs.declared.calls.Call.TheVariants as call
 use Rattle.logon_stubs.specs.declared.calls.ChallengeCall.{ChallengeCall}
 use Rattle.logon_stubs.specs.declared.calls.LogonCall.{LogonCall}
 use Rattle.logon_stubs.specs.declared.info.NetworkInfo.{NetworkInfo}
@@ -31,6 +29,8 @@ use Rattle.domain_controller.specs.declared.line.Line.{Line}
 use Rattle.domain_controller.specs.declared.state.Running.{Running}
 use Rattle.domain_controller.specs.declared.state.Talk.{Talk}
 use Rattle.domain_controller.specs.declared.hearing.Heard.{Heard}
+use Rattle.outside.specs.declared.event.Event.TheVariants as event
+use Rattle.logon_stubs.specs.declared.calls.Call.TheVariants as call
 use Rattle.domain_controller.specs.declared.hearing.Heard.TheVariants as heard
 
 -- ---- a logon
@@ -157,7 +157,7 @@ table_kept : (passes : Bool) (channel : SecureChannelState) (given : Authenticat
 table_kept true channel given name now line info validation d not = absurd (not refl)
 table_kept false channel given name now line info validation d not = refl
 
-next_on : (c : LogonCall) (name : List ℕ) (now : ℕ) (line : Line) (d : Desk) (next : IsNext d.work.computers c) →
+next_on : (c : LogonCall) (name : List ℕ) (now : ℕ) (line : Line) (d : Desk) (next : IsNext d.work.computers c.computer c.authenticator) →
     (answer_logon c.computer c.authenticator name now line c.info c.validation d).table ≡ (judge_info d.table name now c.info c.validation).table
 next_on c name now line d next =
     rw (next.named, next.there, next.stands)
@@ -166,7 +166,7 @@ next_on c name now line d next =
     ((bytes_eq-Decides _ _).1 next.passes))
 
 other_channel : (found : Option SecureChannelState) (c : LogonCall) (computer : List ℕ) (given : Authenticator) (name : List ℕ) (now : ℕ) (line : Line) (d : Desk) →
-    c.computer ≡ Some computer → c.authenticator ≡ Some given → lookup same_name computer d.work.computers.channels ≡ found → (IsNext d.work.computers c → ⊥) →
+    c.computer ≡ Some computer → c.authenticator ≡ Some given → lookup same_name computer d.work.computers.channels ≡ found → (IsNext d.work.computers c.computer c.authenticator → ⊥) →
     (judge_channel found computer given name now line c.info c.validation (desk d.table (take_channel computer d.work))).table ≡ d.table
 other_channel None c computer given name now line d named there stands not = refl
 other_channel (Some channel) c computer given name now line d named there stands not =
@@ -175,7 +175,7 @@ other_channel (Some channel) c computer given name now line d named there stands
     (λ is. not (record { computer = computer; given = given; channel = channel; named = named; there = there; stands = stands; passes = (bytes_eq-Decides _ _).0 is }))
 
 other_on : (computer : Option (List ℕ)) (given : Option Authenticator) (c : LogonCall) (name : List ℕ) (now : ℕ) (line : Line) (d : Desk) →
-    c.computer ≡ computer → c.authenticator ≡ given → (IsNext d.work.computers c → ⊥) →
+    c.computer ≡ computer → c.authenticator ≡ given → (IsNext d.work.computers c.computer c.authenticator → ⊥) →
     (answer_logon computer given name now line c.info c.validation d).table ≡ d.table
 other_on None given c name now line d named there not = refl
 other_on (Some computer) None c name now line d named there not = refl

@@ -42,7 +42,7 @@ not_both channel other given more same alike fails passes = absurd cc
 
 by_pass : (passes : Bool) (c : LogonCall) (computer : List ℕ) (given : Authenticator) (channel : SecureChannelState) (computers : Computers) (name : List ℕ) (now : ℕ) (line : Line) (d : Desk) →
     c.computer ≡ Some computer → c.authenticator ≡ Some given → lookup same_name computer computers.channels ≡ Some channel → passes_on channel given ≡ passes →
-    JudgedOnce line d.work.actions (judge_return (return_by passes channel given) (key_of_channel channel) name now line c.info c.validation d) (IsNext computers c)
+    JudgedOnce line d.work.actions (judge_return (return_by passes channel given) (key_of_channel channel) name now line c.info c.validation d) (IsNext computers c.computer c.authenticator)
 by_pass true c computer given channel computers name now line d named there stands passes = (
   judged.Passed _,
   _,
@@ -58,7 +58,7 @@ by_pass false c computer given channel computers name now line d named there sta
 
 by_channel : (found : Option SecureChannelState) (c : LogonCall) (computer : List ℕ) (given : Authenticator) (computers : Computers) (name : List ℕ) (now : ℕ) (line : Line) (d : Desk) →
     c.computer ≡ Some computer → c.authenticator ≡ Some given → lookup same_name computer computers.channels ≡ found →
-    JudgedOnce line d.work.actions (judge_channel found computer given name now line c.info c.validation d) (IsNext computers c)
+    JudgedOnce line d.work.actions (judge_channel found computer given name now line c.info c.validation d) (IsNext computers c.computer c.authenticator)
 by_channel None c computer given computers name now line d named there stands = (
   judged.NoChannel,
   _,
@@ -71,7 +71,7 @@ by_channel (Some channel) c computer given computers name now line d named there
 
 by_names : (computer : Option (List ℕ)) (given : Option Authenticator) (c : LogonCall) (name : List ℕ) (now : ℕ) (line : Line) (d : Desk) →
     c.computer ≡ computer → c.authenticator ≡ given →
-    JudgedOnce line d.work.actions (answer_logon computer given name now line c.info c.validation d) (IsNext d.work.computers c)
+    JudgedOnce line d.work.actions (answer_logon computer given name now line c.info c.validation d) (IsNext d.work.computers c.computer c.authenticator)
 by_names None given c name now line d named there = (
   judged.NoChannel,
   _,

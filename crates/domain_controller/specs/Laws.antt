@@ -8,13 +8,9 @@ use Rattle.wire_base.specs.declared.authenticator.Authenticator.{Authenticator}
 use Rattle.authenticators.specs.Sequences.{Passes}
 use Rattle.authenticators.specs.SecureChannels.{SecureChannelState, key_of_channel}
 use Rattle.outside.specs.declared.action.Action.{Action}
-use Rattle.outside.specs.declared.action.Action.TheVariants as action
-use Rattle.outside.specs.declared.action.CloseCause.TheVariants as close
 use Rattle.outside.specs.declared.action.Judged.{Judged}
-use Rattle.outside.specs.declared.action.Judged.TheVariants as judged
 use Rattle.outside.specs.declared.action.StepRefused.{StepRefused}
 use Rattle.outside.specs.declared.event.Event.{Event}
-use Rattle.outside.specs.declared.event.Event.TheVariants as event
 use Rattle.rpc_units.specs.declared.unit.Unit.{Unit as RpcUnit}
 use Rattle.rpc_units.specs.declared.unit.Syntax.{Syntax}
 use Rattle.rpc_units.specs.Calls.{bytes_of_call}
@@ -23,7 +19,6 @@ use Rattle.rpc_units.specs.Reading.{unit_of}
 use Rattle.rpc_units.specs.Stream.{cut_stream}
 use Rattle.rpc_units.specs.Writing.{written}
 use Rattle.logon_stubs.specs.declared.calls.Call.{Call}
-use Rattle.logon_stubs.specs.declared.calls.Call.TheVariants as call
 use Rattle.logon_stubs.specs.declared.calls.LogonCall.{LogonCall}
 use Rattle.logon_stubs.specs.declared.calls.Reply.{Reply}
 use Rattle.logon_stubs.specs.Writing.{written_reply}
@@ -43,6 +38,11 @@ use Rattle.domain_controller.specs.declared.state.Computers.{Computers}
 use Rattle.domain_controller.specs.declared.state.Running.{Running}
 use Rattle.domain_controller.specs.declared.state.Talk.{Talk}
 use Rattle.domain_controller.specs.declared.hearing.Heard.{Heard}
+use Rattle.outside.specs.declared.action.Action.TheVariants as action
+use Rattle.outside.specs.declared.action.CloseCause.TheVariants as close
+use Rattle.outside.specs.declared.action.Judged.TheVariants as judged
+use Rattle.outside.specs.declared.event.Event.TheVariants as event
+use Rattle.logon_stubs.specs.declared.calls.Call.TheVariants as call
 use Rattle.domain_controller.specs.declared.hearing.Heard.TheVariants as heard
 
 -- ---- what follows a link that was closed
@@ -173,14 +173,14 @@ pub record KeepsOthers : Type 0 where
 
 -- ---- which authenticator passes
 
--- the call names a computer and has an authenticator, the computer has a channel, and the authenticator is the next one
--- of its sequence
-pub record IsNext (computers : Computers) (c : LogonCall) : Type 0 where
+-- a call names a computer and has an authenticator, as these are in it; the computer has a channel, and the
+-- authenticator is the next one of its sequence
+pub record IsNext (computers : Computers) (name : Option (List ℕ)) (shown : Option Authenticator) : Type 0 where
   pub computer : List ℕ
   pub given : Authenticator
   pub channel : SecureChannelState
-  pub named : c.computer ≡ Some computer
-  pub there : c.authenticator ≡ Some given
+  pub named : name ≡ Some computer
+  pub there : shown ≡ Some given
   pub stands : lookup same_name computer computers.channels ≡ Some channel
   pub passes : Passes (key_of_channel channel) channel.seed given
 
@@ -207,7 +207,7 @@ pub record PassesTheNext : Type 0 where
       (how : Judged) × (answer : List ℕ)
       × ((answer_logon c.computer c.authenticator name now line c.info c.validation d).work.actions
       ≡ d.work.actions ++ action.Judged how ∷ action.Send line.link answer ∷ [])
-      × ((is_passed how ≡ true) ↔ IsNext d.work.computers c)
+      × ((is_passed how ≡ true) ↔ IsNext d.work.computers c.computer c.authenticator)
 
 -- ---- which counts of bad passwords change
 
@@ -218,8 +218,8 @@ pub record CountsByVerdict : Type 0 where
   pub counts : (s : State) (what : Event) (now : ℕ) (left : List (List ℕ)) → DifferInCounts s.table (step_of s what now left).state.table
   pub given_up : (s : State) (what : Event) (now : ℕ) (left : List (List ℕ)) (why : StepRefused) →
       (step_of s what now left).answer ≡ Err why → (step_of s what now left).state.table ≡ s.table
-  pub next : (c : LogonCall) (name : List ℕ) (now : ℕ) (line : Line) (d : Desk) → IsNext d.work.computers c →
+  pub next : (c : LogonCall) (name : List ℕ) (now : ℕ) (line : Line) (d : Desk) → IsNext d.work.computers c.computer c.authenticator →
       (answer_logon c.computer c.authenticator name now line c.info c.validation d).table
       ≡ (judge_info d.table name now c.info c.validation).table
-  pub other : (c : LogonCall) (name : List ℕ) (now : ℕ) (line : Line) (d : Desk) → (IsNext d.work.computers c → ⊥) →
+  pub other : (c : LogonCall) (name : List ℕ) (now : ℕ) (line : Line) (d : Desk) → (IsNext d.work.computers c.computer c.authenticator → ⊥) →
       (answer_logon c.computer c.authenticator name now line c.info c.validation d).table ≡ d.table

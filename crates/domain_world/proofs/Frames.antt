@@ -13,7 +13,9 @@ pub mod LeftLaws
 pub mod MarkPlaceLaws
 pub mod MoveFrameLaws
 pub mod NewUnitLaws
+pub mod NoBytesLaws
 pub mod OpenMadeLaws
 pub mod PlacedLaws
+pub mod RequesterLaws
 pub mod StepFrameLaws
 pub mod TurnFrameLaws

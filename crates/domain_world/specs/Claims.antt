@@ -35,7 +35,7 @@ use Rattle.channel_events.specs.Marks.{OneOf}
 use Rattle.step_notes.specs.ControllerNotes.{channel_in, has_passed}
 use Rattle.step_notes.specs.Judged.{IsJudgedRight, base_key_asked, passed_channel, stored_hash}
 use Rattle.step_notes.specs.Marking.{is_channel}
-use Rattle.step_notes.specs.Records.{Book, ChallengeSent, Judging, JudgementTold, MessageMade, MessageTaken, OutcomeTold, timestamp_in}
+use Rattle.step_notes.specs.Records.{Book, ChallengeSent, Judging, JudgementTold, MessageMade, MessageTaken, OutcomeTold, computer_in, given_in, timestamp_in}
 use Rattle.world_moves.specs.declared.links.EndId.TheVariants.{Controller, Member}
 use Rattle.world_moves.specs.declared.links.Route.{Route}
 use Rattle.world_moves.specs.Counting.{is_in}
@@ -51,7 +51,7 @@ abbrev pub passed_on : ChannelIdentity → Judging → Bool
 passed_on channel j = is_channel (passed_channel j) channel
 
 abbrev pub judged_timestamp : Judging → ℕ
-judged_timestamp j = timestamp_in j.logon.authenticator
+judged_timestamp j = timestamp_in (given_in j.asked)
 
 -- how far the timestamps that passed on a channel moved its seed: the sum of each plus one
 abbrev pub moved_if : Bool → ℕ → ℕ → ℕ
@@ -258,8 +258,8 @@ ReplaysBySum past =
     (channel : ChannelIdentity) (later between earlier : List Judging) (second first : Judging) →
     past.book.judged ≡ later ++ second ∷ (between ++ first ∷ earlier) →
     passed_on channel first ≡ true →
-    is_channel (channel_in second.controller second.logon.computer second.computers) channel ≡ true →
-    second.logon.authenticator ≡ first.logon.authenticator →
+    is_channel (channel_in second.controller (computer_in second.asked) second.computers) channel ≡ true →
+    given_in second.asked ≡ given_in first.asked →
     (has_passed second.how ≡ true) ↔ (moved_on channel (between ++ first ∷ []) % 2 ^ 32 ≡ 0)
 
 -- Plain NTLMv1: no NT response of 24 bytes is accepted on two links over one stored hash where it answers the link's

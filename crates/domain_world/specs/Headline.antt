@@ -23,7 +23,7 @@ use Rattle.domain_world.specs.Past.{past}
 -- What holds of the run of every list of moves from any plan: `claims_hold_of_runs`, and the clause of `drive`. What
 -- members accept, how often a count is raised, what the ends of a channel share, and which calls turns made, is of
 -- schedules that are clear: in them no credential passed on a unit made for another channel or for none, and no seed
--- came round. Of the others `unclashed` alone asks that, of its own passes.
+-- came round. Of the others `answered` and `unclashed` ask that no credential clashed.
 pub record Proved (plan : Plan) (moves : List Move) : Type 0 where
   -- challenges, and the messages that are made for them
   pub challenges : ChallengesServeOnce (past plan moves)

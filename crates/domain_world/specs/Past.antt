@@ -5,6 +5,7 @@ use Rattle.wire_base.specs.Maps.{lookup, same_number}
 use Rattle.outside.specs.declared.action.Action.{Action}
 use Rattle.outside.specs.declared.action.Action.TheVariants as action
 use Rattle.end_links.specs.Serving.{ServedUnit}
+use Rattle.channel_client.specs.State.{Requester}
 use Rattle.domain_controller.specs.State.{State as ControllerState}
 use Rattle.logon_client.specs.State.{State as ClientState}
 use Rattle.member_server.specs.State.{State as MemberState}
@@ -17,7 +18,7 @@ use Rattle.step_notes.specs.ClientNotes.{made_note, units_of_client}
 use Rattle.step_notes.specs.ControllerNotes.{Answered, Where, answer_on, units_of_controller}
 use Rattle.step_notes.specs.Marking.{answered_marks, clashes, turn_marks}
 use Rattle.step_notes.specs.MemberNotes.{LinkAt, TurnNote, challenge_note, link_of_place, link_units, message_note, taken_link, turn_in, turn_note, turn_units}
-use Rattle.step_notes.specs.Records.{Book, Judging, JudgementTold, LogonTurn, MessageTaken, OutcomeTold, Sent, blank}
+use Rattle.step_notes.specs.Records.{Book, Judging, JudgementTold, LogonTurn, MessageTaken, OfMember, OutcomeTold, RequesterId, Sent, blank}
 use Rattle.world_moves.specs.declared.bag.BagUnit.{BagUnit}
 use Rattle.world_moves.specs.declared.links.EndId.{EndId}
 use Rattle.world_moves.specs.declared.links.EndId.TheVariants.{Controller, Member, Client}
@@ -143,6 +144,10 @@ controller_of_plan (Some plan) ends = controller_number (end_of_peer plan.contro
 
 abbrev pub controller_of : ℕ → State → ℕ
 controller_of member s = controller_of_plan (slice_get s.member_plans member) s.ends
+
+-- the number of the controller with which the channels of who asks are
+abbrev pub controller_asked : RequesterId → State → ℕ
+controller_asked (OfMember member) s = controller_of member s
 
 -- ---- bytes come at an end
 
@@ -275,6 +280,14 @@ judgements_in given at = flat_map (λ (one : EndId × Action). judgement_by one.
 abbrev pub running_in : Option MemberState → Option MemberRunning
 running_in None = None
 running_in (Some m) = m.running
+
+abbrev pub requester_in : Option MemberRunning → Option Requester
+requester_in None = None
+requester_in (Some running) = Some running.logons.channel
+
+-- the state of who asks, as it stands at its end: none where that isn't there, or has stopped
+abbrev pub requester_at : State → RequesterId → Option Requester
+requester_at s (OfMember member) = requester_in (running_in (slice_get s.ends.members member))
 
 -- a member dials exactly where a turn starts, which is out after the move
 abbrev pub turns_by : EndId → Action → State → List LogonTurn

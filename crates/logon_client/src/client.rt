@@ -11,7 +11,7 @@ use crate::answering::bind_bytes;
 use crate::hearing::{conclude, tell};
 use crate::outcome::{ClientOutcome, NoAnswerCause};
 use crate::plan::{ClientPlan, Task};
-use crate::state::{After, Phase, Running, ClientLink, Talk, Work};
+use crate::state::{After, ClientLink, Phase, Running, Talk, Work};
 use end_links::{Link, ShortActions, serve_piece};
 use outside::{Action, Actions, Chances, Event, StepRefused};
 use rpc_units::Joiner;

@@ -6,6 +6,7 @@ ghost use Rattle.std.specs.Int.{is_in_range};
 ghost use Rattle.std.specs.List.{list_all};
 ghost use Rattle.std.specs.Str.Parse.{digits_value};
 ghost use Rattle.clap.specs.Words.{first_of, found_of, rows_of};
+ghost use Rattle.wire_base.specs.Decimal.{number_of_bits};
 ghost use Rattle.wire_base.specs.Names.{is_name, is_name_byte};
 ghost use Rattle.nt_words.specs.Jobs.{text_at, number_at};
 ghost use Rattle.nt_words.specs.Options.{choice, fits, is_text, suits, first_misfit, number_of};

@@ -49,7 +49,7 @@ pub(crate) fn sam_info(
 }
 
 /// The same, field by field.
-#[tactic(auto, unfolding(crate::specs::Granted::sam_info_of))]
+#[tactic(auto, unfolding(crate::specs::Granting::sam_info_of))]
 fn fill_in(
     alloc: Global,
     table: &Table,
@@ -91,7 +91,7 @@ fn fill_in(
 
 /// What a reply at a validation level carries of what is granted: at level 3 all of it, at another one neither the
 /// identifiers beside the groups nor their flag (this project's own choice). It takes no memory.
-#[tactic(auto, unfolding(crate::specs::Granted::at_level))]
+#[tactic(auto, unfolding(crate::specs::Granting::at_level))]
 pub fn at_level(alloc: Global, info: SamInfo, level: u16) -> SamInfo
     ensures { result ≡ at_level level info }
 {

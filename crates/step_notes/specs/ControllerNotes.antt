@@ -34,7 +34,7 @@ use Rattle.domain_controller.specs.declared.state.ChallengePair.{ChallengePair}
 use Rattle.domain_controller.specs.declared.state.Running.{Running}
 use Rattle.domain_controller.specs.declared.state.Talk.{Talk}
 use Rattle.channel_events.specs.Marks.{Mark, Plain, Opened, ReplyTo}
-use Rattle.step_notes.specs.Records.{Judging}
+use Rattle.step_notes.specs.Records.{Judging, Network, computer_in}
 use Rattle.step_notes.specs.Served.{units_if_taken, work_after}
 
 -- ---- the units
@@ -133,7 +133,7 @@ passing (Some channel) j =
 -- the argument: whether it passed
 abbrev pub judging_by : Bool → Judging → Answered
 judging_by false j = record { sends = true; mark = Plain; checked = None; judging = Some j }
-judging_by true j = passing (channel_in j.controller j.logon.computer j.computers) j
+judging_by true j = passing (channel_in j.controller (computer_in j.asked) j.computers) j
 
 -- at which controller, in which unit of the bag, and after how many moves
 pub record Where : Type 0 where
@@ -161,7 +161,7 @@ judging_of w line c before after = record {
   name = w.name;
   unit = w.unit;
   number = line.call;
-  logon = c;
+  asked = Network c;
   table = before.table;
   computers = before.work.computers;
   moment = w.moment;

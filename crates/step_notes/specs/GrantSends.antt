@@ -22,13 +22,13 @@ use Rattle.domain_controller.specs.Machine.{Desk, answer_logon}
 use Rattle.domain_controller.specs.declared.line.Line.{Line}
 use Rattle.step_notes.specs.ControllerNotes.{Where, judging_of, new_actions}
 use Rattle.step_notes.specs.Judged.{base_key_asked}
-use Rattle.step_notes.specs.Records.{Judging}
+use Rattle.step_notes.specs.Records.{Judging, computer_in, given_in, network_in}
 
 -- ---- what is sent then
 
 -- what is granted to the account: its session base key is the one of its stored hash and of the response
 abbrev pub info_granted : Judging → Account → SamInfo
-info_granted j account = sam_info_of j.table j.name account (base_key_asked j j.logon.info) j.moment
+info_granted j account = sam_info_of j.table j.name account (base_key_asked j (network_in j.asked).info) j.moment
 
 -- the reply on a channel whose authenticator passed, at the level that was asked for: that key stands in it under the
 -- session key of the channel
@@ -36,7 +36,7 @@ abbrev pub reply_granted : Judging → Account → SecureChannelState → Authen
 reply_granted j account channel given =
     granting_reply
     (Some (record { credential = return_of (key_of_channel channel) channel.seed given.timestamp; timestamp = 0 }))
-    j.logon.validation (info_granted j account) (crypt_key (key_of_channel channel) (base_key_asked j j.logon.info)) 1 0
+    (network_in j.asked).validation (info_granted j account) (crypt_key (key_of_channel channel) (base_key_asked j (network_in j.asked).info)) 1 0
 
 -- the call's one judgement, and the frames of that reply
 abbrev pub actions_granting : Line → Reply → List Action
@@ -48,9 +48,9 @@ actions_granting line answer =
 -- the step that granted the call did no more and no less than that, on the channel of the computer that the call names,
 -- for the account of the user's name
 pub record IsSentAsGranted (j : Judging) (line : Line) (new : List Action) : Type 0 where
-  pub next : IsNext j.computers j.logon
+  pub next : IsNext j.computers (computer_in j.asked) (given_in j.asked)
   pub account : Account
-  pub stored : account_in j.table.accounts j.logon.info.user ≡ Some account
+  pub stored : account_in j.table.accounts (network_in j.asked).info.user ≡ Some account
   pub actions : new ≡ actions_granting line (reply_granted j account next.channel next.given)
 
 -- What a controller sends where it grants a Logon call: at whatever moment, and whatever stood before.

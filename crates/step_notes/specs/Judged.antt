@@ -10,21 +10,20 @@ use Rattle.authenticators.specs.SecureChannels.{SecureChannelState, key_of_chann
 use Rattle.outside.specs.declared.action.Judged.{Judged}
 use Rattle.outside.specs.declared.action.Judged.TheVariants as judged
 use Rattle.ntlm_responses.specs.Verification.{base_key_of}
-use Rattle.logon_stubs.specs.declared.calls.LogonCall.{LogonCall}
 use Rattle.logon_stubs.specs.declared.info.NetworkInfo.{NetworkInfo}
 use Rattle.account_table.specs.declared.account.Account.{Account}
 use Rattle.account_table.specs.LookUps.{account_in}
 use Rattle.domain_controller.specs.Laws.{IsNext}
 use Rattle.domain_controller.specs.declared.state.Computers.{Computers}
 use Rattle.step_notes.specs.ControllerNotes.{channel_in, has_passed}
-use Rattle.step_notes.specs.Records.{Judging}
+use Rattle.step_notes.specs.Records.{Judging, computer_in, given_in}
 
 -- ---- authenticators that pass
 
 -- the channel on which the authenticator of a call passed: none where it didn't pass
 abbrev pub channel_if : Bool → Judging → Option ChannelIdentity
 channel_if false j = None
-channel_if true j = channel_in j.controller j.logon.computer j.computers
+channel_if true j = channel_in j.controller (computer_in j.asked) j.computers
 
 abbrev pub passed_channel : Judging → Option ChannelIdentity
 passed_channel j = channel_if (has_passed j.how) j
@@ -40,23 +39,23 @@ stored_hash j info = hash_in (account_in j.table.accounts info.user)
 abbrev pub base_key_asked : Judging → NetworkInfo → List ℕ
 base_key_asked j info = base_key_of (stored_hash j info) info.user info.domain info.nt
 
--- the call names a computer that has a channel and has an authenticator, which isn't the next one of its sequence
-pub record IsBarredBy (computers : Computers) (c : LogonCall) : Type 0 where
+-- a call names a computer that has a channel and has an authenticator, which isn't the next one of its sequence
+pub record IsBarredBy (computers : Computers) (name : Option (List ℕ)) (shown : Option Authenticator) : Type 0 where
   pub computer : List ℕ
   pub given : Authenticator
   pub channel : SecureChannelState
-  pub named : c.computer ≡ Some computer
-  pub there : c.authenticator ≡ Some given
+  pub named : name ≡ Some computer
+  pub there : shown ≡ Some given
   pub stands : lookup same_name computer computers.channels ≡ Some channel
   pub fails : Passes (key_of_channel channel) channel.seed given → ⊥
 
--- Next credential: a controller tells that a Logon call passed, with whatever status, exactly where its authenticator
+-- Next credential: a controller tells that a call passed, with whatever status, exactly where its authenticator
 -- is the next one of the channel of the computer that it names; that it was barred exactly where there is a channel and
 -- an authenticator, which isn't the next one; else that there is no channel.
-pub record IsRightOf (how : Option Judged) (computers : Computers) (c : LogonCall) : Type 0 where
-  pub passed : (has_passed how ≡ true) ↔ IsNext computers c
-  pub barred : (how ≡ Some judged.Barred) ↔ IsBarredBy computers c
-  pub other : (how ≡ Some judged.NoChannel) ↔ ((IsNext computers c → ⊥) × (IsBarredBy computers c → ⊥))
+pub record IsRightOf (how : Option Judged) (computers : Computers) (name : Option (List ℕ)) (shown : Option Authenticator) : Type 0 where
+  pub passed : (has_passed how ≡ true) ↔ IsNext computers name shown
+  pub barred : (how ≡ Some judged.Barred) ↔ IsBarredBy computers name shown
+  pub other : (how ≡ Some judged.NoChannel) ↔ ((IsNext computers name shown → ⊥) × (IsBarredBy computers name shown → ⊥))
 
 abbrev pub IsJudgedRight : Judging → Type 0
-IsJudgedRight j = IsRightOf j.how j.computers j.logon
+IsJudgedRight j = IsRightOf j.how j.computers (computer_in j.asked) (given_in j.asked)

@@ -14,7 +14,7 @@ use Rattle.domain_controller.specs.ReadBack.{heard_reply}
 use Rattle.domain_controller.specs.State.{State as ControllerState}
 use Rattle.domain_controller.specs.Whole.{AreChallenges, InRangeState, InRangeTable}
 use Rattle.step_notes.specs.ControllerNotes.{Answered, answer_on, units_of_controller}
-use Rattle.step_notes.specs.Records.{Judging}
+use Rattle.step_notes.specs.Records.{Judging, network_in}
 use Rattle.step_notes.specs.ReplySends.{IsItsReply, reply_passed, standing_at}
 
 pub record IsJudgedInRange (j : Judging) : Type 0 where
@@ -36,4 +36,4 @@ pub record PassedRepliesAreRead : Type 0 where
       (map (answer_on link (standing_at at controller unit c now)) (units_of_controller c link piece now left))
   -- a level of more than 16 bits would be written as another one
   pub read : (j : Judging) (bytes : List ℕ) (is : IsItsReply j bytes) (frames : List RpcUnit) (unit : RpcUnit) →
-      IsJudgedInRange j → j.logon.validation < 2 ^ 16 → IsHeard bytes frames unit → IsReadAsMade j bytes is unit
+      IsJudgedInRange j → (network_in j.asked).validation < 2 ^ 16 → IsHeard bytes frames unit → IsReadAsMade j bytes is unit

@@ -46,7 +46,7 @@ use Rattle.member_server.specs.declared.state.Running.{Running}
 use Rattle.member_server.specs.declared.state.Talk.{Talk}
 use Rattle.member_server.specs.declared.state.TurnTalk.{TurnTalk}
 use Rattle.channel_events.specs.Marks.{Mark, Plain, Opening, Calling}
-use Rattle.step_notes.specs.Records.{ChallengeSent, LogonTurn, MessageTaken, timestamp_in}
+use Rattle.step_notes.specs.Records.{ChallengeSent, LogonTurn, MessageTaken, OfMember, RequesterId, timestamp_in}
 use Rattle.step_notes.specs.Served.{talk_after, units_if_taken, work_after}
 
 -- ---- the units of the link of the turn
@@ -184,22 +184,23 @@ turn_note controller unit = taking_note (taking_at unit) controller unit.work.wo
 
 -- ---- a turn that starts
 
-abbrev pub stamped : Option ChannelIdentity → Option Authenticator → ℕ → List LogonTurn
-stamped None given member = []
-stamped (Some channel) None member = []
-stamped (Some channel) (Some given) member = record { member = member; channel = channel; timestamp = given.timestamp } ∷ []
+abbrev pub stamped : Option ChannelIdentity → Option Authenticator → RequesterId → List LogonTurn
+stamped None given who = []
+stamped (Some channel) None who = []
+stamped (Some channel) (Some given) who = record { requester = who; channel = channel; timestamp = given.timestamp } ∷ []
 
-abbrev pub turn_by : Option Step → Option ChannelIdentity → ℕ → List LogonTurn
-turn_by (Some (step.Bind (call.Logon c))) channel member = stamped channel c.authenticator member
-turn_by _ channel member = []
+abbrev pub turn_by : Option Step → Option ChannelIdentity → RequesterId → List LogonTurn
+turn_by (Some (step.Bind (call.Logon c))) channel who = stamped channel c.authenticator who
+turn_by _ channel who = []
 
 -- the Logon turn whose bind waits, if one does, where the channel is with that controller
-abbrev pub turn_of : ℕ → ℕ → Requester → List LogonTurn
-turn_of controller member s = turn_by (step_in s.turn) (stands_in controller s.caller.computer s.standing) member
+abbrev pub turn_of : ℕ → RequesterId → Requester → List LogonTurn
+turn_of controller who s = turn_by (step_in s.turn) (stands_in controller s.caller.computer s.standing) who
 
+-- of a member
 abbrev pub turn_in : ℕ → ℕ → Option Running → List LogonTurn
 turn_in controller member None = []
-turn_in controller member (Some running) = turn_of controller member running.logons.channel
+turn_in controller member (Some running) = turn_of controller (OfMember member) running.logons.channel
 
 -- ---- messages on an accepted link
 

@@ -1,7 +1,7 @@
 -- What a run leaves behind, as plain records: what each unit was made for, which calls were judged, which messages were
 -- taken, what was told. Nothing here says how an end works. Moves, draws, links and units of the bag are numbered from
 -- 0.
-use Rattle.std.specs.Prelude.{ℕ, Bool, false, List, [], Option, Some, None}
+use Rattle.std.specs.Prelude.{ℕ, ◌==◌, Bool, false, List, [], Option, Some, None}
 use Rattle.wire_base.specs.declared.authenticator.Authenticator.{Authenticator}
 use Rattle.authenticators.specs.Channels.{ChannelIdentity}
 use Rattle.outside.specs.declared.action.Judged.{Judged}
@@ -22,12 +22,29 @@ pub record Sent : Type 0 where
 
 -- ---- at a controller
 
+-- A call that a controller judges: it names a computer and has an authenticator, and asks for something (MS-NRPC
+-- 3.1.4.5). A NetrLogonSamLogon with a network logon (3.5.4.5.3) is the only one yet.
+pub data JudgedCall : Type 0 where
+  Network : (call : LogonCall) → JudgedCall
+
+-- the computer that it names
+abbrev pub computer_in : JudgedCall → Option (List ℕ)
+computer_in (Network c) = c.computer
+
+-- its authenticator
+abbrev pub given_in : JudgedCall → Option Authenticator
+given_in (Network c) = c.authenticator
+
+-- the network logon that it asks for
+abbrev pub network_in : JudgedCall → LogonCall
+network_in (Network c) = c
+
 -- the timestamp of an authenticator; 0 of none
 abbrev pub timestamp_in : Option Authenticator → ℕ
 timestamp_in None = 0
 timestamp_in (Some given) = given.timestamp
 
--- A NetrLogonSamLogon that a controller heard, with all that its answer rests on.
+-- A call that a controller heard and judged, with all that its answer rests on.
 pub record Judging : Type 0 where
   -- the moves made before it
   pub at : ℕ
@@ -36,9 +53,9 @@ pub record Judging : Type 0 where
   pub name : List ℕ
   -- the unit of the bag that carried the call, where it came from an end of this world
   pub unit : Option ℕ
-  -- the call's number, and its parameters
+  -- the call's number, and what it asked
   pub number : ℕ
-  pub logon : LogonCall
+  pub asked : JudgedCall
   -- the accounts, the channels of computers, and the moment, before it was judged
   pub table : AccountTable
   pub computers : Computers
@@ -88,9 +105,16 @@ pub record OutcomeTold : Type 0 where
   pub link : ℕ
   pub outcome : Outcome
 
--- A Logon turn of a member: the channel and the timestamp of its authenticator.
+-- Who asks on secure channels: a member, by its number. It is the only kind of end yet that does.
+pub data RequesterId : Type 0 where
+  OfMember : (member : ℕ) → RequesterId
+
+abbrev pub same_requester : RequesterId → RequesterId → Bool
+same_requester (OfMember one) (OfMember other) = one == other
+
+-- A Logon turn of who asks: the channel and the timestamp of its authenticator.
 pub record LogonTurn : Type 0 where
-  pub member : ℕ
+  pub requester : RequesterId
   pub channel : ChannelIdentity
   pub timestamp : ℕ
 

@@ -24,14 +24,14 @@ use Rattle.channel_events.specs.Marks.{Mark, Plain, Opening, Opened, Calling, Re
 use Rattle.step_notes.specs.ChannelNames.{sends_in}
 use Rattle.step_notes.specs.ControllerNotes.{Answered, Where, answer_on, units_of_controller}
 use Rattle.step_notes.specs.Judged.{passed_channel}
-use Rattle.step_notes.specs.Records.{Judging}
+use Rattle.step_notes.specs.Records.{Judging, computer_in, given_in, network_in}
 
 -- ---- the reply to a call that passed
 
 -- what the call comes to by the accounts of its controller and at the moment of that step; a level other than 2 and
 -- 3 isn't served
 abbrev pub verdict_passed : Judging → Verdict
-verdict_passed j = (judge_info j.table j.name j.moment j.logon.info j.logon.validation).verdict
+verdict_passed j = (judge_info j.table j.name j.moment (network_in j.asked).info (network_in j.asked).validation).verdict
 
 -- the reply by the session key of the channel, the credential that is returned, the level that was asked for, and the
 -- verdict: what is granted has its key under that session key
@@ -47,13 +47,13 @@ reply_with key credential level verdict = reply.Logon (record {
 -- on a channel whose next authenticator the call has
 abbrev pub reply_passed : Judging → SecureChannelState → Authenticator → Reply
 reply_passed j channel given =
-    reply_with (key_of_channel channel) (return_of (key_of_channel channel) channel.seed given.timestamp) j.logon.validation
+    reply_with (key_of_channel channel) (return_of (key_of_channel channel) channel.seed given.timestamp) (network_in j.asked).validation
     (verdict_passed j)
 
 -- The call passed, with the status of that reply, and these bytes are all frames of the reply, under the call's number.
 -- Which presentation context it names, and how long its frames are, isn't said.
 pub record IsItsReply (j : Judging) (bytes : List ℕ) : Type 0 where
-  pub next : IsNext j.computers j.logon
+  pub next : IsNext j.computers (computer_in j.asked) (given_in j.asked)
   pub how : j.how ≡ Some (judged.Passed (status_of (verdict_passed j)))
   pub context : ℕ
   pub limit : ℕ

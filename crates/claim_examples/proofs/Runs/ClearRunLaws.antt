@@ -32,7 +32,7 @@ use Rattle.member_server.specs.Turns.{timestamp_of}
 use Rattle.channel_events.specs.Marks.{OneOf}
 use Rattle.channel_events.proofs.ListLaws.{all_weaker, one_found, one_weaker, one_with}
 use Rattle.step_notes.specs.Judged.{hash_in}
-use Rattle.step_notes.specs.Records.{Book, Judging, MessageTaken, OutcomeTold, blank}
+use Rattle.step_notes.specs.Records.{Book, Judging, MessageTaken, OutcomeTold, blank, network_in}
 use Rattle.world_moves.specs.declared.bag.BagUnit.{BagUnit}
 use Rattle.world_moves.specs.declared.links.EndId.{EndId}
 use Rattle.world_moves.specs.declared.links.EndId.TheVariants.{Client, Member}
@@ -388,9 +388,9 @@ module _ (plan : Plan) (client member controller : ℕ) (can : CanComeIn plan cl
 
   -- where it doesn't travel as zeros, no key of the run does
   pub keys_arrive : (KeyTravels key (base_key can.task (message_for j a)) → ⊥) →
-      AllByRecursion (λ (call : Judging). call.how ≡ Some (judged.Passed 0) → TravelsAsZeros call call.logon.info → ⊥) (past plan (logon_moves number (can.task.echo == 0))).book.judged
+      AllByRecursion (λ (call : Judging). call.how ≡ Some (judged.Passed 0) → TravelsAsZeros call (network_in call.asked).info → ⊥) (past plan (logon_moves number (can.task.echo == 0))).book.judged
   keys_arrive never =
-      all_weaker (λ (call : Judging). TravelsAsZeros call call.logon.info → KeyTravels key base) (λ (call : Judging). call.how ≡ Some (judged.Passed 0) → TravelsAsZeros call call.logon.info → ⊥)
+      all_weaker (λ (call : Judging). TravelsAsZeros call (network_in call.asked).info → KeyTravels key base) (λ (call : Judging). call.how ≡ Some (judged.Passed 0) → TravelsAsZeros call (network_in call.asked).info → ⊥)
       (past plan (logon_moves number (can.task.echo == 0))).book.judged (λ call only how zeros. never (sym base_so ∙ only zeros)) ends_so.2.1
 
 -- the example's client follows the plan of ann

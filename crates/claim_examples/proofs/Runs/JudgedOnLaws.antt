@@ -15,11 +15,10 @@ use Rattle.member_server.specs.declared.state.TurnTalk.{TurnTalk}
 use Rattle.step_notes.specs.ControllerNotes.{channel_by, channel_in, has_passed}
 use Rattle.step_notes.specs.Judged.{base_key_asked, channel_if}
 use Rattle.step_notes.specs.MemberNotes.{turn_note, turn_units}
-use Rattle.step_notes.specs.Records.{Book, Judging}
+use Rattle.step_notes.specs.Records.{Book, Judging, computer_in, network_in}
 use Rattle.world_moves.specs.declared.bag.BagUnit.{BagUnit}
 use Rattle.world_moves.specs.declared.links.EndId.{EndId}
 use Rattle.world_moves.specs.declared.links.EndId.TheVariants.{Client, Controller, Member}
-use Rattle.world_moves.specs.declared.moves.Move.TheVariants as move
 use Rattle.world_moves.specs.declared.state.State.{State}
 use Rattle.world_moves.specs.Moving.{settle}
 use Rattle.logon_steps.specs.Calling.{TravelsAsZeros as KeyTravels}
@@ -27,6 +26,7 @@ use Rattle.domain_world.specs.Claims.{TravelsAsZeros, key_bytes}
 use Rattle.domain_world.specs.Past.{Coming, controller_of, note, note_at, note_client, note_member, note_messages, note_turn, note_turns, numbers_on}
 use Rattle.domain_world.proofs.Completeness.UnitNotedLaws.{Came, coming, state_then}
 use Rattle.claim_examples.proofs.Runs.NotedLaws.{world_at}
+use Rattle.world_moves.specs.declared.moves.Move.TheVariants as move
 
 -- no call is heard there
 abbrev pub HearsNoCall : EndId → Type 0
@@ -60,11 +60,11 @@ judged_still s unit later end none came k b =
 
 -- where a key of a call that was judged travels as zeros, this one does
 abbrev pub OnlyTravels : (key base : List ℕ) → List Judging → Type 0
-OnlyTravels key base judged = AllByRecursion (λ (j : Judging). TravelsAsZeros j j.logon.info → KeyTravels key base) judged
+OnlyTravels key base judged = AllByRecursion (λ (j : Judging). TravelsAsZeros j (network_in j.asked).info → KeyTravels key base) judged
 
 -- it is the key of the client's answer under the key of its member's channel, where the controller keeps that channel
-pub travels_so : (j : Judging) (o state : SecureChannelState) (computer : List ℕ) → has_passed j.how ≡ true → j.logon.computer ≡ Some computer →
-    lookup same_name computer j.computers.channels ≡ Some state → key_of_channel state ≡ key_of_channel o → TravelsAsZeros j j.logon.info → KeyTravels (key_of_channel o) (base_key_asked j j.logon.info)
+pub travels_so : (j : Judging) (o state : SecureChannelState) (computer : List ℕ) → has_passed j.how ≡ true → computer_in j.asked ≡ Some computer →
+    lookup same_name computer j.computers.channels ≡ Some state → key_of_channel state ≡ key_of_channel o → TravelsAsZeros j (network_in j.asked).info → KeyTravels (key_of_channel o) (base_key_asked j (network_in j.asked).info)
 travels_so j o state computer passed named found same zeros =
     zeros ∙ ap (λ (is : Bool). key_bytes (channel_if is j)) passed
     ∙ ap (λ (name : Option (List ℕ)). key_bytes (channel_in j.controller name j.computers)) named

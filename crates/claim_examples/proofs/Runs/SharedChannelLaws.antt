@@ -5,10 +5,12 @@ use Rattle.std.specs.Prelude.{◌==◌, slice_get}
 use Rattle.wire_base.specs.Maps.{take_out}
 use Rattle.wire_base.specs.Names.{same_name}
 use Rattle.wire_base.proofs.MapLaws.{lookup-put_same}
-use Rattle.authenticators.specs.SecureChannels.{channel_of, SecureChannelState, after_call, after_return}
+use Rattle.authenticators.specs.SecureChannels.{channel_of, SecureChannelState, after_call, after_return, fresh_channel}
+use Rattle.authenticators.specs.Sequences.{next_seed}
+use Rattle.channel_client.specs.Machine.{offered_flags}
 use Rattle.member_server.specs.Turns.{timestamp_of}
 use Rattle.member_server.specs.declared.plan.MemberPlan.{MemberPlan}
-use Rattle.member_server.specs.declared.state.Dialling.TheVariants as dialling
+use Rattle.member_server.specs.State.{State as MemberState}
 use Rattle.world_moves.specs.declared.links.EndId.{EndId}
 use Rattle.world_moves.specs.declared.links.EndId.TheVariants.{Controller}
 use Rattle.world_moves.specs.declared.moves.Move.{Move}
@@ -19,10 +21,9 @@ use Rattle.world_moves.specs.Ends.{EndStates}
 use Rattle.world_moves.specs.Forms.{HasForms}
 use Rattle.world_moves.specs.Moving.{end_of_peer}
 use Rattle.world_moves.specs.World.{IsPlan, World, first_world, happens, run}
-use Rattle.domain_world.specs.Past.{controller_number, controller_of, controller_of_plan, past}
+use Rattle.domain_world.specs.Past.{controller_number, controller_of, controller_of_plan, past, requester_in, running_in}
 use Rattle.logon_steps.specs.Answering.{moved}
 use Rattle.logon_steps.specs.MemberLinks.{logons_at_rest}
-use Rattle.logon_steps.specs.MemberTurns.{member_at}
 use Rattle.logon_runs.specs.First.FirstLogonRuns.{after_first}
 use Rattle.logon_runs.specs.First.FirstRuns.{channel_as, opened_at, opens_as}
 use Rattle.logon_runs.specs.First.FirstWorlds.{CanComeIn, FirstKeyArrives, draw, first_meeting, logon_moves, no_computers}
@@ -32,6 +33,7 @@ use Rattle.logon_runs.proofs.First.FirstWorldLaws.{first_worlds_run}
 use Rattle.logon_runs.proofs.RunLaws.{same_computer}
 use Rattle.logon_runs.proofs.Seen.StayingLaws.{ends_stay}
 use Rattle.claim_examples.specs.ClearRuns.{HasSharedChannel}
+use Rattle.step_notes.specs.Records.{OfMember}
 
 -- ---- a member's controller stays so
 
@@ -79,15 +81,13 @@ module _ (plan : Plan) (client member controller number : ℕ) (is : IsPlan plan
   shared_channel =
       let rests = (first_worlds_run.comes_in plan client member controller number is forms chosen can arrives).rests in
       record {
-        member = member;
+        who = OfMember member;
         channel = channel_of controller can.member_plan.computer o;
         o = o;
         c = c;
         stands = record {
-          state = member_at (logons_at_rest end.plan end.caller end.how end.place end.number) [] dialling.Nothing;
-          running = record { logons = logons_at_rest end.plan end.caller end.how end.place end.number; links = []; dialling = dialling.Nothing };
-          at = rests.member;
-          runs = refl;
+          requester = (logons_at_rest end.plan end.caller end.how end.place end.number).channel;
+          at = ap (λ (found : Option MemberState). requester_in (running_in found)) rests.member;
           open_so = refl;
           is = ap (λ (k : ℕ). channel_of k can.member_plan.computer o) (sym its_controller);
           turn = None;
@@ -102,5 +102,5 @@ module _ (plan : Plan) (client member controller number : ℕ) (is : IsPlan plan
               (take_out same_name can.member_plan.computer (opened_at (joined g []) can.machine (draw plan 4) (draw plan 5) no_computers).channels) (same_computer can.member_plan.computer);
         };
         same = record { controller = refl; computer = refl; secret = can.secret; client = refl; server = refl; flags = refl };
-        seed = refl;
+        seed = ap (λ (secret : List ℕ). next_seed (fresh_channel secret (draw plan 4) (draw plan 5) offered_flags).seed stamp) can.secret;
       }

@@ -11,7 +11,6 @@ use Rattle.authenticators.proofs.ChannelLaws.{same_channel-Decides}
 use Rattle.outside.specs.declared.action.Judged.TheVariants as judged
 use Rattle.outside.specs.declared.action.Outcome.{Outcome}
 use Rattle.outside.specs.declared.action.Outcome.TheVariants as outcome
-use Rattle.logon_stubs.specs.declared.calls.LogonCall.{LogonCall}
 use Rattle.logon_stubs.specs.declared.info.NetworkInfo.{NetworkInfo}
 use Rattle.logon_stubs.specs.declared.info.SamInfo.{SamInfo}
 use Rattle.logon_stubs.specs.declared.info.Verdict.{Verdict}
@@ -35,7 +34,7 @@ use Rattle.channel_events.specs.Marks.{OneOf, ReplyTo}
 use Rattle.step_notes.specs.ControllerNotes.{channel_by, channel_in, has_passed}
 use Rattle.step_notes.specs.Judged.{IsJudgedRight, base_key_asked, channel_if, hash_in, passed_channel, stored_hash}
 use Rattle.step_notes.specs.Marking.{clashes, is_channel, sent_channel}
-use Rattle.step_notes.specs.Records.{ChallengeSent, Judging, JudgementTold, MessageMade, MessageTaken, OutcomeTold, Sent}
+use Rattle.step_notes.specs.Records.{ChallengeSent, Judging, JudgementTold, MessageMade, MessageTaken, OutcomeTold, Sent, computer_in, given_in, network_in}
 use Rattle.step_notes.specs.ReplySends.{IsReplyOfCall, verdict_passed}
 use Rattle.world_moves.specs.declared.bag.BagUnit.{BagUnit}
 use Rattle.world_moves.specs.Counting.{is_in}
@@ -105,13 +104,13 @@ are_answers message j request unit passed call came reply sent =
 
 pub record StandsFor (j : Judging) : Type 0 where
   pub channel : ChannelIdentity
-  pub found : channel_in j.controller j.logon.computer j.computers ≡ Some channel
+  pub found : channel_in j.controller (computer_in j.asked) j.computers ≡ Some channel
   pub passed : passed_channel j ≡ Some channel
 
 pub channel_there : (j : Judging) → IsJudgedRight j → has_passed j.how ≡ true → StandsFor j
 channel_there j right passed =
-    let next : IsNext j.computers j.logon = right.passed.0 passed in
-    let found : channel_in j.controller j.logon.computer j.computers ≡ Some (channel_of j.controller next.computer next.channel) =
+    let next : IsNext j.computers (computer_in j.asked) (given_in j.asked) = right.passed.0 passed in
+    let found : channel_in j.controller (computer_in j.asked) j.computers ≡ Some (channel_of j.controller next.computer next.channel) =
     ap (λ (name : Option (List ℕ)). channel_in j.controller name j.computers) next.named ∙ ap (λ (c : _). channel_by j.controller next.computer c) next.stands in
     record { channel = channel_of j.controller next.computer next.channel; found = found; passed = ap (λ (p : Bool). channel_if p j) passed ∙ found }
 
@@ -228,13 +227,13 @@ module _ (past : Past) (known : IsProved past) (heard : AnswersAreHeard past) (c
       same_on late.channel made_late.named early.channel (same_back made_late.named late.channel made_late.same)
       (subst (λ (c : ChannelIdentity). SameChannel c early.channel) (sym one) made_early.same) in
       let is_same : same_channel late.channel early.channel ≡ true = (same_channel-Decides late.channel early.channel).1 same in
-      let alike : second.logon ≡ first.logon =
-      all_at (λ (other : Judging). (u : ℕ) → second.unit ≡ Some u → other.unit ≡ Some u → second.logon ≡ other.logon) all_judged l first
-      (all_at (λ (j : Judging). AllByRecursion (λ (other : Judging). (u : ℕ) → j.unit ≡ Some u → other.unit ≡ Some u → j.logon ≡ other.logon) all_judged) all_judged k second heard.alike at_second)
+      let alike : second.asked ≡ first.asked =
+      all_at (λ (other : Judging). (u : ℕ) → second.unit ≡ Some u → other.unit ≡ Some u → second.asked ≡ other.asked) all_judged l first
+      (all_at (λ (j : Judging). AllByRecursion (λ (other : Judging). (u : ℕ) → j.unit ≡ Some u → other.unit ≡ Some u → j.asked ≡ other.asked) all_judged) all_judged k second heard.alike at_second)
       at_first unit came_second came_first in
       let first_on : passed_on early.channel first ≡ true = ap (λ (c : Option ChannelIdentity). is_channel c early.channel) early.passed ∙ itself early.channel in
       let law = known.replays early.channel cut.later cut.between cut.earlier second first cut.is first_on
-      (ap (λ (c : Option ChannelIdentity). is_channel c early.channel) late.found ∙ is_same) (ap (λ (c : LogonCall). c.authenticator) alike) in
+      (ap (λ (c : Option ChannelIdentity). is_channel c early.channel) late.found ∙ is_same) (ap given_in alike) in
       clear.onward (record {
         channel = early.channel;
         later = cut.later;
@@ -293,7 +292,7 @@ module _ (past : Past) (known : IsProved past) (heard : AnswersAreHeard past) (c
       let other : IsAnswerOf message found.item = answers_are message found.item found.passes in
       let request : other.call.unit ≡ is.request = some_is other.call.unit is.request (sym other.call.first ∙ is.call) in
       let same : found.item ≡ j = one_pass found.place at.place found.item j is.request found.there at.there other.passed passed (other.call.second ∙ ap Some request) of.came in
-      let on : IsFound j.controller j.logon.computer j.computers is.channel = passed_in j is.channel of.passed in
+      let on : IsFound j.controller (computer_in j.asked) j.computers is.channel = passed_in j is.channel of.passed in
       record {
         in_reply = is;
         carrier = carrier.0;
@@ -389,8 +388,8 @@ module _ (past : Past) (known : IsProved past) (heard : AnswersAreHeard past) (c
 
   -- the verdict is a grant
   served_at : (k : ℕ) (j : Judging) → j.how ≡ Some (judged.Passed (status_of (verdict_passed j))) → j.how ≡ Some (judged.Passed 0) →
-      IsServedGrant j.table j.name j.moment j.logon.info j.logon.validation (verdict_passed j)
-  served_at k j how nothing = served_grant j.table j.name j.moment j.logon.info j.logon.validation (same_status (status_of (verdict_passed j)) 0 (sym how ∙ nothing))
+      IsServedGrant j.table j.name j.moment (network_in j.asked).info (network_in j.asked).validation (verdict_passed j)
+  served_at k j how nothing = served_grant j.table j.name j.moment (network_in j.asked).info (network_in j.asked).validation (same_status (status_of (verdict_passed j)) 0 (sym how ∙ nothing))
 
   -- and always then
   pub accepts_all : AcceptsAllGranted past
@@ -415,13 +414,13 @@ module _ (past : Past) (known : IsProved past) (heard : AnswersAreHeard past) (c
   -- ---- keys
 
   abbrev granted_key : (j : Judging) → Account → List ℕ
-  granted_key j account = base_key_of account.hash j.logon.info.user j.logon.info.domain j.logon.info.nt
+  granted_key j account = base_key_of account.hash (network_in j.asked).info.user (network_in j.asked).info.domain (network_in j.asked).info.nt
 
-  stored_is : (message : MessageTaken) (j : Judging) (account : Account) → AsksForIt message j → account_in j.table.accounts j.logon.info.user ≡ Some account →
+  stored_is : (message : MessageTaken) (j : Judging) (account : Account) → AsksForIt message j → account_in j.table.accounts (network_in j.asked).info.user ≡ Some account →
       stored_hash j (info_asked message) ≡ account.hash
   stored_is message j account asks stored = ap hash_in (ap (λ (info : NetworkInfo). account_in j.table.accounts info.user) (sym asks.info) ∙ stored)
 
-  base_is : (message : MessageTaken) (j : Judging) (account : Account) → AsksForIt message j → account_in j.table.accounts j.logon.info.user ≡ Some account →
+  base_is : (message : MessageTaken) (j : Judging) (account : Account) → AsksForIt message j → account_in j.table.accounts (network_in j.asked).info.user ≡ Some account →
       granted_key j account ≡ base_key_asked j (info_asked message)
   base_is message j account asks stored =
       ap (λ (info : NetworkInfo). base_key_of account.hash info.user info.domain info.nt) asks.info

@@ -55,7 +55,8 @@ use Rattle.domain_world.proofs.Frames.ComingLaws.{CameFrom}
 use Rattle.domain_world.proofs.Accepting.Messages.MessageNoteLaws.{AreCarried, IsAnsweredFor, for_stable, let_in_stable, notes_grow, one_so, turns_answer}
 use Rattle.domain_world.proofs.Frames.TurnFrameLaws.{turns_told}
 use Rattle.domain_world.proofs.Frames.EndFrameLaws.{Ends, KeepsEnds, ends_after, ends_in}
-use Rattle.domain_world.proofs.Judgements.ToldLaws.{IsNoBytes, calm_bytes}
+use Rattle.domain_world.proofs.Frames.NoBytesLaws.{IsNoBytes}
+use Rattle.domain_world.proofs.Judgements.ToldLaws.{calm_bytes}
 use Rattle.outside.specs.declared.event.Event.{Event}
 
 -- ---- bytes that come in no unit of the bag come on no link of a turn

@@ -34,7 +34,7 @@ use Rattle.step_notes.proofs.Members.KeptLogonLaws.{Dials, HasFor, KeptIn, kept_
 use Rattle.step_notes.proofs.Members.TurnAnswerLaws.{none_whole}
 use Rattle.step_notes.proofs.Members.UnservedLaws.{LinksIn, Opens, in_so, step_known}
 use Rattle.domain_world.proofs.Challenges.MessageOnceLaws.{set_cases}
-use Rattle.domain_world.proofs.Judgements.ToldLaws.{IsNoBytes}
+use Rattle.domain_world.proofs.Frames.NoBytesLaws.{IsNoBytes}
 use Rattle.domain_world.proofs.Frames.EndFrameLaws.{IsCalm}
 use Rattle.domain_world.proofs.Frames.OpenMadeLaws.{IsAtSide}
 

@@ -32,7 +32,7 @@ use Rattle.domain_controller.specs.Step.{first_desk}
 use Rattle.channel_events.specs.Marks.{OneOf}
 use Rattle.step_notes.specs.ControllerNotes.{Answered, Where, answer_on, channel_by, channel_in, has_passed, judged_in, judging_by, judging_of, new_actions, passing, units_of_controller}
 use Rattle.step_notes.specs.Judged.{channel_if, hash_in, passed_channel}
-use Rattle.step_notes.specs.Records.{Book, Judging}
+use Rattle.step_notes.specs.Records.{Book, Judging, computer_in, network_in}
 use Rattle.step_notes.specs.Served.{work_after}
 use Rattle.world_moves.specs.declared.bag.BagUnit.{BagUnit}
 use Rattle.world_moves.specs.declared.links.EndId.TheVariants.{Controller}
@@ -79,7 +79,7 @@ newest P one j numbers older is holds =
 -- passed with status 0, on a key that travels as zeros where this one does
 pub record IsGrant (key base : List ℕ) (j : Judging) : Type 0 where
   pub how : j.how ≡ Some (judged.Passed 0)
-  pub zeros : KeyTravels key base → TravelsAsZeros j j.logon.info
+  pub zeros : KeyTravels key base → TravelsAsZeros j (network_in j.asked).info
 
 -- the logon of the call
 abbrev pub logon_value : Caller → SecureChannelState → ℕ → NetworkInfo → LogonCall
@@ -142,7 +142,7 @@ module _ (p : LogonComing) (a : Asked) (v : TurnAt) (o c : SecureChannelState) (
   pub judging_so : (w : Where) → (turn_answer p.name moment (length v.links) v.next (call_for p a (Third o c timestamp)) w before left).judging ≡ Some (judging_then w)
   judging_so w =
       ap (λ (how : Option Judged). (judging_by (has_passed how) (judging_then w)).judging) passed_so
-      ∙ passing_judging (channel_in (judging_then w).controller (judging_then w).logon.computer (judging_then w).computers) (judging_then w)
+      ∙ passing_judging (channel_in (judging_then w).controller (computer_in (judging_then w).asked) (judging_then w).computers) (judging_then w)
 
 -- ---- the move at which it is judged
 

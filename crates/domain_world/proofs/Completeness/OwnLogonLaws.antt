@@ -11,7 +11,7 @@ use Rattle.outside.specs.declared.action.Outcome.TheVariants as outcome
 use Rattle.account_table.specs.AccountTable.{AccountTable}
 use Rattle.channel_events.specs.Marks.{OneOf}
 use Rattle.channel_events.proofs.ListLaws.{one_found}
-use Rattle.step_notes.specs.Records.{Book, Judging, OutcomeTold}
+use Rattle.step_notes.specs.Records.{Book, Judging, OutcomeTold, network_in}
 use Rattle.world_moves.specs.declared.links.EndId.TheVariants.{Member}
 use Rattle.world_moves.specs.declared.moves.Move.{Move}
 use Rattle.world_moves.specs.declared.moves.Move.TheVariants as move
@@ -56,11 +56,11 @@ IsSafe b = (key base : List ℕ) → OneOf (IsGrant key base) b.judged → KeyTr
 
 -- of the whole run, so by then
 abbrev pub AreSafe : Book → Type 0
-AreSafe b = AllByRecursion (λ (j : Judging). j.how ≡ Some (judged.Passed 0) → TravelsAsZeros j j.logon.info → ⊥) b.judged
+AreSafe b = AllByRecursion (λ (j : Judging). j.how ≡ Some (judged.Passed 0) → TravelsAsZeros j (network_in j.asked).info → ⊥) b.judged
 
 pub safe_then : (moves : List Move) (w : World) (b : Book) → IsPlaced w.state → AreSafe (book moves w b) → IsSafe b
 safe_then moves w b placed safe key base one zeros =
-    let found = one_found (IsGrant key base) (λ (j : Judging). j.how ≡ Some (judged.Passed 0) → TravelsAsZeros j j.logon.info → ⊥) (book moves w b).judged safe
+    let found = one_found (IsGrant key base) (λ (j : Judging). j.how ≡ Some (judged.Passed 0) → TravelsAsZeros j (network_in j.asked).info → ⊥) (book moves w b).judged safe
     (judged_stays (IsGrant key base) moves w b placed one) in
     found.2 found.1.how (found.1.zeros zeros)
 

@@ -32,7 +32,7 @@ use Rattle.logon_client.specs.State.{State as ClientState}
 use Rattle.member_server.specs.State.{State as MemberState}
 use Rattle.step_notes.specs.ControllerNotes.{Answered, Where, answer_on, has_passed, judged_in, units_at, units_by, units_of_controller}
 use Rattle.step_notes.specs.Judged.{IsJudgedRight}
-use Rattle.step_notes.specs.Records.{Book, Judging}
+use Rattle.step_notes.specs.Records.{Book, Judging, network_in}
 use Rattle.world_moves.specs.declared.links.EndId.{EndId}
 use Rattle.world_moves.specs.declared.links.EndId.TheVariants.{Controller, Member, Client}
 use Rattle.world_moves.specs.declared.links.Route.{Route}
@@ -146,7 +146,7 @@ planned_later plan controller table other name planned differ = record {
 
 -- where the call passed, it was told with the status of the verdict on it
 abbrev pub HasItsStatus : Judging → Type 0
-HasItsStatus j = HasStatus j.how (judge_info j.table j.name j.moment j.logon.info j.logon.validation).verdict
+HasItsStatus j = HasStatus j.how (judge_info j.table j.name j.moment (network_in j.asked).info (network_in j.asked).validation).verdict
 
 -- besides, it was judged by the accounts of the plan
 abbrev pub IsByPlan : Plan → Judging → Type 0
@@ -290,14 +290,14 @@ first_stands plan = record {
 to_be_granted : (j : Judging) → HasItsStatus j → IsJudgedRight j → j.how ≡ Some (judged.Passed 0) → IsToBeGranted j
 to_be_granted j told right how =
     let passed : has_passed j.how ≡ true = ap has_passed how in
-    let served : IsServedGrant j.table j.name j.moment j.logon.info j.logon.validation (judge_info j.table j.name j.moment j.logon.info j.logon.validation).verdict =
-    served_grant j.table j.name j.moment j.logon.info j.logon.validation (same_status _ 0 (sym (told passed) ∙ how)) in
+    let served : IsServedGrant j.table j.name j.moment (network_in j.asked).info (network_in j.asked).validation (judge_info j.table j.name j.moment (network_in j.asked).info (network_in j.asked).validation).verdict =
+    served_grant j.table j.name j.moment (network_in j.asked).info (network_in j.asked).validation (same_status _ 0 (sym (told passed) ∙ how)) in
     record { next = right.passed.0 passed; level = served.level; may = served.may; verifies = served.verifies }
 
 pub is_granted_so : (j : Judging) → HasItsStatus j → IsJudgedRight j → IsToBeGranted j → j.how ≡ Some (judged.Passed 0)
 is_granted_so j told right meets =
     told (right.passed.1 meets.next)
-    ∙ ap (λ (status : ℕ). Some (judged.Passed status)) (granted_status j.table j.name j.moment j.logon.info j.logon.validation meets.level meets.may meets.verifies)
+    ∙ ap (λ (status : ℕ). Some (judged.Passed status)) (granted_status j.table j.name j.moment (network_in j.asked).info (network_in j.asked).validation meets.level meets.may meets.verifies)
 
 all_rightly : (plan : Plan) (judgings : List Judging) → AllByRecursion (IsByPlan plan) judgings → AreRight judgings → AllByRecursion (λ (j : Judging). IsGrantedRightly plan j) judgings
 all_rightly plan [] planned right = tt

@@ -1,36 +1,30 @@
 -- The seeds of the channels that controllers keep, through each step of an end.
 -- It serves `controllers_grant_who_may_log_on`, `replays_pass_by_sum`, `replies_carry_their_judgement` and 3 more.
-use Rattle.std.proofs.Common.{◌≡◌, ◌≢◌, ℕ, Bool, true, false, List, [], ◌∷◌, ◌++◌, length, map, Option, Some, None, Ok, Err, refl, sym, ap, subst, ◌∙◌, inl, inr, slice_get, slice_set}
-use Rattle.std.specs.Prelude.{nat_le}
+use Rattle.std.proofs.Common.{◌≡◌, ◌≢◌, ℕ, Bool, true, false, List, [], ◌∷◌, ◌++◌, map, Option, Some, None, Ok, Err, refl, sym, ap, subst, ◌∙◌, inl, inr, slice_get, slice_set}
 use Rattle.std.specs.List.{AllByRecursion}
 use Rattle.wire_base.specs.Maps.{lookup, same_number, take_out}
 use Rattle.wire_base.specs.Names.{same_name}
 use Rattle.authenticators.specs.Channels.{ChannelIdentity}
 use Rattle.outside.specs.declared.event.Event.{Event}
-use Rattle.outside.specs.declared.event.Event.TheVariants as event
 use Rattle.outside.specs.Drawing.{Drawing, IsRest}
-use Rattle.outside.specs.Machine.{step_by, then_part}
+use Rattle.outside.specs.Machine.{step_by}
 use Rattle.outside.proofs.DrawLaws.{IsRest-later, IsRest-nothing, IsRest-refl, IsRest-trans}
 use Rattle.rpc_units.specs.Stream.{Cut, cut_stream}
-use Rattle.logon_stubs.specs.declared.calls.Call.TheVariants as call
 use Rattle.logon_stubs.specs.declared.calls.ChallengeCall.{ChallengeCall}
-use Rattle.account_table.specs.AccountTable.{AccountTable}
 use Rattle.account_table.specs.LookUps.{knows_in}
 use Rattle.end_links.specs.Links.{LinkState}
 use Rattle.end_links.specs.Serving.{ServedPart, served_cut, ServedUnit, served_units}
 use Rattle.domain_controller.specs.Hearing.{hear}
 use Rattle.domain_controller.specs.Machine.{Desk, account_for, answer_logon, by_heard, controller_server, draw_challenge}
 use Rattle.domain_controller.specs.State.{State as ControllerState}
-use Rattle.domain_controller.specs.Step.{LinkMap, first_desk, halted, open_by, start_turn, state_after, step_of, step_on, with_open}
+use Rattle.domain_controller.specs.Step.{LinkMap, first_desk, halted, state_after, step_of, step_on}
 use Rattle.domain_controller.specs.declared.hearing.Heard.{Heard}
-use Rattle.domain_controller.specs.declared.hearing.Heard.TheVariants as heard
 use Rattle.domain_controller.specs.declared.line.Line.{Line}
 use Rattle.domain_controller.specs.declared.state.Computers.{Computers}
 use Rattle.domain_controller.specs.declared.state.Running.{Running}
 use Rattle.domain_controller.specs.declared.state.Talk.{Talk}
-use Rattle.domain_controller.specs.declared.state.Work.{Work}
 use Rattle.step_notes.specs.ControllerNotes.{Answered, Where, answer_on, channel_in, has_passed, heard_answer, judged_in, judging_by, judging_of, new_actions, opened_by, opening, passing, units_at, units_by}
-use Rattle.step_notes.specs.Records.{Judging}
+use Rattle.step_notes.specs.Records.{Judging, computer_in}
 use Rattle.step_notes.specs.Served.{units_if_taken, work_after}
 use Rattle.world_moves.specs.Ends.{EndStates, controller_step}
 use Rattle.domain_world.specs.Claims.{moved_on}
@@ -38,7 +32,11 @@ use Rattle.domain_world.specs.Past.{first_of, judged_of, later_of, onto, with_re
 use Rattle.step_notes.proofs.ServedLaws.{StaysNoted, served_mapped}
 use Rattle.domain_world.proofs.Challenges.MessageOnceLaws.{set_cases}
 use Rattle.domain_world.proofs.Judgements.SeedLaws.{AreApart, AreKept, AreUnheard, IsInOrder, IsSpent, account_opened, channel_from, drawn_order, judged_as, judged_order, keeps_all, kept_on, logon_kept, others_unmoved, pair_kept}
-use Rattle.domain_world.proofs.Judgements.ToldLaws.{IsNoBytes, standing_at, step_after, step_link}
+use Rattle.domain_world.proofs.Judgements.ToldLaws.{standing_at, step_after, step_link}
+use Rattle.domain_world.proofs.Frames.NoBytesLaws.{DoesNothingElse, IsNoBytes, KeepsComputers, does_nothing_else}
+use Rattle.outside.specs.declared.event.Event.TheVariants as event
+use Rattle.logon_stubs.specs.declared.calls.Call.TheVariants as call
+use Rattle.domain_controller.specs.declared.hearing.Heard.TheVariants as heard
 
 -- ---- fewer challenges are left
 
@@ -118,7 +116,7 @@ passing_some (Some channel) j = refl
 
 judging_some : (passed : Bool) (j : Judging) → (judging_by passed j).judging ≡ Some j
 judging_some false j = refl
-judging_some true j = passing_some (channel_in j.controller j.logon.computer j.computers) j
+judging_some true j = passing_some (channel_in j.controller (computer_in j.asked) j.computers) j
 
 module _ (judgings : List Judging) (w : Where) (d : Desk) where
   drawn_goes : (left : List (List ℕ)) (line : Line) (c : ChallengeCall) (talk : Talk) → IsInOrder judgings left → AreKept judgings left w.controller d.work.computers →
@@ -261,30 +259,21 @@ bytes_step (Some running) judgings at controller unit link piece c now left numb
 
 -- ---- a step at which no bytes come
 
-opened_step : (full : Bool) (judgings : List Judging) (controller link : ℕ) (links : LinkMap) (work : Work) (table : AccountTable) (c : ControllerState) (left : List (List ℕ)) →
-    IsInOrder judgings left → AreKept judgings left controller work.computers →
-    StepGoes judgings judgings left
-    (step_by (λ after. after.0.work.actions) (λ after. state_after c after) (halted c) left (then_part (with_open (open_by full link work links) table left) (λ after rest. start_turn after rest))).left
-    controller
-    (step_by (λ after. after.0.work.actions) (λ after. state_after c after) (halted c) left (then_part (with_open (open_by full link work links) table left) (λ after rest. start_turn after rest))).state.running
-opened_step false judgings controller link links work table c left order kept = record { order = order; kept = kept; fewer = IsRest-refl left; others = λ channel apart. refl }
-opened_step true judgings controller link links work table c left order kept = record { order = order; kept = kept; fewer = IsRest-refl left; others = λ channel apart. refl }
+-- what is kept of computers is so
+same_kept : (old new : Option Running) (judgings : List Judging) (left : List (List ℕ)) (controller : ℕ) → KeepsComputers old new → AreKeptIf judgings left controller old →
+    AreKeptIf judgings left controller new
+same_kept None None judgings left controller same kept = tt
+same_kept None (Some after) judgings left controller same kept = absurd same
+same_kept (Some before) None judgings left controller same kept = absurd same
+same_kept (Some before) (Some after) judgings left controller same kept = subst (λ (computers : Computers). AreKept judgings left controller computers) (sym same) kept
 
-quiet_step : (running : Option Running) (what : Event) (judgings : List Judging) (controller : ℕ) (c : ControllerState) (now : ℕ) (left : List (List ℕ)) → IsNoBytes what → IsInOrder judgings left →
-    AreKeptIf judgings left controller c.running → AreKeptIf judgings left controller running →
-    StepGoes judgings judgings left (step_on running c what now left).left controller (step_on running c what now left).state.running
-quiet_step None what judgings controller c now left none order was kept = step_stays judgings left controller c.running order was
-quiet_step (Some running) (event.Bytes link piece) judgings controller c now left none order was kept = absurd none
-quiet_step (Some running) (event.Opened link) judgings controller c now left none order was kept =
-    opened_step (nat_le 256 (length (take_out same_number link running.links))) judgings controller link (take_out same_number link running.links) (first_desk c.table running).work c.table c left order kept
-quiet_step (Some running) (event.Closed link) judgings controller c now left none order was kept =
-    record { order = order; kept = kept; fewer = IsRest-refl left; others = λ channel apart. refl }
-quiet_step (Some running) (event.Dialled link) judgings controller c now left none order was kept =
-    record { order = order; kept = kept; fewer = IsRest-refl left; others = λ channel apart. refl }
-quiet_step (Some running) event.DialFailed judgings controller c now left none order was kept =
-    record { order = order; kept = kept; fewer = IsRest-refl left; others = λ channel apart. refl }
-quiet_step (Some running) event.Stop judgings controller c now left none order was kept =
-    record { order = order; kept = kept; fewer = IsRest-refl left; others = λ channel apart. refl }
+quiet_step : (what : Event) (judgings : List Judging) (controller : ℕ) (c : ControllerState) (now : ℕ) (left : List (List ℕ)) → IsNoBytes what → IsInOrder judgings left →
+    AreKeptIf judgings left controller c.running → StepGoes judgings judgings left (step_of c what now left).left controller (step_of c what now left).state.running
+quiet_step what judgings controller c now left none order kept =
+    let stays : DoesNothingElse c what now left = does_nothing_else c what now left none in
+    let after : Option Running = (step_of c what now left).state.running in
+    subst (λ (rest : List (List ℕ)). StepGoes judgings judgings left rest controller after) (sym stays.rest)
+    (step_stays judgings left controller after order (same_kept c.running after judgings left controller stays.keeps kept))
 
 -- ---- all controllers
 
@@ -336,4 +325,4 @@ quiet_follow None judgings controller what now ends chances is none follow = fol
 quiet_follow (Some c) judgings controller what now ends chances is none follow =
     let kept : AreKeptIf judgings chances.left controller c.running = follow.each controller c is in
     controller_put judgings judgings chances.left _ ends.controllers controller (step_of c what now chances.left).state follow
-    (quiet_step c.running what judgings controller c now chances.left none follow.order kept kept)
+    (quiet_step what judgings controller c now chances.left none follow.order kept)

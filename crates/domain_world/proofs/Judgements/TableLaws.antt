@@ -30,7 +30,7 @@ use Rattle.logon_client.specs.State.{State as ClientState}
 use Rattle.member_server.specs.State.{State as MemberState}
 use Rattle.step_notes.specs.ControllerNotes.{Answered, Where, answer_on, channel_in, has_passed, heard_answer, judging_by, judging_of, logon_answer, opened_by, opening, passing, units_at, units_by}
 use Rattle.step_notes.specs.Judged.{IsJudgedRight}
-use Rattle.step_notes.specs.Records.{Book, Judging}
+use Rattle.step_notes.specs.Records.{Book, Judging, computer_in}
 use Rattle.step_notes.specs.Served.{units_if_taken, work_after}
 use Rattle.world_moves.specs.declared.links.EndId.{EndId}
 use Rattle.world_moves.specs.declared.links.EndId.TheVariants.{Controller, Member, Client}
@@ -46,6 +46,7 @@ use Rattle.domain_world.specs.Past.{Coming, answers_of, at_controller, first_of,
 use Rattle.step_notes.proofs.ServedLaws.{StaysNoted, served_mapped}
 use Rattle.domain_world.proofs.Challenges.MessageOnceLaws.{each_put}
 use Rattle.domain_world.proofs.Frames.FrameLaws.{Fact, HoldsAfter, HoldsIn, IsQuiet, Stays, StaysWritten, run_stays}
+use Rattle.domain_world.proofs.Frames.NoBytesLaws.{IsNoBytes, does_nothing_else}
 use Rattle.domain_world.proofs.Judgements.GrantLaws.{first_planned}
 use Rattle.domain_world.proofs.Judgements.JudgedLaws.{calls_right}
 use Rattle.domain_world.proofs.Judgements.ReplayLaws.{client_judged, member_judged}
@@ -98,7 +99,7 @@ module _ (w : Where) (d : Desk) where
 
   logon_judging : (passed : Bool) (j : Judging) → (judging_by passed j).judging ≡ Some j
   logon_judging false j = refl
-  logon_judging true j = passing_judging (channel_in j.controller j.logon.computer j.computers) j
+  logon_judging true j = passing_judging (channel_in j.controller (computer_in j.asked) j.computers) j
 
   opening_judging : (channel : Option ChannelIdentity) (number : ℕ) → (opening channel w number).judging ≡ None
   opening_judging None number = refl
@@ -220,15 +221,6 @@ step_chains : (controller : ℕ) (c : ControllerState) (w : Coming) (piece : Lis
     StepChains controller c.table (answers_of controller c w piece s) (step_of c (event.Bytes w.link piece) s.moment s.chances.left).state.table
 step_chains controller c w piece s = by_chains c.running (at_controller controller c w s) c w.link piece s.chances.left refl
 
--- where no bytes come the accounts stay
-abbrev pub IsNoBytes : Event → Type 0
-IsNoBytes (event.Bytes link piece) = ⊥
-IsNoBytes (event.Opened link) = Unit {0}
-IsNoBytes (event.Closed link) = Unit {0}
-IsNoBytes (event.Dialled link) = Unit {0}
-IsNoBytes event.DialFailed = Unit {0}
-IsNoBytes event.Stop = Unit {0}
-
 quiet_no_bytes : (what : Event) → IsQuiet what → IsNoBytes what
 quiet_no_bytes (event.Bytes link piece) quiet = quiet
 quiet_no_bytes (event.Opened link) quiet = tt
@@ -236,24 +228,6 @@ quiet_no_bytes (event.Closed link) quiet = tt
 quiet_no_bytes (event.Dialled link) quiet = tt
 quiet_no_bytes event.DialFailed quiet = tt
 quiet_no_bytes event.Stop quiet = tt
-
-event_table : (what : Event) (name : List ℕ) (now : ℕ) (d : Desk) (links : LinkMap) (left : List (List ℕ)) → IsNoBytes what → StepTable d.table (by_event what name now d links left)
-event_table (event.Bytes link piece) name now d links left none = absurd none
-event_table (event.Opened link) name now d links left none = refl
-event_table (event.Closed link) name now d links left none = refl
-event_table (event.Dialled link) name now d links left none = refl
-event_table event.DialFailed name now d links left none = refl
-event_table event.Stop name now d links left none = refl
-
-part_table : (part : StepPart) (c : ControllerState) (left : List (List ℕ)) → StepTable c.table part →
-    (step_by (λ (after : Desk × LinkMap). after.0.work.actions) (λ after. state_after c after) (halted c) left (then_part part (λ after rest. start_turn after rest))).state.table ≡ c.table
-part_table (Err why) c left is = refl
-part_table (Ok part) c left is = is
-
-quiet_table : (running : Option Running) (c : ControllerState) (what : Event) (now : ℕ) (left : List (List ℕ)) → IsNoBytes what → (step_on running c what now left).state.table ≡ c.table
-quiet_table None c what now left none = refl
-quiet_table (Some running) c what now left none =
-    part_table (by_event what c.name now (first_desk c.table running) running.links left) c left (event_table what c.name now (first_desk c.table running) running.links left none)
 
 -- ---- what is written down
 
@@ -331,7 +305,7 @@ controller_stands : (found : Option ControllerState) (plan : Plan) (judgings : L
     slice_get ends.controllers at ≡ found → Stands plan judgings ends chances links → HoldsAfter (Stands plan judgings) (controller_step found at what now ends chances) links
 controller_stands None plan judgings at what now ends chances links none is stands = stands
 controller_stands (Some c) plan judgings at what now ends chances links none is stands =
-    same_put plan judgings ends.controllers at c (step_of c what now chances.left).state is (quiet_table c.running c what now chances.left none) stands
+    same_put plan judgings ends.controllers at c (step_of c what now chances.left).state is (does_nothing_else c what now chances.left none).table stands
 
 member_stands : (found : Option MemberState) (plan : Plan) (judgings : List Judging) (at : ℕ) (what : Event) (now : ℕ) (ends : EndStates) (chances : Drawing) (links : List Route) →
     Stands plan judgings ends chances links → HoldsAfter (Stands plan judgings) (member_step found at what now ends chances) links

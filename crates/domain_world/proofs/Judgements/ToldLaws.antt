@@ -2,7 +2,7 @@
 -- It serves `controllers_pass_the_next`.
 use Rattle.std.proofs.Common.{◌≡◌, ℕ, Bool, true, false, cond, List, [], ◌∷◌, ◌++◌, length, map, Option, Some, None, Ok, Err, refl, sym, ap, ◌∙◌, subst, slice_get}
 use Rattle.std.specs.List.{AllByRecursion}
-use Rattle.std.specs.Prelude.{flat_map, nat_le}
+use Rattle.std.specs.Prelude.{flat_map}
 use Rattle.std.proofs.lemmas.List.{append_assoc, append-nil, flat_map_more}
 use Rattle.std.proofs.lemmas.List.Concat.{flat_map-append}
 use Rattle.wire_base.specs.Maps.{lookup, same_number, take_out}
@@ -21,7 +21,6 @@ use Rattle.rpc_units.specs.Numbers.{nca_op_rng_error}
 use Rattle.rpc_units.specs.Stream.{cut_stream, Cut}
 use Rattle.logon_stubs.specs.declared.calls.AuthCall.{AuthCall}
 use Rattle.logon_stubs.specs.declared.calls.ChallengeCall.{ChallengeCall}
-use Rattle.logon_stubs.specs.declared.calls.LogonCall.{LogonCall}
 use Rattle.logon_stubs.specs.declared.calls.Reply.{Reply}
 use Rattle.account_table.specs.declared.account.Account.{Account}
 use Rattle.account_table.specs.LookUps.{knows_in}
@@ -31,7 +30,7 @@ use Rattle.domain_controller.specs.Hearing.{hear}
 use Rattle.domain_controller.specs.Machine.{Desk, account_for, answer_logon, by_heard, channel_for, controller_server, draw_challenge, judge_account, judge_offer, judge_pair, open_channel, put_pair_if, send_fault, send_reply, take_pair}
 use Rattle.domain_controller.specs.Laws.{judges_call}
 use Rattle.domain_controller.specs.State.{State as ControllerState}
-use Rattle.domain_controller.specs.Step.{LinkMap, StepPart, after_units, first_desk, halted, open_by, serve_on, start_turn, state_after, step_on}
+use Rattle.domain_controller.specs.Step.{LinkMap, StepPart, after_units, first_desk, halted, serve_on, start_turn, state_after, step_on}
 use Rattle.domain_controller.specs.declared.hearing.Heard.{Heard}
 use Rattle.domain_controller.specs.declared.line.Line.{Line}
 use Rattle.domain_controller.specs.declared.state.Computers.{Computers}
@@ -44,7 +43,7 @@ use Rattle.member_server.specs.State.{State as MemberState}
 use Rattle.step_notes.specs.ControllerNotes.{Answered, Where, answer_on, channel_in, has_passed, heard_answer, judging_by, judging_of, opened_by, opening, passing, units_at, units_by}
 use Rattle.step_notes.specs.Judged.{IsJudgedRight, IsRightOf}
 use Rattle.step_notes.specs.MemberNotes.{turn_units}
-use Rattle.step_notes.specs.Records.{Book, Judging, JudgementTold}
+use Rattle.step_notes.specs.Records.{Book, Judging, JudgementTold, computer_in, given_in}
 use Rattle.step_notes.specs.Served.{units_if_taken, work_after}
 use Rattle.world_moves.specs.declared.links.EndId.{EndId}
 use Rattle.world_moves.specs.declared.links.EndId.TheVariants.{Controller, Member, Client}
@@ -62,6 +61,8 @@ use Rattle.domain_world.proofs.Judgements.JudgedLaws.{AreRight, judged_rightly}
 use Rattle.domain_world.proofs.Frames.TurnFrameLaws.{turns_judged, turns_judgements}
 use Rattle.domain_world.proofs.Frames.EndFrameLaws.{EndFact, IsCalm, KeepsEnds, ends_after}
 use Rattle.step_notes.proofs.ServedLaws.{StaysNoted, served_mapped}
+use Rattle.wire_base.specs.declared.authenticator.Authenticator.{Authenticator}
+use Rattle.domain_world.proofs.Frames.NoBytesLaws.{IsBeside, IsNoBytes, does_nothing_else}
 use Rattle.outside.specs.declared.action.Action.TheVariants as action
 use Rattle.outside.specs.declared.action.CloseCause.TheVariants as close
 use Rattle.outside.specs.declared.action.Judged.TheVariants as judged
@@ -176,7 +177,7 @@ passing_told (Some channel) j = refl
 
 judging_told : (passed : Bool) (j : Judging) → telling_if (judging_by passed j).judging ≡ telling j
 judging_told false j = refl
-judging_told true j = passing_told (channel_in j.controller j.logon.computer j.computers) j
+judging_told true j = passing_told (channel_in j.controller (computer_in j.asked) j.computers) j
 
 heard_told : (what : Heard) (w : Where) (link : ℕ) (d : Desk) (left : List (List ℕ)) →
     Follows w (acted w d.work.actions ++ telling_if (heard_answer what w d (work_after (by_heard what link w.name w.moment d left))).judging)
@@ -192,11 +193,11 @@ heard_told (heard.Asked line (call.Authenticate c) talk) w link d left =
 heard_told (heard.Asked line (call.Logoff c) talk) w link d left = no_more _ (acted w d.work.actions) (fault_sent w d.work line nca_op_rng_error)
 heard_told (heard.Asked line (call.Logon c) talk) w link d left =
     let after : Desk = answer_logon c.computer c.authenticator w.name w.moment line c.info c.validation d in
-    let told : Told d.work.actions after.work.actions d.work.computers c = by_names c.computer c.authenticator c w.name w.moment line d refl refl in
+    let told : Told d.work.actions after.work.actions d.work.computers c.computer c.authenticator = by_names c.computer c.authenticator c w.name w.moment line d refl refl in
     let j : Judging = judging_of w line c d (Some after) in
     ap (acted w) told.is
     ∙ judges w d.work.actions told.how told.link told.answer
-    ∙ ap (λ how. acted w d.work.actions ++ telling_by w.at w.controller how) (sym (how_is d.work.actions after.work.actions d.work.computers c told))
+    ∙ ap (λ how. acted w d.work.actions ++ telling_by w.at w.controller how) (sym (how_is d.work.actions after.work.actions d.work.computers c.computer c.authenticator told))
     ∙ ap (λ rest. acted w d.work.actions ++ rest) (sym (judging_told (has_passed j.how) j))
 
 -- ---- the units of a stream
@@ -267,14 +268,6 @@ step_told (Some running) at controller unit link piece c now left =
 
 -- ---- steps that tell no judgement
 
-abbrev pub IsNoBytes : Event → Type 0
-IsNoBytes (event.Bytes link piece) = ⊥
-IsNoBytes (event.Opened link) = Unit {0}
-IsNoBytes (event.Closed link) = Unit {0}
-IsNoBytes (event.Dialled link) = Unit {0}
-IsNoBytes event.DialFailed = Unit {0}
-IsNoBytes event.Stop = Unit {0}
-
 pub calm_bytes : (what : Event) → IsCalm what → IsNoBytes what
 calm_bytes (event.Bytes link piece) calm = calm
 calm_bytes (event.Opened link) calm = tt
@@ -283,26 +276,21 @@ calm_bytes (event.Dialled link) calm = tt
 calm_bytes event.DialFailed calm = tt
 calm_bytes event.Stop calm = tt
 
-opened_quiet : (full : Bool) (controller at link : ℕ) (links : LinkMap) (computers : Computers) →
-    judgements_in (given_by (Controller controller) (open_by full link (record { computers = computers; actions = [] }) links).0.actions) at ≡ []
-opened_quiet false controller at link links computers = refl
-opened_quiet true controller at link links computers = refl
-
-running_quiet : (running : Option Running) (what : Event) (controller at : ℕ) (c : ControllerState) (now : ℕ) (left : List (List ℕ)) → IsNoBytes what →
-    judgements_in (given_by (Controller controller) (actions_by (step_on running c what now left).answer)) at ≡ []
-running_quiet None what controller at c now left none = refl
-running_quiet (Some running) (event.Bytes link piece) controller at c now left none = absurd none
-running_quiet (Some running) (event.Opened link) controller at c now left none =
-    opened_quiet (nat_le 256 (length (take_out same_number link running.links))) controller at link (take_out same_number link running.links) running.computers
-running_quiet (Some running) (event.Closed link) controller at c now left none = refl
-running_quiet (Some running) (event.Dialled link) controller at c now left none = refl
-running_quiet (Some running) event.DialFailed controller at c now left none = refl
-running_quiet (Some running) event.Stop controller at c now left none = refl
+-- such actions tell nothing
+beside_quiet : (controller : ℕ) (actions : List Action) (at : ℕ) → AllByRecursion IsBeside actions → judgements_in (given_by (Controller controller) actions) at ≡ []
+beside_quiet controller [] at all = refl
+beside_quiet controller (action.Keep bytes ∷ actions) at all = absurd all.0
+beside_quiet controller (action.Send link bytes ∷ actions) at all = absurd all.0
+beside_quiet controller (action.Dial peer ∷ actions) at all = absurd all.0
+beside_quiet controller (action.Close link cause ∷ actions) at all = beside_quiet controller actions at all.1
+beside_quiet controller (action.Told link outcome ∷ actions) at all = absurd all.0
+beside_quiet controller (action.Judged how ∷ actions) at all = absurd all.0
 
 found_quiet : (found : Option ControllerState) (what : Event) (controller at now : ℕ) (ends : EndStates) (chances : Drawing) → IsNoBytes what →
     judgements_in (given_by (Controller controller) (controller_step found controller what now ends chances).actions) at ≡ []
 found_quiet None what controller at now ends chances none = refl
-found_quiet (Some c) what controller at now ends chances none = running_quiet c.running what controller at c now chances.left none
+found_quiet (Some c) what controller at now ends chances none =
+    beside_quiet controller (controller_step (Some c) controller what now ends chances).actions at (does_nothing_else c what now chances.left none).acts
 
 member_quiet : (member : ℕ) (actions : List Action) (at : ℕ) → judgements_in (given_by (Member member) actions) at ≡ []
 member_quiet member [] at = refl
@@ -421,19 +409,19 @@ judgements_told plan moves = ends_after ToldSoFar told_keeps plan moves (λ on. 
 
 none_right : (j : Judging) → j.how ≡ None → IsJudgedRight j → ⊥
 none_right j is right =
-    let none : IsRightOf None j.computers j.logon = subst (λ how. IsRightOf how j.computers j.logon) is right in
+    let none : IsRightOf None j.computers (computer_in j.asked) (given_in j.asked) = subst (λ how. IsRightOf how j.computers (computer_in j.asked) (given_in j.asked)) is right in
     absurd (let told : None ≡ Some judged.NoChannel = none.other.1 (
       (λ next. absurd (let passed : false ≡ true = none.passed.1 next in cc)),
       (λ barred. absurd (let so : None ≡ Some judged.Barred = none.barred.1 barred in cc)),
     ) in cc)
 
 -- what is right of a call judges it
-right_judges : (how : Judged) (computers : Computers) (c : LogonCall) → IsRightOf (Some how) computers c → judges_call how ≡ true
-right_judges (judged.Passed status) computers c right = refl
-right_judges judged.Forwarded computers c right = refl
-right_judges judged.Barred computers c right = refl
-right_judges judged.NoChannel computers c right = refl
-right_judges (judged.Answered status) computers c right =
+right_judges : (how : Judged) (computers : Computers) (name : Option (List ℕ)) (shown : Option Authenticator) → IsRightOf (Some how) computers name shown → judges_call how ≡ true
+right_judges (judged.Passed status) computers name shown right = refl
+right_judges judged.Forwarded computers name shown right = refl
+right_judges judged.Barred computers name shown right = refl
+right_judges judged.NoChannel computers name shown right = refl
+right_judges (judged.Answered status) computers name shown right =
     absurd (let told : Some (judged.Answered status) ≡ Some judged.NoChannel = right.other.1 (
       (λ next. absurd (let passed : false ≡ true = right.passed.1 next in cc)),
       (λ barred. absurd (let so : Some (judged.Answered status) ≡ Some judged.Barred = right.barred.1 barred in cc)),
@@ -448,8 +436,8 @@ one_rightly : (how : Option Judged) (j : Judging) (more : List JudgementTold) (j
 one_rightly None j more judgings is right rest = absurd (none_right j is right)
 one_rightly (Some how) j more judgings is right rest =
     let one : JudgementTold = record { at = j.at; controller = j.controller; how = how } in
-    let of : IsRightOf (Some how) j.computers j.logon = subst (λ (told : Option Judged). IsRightOf told j.computers j.logon) is right in
-    subst (λ (told : List JudgementTold). AreTheirJudgements told (j ∷ judgings)) (sym (call_first how one more refl (right_judges how j.computers j.logon of)))
+    let of : IsRightOf (Some how) j.computers (computer_in j.asked) (given_in j.asked) = subst (λ (told : Option Judged). IsRightOf told j.computers (computer_in j.asked) (given_in j.asked)) is right in
+    subst (λ (told : List JudgementTold). AreTheirJudgements told (j ∷ judgings)) (sym (call_first how one more refl (right_judges how j.computers (computer_in j.asked) (given_in j.asked) of)))
     (record { at = refl; controller = refl; how = sym is; right = right }, rest)
 
 -- nothing else was told
@@ -457,7 +445,7 @@ one_judges : (how : Option Judged) (j : Judging) (more : List JudgementTold) →
     AllByRecursion (λ (one : JudgementTold). judges_call one.how ≡ true) (telling_by j.at j.controller how ++ more)
 one_judges None j more is right all = absurd (none_right j is right)
 one_judges (Some how) j more is right all =
-    (right_judges how j.computers j.logon (subst (λ (told : Option Judged). IsRightOf told j.computers j.logon) is right), all)
+    (right_judges how j.computers (computer_in j.asked) (given_in j.asked) (subst (λ (told : Option Judged). IsRightOf told j.computers (computer_in j.asked) (given_in j.asked)) is right), all)
 
 all_judge : (judgings : List Judging) → AreRight judgings → AllByRecursion (λ (one : JudgementTold). judges_call one.how ≡ true) (tellings judgings)
 all_judge [] right = tt

@@ -34,7 +34,7 @@ use Rattle.step_notes.proofs.Members.KeptLogonLaws.{Dials, IsFor, KeptIn, bytes_
 use Rattle.step_notes.proofs.Members.UnservedLaws.{LinksIn, Opens, bytes_took, step_known, took_known}
 use Rattle.domain_world.proofs.Accepting.Messages.MessageNoteLaws.{changed, one_so}
 use Rattle.domain_world.proofs.Frames.FrameLaws.{Fact, HoldsAfter, IsQuiet, Stays, StaysWritten}
-use Rattle.domain_world.proofs.Judgements.ToldLaws.{IsNoBytes}
+use Rattle.domain_world.proofs.Frames.NoBytesLaws.{IsNoBytes}
 use Rattle.domain_world.proofs.Frames.TurnFrameLaws.{notes_keep}
 
 -- ---- the message of a logon

@@ -19,7 +19,7 @@ use Rattle.member_server.specs.Turns.{DialWork, timestamp_of}
 use Rattle.member_server.specs.declared.state.Dialling.{Dialling}
 use Rattle.member_server.specs.declared.state.Running.{Running}
 use Rattle.step_notes.specs.MemberNotes.{turn_of}
-use Rattle.step_notes.specs.Records.{LogonTurn}
+use Rattle.step_notes.specs.Records.{LogonTurn, OfMember}
 use Rattle.step_notes.proofs.Members.RestLaws.{event_rest}
 use Rattle.world_moves.specs.declared.links.EndId.TheVariants.{Member}
 use Rattle.world_moves.specs.Acting.{Given, given_by}
@@ -37,7 +37,7 @@ use Rattle.domain_world.proofs.Sequences.SeedTurnLaws.{Turned, comes_so, drawn_s
 pub record OwnCalls (Done : ℕ → Type 0) (marks : List Mark) (drawn : List (List ℕ)) (turns : List LogonTurn) (given : Given) (controller k : ℕ) (running : Running) : Type 0 where
   pub own : List LogonTurn
   pub none : given_dials k given ≡ 0 → own ≡ mine k turns
-  pub one : given_dials k given ≡ 1 → IsWaiting running.dialling → own ≡ mine k turns ++ turn_of controller k running.logons.channel
+  pub one : given_dials k given ≡ 1 → IsWaiting running.dialling → own ≡ mine k turns ++ turn_of controller (OfMember k) running.logons.channel
   pub before : AreDrawn drawn own
   pub turned : Turned (view_of controller running.logons.channel) own drawn
   pub calls : KnowsCalls Done marks own controller running.logons.channel
@@ -62,21 +62,21 @@ own_grows Done Later so marks later drawn after turns given more controller k ru
 record Next (Done : ℕ → Type 0) (marks : List Mark) (drawn : List (List ℕ)) (own : List LogonTurn) (controller k : ℕ) (new : Requester) (count : ℕ) : Type 0 where
   turns : List LogonTurn
   none : count ≡ 0 → turns ≡ own
-  one : 1 ≤ count → turns ≡ own ++ turn_of controller k new
+  one : 1 ≤ count → turns ≡ own ++ turn_of controller (OfMember k) new
   few : count ≤ 1
   before : AreDrawn drawn turns
   turned : Turned (view_of controller new) turns drawn
   calls : KnowsCalls Done marks turns controller new
 
 module _ (Done : ℕ → Type 0) (marks : List Mark) (drawn : List (List ℕ)) (own : List LogonTurn) (controller k : ℕ) (before : AreDrawn drawn own) where
-  with_turn : (new : Requester) (count : ℕ) (later : List (List ℕ)) → count ≡ 1 → StillDrawn drawn later → Turned (view_of controller new) (own ++ turn_of controller k new) later →
-      KnowsCalls Done marks (own ++ turn_of controller k new) controller new → Next Done marks later own controller k new count
+  with_turn : (new : Requester) (count : ℕ) (later : List (List ℕ)) → count ≡ 1 → StillDrawn drawn later → Turned (view_of controller new) (own ++ turn_of controller (OfMember k) new) later →
+      KnowsCalls Done marks (own ++ turn_of controller (OfMember k) new) controller new → Next Done marks later own controller k new count
   with_turn new count later one still turned calls = record {
-    turns = own ++ turn_of controller k new;
+    turns = own ++ turn_of controller (OfMember k) new;
     none = λ none. absurd (omega (arith, one, none));
     one = λ some. refl;
     few = omega (arith, one);
-    before = both_drawn later own (turn_of controller k new) (still_drawn drawn later own still before) (turn_drawn controller k new (own ++ turn_of controller k new) later turned);
+    before = both_drawn later own (turn_of controller (OfMember k) new) (still_drawn drawn later own still before) (turn_drawn controller (OfMember k) new (own ++ turn_of controller (OfMember k) new) later turned);
     turned = turned;
     calls = calls;
   }
@@ -102,10 +102,10 @@ module _ (Done : ℕ → Type 0) (marks : List Mark) (drawn : List (List ℕ)) (
       let later : List (List ℕ) = drawn ++ draws_between left after in
       let still : StillDrawn drawn later = λ challenge is. drawn_still challenge drawn (draws_between left after) is in
       with_turn new (dials_in dial_work.0.actions) later dials.0 still
-      (subst (λ (x : Requester). Turned (view_of controller x) (own ++ turn_of controller k x) later) (sym next.0)
-      (turned_later (view_of controller t) (own ++ turn_of controller k t) drawn later still (starts_so own drawn controller k (timestamp_of now) (replicate 8 0) false mid can need tt before coherent turned)))
-      (subst (λ (x : Requester). KnowsCalls Done marks (own ++ turn_of controller k x) controller x) (sym next.0)
-      (start_knows Done marks own controller k (timestamp_of now) (replicate 8 0) mid can calls))
+      (subst (λ (x : Requester). Turned (view_of controller x) (own ++ turn_of controller (OfMember k) x) later) (sym next.0)
+      (turned_later (view_of controller t) (own ++ turn_of controller (OfMember k) t) drawn later still (starts_so own drawn controller (OfMember k) (timestamp_of now) (replicate 8 0) false mid can need tt before coherent turned)))
+      (subst (λ (x : Requester). KnowsCalls Done marks (own ++ turn_of controller (OfMember k) x) controller x) (sym next.0)
+      (start_knows Done marks own controller (OfMember k) (timestamp_of now) (replicate 8 0) mid can calls))
   next_calls true true now mid left rest_left new after how dial_work can need next rest dials coherent differ turned calls =
       let challenge : List ℕ = next.0 in
       let t : Requester = (start_of mid (timestamp_of now) challenge).state in
@@ -114,18 +114,18 @@ module _ (Done : ℕ → Type 0) (marks : List Mark) (drawn : List (List ℕ)) (
       let same : later ≡ (drawn ++ rest.front) ++ challenge ∷ [] = one_drawn drawn left rest_left after rest challenge next.1 in
       let fresh : IsDrawn challenge (drawn ++ rest.front) → ⊥ = fresh_last (drawn ++ rest.front) challenge (subst Differ same differ) in
       with_turn new (dials_in dial_work.0.actions) later dials.0 still
-      (subst (λ (x : Requester). Turned (view_of controller x) (own ++ turn_of controller k x) later) (sym next.2)
-      (turned_later (view_of controller t) (own ++ turn_of controller k t) (drawn ++ challenge ∷ []) later
+      (subst (λ (x : Requester). Turned (view_of controller x) (own ++ turn_of controller (OfMember k) x) later) (sym next.2)
+      (turned_later (view_of controller t) (own ++ turn_of controller (OfMember k) t) (drawn ++ challenge ∷ []) later
       (λ one is. subst (IsDrawn one) (sym same) (drawn_between one drawn rest.front challenge is))
-      (starts_so own drawn controller k (timestamp_of now) challenge true mid can need (λ is. fresh (drawn_still challenge drawn rest.front is)) before coherent turned)))
-      (subst (λ (x : Requester). KnowsCalls Done marks (own ++ turn_of controller k x) controller x) (sym next.2)
-      (start_knows Done marks own controller k (timestamp_of now) challenge mid can calls))
+      (starts_so own drawn controller (OfMember k) (timestamp_of now) challenge true mid can need (λ is. fresh (drawn_still challenge drawn rest.front is)) before coherent turned)))
+      (subst (λ (x : Requester). KnowsCalls Done marks (own ++ turn_of controller (OfMember k) x) controller x) (sym next.2)
+      (start_knows Done marks own controller (OfMember k) (timestamp_of now) challenge mid can calls))
 
 -- what the event comes to is known, and the next turn may start
 pub step_calls : (Done : ℕ → Type 0) (marks : List Mark) (drawn : List (List ℕ)) (turns : List LogonTurn) (given : Given) (controller k : ℕ) (running : Running) (what : Event) (now : ℕ) (left : List (List ℕ))
     (part : Part DialWork) (own : List LogonTurn) (steps : TurnSteps running.logons.channel (by_event what running.dialling (work_of running) left) now part) → AreDrawn drawn own →
     (given_dials k given ≡ 0 → own ≡ mine k turns) →
-    (dials_in part.value.0.actions ≡ 0 → given_dials k given ≡ 1 → IsWaiting part.value.1 → own ≡ mine k turns ++ turn_of controller k part.value.0.logons.channel) → IsCoherent running.logons.channel →
+    (dials_in part.value.0.actions ≡ 0 → given_dials k given ≡ 1 → IsWaiting part.value.1 → own ≡ mine k turns ++ turn_of controller (OfMember k) part.value.0.logons.channel) → IsCoherent running.logons.channel →
     Turned (view_of controller running.logons.channel) own drawn → KnowsCalls Done marks own controller steps.part.value.0.logons.channel → Differ (drawn ++ draws_between left part.left) →
     OwnCalls Done marks (drawn ++ draws_between left part.left) turns (given ++ given_by (Member k) part.value.0.actions) controller k
     (record { logons = part.value.0.logons; links = part.value.0.links; dialling = part.value.1 })
@@ -150,7 +150,7 @@ step_calls Done marks drawn turns given controller k running what now left part 
             (let was : given_dials k given ≡ 1 = omega (arith, count, is, no_dials) in next.none no_dials ∙ still no_dials was waits)
         | inr some ↦
             (let no_given : given_dials k given ≡ 0 = omega (arith, count, is, some) in
-            next.one some ∙ ap (λ (l : List LogonTurn). l ++ turn_of controller k part.value.0.logons.channel) (none no_given))
+            next.one some ∙ ap (λ (l : List LogonTurn). l ++ turn_of controller (OfMember k) part.value.0.logons.channel) (none no_given))
       ];
       before = next.before;
       turned = next.turned;

@@ -23,7 +23,7 @@ use Rattle.channel_events.proofs.ListLaws.{at_end, got_append, got_last, got_not
 use Rattle.member_server.specs.ChannelSteps.{IsCalm}
 use Rattle.member_server.specs.Laws.{Asks, Doing, Loses, Starts, Takes, state_after}
 use Rattle.step_notes.specs.MemberNotes.{timestamp_bound, turn_of}
-use Rattle.step_notes.specs.Records.{LogonTurn}
+use Rattle.step_notes.specs.Records.{LogonTurn, RequesterId}
 use Rattle.domain_world.specs.Accepting.Sequences.{AreUnitsApart, stamps_of}
 use Rattle.domain_world.proofs.Requests.LooserLaws.{IsPlaced, calls_before, placed_as}
 use Rattle.domain_world.proofs.Sequences.Own.OwnTurnLaws.{stands_same}
@@ -142,21 +142,21 @@ module _ (Done : ℕ → Type 0) (marks : List Mark) (own : List LogonTurn) (con
     );
   }
 
-  start_by : (member timestamp : ℕ) (challenge : List ℕ) (caller : Caller) (how : Standing) (logons : List Waiting) (place next : ℕ) (turn : Option Pending) →
+  start_by : (who : RequesterId) (timestamp : ℕ) (challenge : List ℕ) (caller : Caller) (how : Standing) (logons : List Waiting) (place next : ℕ) (turn : Option Pending) →
       let s : Requester = record { caller = caller; standing = how; waiting = logons; next_place = place; next_call = next; turn = turn } in
       can_start turn logons ≡ true → KnowsCalls Done marks own controller s →
-      KnowsCalls Done marks (own ++ turn_of controller member (start_of s timestamp challenge).state) controller (start_of s timestamp challenge).state
-  start_by member timestamp challenge caller how logons place next (Some pending) can knows = absurd (let x = can in cc)
-  start_by member timestamp challenge caller how [] place next None can knows = absurd (let x = can in cc)
-  start_by member timestamp challenge caller standing.Nothing (logon ∷ logons) place next None can knows = λ c is. absurd (let x = is in cc)
-  start_by member timestamp challenge caller (standing.Half client server) (logon ∷ logons) place next None can knows = λ c is. absurd (let x = is in cc)
-  start_by member timestamp challenge caller (standing.Open o) (logon ∷ logons) place next None can knows = λ c is.
-      started_far c (record { member = member; channel = channel_of controller caller.computer o; timestamp = timestamp }) (some_is (channel_of controller caller.computer o) c is) (knows c is) next
+      KnowsCalls Done marks (own ++ turn_of controller who (start_of s timestamp challenge).state) controller (start_of s timestamp challenge).state
+  start_by who timestamp challenge caller how logons place next (Some pending) can knows = absurd (let x = can in cc)
+  start_by who timestamp challenge caller how [] place next None can knows = absurd (let x = can in cc)
+  start_by who timestamp challenge caller standing.Nothing (logon ∷ logons) place next None can knows = λ c is. absurd (let x = is in cc)
+  start_by who timestamp challenge caller (standing.Half client server) (logon ∷ logons) place next None can knows = λ c is. absurd (let x = is in cc)
+  start_by who timestamp challenge caller (standing.Open o) (logon ∷ logons) place next None can knows = λ c is.
+      started_far c (record { requester = who; channel = channel_of controller caller.computer o; timestamp = timestamp }) (some_is (channel_of controller caller.computer o) c is) (knows c is) next
       logon.place _ refl
 
-  pub start_knows : (member timestamp : ℕ) (challenge : List ℕ) (s : Requester) → can_start s.turn s.waiting ≡ true → KnowsCalls Done marks own controller s →
-      KnowsCalls Done marks (own ++ turn_of controller member (start_of s timestamp challenge).state) controller (start_of s timestamp challenge).state
-  start_knows member timestamp challenge s can knows = start_by member timestamp challenge s.caller s.standing s.waiting s.next_place s.next_call s.turn can knows
+  pub start_knows : (who : RequesterId) (timestamp : ℕ) (challenge : List ℕ) (s : Requester) → can_start s.turn s.waiting ≡ true → KnowsCalls Done marks own controller s →
+      KnowsCalls Done marks (own ++ turn_of controller who (start_of s timestamp challenge).state) controller (start_of s timestamp challenge).state
+  start_knows who timestamp challenge s can knows = start_by who timestamp challenge s.caller s.standing s.waiting s.next_place s.next_call s.turn can knows
 
 -- ---- a call goes out
 

@@ -1,23 +1,21 @@
 -- What is known of the calls of a member's turns says which calls were made on its open channel.
 -- It serves `sequences_are_shared`.
-use Rattle.std.proofs.Common.{◌≡◌, ◌⊎◌, ℕ, zero, suc, List, [], ◌∷◌, inl, inr, Option, Some, None, slice_get, refl, sym, ap, subst, ◌∙◌}
+use Rattle.std.proofs.Common.{◌≡◌, ℕ, zero, suc, List, [], ◌∷◌, inl, inr, Option, Some, None, slice_get, refl, sym, ap, subst, ◌∙◌}
 use Rattle.std.specs.List.{AllByRecursion}
 use Rattle.authenticators.specs.Channels.{ChannelIdentity}
-use Rattle.authenticators.specs.SecureChannels.{SecureChannelState}
 use Rattle.channel_client.specs.Effects.{stands_in, step_in}
 use Rattle.channel_client.specs.declared.state.Pending.{Pending}
 use Rattle.channel_client.specs.declared.state.Standing.{Standing}
 use Rattle.channel_client.specs.declared.state.Step.{Step}
-use Rattle.channel_client.specs.declared.state.Step.TheVariants as step
 use Rattle.channel_events.specs.Marks.{Mark, Calling}
 use Rattle.channel_events.proofs.ListLaws.{got_nothing, some_is}
 use Rattle.member_server.specs.State.{State as MemberState}
 use Rattle.member_server.specs.declared.state.Running.{Running}
 use Rattle.step_notes.specs.MemberNotes.{timestamp_bound}
-use Rattle.step_notes.specs.Records.{Book, LogonTurn, Sent}
+use Rattle.step_notes.specs.Records.{Book, LogonTurn, Sent, OfMember}
 use Rattle.world_moves.specs.declared.state.State.{State}
 use Rattle.domain_world.specs.Accepting.Sequences.{AreSoFar, CallsOfTurns, HasPassed, HavePassed, IsMadeOn, TurnsAreCalled}
-use Rattle.domain_world.specs.Claims.SharedSequences.{Stands, timestamps_on}
+use Rattle.domain_world.specs.Claims.SharedSequences.{timestamps_on}
 use Rattle.domain_world.specs.Past.{Past, controller_of}
 use Rattle.domain_world.proofs.Frames.MarkPlaceLaws.{got_map}
 use Rattle.domain_world.proofs.Requests.CallHoldsLaws.{marks_in}
@@ -25,6 +23,8 @@ use Rattle.domain_world.proofs.Sequences.CallTurnLaws.{AllDone, AreFar, AreFarBy
 use Rattle.domain_world.proofs.Sequences.Own.OwnRunLaws.{own_stamps}
 use Rattle.domain_world.proofs.Sequences.Own.OwnTurnLaws.{mine}
 use Rattle.domain_world.proofs.Sequences.SeedTurnLaws.{stamps_on}
+use Rattle.domain_world.proofs.Frames.RequesterLaws.{StandsAtMember, stands_at}
+use Rattle.channel_client.specs.declared.state.Step.TheVariants as step
 
 -- what is known of a member, if it runs
 abbrev pub KnowsIf : (ℕ → Type 0) → List Mark → List LogonTurn → ℕ → Option Running → Type 0
@@ -79,7 +79,8 @@ module _ (p : Past) (Done : ℕ → Type 0) (passed : (n : ℕ) → Done n → H
   }
 
   pub turns_called : AllKnow Done p.world.state p.book → TurnsAreCalled p
-  turns_called all member channel o stands =
+  turns_called all (OfMember member) channel o its =
+      let stands : StandsAtMember p.world.state member channel o its.turn = stands_at p.world.state member channel o its in
       let running : Running = stands.running in
       let c : ℕ = controller_of member p.world.state in
       let own : List LogonTurn = mine member p.book.turns in
@@ -87,5 +88,5 @@ module _ (p : Past) (Done : ℕ → Type 0) (passed : (n : ℕ) → Done n → H
       subst (λ (r : Option Running). KnowsIf Done marks own c r) stands.runs (all member stands.state stands.at) in
       let open_channel : stands_in c running.logons.channel.caller.computer running.logons.channel.standing ≡ Some channel =
       ap (λ (how : Standing). stands_in c running.logons.channel.caller.computer how) stands.open_so ∙ ap Some (sym stands.is) in
-      of_turns channel stands.turn own (timestamps_on member channel p.book.turns) (own_stamps member channel p.book.turns)
+      of_turns channel its.turn own (timestamps_on (OfMember member) channel p.book.turns) (own_stamps member channel p.book.turns)
       (subst (λ (turn : Option Pending). CallsMade Done marks own channel turn) stands.is_turn (known channel open_channel))

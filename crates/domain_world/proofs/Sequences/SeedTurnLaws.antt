@@ -30,7 +30,7 @@ use Rattle.channel_events.proofs.SameLaws.{itself, one_channel}
 use Rattle.member_server.specs.Dials.{ComesUnstarted, IsNoStart}
 use Rattle.member_server.specs.Laws.{Asks, Doing, Loses, Starts, Takes, state_after}
 use Rattle.step_notes.specs.MemberNotes.{turn_of}
-use Rattle.step_notes.specs.Records.{LogonTurn}
+use Rattle.step_notes.specs.Records.{LogonTurn, RequesterId}
 
 -- ---- turns
 
@@ -240,31 +240,31 @@ module _ (own : List LogonTurn) (drawn : List (List ℕ)) where
       }
 
   -- where one can start, by how far the channel is
-  start_by : (controller member : ℕ) (timestamp : ℕ) (challenge : List ℕ) (caller : Caller) (how : Standing) (logons : List Waiting) (place next : ℕ) (turn : Option Pending) →
+  start_by : (controller : ℕ) (who : RequesterId) (timestamp : ℕ) (challenge : List ℕ) (caller : Caller) (how : Standing) (logons : List Waiting) (place next : ℕ) (turn : Option Pending) →
       let s : Requester = record { caller = caller; standing = how; waiting = logons; next_place = place; next_call = next; turn = turn } in
       can_start turn logons ≡ true → IsFreshIf (needs_challenge how) challenge drawn → AllByRecursion (λ (turn : LogonTurn). IsDrawn turn.channel.client drawn) own → IsCoherent s →
       Turned (view_of controller s) own drawn →
-      Turned (view_of controller (start_of s timestamp challenge).state) (own ++ turn_of controller member (start_of s timestamp challenge).state) (drawn_if (needs_challenge how) challenge drawn)
-  start_by controller member timestamp challenge caller how logons place next (Some pending) can new before coherent turned = absurd (let x = can in cc)
-  start_by controller member timestamp challenge caller how [] place next None can new before coherent turned = absurd (let x = can in cc)
-  start_by controller member timestamp challenge caller standing.Nothing (logon ∷ logons) place next None can new before coherent turned =
+      Turned (view_of controller (start_of s timestamp challenge).state) (own ++ turn_of controller who (start_of s timestamp challenge).state) (drawn_if (needs_challenge how) challenge drawn)
+  start_by controller who timestamp challenge caller how logons place next (Some pending) can new before coherent turned = absurd (let x = can in cc)
+  start_by controller who timestamp challenge caller how [] place next None can new before coherent turned = absurd (let x = can in cc)
+  start_by controller who timestamp challenge caller standing.Nothing (logon ∷ logons) place next None can new before coherent turned =
       let s : Requester = record { caller = caller; standing = standing.Nothing; waiting = logon ∷ logons; next_place = place; next_call = next; turn = None } in
       subst (λ (all : List LogonTurn). Turned (view_of controller (start_of s timestamp challenge).state) all (drawn ++ challenge ∷ [])) (sym (append-nil own))
       (begins_turned challenge (view_of controller s) (view_of controller (start_of s timestamp challenge).state) (steps_have_effects.start controller s timestamp challenge coherent).0 new before)
-  start_by controller member timestamp challenge caller (standing.Half client server) (logon ∷ logons) place next None can new before coherent turned =
+  start_by controller who timestamp challenge caller (standing.Half client server) (logon ∷ logons) place next None can new before coherent turned =
       let s : Requester = record { caller = caller; standing = standing.Half client server; waiting = logon ∷ logons; next_place = place; next_call = next; turn = None } in
       subst (λ (all : List LogonTurn). Turned (view_of controller (start_of s timestamp challenge).state) all drawn) (sym (append-nil own))
       (changed Counts (view_of controller s) (view_of controller (start_of s timestamp challenge).state) tt (steps_have_effects.start controller s timestamp challenge coherent).0 turned)
-  start_by controller member timestamp challenge caller (standing.Open o) (logon ∷ logons) place next None can new before coherent turned =
+  start_by controller who timestamp challenge caller (standing.Open o) (logon ∷ logons) place next None can new before coherent turned =
       let s : Requester = record { caller = caller; standing = standing.Open o; waiting = logon ∷ logons; next_place = place; next_call = next; turn = None } in
-      let turn : LogonTurn = record { member = member; channel = channel_of controller caller.computer o; timestamp = timestamp } in
+      let turn : LogonTurn = record { requester = who; channel = channel_of controller caller.computer o; timestamp = timestamp } in
       moves_turned turn (view_of controller s) (view_of controller (start_of s timestamp challenge).state) (steps_have_effects.start controller s timestamp challenge coherent).0 refl turned
 
-  pub starts_so : (controller member timestamp : ℕ) (challenge : List ℕ) (needs : Bool) (s : Requester) → can_start s.turn s.waiting ≡ true → needs_challenge s.standing ≡ needs →
+  pub starts_so : (controller : ℕ) (who : RequesterId) (timestamp : ℕ) (challenge : List ℕ) (needs : Bool) (s : Requester) → can_start s.turn s.waiting ≡ true → needs_challenge s.standing ≡ needs →
       IsFreshIf needs challenge drawn → AllByRecursion (λ (turn : LogonTurn). IsDrawn turn.channel.client drawn) own → IsCoherent s → Turned (view_of controller s) own drawn →
-      Turned (view_of controller (start_of s timestamp challenge).state) (own ++ turn_of controller member (start_of s timestamp challenge).state) (drawn_if needs challenge drawn)
-  starts_so controller member timestamp challenge needs s can need new before coherent turned =
+      Turned (view_of controller (start_of s timestamp challenge).state) (own ++ turn_of controller who (start_of s timestamp challenge).state) (drawn_if needs challenge drawn)
+  starts_so controller who timestamp challenge needs s can need new before coherent turned =
       subst
-      (λ (b : Bool). Turned (view_of controller (start_of s timestamp challenge).state) (own ++ turn_of controller member (start_of s timestamp challenge).state) (drawn_if b challenge drawn)) need
-      (start_by controller member timestamp challenge s.caller s.standing s.waiting s.next_place s.next_call s.turn can (subst (λ (b : Bool). IsFreshIf b challenge drawn) (sym need) new) before
+      (λ (b : Bool). Turned (view_of controller (start_of s timestamp challenge).state) (own ++ turn_of controller who (start_of s timestamp challenge).state) (drawn_if b challenge drawn)) need
+      (start_by controller who timestamp challenge s.caller s.standing s.waiting s.next_place s.next_call s.turn can (subst (λ (b : Bool). IsFreshIf b challenge drawn) (sym need) new) before
       coherent turned)

@@ -23,7 +23,7 @@ use Rattle.member_server.specs.Laws.{AsksWhatWaits}
 use Rattle.step_notes.specs.ControllerNotes.{has_passed}
 use Rattle.step_notes.specs.Judged.{passed_channel}
 use Rattle.step_notes.specs.Marking.{is_channel, mark_channel, sent_channel}
-use Rattle.step_notes.specs.Records.{Judging, Sent}
+use Rattle.step_notes.specs.Records.{JudgedCall, Judging, Network, Sent, given_in, network_in, timestamp_in}
 use Rattle.world_moves.specs.Draws.{DrawsDiffer}
 use Rattle.step_notes.specs.ReplySends.{IsReplyOfCall}
 use Rattle.domain_world.specs.Claims.Replies.{IsReplyOfOne}
@@ -84,6 +84,10 @@ both_so true true is also = refl
 both_so false other is also = absurd (let x = is in cc)
 both_so true false is also = absurd (let x = also in cc)
 
+-- the authenticator of a call is the one that stands in it
+given_there : (asked : JudgedCall) → given_in asked ≡ (network_in asked).authenticator
+given_there (Network c) = refl
+
 module _ (past : Past) (known : IsProved past) (heard : AnswersAreHeard past) (clear : IsClear past.book) (units : MarkedUnitsAreWhole past) (judged : JudgedAsCarried past)
     (stamped : CallsAreStamped past) (channel : ChannelIdentity) (turn : Option Pending) (timestamps : List ℕ) (calls : CallsOfTurns past channel turn timestamps)
     (own : any_foreign channel past.book.judged ≡ false) where
@@ -101,7 +105,7 @@ module _ (past : Past) (known : IsProved past) (heard : AnswersAreHeard past) (c
   no_logon n j sent mark carried there is marked never =
       let whole : IsWholeAsMarked sent.mark carried.carrier.bytes = units n carried.carrier sent carried.there there (λ plain. marked (subst IsPlain is plain)) in
       let same : whole.whole.unit ≡ carried.whole.unit = one_unit carried.carrier.bytes whole.whole carried.whole in
-      never whole.whole.unit (subst (λ (m : Mark). IsAsMarked m whole.whole.unit) is whole.marked) j.logon (ap (λ (u : RpcUnit). call_carried u.body) same ∙ carried.carried)
+      never whole.whole.unit (subst (λ (m : Mark). IsAsMarked m whole.whole.unit) is whole.marked) (network_in j.asked) (ap (λ (u : RpcUnit). call_carried u.body) same ∙ carried.carried)
 
   by_mark : (mark : Mark) (n : ℕ) (j : Judging) (sent : Sent) (named : ChannelIdentity) → IsJudgedAsCarried past j n → slice_get past.book.sent n ≡ Some sent → sent.mark ≡ mark →
       mark_channel mark ≡ Some named → named.client ≡ channel.client → IsItsUnit n j
@@ -114,7 +118,8 @@ module _ (past : Past) (known : IsProved past) (heard : AnswersAreHeard past) (c
       absurd (no_logon n j sent (ReplyTo other number request) carried there is (λ plain. plain) (λ unit marked. marked.0))
   by_mark (Calling other number timestamp) n j sent named carried there is made client =
       let same : other.client ≡ channel.client = ap (λ (c : ChannelIdentity). c.client) (some_is other named made) ∙ client in
-      let stamp : judged_timestamp j ≡ timestamp = stamped n carried.carrier sent other number timestamp j.logon carried.there there is carried.whole carried.carried in
+      let stamp : judged_timestamp j ≡ timestamp =
+      ap timestamp_in (given_there j.asked) ∙ stamped n carried.carrier sent other number timestamp (network_in j.asked) carried.there there is carried.whole carried.carried in
       one_with (λ (one : ℕ × ℕ). IsMadeOn past channel one.0 one.1) (λ (one : ℕ × ℕ). one.0 ≡ n) (λ (one : ℕ × ℕ). (one.0 ≡ n) × (one.1 ≡ judged_timestamp j)) calls.made
       (λ one on at. (
         at,
@@ -249,15 +254,15 @@ kept_seed p controller computer c left follow keeps =
 
 pub sequence_shared : (p : Past) → IsProved p → AnswersAreHeard p → IsClear p.book → MarkedUnitsAreWhole p → JudgedAsCarried p → CallsAreStamped p → TurnsAreCalled p →
     SequencesAreOwn p → (left : List (List ℕ)) → SeedsFollow p.book.judged left p.world.state.ends.controllers → SequencesAreShared p
-sequence_shared p known heard clear units judged stamped called own left follow member = record {
-  own = λ channel o stands. own member channel o stands;
+sequence_shared p known heard clear units judged stamped called own left follow who = record {
+  own = λ channel o stands. own who channel o stands;
   other = λ channel o c stands keeps same none.
       let kept : ChannelIdentity = channel_of channel.controller channel.computer c in
       let seed : c.seed ≡ add_to (client_credential channel) (moved_on channel p.book.judged) =
       kept_seed p channel.controller channel.computer c left follow keeps
       ∙ ap₂ add_to (same_credential kept channel same) (moved_same kept channel same p.book.judged) in
-      its_seed p known heard clear units judged stamped channel stands.turn (timestamps_on member channel p.book.turns) (called member channel o stands) none c.seed o.seed seed
-      (own member channel o stands);
+      its_seed p known heard clear units judged stamped channel stands.turn (timestamps_on who channel p.book.turns) (called who channel o stands) none c.seed o.seed seed
+      (own who channel o stands);
 }
 
 -- of every run

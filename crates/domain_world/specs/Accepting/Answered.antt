@@ -15,7 +15,7 @@ use Rattle.member_server.specs.Turns.{ending_of}
 use Rattle.channel_events.specs.Marks.{Mark, OneOf, Plain, Opening, Opened, Calling, ReplyTo}
 use Rattle.step_notes.specs.Judged.{passed_channel}
 use Rattle.step_notes.specs.Marking.{clashes}
-use Rattle.step_notes.specs.Records.{ChallengeSent, Judging, MessageMade, MessageTaken, OutcomeTold, Sent}
+use Rattle.step_notes.specs.Records.{ChallengeSent, Judging, MessageMade, MessageTaken, OutcomeTold, Sent, network_in}
 use Rattle.step_notes.specs.ReplySends.{IsReplyOfCall, verdict_passed}
 use Rattle.world_moves.specs.declared.bag.BagUnit.{BagUnit}
 use Rattle.world_moves.specs.Counting.{is_in}
@@ -53,13 +53,13 @@ PassesAreUnclashed past =
 abbrev pub UnitsAreHeardAlike : Past → Type 0
 UnitsAreHeardAlike past =
     AllByRecursion (λ (one : Judging). AllByRecursion (λ (other : Judging). (unit : ℕ) → one.unit ≡ Some unit → other.unit ≡ Some unit →
-    one.logon ≡ other.logon) past.book.judged) past.book.judged
+    one.asked ≡ other.asked) past.book.judged) past.book.judged
 
 -- what was judged asks what the message asks, with its place as the identity of the logon (MS-NRPC 2.2.1.4.15), at
 -- level 3
 pub record AsksForIt (message : MessageTaken) (j : Judging) : Type 0 where
-  pub info : j.logon.info ≡ record (info_asked message) { logon_id = message.place }
-  pub level : j.logon.validation ≡ 3
+  pub info : (network_in j.asked).info ≡ record (info_asked message) { logon_id = message.place }
+  pub level : (network_in j.asked).validation ≡ 3
 
 -- so it is of each call that came in the unit which carries the Logon call of a message
 abbrev pub CallsAskForMessages : Past → Type 0

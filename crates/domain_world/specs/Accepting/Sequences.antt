@@ -9,7 +9,7 @@ use Rattle.channel_events.specs.Marks.{Calling, OneOf, ReplyTo}
 use Rattle.logon_stubs.specs.declared.calls.Call.TheVariants as call
 use Rattle.logon_stubs.specs.declared.calls.LogonCall.{LogonCall}
 use Rattle.step_notes.specs.ControllerNotes.{has_passed}
-use Rattle.step_notes.specs.Records.{Judging, MessageTaken, Sent, timestamp_in}
+use Rattle.step_notes.specs.Records.{Judging, MessageTaken, RequesterId, Sent, timestamp_in}
 use Rattle.world_moves.specs.declared.bag.BagUnit.{BagUnit}
 use Rattle.world_moves.specs.declared.moves.Move.{Move}
 use Rattle.world_moves.specs.declared.plan.Plan.{Plan}
@@ -96,11 +96,11 @@ pub record CallsOfTurns (past : Past) (channel : ChannelIdentity) (turn : Option
       other.client ≡ channel.client → OneOf (λ (one : ℕ × ℕ). one.0 ≡ n) made
   pub far : AreSoFar past turn made timestamps
 
--- so it is of each channel that stands at a member
+-- so it is of each channel that stands at a requester
 abbrev pub TurnsAreCalled : Past → Type 0
 TurnsAreCalled past =
-    (member : ℕ) (channel : ChannelIdentity) (o : SecureChannelState) → (stands : Stands past.world.state member channel o) →
-    CallsOfTurns past channel stands.turn (timestamps_on member channel past.book.turns)
+    (who : RequesterId) (channel : ChannelIdentity) (o : SecureChannelState) → (stands : Stands past.world.state who channel o) →
+    CallsOfTurns past channel stands.turn (timestamps_on who channel past.book.turns)
 
 -- ---- replies
 

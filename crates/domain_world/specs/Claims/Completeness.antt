@@ -17,7 +17,7 @@ use Rattle.outside.specs.declared.action.Judged.TheVariants as judged
 use Rattle.outside.specs.declared.action.Outcome.TheVariants as outcome
 use Rattle.sam_logon.specs.MayLogOn.{MayLogOn}
 use Rattle.channel_events.specs.Marks.{OneOf}
-use Rattle.step_notes.specs.Records.{Judging, OutcomeTold}
+use Rattle.step_notes.specs.Records.{Judging, OutcomeTold, network_in}
 use Rattle.world_moves.specs.declared.links.EndId.TheVariants.{Controller, Member}
 use Rattle.world_moves.specs.declared.links.Route.TheVariants.{ToMember}
 use Rattle.world_moves.specs.declared.moves.Move.{Move}
@@ -155,7 +155,7 @@ pub record ComesOneAtATime (run : Past) (moves : List Move) : Type 0 where
   pub plain : AllByRecursion IsPlainMove moves
   pub once : AllPairs (λ (one other : ℕ). one ≢ other) (started_in moves (length run.plan.clients))
   pub quiet : OneAtATime moves (first_world run.plan)
-  pub keys : AllByRecursion (λ (j : Judging). j.how ≡ Some (judged.Passed 0) → TravelsAsZeros j j.logon.info → ⊥)
+  pub keys : AllByRecursion (λ (j : Judging). j.how ≡ Some (judged.Passed 0) → TravelsAsZeros j (network_in j.asked).info → ⊥)
       run.book.judged
 
 -- Completeness, of the run over these moves: each client that is started and can succeed does.

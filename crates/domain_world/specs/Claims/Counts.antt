@@ -3,7 +3,7 @@ use Rattle.std.specs.Prelude.{ℕ, ◌≡◌, ◌<◌, true, Some, slice_get}
 use Rattle.account_table.specs.declared.account.Account.{Account}
 use Rattle.domain_controller.specs.Machine.{judge_info}
 use Rattle.step_notes.specs.ControllerNotes.{has_passed}
-use Rattle.step_notes.specs.Records.{Judging}
+use Rattle.step_notes.specs.Records.{Judging, network_in}
 use Rattle.domain_world.specs.Past.{Past}
 
 -- The call passed, and by its verdict the count of some account grew.
@@ -13,7 +13,7 @@ pub record RaisesCount (j : Judging) : Type 0 where
   pub before : Account
   pub after : Account
   pub was : slice_get j.table.accounts place ≡ Some before
-  pub is : slice_get (judge_info j.table j.name j.moment j.logon.info j.logon.validation).table.accounts place ≡ Some after
+  pub is : slice_get (judge_info j.table j.name j.moment (network_in j.asked).info (network_in j.asked).validation).table.accounts place ≡ Some after
   pub grew : before.bad_count < after.bad_count
 
 -- Each Logon call that an end made raises a count at most once: of the judgings of calls that one unit of the bag

@@ -1,13 +1,12 @@
 -- How the two ends of a secure channel stand to each other in a run (MS-NRPC 3.1.4.5; that one turn is out at a time is
 -- this project's own choice).
-use Rattle.std.specs.Prelude.{ℕ, ◌≡◌, ◌≤◌, ◌⊎◌, ◌==◌, ◌&&◌, Bool, false, List, [], ◌∷◌, ◌++◌, filter, length, map, Option, Some, None, slice_get}
+use Rattle.std.specs.Prelude.{ℕ, ◌≡◌, ◌≤◌, ◌⊎◌, ◌&&◌, Bool, false, List, [], ◌∷◌, ◌++◌, filter, length, map, Option, Some, None, slice_get}
 use Rattle.std.specs.List.{list_any}
 use Rattle.wire_base.specs.Maps.{lookup}
 use Rattle.wire_base.specs.Names.{same_name}
 use Rattle.authenticators.specs.Channels.{ChannelIdentity, SameChannel, same_channel}
 use Rattle.authenticators.specs.SecureChannels.{channel_of, SecureChannelState}
 use Rattle.channel_client.specs.Turns.{is_out}
-use Rattle.channel_client.specs.declared.state.Standing.TheVariants as standing
 use Rattle.channel_client.specs.declared.state.Pending.{Pending}
 use Rattle.channel_events.specs.Seeds.{channel_seed}
 use Rattle.domain_controller.specs.State.{State as ControllerState}
@@ -16,13 +15,15 @@ use Rattle.member_server.specs.Dials.{IsWaiting}
 use Rattle.member_server.specs.Laws.{is_dialled}
 use Rattle.member_server.specs.State.{State as MemberState}
 use Rattle.member_server.specs.declared.state.Running.{Running as MemberRunning}
-use Rattle.step_notes.specs.Records.{Judging, LogonTurn}
+use Rattle.step_notes.specs.Records.{Judging, LogonTurn, RequesterId, same_requester}
 use Rattle.world_moves.specs.declared.links.EndId.TheVariants.{Member}
 use Rattle.world_moves.specs.declared.state.State.{State}
 use Rattle.world_moves.specs.declared.state.WaitingDial.{WaitingDial}
 use Rattle.world_moves.specs.Links.{same_end}
 use Rattle.domain_world.specs.Claims.{passed_on}
-use Rattle.domain_world.specs.Past.{Past, controller_of}
+use Rattle.domain_world.specs.Past.{Past, controller_asked, requester_at}
+use Rattle.channel_client.specs.State.{Requester}
+use Rattle.channel_client.specs.declared.state.Standing.TheVariants as standing
 
 -- ---- one turn at a time
 
@@ -43,15 +44,15 @@ OneTurnIsOut past =
     (member : ℕ) (m : MemberState) (running : MemberRunning) → slice_get past.world.state.ends.members member ≡ Some m → m.running ≡ Some running →
     HasOneTurnOut past.world.state member running
 
--- ---- the member's side
+-- ---- the side of who asks
 
--- the turn is one of that member on that channel
-abbrev pub is_turn_on : ℕ → ChannelIdentity → LogonTurn → Bool
-is_turn_on member channel turn = (turn.member == member) && same_channel turn.channel channel
+-- the turn is one of that requester on that channel
+abbrev pub is_turn_on : RequesterId → ChannelIdentity → LogonTurn → Bool
+is_turn_on who channel turn = same_requester turn.requester who && same_channel turn.channel channel
 
 -- the timestamps of its turns on the channel, in order
-abbrev pub timestamps_on : ℕ → ChannelIdentity → List LogonTurn → List ℕ
-timestamps_on member channel turns = map (λ (turn : LogonTurn). turn.timestamp) (filter (is_turn_on member channel) turns)
+abbrev pub timestamps_on : RequesterId → ChannelIdentity → List LogonTurn → List ℕ
+timestamps_on who channel turns = map (λ (turn : LogonTurn). turn.timestamp) (filter (is_turn_on who channel) turns)
 
 -- a turn is out, and this is the seed before its timestamp, the last one
 pub record IsBeforeTurn (turn : Option Pending) (seed : List ℕ) (channel : ChannelIdentity) (timestamps : List ℕ) : Type 0 where
@@ -62,16 +63,14 @@ pub record IsBeforeTurn (turn : Option Pending) (seed : List ℕ) (channel : Cha
   pub all : timestamps ≡ earlier ++ last ∷ []
   pub seed_before : seed ≡ channel_seed channel earlier
 
--- the channel that stands at a member, and its state there
-pub record Stands (s : State) (member : ℕ) (channel : ChannelIdentity) (o : SecureChannelState) : Type 0 where
-  pub state : MemberState
-  pub running : MemberRunning
-  pub at : slice_get s.ends.members member ≡ Some state
-  pub runs : state.running ≡ Some running
-  pub open_so : running.logons.channel.standing ≡ standing.Open o
-  pub is : channel ≡ channel_of (controller_of member s) running.logons.channel.caller.computer o
+-- the channel that stands at a requester, and its state there
+pub record Stands (s : State) (who : RequesterId) (channel : ChannelIdentity) (o : SecureChannelState) : Type 0 where
+  pub requester : Requester
+  pub at : requester_at s who ≡ Some requester
+  pub open_so : requester.standing ≡ standing.Open o
+  pub is : channel ≡ channel_of (controller_asked who s) requester.caller.computer o
   pub turn : Option Pending
-  pub is_turn : running.logons.channel.turn ≡ turn
+  pub is_turn : requester.turn ≡ turn
 
 -- ---- the controller's side
 
@@ -93,27 +92,27 @@ any_foreign channel judgings = list_any (λ (j : Judging). is_foreign channel j.
 
 -- ---- the claim
 
--- The seed of a member's open channel is the client's credential moved by the timestamps of its Logon turns on that
--- channel, each plus one: the first part of the claim, which speaks of the member alone.
-abbrev pub SequenceIsOwn : Past → ℕ → Type 0
-SequenceIsOwn past member =
-    (channel : ChannelIdentity) (o : SecureChannelState) → Stands past.world.state member channel o →
-    o.seed ≡ channel_seed channel (timestamps_on member channel past.book.turns)
+-- The seed of a requester's open channel is the client's credential moved by the timestamps of its Logon turns on that
+-- channel, each plus one: the first part of the claim, which speaks of the requester alone.
+abbrev pub SequenceIsOwn : Past → RequesterId → Type 0
+SequenceIsOwn past who =
+    (channel : ChannelIdentity) (o : SecureChannelState) → Stands past.world.state who channel o →
+    o.seed ≡ channel_seed channel (timestamps_on who channel past.book.turns)
 
--- each member's is
+-- each requester's is
 abbrev pub SequencesAreOwn : Past → Type 0
-SequencesAreOwn past = (member : ℕ) → SequenceIsOwn past member
+SequencesAreOwn past = (who : RequesterId) → SequenceIsOwn past who
 
--- Its sequence is its own so. Where the controller of its plan has the same channel, and no authenticator from outside
--- passed on it, the controller's seed is the member's, or with a turn out the one before that turn.
-pub record SequenceIsShared (past : Past) (member : ℕ) : Type 0 where
-  pub own : SequenceIsOwn past member
-  pub other : (channel : ChannelIdentity) (o c : SecureChannelState) → (stands : Stands past.world.state member channel o) →
+-- Its sequence is its own so. Where the controller that it asks has the same channel, and no authenticator from outside
+-- passed on it, the controller's seed is the requester's, or with a turn out the one before that turn.
+pub record SequenceIsShared (past : Past) (who : RequesterId) : Type 0 where
+  pub own : SequenceIsOwn past who
+  pub other : (channel : ChannelIdentity) (o c : SecureChannelState) → (stands : Stands past.world.state who channel o) →
       Keeps past.world.state channel.controller channel.computer c →
       SameChannel (channel_of channel.controller channel.computer c) channel →
       any_foreign channel past.book.judged ≡ false →
-      (c.seed ≡ o.seed) ⊎ IsBeforeTurn stands.turn c.seed channel (timestamps_on member channel past.book.turns)
+      (c.seed ≡ o.seed) ⊎ IsBeforeTurn stands.turn c.seed channel (timestamps_on who channel past.book.turns)
 
--- each member's is
+-- each requester's is
 abbrev pub SequencesAreShared : Past → Type 0
-SequencesAreShared past = (member : ℕ) → SequenceIsShared past member
+SequencesAreShared past = (who : RequesterId) → SequenceIsShared past who

@@ -6,14 +6,14 @@ use Rattle.account_table.specs.AccountTable.{AccountTable}
 use Rattle.domain_controller.specs.Machine.{judge_info}
 use Rattle.domain_controller.specs.State.{State as ControllerState}
 use Rattle.step_notes.specs.ControllerNotes.{has_passed}
-use Rattle.step_notes.specs.Records.{Judging}
+use Rattle.step_notes.specs.Records.{Judging, network_in}
 use Rattle.world_moves.specs.declared.plan.Plan.{Plan}
 use Rattle.domain_world.specs.Past.{Past}
 
 -- the accounts behind a judged call; the argument: whether it passed
 abbrev pub left_if : Bool → Judging → AccountTable
 left_if false j = j.table
-left_if true j = (judge_info j.table j.name j.moment j.logon.info j.logon.validation).table
+left_if true j = (judge_info j.table j.name j.moment (network_in j.asked).info (network_in j.asked).validation).table
 
 -- those that its verdict leaves, where it passed, and else those before it
 abbrev pub left_by : Judging → AccountTable

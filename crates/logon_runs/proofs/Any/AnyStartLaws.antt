@@ -1,7 +1,7 @@
 -- A logon at any member: dials that are answered or reach nobody, and the client and its member up to the logon that is
 -- asked.
 -- Of `any_phases_go_on`.
-use Rattle.std.proofs.Common.{◌≡◌, ℕ, ◌≤◌, refl, sym, ap, ◌∙◌, List, [], ◌∷◌, ◌++◌, length, arith, inl, inr}
+use Rattle.std.proofs.Common.{◌≡◌, ℕ, ◌≤◌, refl, sym, ap, ◌∙◌, List, [], None, ◌∷◌, ◌++◌, length, arith, inl, inr}
 use Rattle.authenticators.specs.SecureChannels.{SecureChannelState}
 use Rattle.rpc_units.specs.Numbers.{rpc_s_server_unavailable}
 use Rattle.logon_stubs.specs.Ranges.{IsBlock}

@@ -65,7 +65,7 @@ use Rattle.step_notes.specs.ChannelNames.{AreFramesOf, CallsAreNamedAlike, Chall
 use Rattle.step_notes.specs.ControllerNotes.{Answered, channel_by, channel_in, has_passed, judging_by, opened_account, opened_by, opened_if, opened_offer, opened_pair, opening, passing}
 use Rattle.step_notes.specs.Marking.{clashes, is_channel}
 use Rattle.step_notes.specs.MemberNotes.{TurnNote, asked_note, half_channel, request_note, taking_note, timestamp_bound}
-use Rattle.step_notes.specs.Records.{Judging, Sent, timestamp_in}
+use Rattle.step_notes.specs.Records.{Judging, Sent, computer_in, timestamp_in}
 use Rattle.step_notes.specs.Served.{work_after}
 
 some_is : {T : Type 0} (one other : T) → Some one ≡ Some other → one ≡ other
@@ -658,7 +658,7 @@ part_has (Ok part) channel later has is = subst (λ (d : Desk). HasChannel d.wor
 
 -- ---- a call passes on it
 
-passes_named : (j : Judging) (channel : ChannelIdentity) → j.controller ≡ channel.controller → j.logon.computer ≡ Some channel.computer → HasChannel j.computers channel → has_passed j.how ≡ true →
+passes_named : (j : Judging) (channel : ChannelIdentity) → j.controller ≡ channel.controller → computer_in j.asked ≡ Some channel.computer → HasChannel j.computers channel → has_passed j.how ≡ true →
     judging_by (has_passed j.how) j ≡ passing (Some channel) j
 passes_named j channel at names has passed =
     ap (λ (so : Bool). judging_by so j) passed

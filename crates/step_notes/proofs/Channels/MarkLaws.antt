@@ -68,7 +68,7 @@ use Rattle.step_notes.specs.ChannelNames.{IsMarkedBy, UnitsHaveTheirMarks, link_
 use Rattle.step_notes.specs.ControllerNotes.{Answered, Where, answer_on, call_answer, channel_in, has_passed, heard_answer, judging_by, judging_of, opened_by, opening, passing, units_at, units_by}
 use Rattle.step_notes.specs.Marking.{answered_marks, mark_if}
 use Rattle.step_notes.specs.MemberNotes.{asked_note, taken_note, taking_joined, taking_note, taking_read, turn_note}
-use Rattle.step_notes.specs.Records.{Judging}
+use Rattle.step_notes.specs.Records.{Judging, computer_in}
 use Rattle.step_notes.specs.Served.{talk_after, units_if_taken, work_after}
 use Rattle.step_notes.proofs.ServedLaws.{StaysNoted, served_mapped}
 
@@ -222,7 +222,7 @@ passing_sends (Some channel) j = refl
 
 judging_sends : (passed : Bool) (j : Judging) → (judging_by passed j).sends ≡ true
 judging_sends false j = refl
-judging_sends true j = passing_sends (channel_in j.controller j.logon.computer j.computers) j
+judging_sends true j = passing_sends (channel_in j.controller (computer_in j.asked) j.computers) j
 
 call_sends : (c : Call) (line : Line) (w : Where) (before : Desk) (after : Option Desk) → (call_answer c line w before after).sends ≡ true
 call_sends (call.Challenge c) line w before after = refl

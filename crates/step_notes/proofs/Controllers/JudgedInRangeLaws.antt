@@ -30,7 +30,7 @@ use Rattle.domain_controller.proofs.ReadBackLaws.{replies_are_read_back}
 use Rattle.domain_controller.proofs.WholeLaws.{found_link, sends_are_whole}
 use Rattle.step_notes.specs.ControllerNotes.{Answered, Where, answer_on, channel_in, has_passed, heard_answer, judging_by, judging_of, opened_by, opening, passing, units_at, units_by, units_of_controller}
 use Rattle.step_notes.specs.JudgedInRange.{IsJudgedInRange, IsReadAsMade, PassedRepliesAreRead}
-use Rattle.step_notes.specs.Records.{Judging}
+use Rattle.step_notes.specs.Records.{Judging, computer_in, network_in}
 use Rattle.step_notes.specs.ReplySends.{IsItsReply, reply_passed, standing_at}
 use Rattle.step_notes.specs.Served.{units_if_taken, work_after}
 use Rattle.step_notes.proofs.ServedLaws.{all_mapped, served_such}
@@ -53,7 +53,7 @@ passing_fits (Some channel) j is = is
 
 judging_fits : (passed : Bool) (j : Judging) → IsJudgedInRange j → AnswerFits (judging_by passed j)
 judging_fits false j is = is
-judging_fits true j is = passing_fits (channel_in j.controller j.logon.computer j.computers) j is
+judging_fits true j is = passing_fits (channel_in j.controller (computer_in j.asked) j.computers) j is
 
 answer_fits : (what : Heard) (w : Where) (before : Desk) (after : Option Desk) → IsName w.name → w.moment < 2 ^ 64 → InRangeTable before.table → AnswerFits (heard_answer what w before after)
 answer_fits (heard.Close cause) w before after name moment table = tt
@@ -110,13 +110,13 @@ judgings_in_range c at controller unit link piece now left is moment eight =
 
 -- ---- a reply is read
 
-reply_read : (j : Judging) (bytes : List ℕ) (is : IsItsReply j bytes) (frames : List RpcUnit) (unit : RpcUnit) → IsJudgedInRange j → j.logon.validation < 2 ^ 16 → IsHeard bytes frames unit →
+reply_read : (j : Judging) (bytes : List ℕ) (is : IsItsReply j bytes) (frames : List RpcUnit) (unit : RpcUnit) → IsJudgedInRange j → (network_in j.asked).validation < 2 ^ 16 → IsHeard bytes frames unit →
     IsReadAsMade j bytes is unit
 reply_read j bytes is frames unit range small heard =
     let key : List ℕ = key_of_channel is.next.channel in
     let answer : Reply = reply_passed j is.next.channel is.next.given in
     let back : IsReadBack answer =
-    replies_are_read_back.passed j.table j.name j.moment j.logon.info j.logon.validation key is.next.channel.seed is.next.given.timestamp range.table range.name range.moment small in
+    replies_are_read_back.passed j.table j.name j.moment (network_in j.asked).info (network_in j.asked).validation key is.next.channel.seed is.next.given.timestamp range.table range.name range.moment small in
     let moved : IsHeard (bytes_of_call (response_of j.number is.context (written_reply answer)) is.limit) frames unit = subst (λ (b : List ℕ). IsHeard b frames unit) is.frames heard in
     record {
       unit_is = replies_are_read_back.alone j.number is.context is.limit (written_reply answer) frames unit back.few moved;

@@ -35,7 +35,7 @@ use Rattle.domain_controller.specs.declared.state.Work.{Work}
 use Rattle.step_notes.specs.ChannelNames.{sends_in, sent_by}
 use Rattle.step_notes.specs.ControllerNotes.{Answered, Where, answer_on, channel_in, channel_by, has_passed, heard_answer, judged_in, judging_by, judging_of, logon_answer, new_actions, opened_account, opened_if, opened_mark, opened_offer, opened_pair, opening, passing, plain, reply_mark, units_at, units_by}
 use Rattle.step_notes.specs.Judged.{channel_if}
-use Rattle.step_notes.specs.Records.{Judging}
+use Rattle.step_notes.specs.Records.{Judging, computer_in}
 use Rattle.step_notes.specs.ReplySends.{AreSentFor, CarriesReply, IsItsReply, IsOpeningReply, IsSentIf, RepliesAreSentAsJudged, standing_at}
 use Rattle.step_notes.specs.Served.{units_if_taken, work_after}
 use Rattle.step_notes.proofs.Controllers.JudgedStepLaws.{Told, by_names}
@@ -168,7 +168,7 @@ passing_sent (Some channel) j bytes is passed carries = (reply_carries j.unit ch
 
 judging_sent : (passed : Bool) (j : Judging) (bytes : List ℕ) → has_passed j.how ≡ passed → (has_passed j.how ≡ true → IsItsReply j bytes) → AreSentFor (judging_by passed j ∷ []) (bytes ∷ [])
 judging_sent false j bytes is carries = (tt, tt)
-judging_sent true j bytes is carries = passing_sent (channel_in j.controller j.logon.computer j.computers) j bytes refl is (carries is)
+judging_sent true j bytes is carries = passing_sent (channel_in j.controller (computer_in j.asked) j.computers) j bytes refl is (carries is)
 
 same_sent : (how other : Judged) (link at : ℕ) (bytes more : List ℕ) → action.Judged how ∷ action.Send link bytes ∷ [] ≡ action.Judged other ∷ action.Send at more ∷ [] → bytes ≡ more
 same_sent how other link at bytes more is = cc
@@ -179,7 +179,7 @@ logon_sent : (w : Where) (line : Line) (c : LogonCall) (d : Desk) →
 logon_sent w line c d =
     let after : Desk = answer_logon c.computer c.authenticator w.name w.moment line c.info c.validation d in
     let j : Judging = judging_of w line c d (Some after) in
-    let told : Told d.work.actions after.work.actions d.work.computers c = by_names c.computer c.authenticator c w.name w.moment line d refl refl in
+    let told : Told d.work.actions after.work.actions d.work.computers c.computer c.authenticator = by_names c.computer c.authenticator c w.name w.moment line d refl refl in
     let two : new_actions (Some after) d ≡ action.Judged told.how ∷ action.Send told.link told.answer ∷ [] =
     ap (λ (all : List Action). drop (length d.work.actions) all) told.is ∙ dropped d.work.actions (action.Judged told.how) (action.Send told.link told.answer) in
     record {

@@ -13,7 +13,7 @@ use Rattle.domain_controller.specs.Step.{step_of}
 use Rattle.domain_controller.specs.declared.state.Talk.{Talk}
 use Rattle.step_notes.specs.ControllerNotes.{Answered, Where, answer_on, units_by, units_of_controller}
 use Rattle.step_notes.specs.JudgedInRange.{IsJudgedInRange}
-use Rattle.step_notes.specs.Records.{Book, Judging}
+use Rattle.step_notes.specs.Records.{Book, Judging, network_in}
 use Rattle.step_notes.specs.Served.{work_after}
 use Rattle.step_notes.proofs.Controllers.JudgedInRangeLaws.{replies_are_read}
 use Rattle.domain_controller.specs.Hearing.{hear as hear_unit}
@@ -57,7 +57,7 @@ both_all A B C so (answer ∷ answers) one other = (both_if A B C so answer.judg
 
 -- the call came so, if it came in a unit of the bag
 abbrev IsCarriedBy : List BagUnit → Judging → Type 0
-IsCarriedBy bag j = CarriedIf bag j.unit j.number j.logon
+IsCarriedBy bag j = CarriedIf bag j.unit j.number (network_in j.asked)
 
 served_carried : (bag : List BagUnit) (w : Where) (link : ℕ) (units : List (ServedUnit Desk Talk)) → AllHeardSo (CarriedIf bag w.unit) link units →
     AllByRecursion (λ (one : Answered). HoldsIf (IsCarriedBy bag) one.judging) (map (answer_on link w) units)
@@ -151,7 +151,7 @@ carried_as : (past : Past) (js : List Judging) → AllByRecursion (IsJudgedWell 
 carried_as past [] all = tt
 carried_as past (j ∷ js) all = (
   (λ n came.
-      let its : IsCarriedCall past.world.state.bag j.number j.logon n = all.0.carried n came in
+      let its : IsCarriedCall past.world.state.bag j.number (network_in j.asked) n = all.0.carried n came in
       record { carrier = its.carrier; there = its.there; whole = its.whole; number = its.number_is; carried = its.carried }),
   carried_as past js all.1,
 )
@@ -169,5 +169,5 @@ pub replies_back : (plan : Plan) (moves : List Move) → IsSchedule plan moves �
 replies_back plan moves is short bytes n unit one there noted channel number request place j judged mark reply whole =
     let well : IsJudgedWell (past plan moves).world.state.bag j =
     all_at (IsJudgedWell (past plan moves).world.state.bag) (past plan moves).book.judged place j (judged_stand plan moves is short bytes).judged judged in
-    let call : IsCarriedCall (past plan moves).world.state.bag j.number j.logon request = well.carried request reply.came in
+    let call : IsCarriedCall (past plan moves).world.state.bag j.number (network_in j.asked) request = well.carried request reply.came in
     (replies_are_read.read j unit.bytes reply.carries whole.frames whole.unit well.range call.level whole.heard).read

@@ -32,7 +32,7 @@ use Rattle.domain_controller.specs.declared.state.Talk.{Talk}
 use Rattle.step_notes.specs.ControllerNotes.{Where, has_passed, heard_answer, judging_of, opened_by, units_at, units_by}
 use Rattle.step_notes.specs.HeardWhole.{IsCallOf, call_carried as carried_there, call_read as read_there}
 use Rattle.step_notes.specs.JudgedInRange.{IsJudgedInRange}
-use Rattle.step_notes.specs.Records.{Judging}
+use Rattle.step_notes.specs.Records.{Judging, network_in}
 use Rattle.step_notes.proofs.Controllers.HeardLaws.{controllers_hear}
 use Rattle.world_moves.specs.declared.bag.BagUnit.{BagUnit}
 use Rattle.world_moves.specs.declared.links.EndId.{EndId}
@@ -75,7 +75,7 @@ abbrev pub CarriedIf : List BagUnit → Option ℕ → ℕ → LogonCall → Typ
 CarriedIf bag unit number logon = (n : ℕ) → unit ≡ Some n → IsCarriedCall bag number logon n
 
 pub record IsJudgedWell (bag : List BagUnit) (j : Judging) : Type 0 where
-  pub carried : CarriedIf bag j.unit j.number j.logon
+  pub carried : CarriedIf bag j.unit j.number (network_in j.asked)
   pub range : IsJudgedInRange j
 
 -- no unit of the bag is a stranger's
@@ -114,7 +114,7 @@ carried_still old bag number logon n still is =
 pub all_still : (old bag : List BagUnit) (js : List Judging) → StillHas old bag → AllByRecursion (IsJudgedWell old) js → AllByRecursion (IsJudgedWell bag) js
 all_still old bag [] still all = tt
 all_still old bag (j ∷ js) still all =
-    (record { carried = λ n is. carried_still old bag j.number j.logon n still (all.0.carried n is); range = all.0.range }, all_still old bag js still all.1)
+    (record { carried = λ n is. carried_still old bag j.number (network_in j.asked) n still (all.0.carried n is); range = all.0.range }, all_still old bag js still all.1)
 
 none_strange : (old bag : List BagUnit) → ((n : ℕ) (unit : BagUnit) → slice_get bag n ≡ Some unit → (before : BagUnit) × (slice_get old n ≡ Some before) × (unit.kind ≡ before.kind)) → NoStrangers old →
     NoStrangers bag

@@ -33,7 +33,7 @@ use Rattle.domain_world.proofs.Accepting.CarriedLaws.{one_whole}
 use Rattle.channel_events.specs.Marks.{Mark, Plain, Opening, Opened, Calling, ReplyTo}
 use Rattle.step_notes.specs.JudgedInRange.{IsReadAsMade}
 use Rattle.step_notes.specs.MemberNotes.{turn_units}
-use Rattle.step_notes.specs.Records.{Book, Judging, Sent}
+use Rattle.step_notes.specs.Records.{Book, Judging, Sent, network_in}
 use Rattle.step_notes.specs.ReplySends.{IsOpeningReply, IsReplyOfCall}
 use Rattle.step_notes.proofs.Controllers.JudgedInRangeLaws.{replies_are_read}
 use Rattle.world_moves.specs.declared.bag.BagUnit.{BagUnit}
@@ -263,7 +263,7 @@ module _ (bag : List BagUnit) (js : List Judging) (stand : JudgedStand bag js) (
       let j : Judging = one.item in
       let its : IsReplyOfCall channel number request j bytes = one.is.1 in
       let well : IsJudgedWell bag j = all_at (IsJudgedWell bag) js one.place j stand.judged one.there in
-      let carried : IsCarriedCall bag j.number j.logon request = well.carried request its.came in
+      let carried : IsCarriedCall bag j.number (network_in j.asked) request = well.carried request its.came in
       let made : IsReadAsMade j bytes its.carries unit = replies_are_read.read j bytes its.carries frames unit well.range carried.level heard in
       let small : j.number < 2 ^ 32 =
       subst (λ (k : ℕ). k < 2 ^ 32) (sym carried.number_is) (number_fits carried.carrier.bytes carried.whole.frames carried.whole.unit carried.whole.heard) in

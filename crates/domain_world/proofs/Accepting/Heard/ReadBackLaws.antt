@@ -31,7 +31,7 @@ use Rattle.channel_events.specs.Marks.{OneOf, ReplyTo}
 use Rattle.step_notes.specs.ControllerNotes.{channel_by, channel_in, has_passed}
 use Rattle.step_notes.specs.Judged.{channel_if, passed_channel}
 use Rattle.step_notes.specs.Marking.{mark_channel}
-use Rattle.step_notes.specs.Records.{Judging, MessageTaken, OutcomeTold, Sent}
+use Rattle.step_notes.specs.Records.{Judging, MessageTaken, OutcomeTold, Sent, computer_in, given_in, network_in}
 use Rattle.step_notes.specs.ReplySends.{IsReplyOfCall, verdict_passed}
 use Rattle.world_moves.specs.declared.bag.BagUnit.{BagUnit}
 use Rattle.world_moves.specs.Counting.{is_in}
@@ -99,7 +99,7 @@ module _ (past : Past) (back : RepliesAreReadBack past) where
   read_of : (message : MessageTaken) (u : ℕ) (result : Outcome) (read : IsReadIn past message u result) (channel : ChannelIdentity) (number request place : ℕ) (j : Judging) →
       slice_get past.book.judged place ≡ Some j → read.sent.mark ≡ ReplyTo channel number request → IsReplyOfCall channel number request j read.carrier.bytes → result ≡ outcome_read channel j message
   read_of message u result read channel number request place j judged mark reply =
-      let next : IsNext j.computers j.logon = reply.carries.next in
+      let next : IsNext j.computers (computer_in j.asked) (given_in j.asked) = reply.carries.next in
       let found : passed_channel j ≡ Some (channel_of j.controller next.computer next.channel) =
       ap (λ (how : _). channel_if (has_passed how) j) reply.carries.how ∙ ap (λ (name : Option (List ℕ)). channel_in j.controller name j.computers) next.named
       ∙ ap (λ (c : Option SecureChannelState). channel_by j.controller next.computer c) next.stands in
@@ -110,7 +110,7 @@ module _ (past : Past) (back : RepliesAreReadBack past) where
       read.key ∙ sym (channel_key-same read.named read.channel read.same) ∙ ap channel_key named ∙ sym key in
       let same = reply_is (reply_of 2 (stub_of read.whole.unit.body)) read.read _ read.reads (back u read.carrier read.sent read.there read.noted channel number request place j judged mark reply read.whole) in
       let verdict : read.verdict ≡ verdict_read (key_of_channel next.channel) (verdict_passed j) =
-      read_as (status_of (verdict_passed j) == access_denied) (verdict_passed j) (key_of_channel next.channel) _ j.logon.validation read.stood read.later read.verdict stood
+      read_as (status_of (verdict_passed j) == access_denied) (verdict_passed j) (key_of_channel next.channel) _ (network_in j.asked).validation read.stood read.later read.verdict stood
       (subst (λ (r : LogonReply). judge_logon (r.status == access_denied) (standing.Open read.stood) r.returned r.status r.level r.info ≡ judgement.Answer read.later read.verdict)
       same read.judged) in
       read.is ∙ ap (λ (v : Verdict). outcome_of (ending_of v) message.logon) (verdict ∙ ap (λ (k : List ℕ). verdict_read k (verdict_passed j)) key)

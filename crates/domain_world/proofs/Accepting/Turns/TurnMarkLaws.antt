@@ -6,20 +6,18 @@ use Rattle.std.proofs.lemmas.List.{length-set}
 use Rattle.authenticators.specs.Channels.{ChannelIdentity}
 use Rattle.authenticators.specs.SecureChannels.{SecureChannelState}
 use Rattle.logon_stubs.specs.declared.calls.Call.{Call}
-use Rattle.logon_stubs.specs.declared.calls.Call.TheVariants as call
 use Rattle.end_links.specs.Serving.{ServedUnit}
 use Rattle.domain_controller.specs.Hearing.{hear}
 use Rattle.domain_controller.specs.Machine.{Desk}
 use Rattle.domain_controller.specs.declared.hearing.Heard.{Heard}
-use Rattle.domain_controller.specs.declared.hearing.Heard.TheVariants as heard
 use Rattle.domain_controller.specs.declared.line.Line.{Line}
 use Rattle.domain_controller.specs.declared.state.Computers.{Computers}
 use Rattle.domain_controller.specs.declared.state.Talk.{Talk}
 use Rattle.channel_events.specs.Marks.{Mark, Plain, Opening, Opened, Calling, ReplyTo}
 use Rattle.channel_events.proofs.ListLaws.{all_weaker, got_nothing, some_is}
-use Rattle.step_notes.specs.ControllerNotes.{Where, answer_on, call_answer, channel_by, channel_in, has_passed, heard_answer, judging_by, judging_of, opened_by, opened_mark, opening, passing, reply_mark}
-use Rattle.step_notes.specs.Marking.{answered_marks, mark_channel}
-use Rattle.step_notes.specs.Records.{Book, Judging}
+use Rattle.step_notes.specs.ControllerNotes.{Where, answer_on, call_answer, channel_by, channel_in, has_passed, heard_answer, judging_by, judging_of, opened_by, opened_mark, opening, passing, reply_mark, units_of_controller}
+use Rattle.step_notes.specs.Marking.{answered_marks, mark_channel, turn_marks}
+use Rattle.step_notes.specs.Records.{Book, Judging, computer_in}
 use Rattle.step_notes.specs.Served.{work_after}
 use Rattle.world_moves.specs.declared.bag.BagUnit.{BagUnit}
 use Rattle.world_moves.specs.declared.moves.Move.{Move}
@@ -27,14 +25,14 @@ use Rattle.world_moves.specs.declared.plan.Plan.{Plan}
 use Rattle.world_moves.specs.World.{first_world}
 use Rattle.domain_world.specs.Accepting.Answered.{IsItsWay}
 use Rattle.domain_world.specs.Past.{at_controller, controller_of, is_sent_on, marks_by, marks_of, past}
-use Rattle.step_notes.specs.ControllerNotes.{units_of_controller}
 use Rattle.step_notes.specs.MemberNotes.{turn_note, turn_units}
-use Rattle.step_notes.specs.Marking.{turn_marks}
 use Rattle.domain_world.proofs.Accepting.Turns.TurnFactLaws.{MarksAreKnown}
 use Rattle.domain_world.proofs.Accepting.Turns.TurnQuietLaws.{step_same}
 use Rattle.domain_world.proofs.Frames.BagFrameLaws.{IsOfUnit, MarksStay, UnitFact, run_stays_marked}
 use Rattle.domain_world.proofs.Frames.FrameLaws.{Fact, StaysWritten, run_stays}
 use Rattle.domain_world.proofs.Requests.MarkWayLaws.{IsRequest, all_at, if_marked, marks_have_their_way, turns_way}
+use Rattle.logon_stubs.specs.declared.calls.Call.TheVariants as call
+use Rattle.domain_controller.specs.declared.hearing.Heard.TheVariants as heard
 
 got_within : {T : Type 0} (items : List T) (k : ℕ) (item : T) → slice_get items k ≡ Some item → k < length items
 got_within [] k item there = absurd (got_nothing k item there)
@@ -82,7 +80,7 @@ module _ (count : ℕ) where
 
   judging_known : (passed : Bool) (j : Judging) → j.controller < count → IsKnownMark (judging_by passed j).mark
   judging_known false j few = tt
-  judging_known true j few = passing_known (channel_in j.controller j.logon.computer j.computers) j (in_known j.controller j.logon.computer j.computers few)
+  judging_known true j few = passing_known (channel_in j.controller (computer_in j.asked) j.computers) j (in_known j.controller (computer_in j.asked) j.computers few)
 
   call_known : (c : Call) (line : Line) (w : Where) (before : Desk) (after : Option Desk) → w.controller < count → IsKnownMark (call_answer c line w before after).mark
   call_known (call.Challenge c) line w before after few = tt

@@ -20,7 +20,7 @@ use Rattle.member_server.specs.State.{State as MemberState}
 use Rattle.member_server.specs.declared.plan.MemberPlan.{MemberPlan}
 use Rattle.member_server.specs.declared.state.Running.{Running}
 use Rattle.step_notes.specs.MemberNotes.{turn_of}
-use Rattle.step_notes.specs.Records.{LogonTurn}
+use Rattle.step_notes.specs.Records.{LogonTurn, OfMember, same_requester}
 use Rattle.world_moves.specs.declared.links.EndId.{EndId}
 use Rattle.world_moves.specs.declared.links.EndId.TheVariants.{Controller, Member, Client}
 use Rattle.world_moves.specs.declared.state.State.{State}
@@ -53,7 +53,7 @@ mine_one false k drawn turn turns all later = later
 
 pub mine_drawn : (k : ℕ) (drawn : List (List ℕ)) (turns : List LogonTurn) → AreDrawn drawn turns → AreDrawn drawn (mine k turns)
 mine_drawn k drawn [] all = tt
-mine_drawn k drawn (turn ∷ turns) all = mine_one (turn.member == k) k drawn turn turns all (mine_drawn k drawn turns all.1)
+mine_drawn k drawn (turn ∷ turns) all = mine_one (same_requester turn.requester (OfMember k)) k drawn turn turns all (mine_drawn k drawn turns all.1)
 
 -- more may be drawn
 abbrev pub StillDrawn : List (List ℕ) → List (List ℕ) → Type 0
@@ -75,8 +75,8 @@ same_turns k controller d e rest more dials waiting drawn later given after turn
   out_waits = λ some. old.out_waits (omega (arith, out, some));
   given_once = omega (arith, same, old.given_once);
   given_waits = λ some. let was = old.given_waits (omega (arith, same, some)) in (was.0, omega (arith, answered, was.1));
-  turned = subst (λ (n : ℕ). Turned (view_of controller running.logons.channel) (mine k turns ++ times n (turn_of controller k running.logons.channel)) later) (sym same)
-      (turned_later (view_of controller running.logons.channel) (mine k turns ++ times (given_dials k given) (turn_of controller k running.logons.channel)) drawn later still old.turned);
+  turned = subst (λ (n : ℕ). Turned (view_of controller running.logons.channel) (mine k turns ++ times n (turn_of controller (OfMember k) running.logons.channel)) later) (sym same)
+      (turned_later (view_of controller running.logons.channel) (mine k turns ++ times (given_dials k given) (turn_of controller (OfMember k) running.logons.channel)) drawn later still old.turned);
 }
 
 answers_less : (k : ℕ) (end : EndId) (what : Event) (d later : Option EndId) (rest : Given) → Answers end what d later rest → answered_dials k later ≤ answered_dials k d

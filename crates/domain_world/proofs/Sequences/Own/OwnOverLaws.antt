@@ -1,7 +1,7 @@
 -- At the end of a move what is known of the calls of a member's turns is known with the turns of the move written down:
 -- it dialled once at most, and then its dial waits. So it is known after a run, if each step keeps it.
 -- It serves `sequences_are_shared`.
-use Rattle.std.proofs.Common.{◌≡◌, ℕ, ◌≤◌, ◌==◌, List, [], ◌++◌, inl, inr, Option, Some, None, slice_get, sym, ap, ◌∙◌, arith}
+use Rattle.std.proofs.Common.{◌≡◌, ℕ, ◌≤◌, List, [], ◌++◌, inl, inr, Option, Some, None, slice_get, sym, ap, ◌∙◌, arith}
 use Rattle.std.proofs.lemmas.List.Elements.{filter-append}
 use Rattle.channel_events.specs.Marks.{Mark}
 use Rattle.member_server.specs.Dials.{TurnsAreDialled}
@@ -9,7 +9,7 @@ use Rattle.member_server.specs.Laws.{AsksWhatWaits}
 use Rattle.member_server.specs.State.{State as MemberState}
 use Rattle.member_server.specs.declared.state.Running.{Running}
 use Rattle.step_notes.specs.MemberNotes.{turn_in, turn_of}
-use Rattle.step_notes.specs.Records.{Book, LogonTurn, blank}
+use Rattle.step_notes.specs.Records.{Book, LogonTurn, OfMember, blank, same_requester}
 use Rattle.world_moves.specs.declared.moves.Move.{Move}
 use Rattle.world_moves.specs.declared.plan.Plan.{Plan}
 use Rattle.world_moves.specs.declared.state.State.{State}
@@ -31,11 +31,11 @@ pub own_over : (Done : ℕ → Type 0) (marks : List Mark) (s : State) (given : 
     slice_get s.ends.members k ≡ Some m → m.running ≡ Some running → TurnsOf k (controller_of k s) None [] s.dials s.chances.drawn given turns running →
     OwnCalls Done marks s.chances.drawn turns given (controller_of k s) k running → OwnCalls Done marks s.chances.drawn (turns ++ turns_in given s) [] (controller_of k s) k running
 own_over Done marks s given turns k m running there runs dials old =
-    let turn : List LogonTurn = turn_of (controller_of k s) k running.logons.channel in
+    let turn : List LogonTurn = turn_of (controller_of k s) (OfMember k) running.logons.channel in
     let same : turn_in (controller_of k s) k (running_in (slice_get s.ends.members k)) ≡ turn =
     ap (λ (found : Option MemberState). turn_in (controller_of k s) k (running_in found)) there ∙ ap (λ (x : Option Running). turn_in (controller_of k s) k x) runs in
     let all : mine k (turns ++ turns_in given s) ≡ mine k turns ++ times (given_dials k given) turn =
-    filter-append (λ (one : LogonTurn). one.member == k) turns (turns_in given s)
+    filter-append (λ (one : LogonTurn). same_requester one.requester (OfMember k)) turns (turns_in given s)
     ∙ ap (λ (l : List LogonTurn). mine k turns ++ l) (all_mine s k given)
     ∙ ap (λ (l : List LogonTurn). mine k turns ++ times (given_dials k given) l) same in
     let own : old.own ≡ mine k turns ++ times (given_dials k given) turn =

@@ -30,7 +30,7 @@ use Rattle.member_server.specs.State.{State as MemberState}
 use Rattle.member_server.specs.declared.plan.MemberPlan.{MemberPlan}
 use Rattle.member_server.specs.declared.state.Running.{Running}
 use Rattle.step_notes.specs.MemberNotes.{stamped, turn_by, turn_in, turn_of}
-use Rattle.step_notes.specs.Records.{LogonTurn}
+use Rattle.step_notes.specs.Records.{LogonTurn, OfMember, same_requester}
 use Rattle.world_moves.specs.declared.links.EndId.{EndId}
 use Rattle.world_moves.specs.declared.links.EndId.TheVariants.{Controller, Member, Client}
 use Rattle.world_moves.specs.declared.moves.Move.{Move}
@@ -56,6 +56,7 @@ use Rattle.domain_world.proofs.Sequences.DialWalkLaws.{AtState, KeepsDials, dial
 use Rattle.domain_world.proofs.Sequences.Own.OwnFrameLaws.{TurnsHold, TurnsKnown, begin_holds, hear_holds, same_turns}
 use Rattle.domain_world.proofs.Sequences.Own.OwnTurnLaws.{AreDrawn, TurnsIf, TurnsOf, both_drawn, mine, times, turn_drawn}
 use Rattle.domain_world.proofs.Sequences.SeedTurnLaws.{Turned, on_channel, stamps_on, turned_blank}
+use Rattle.domain_world.proofs.Frames.RequesterLaws.{StandsAtMember, stands_at}
 
 -- ---- dials
 
@@ -175,19 +176,19 @@ abbrev kept_if : Bool → List LogonTurn → List LogonTurn
 kept_if false turns = []
 kept_if true turns = turns
 
-stamped_mine : (hit : Bool) (k j : ℕ) (channel : Option ChannelIdentity) (stamp : Option Authenticator) → (j == k) ≡ hit → mine k (stamped channel stamp j) ≡ kept_if hit (stamped channel stamp j)
+stamped_mine : (hit : Bool) (k j : ℕ) (channel : Option ChannelIdentity) (stamp : Option Authenticator) → (j == k) ≡ hit → mine k (stamped channel stamp (OfMember j)) ≡ kept_if hit (stamped channel stamp (OfMember j))
 stamped_mine false k j None stamp is = refl
 stamped_mine true k j None stamp is = refl
 stamped_mine false k j (Some channel) None is = refl
 stamped_mine true k j (Some channel) None is = refl
-stamped_mine false k j (Some channel) (Some stamp) is = ap (λ (hit : Bool). if hit then record { member = j; channel = channel; timestamp = stamp.timestamp } ∷ [] else []) is
-stamped_mine true k j (Some channel) (Some stamp) is = ap (λ (hit : Bool). if hit then record { member = j; channel = channel; timestamp = stamp.timestamp } ∷ [] else []) is
+stamped_mine false k j (Some channel) (Some stamp) is = ap (λ (hit : Bool). if hit then record { requester = OfMember j; channel = channel; timestamp = stamp.timestamp } ∷ [] else []) is
+stamped_mine true k j (Some channel) (Some stamp) is = ap (λ (hit : Bool). if hit then record { requester = OfMember j; channel = channel; timestamp = stamp.timestamp } ∷ [] else []) is
 
 none_mine : (hit : Bool) → [] ≡ kept_if hit []
 none_mine false = refl
 none_mine true = refl
 
-by_mine : (hit : Bool) (k j : ℕ) (st : Option Step) (channel : Option ChannelIdentity) → (j == k) ≡ hit → mine k (turn_by st channel j) ≡ kept_if hit (turn_by st channel j)
+by_mine : (hit : Bool) (k j : ℕ) (st : Option Step) (channel : Option ChannelIdentity) → (j == k) ≡ hit → mine k (turn_by st channel (OfMember j)) ≡ kept_if hit (turn_by st channel (OfMember j))
 by_mine hit k j None channel is = none_mine hit
 by_mine hit k j (Some (step.Bind (call.Logon c))) channel is = stamped_mine hit k j channel c.authenticator is
 by_mine hit k j (Some (step.Bind (call.Challenge c))) channel is = none_mine hit
@@ -227,7 +228,7 @@ module _ (s : State) where
   pub all_mine : (k : ℕ) (given : Given) → mine k (turns_in given s) ≡ times (given_dials k given) (turn_now k)
   all_mine k [] = refl
   all_mine k (one ∷ given) =
-      filter-append (λ (turn : LogonTurn). turn.member == k) (turns_by one.0 one.1 s) (turns_in given s)
+      filter-append (λ (turn : LogonTurn). same_requester turn.requester (OfMember k)) (turns_by one.0 one.1 s) (turns_in given s)
       ∙ ap (λ (l : List LogonTurn). l ++ mine k (turns_in given s)) (one_mine k one.0 one.1)
       ∙ ap (λ (l : List LogonTurn). times (counted (is_member k one.0) one.1) (turn_now k) ++ l) (all_mine k given)
       ∙ sym (times_more (counted (is_member k one.0) one.1) (given_dials k given) (turn_now k))
@@ -237,7 +238,7 @@ module _ (s : State) where
   module _ (given : Given) (turns : List LogonTurn) (holds : TurnsHold None [] s.member_plans s.ends s.dials s.chances.drawn given turns) where
     running_drawn : (j : ℕ) (r : Option Running) → TurnsIf j (controller_of j s) None [] s.dials s.chances.drawn given turns r → AreDrawn s.chances.drawn (turn_in (controller_of j s) j r)
     running_drawn j None known = tt
-    running_drawn j (Some running) known = turn_drawn (controller_of j s) j running.logons.channel _ s.chances.drawn known.turned
+    running_drawn j (Some running) known = turn_drawn (controller_of j s) (OfMember j) running.logons.channel _ s.chances.drawn known.turned
 
     found_drawn : (j : ℕ) (found : Option MemberState) → slice_get s.ends.members j ≡ found → AreDrawn s.chances.drawn (turn_in (controller_of j s) j (running_in found))
     found_drawn j None is = tt
@@ -263,12 +264,12 @@ module _ (s : State) where
         TurnsIf k (controller_of k s) None [] s.dials s.chances.drawn given turns r → TurnsIf k (controller_of k s) None [] s.dials s.chances.drawn [] (turns ++ turns_in given s) r
     member_over k m None there runs old = tt
     member_over k m (Some running) there runs old =
-        let turn : List LogonTurn = turn_of (controller_of k s) k running.logons.channel in
+        let turn : List LogonTurn = turn_of (controller_of k s) (OfMember k) running.logons.channel in
         let same : turn_now k ≡ turn =
         ap (λ (found : Option MemberState). turn_in (controller_of k s) k (running_in found)) there ∙ ap (λ (x : Option Running). turn_in (controller_of k s) k x) runs in
         let all : mine k (turns ++ turns_in given s) ++ [] ≡ mine k turns ++ times (given_dials k given) turn =
         append-nil (mine k (turns ++ turns_in given s))
-        ∙ filter-append (λ (one : LogonTurn). one.member == k) turns (turns_in given s)
+        ∙ filter-append (λ (one : LogonTurn). same_requester one.requester (OfMember k)) turns (turns_in given s)
         ∙ ap (λ (l : List LogonTurn). mine k turns ++ l) (all_mine k given)
         ∙ ap (λ (l : List LogonTurn). mine k turns ++ times (given_dials k given) l) same in
         record {
@@ -365,13 +366,14 @@ and_filter one other (turn ∷ turns) = and_one (one turn) turn (filter one turn
     and_one false turn first both is = is
 
 -- the timestamps of a member's turns on a channel
-pub own_stamps : (k : ℕ) (channel : ChannelIdentity) (turns : List LogonTurn) → stamps_on channel (mine k turns) ≡ timestamps_on k channel turns
-own_stamps k channel turns = ap (λ (l : List LogonTurn). map (λ (turn : LogonTurn). turn.timestamp) l) (sym (and_filter (λ (turn : LogonTurn). turn.member == k) (on_channel channel) turns))
+pub own_stamps : (k : ℕ) (channel : ChannelIdentity) (turns : List LogonTurn) → stamps_on channel (mine k turns) ≡ timestamps_on (OfMember k) channel turns
+own_stamps k channel turns = ap (λ (l : List LogonTurn). map (λ (turn : LogonTurn). turn.timestamp) l) (sym (and_filter (λ (turn : LogonTurn). same_requester turn.requester (OfMember k)) (on_channel channel) turns))
 
 own_seed : (s : State) (k : ℕ) (channel : ChannelIdentity) (o : SecureChannelState) (turns : List LogonTurn) → TurnsHold None [] s.member_plans s.ends s.dials s.chances.drawn [] turns →
-    Stands s k channel o → o.seed ≡ channel_seed channel (timestamps_on k channel turns)
-own_seed s k channel o turns holds stands =
+    Stands s (OfMember k) channel o → o.seed ≡ channel_seed channel (timestamps_on (OfMember k) channel turns)
+own_seed s k channel o turns holds its =
     let c : ℕ = controller_of k s in
+    let stands : StandsAtMember s k channel o its.turn = stands_at s k channel o its in
     let running : Running = stands.running in
     let known : TurnsOf k c None [] s.dials s.chances.drawn [] turns running =
     subst (λ (r : Option Running). TurnsIf k c None [] s.dials s.chances.drawn [] turns r) stands.runs (holds.members k stands.state stands.at) in
@@ -383,7 +385,7 @@ own_seed s k channel o turns holds stands =
     ∙ ap (channel_seed channel) (own_stamps k channel turns)
 
 pub sequences_own : AsksWhatWaits → TurnsAreDialled → (plan : Plan) (moves : List Move) → SequencesAreOwn (past plan moves)
-sequences_own asks dialled plan moves member channel o stands =
+sequences_own asks dialled plan moves (OfMember member) channel o stands =
     let known : AtState TurnsKnown None [] (past plan moves).world.state [] (past plan moves).book.turns =
     dials_after TurnsKnown (turns_keep asks dialled) plan moves (first_known asks plan) in
     own_seed (past plan moves).world.state member channel o (past plan moves).book.turns (known (draws_differ plan moves)) stands

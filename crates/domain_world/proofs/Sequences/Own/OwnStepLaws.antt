@@ -22,7 +22,7 @@ use Rattle.member_server.specs.declared.state.Dialling.TheVariants as dialling
 use Rattle.member_server.specs.declared.state.Running.{Running}
 use Rattle.member_server.specs.declared.state.TurnTalk.{TurnTalk}
 use Rattle.step_notes.specs.MemberNotes.{request_note, taking_note, turn_of}
-use Rattle.step_notes.specs.Records.{LogonTurn}
+use Rattle.step_notes.specs.Records.{LogonTurn, OfMember}
 use Rattle.world_moves.specs.declared.links.EndId.TheVariants.{Member}
 use Rattle.world_moves.specs.Acting.{Given, given_by}
 use Rattle.world_moves.specs.Ends.{actions_by}
@@ -59,7 +59,7 @@ module _ (dialled : TurnsAreDialled) (Done Later : ℕ → Type 0) (marks now_ma
       subst (λ (x : Requester). KnowsCalls Later now_marks old.own controller x) (sym calm.is) (calm_knows Later now_marks old.own controller calm.doings from calm.calm known) in
       step_calls Later now_marks drawn turns given controller k running what now left part old.own steps old.before old.none
       (λ none was waits.
-      let kept : IsWaiting running.dialling × (turn_of controller k part.value.0.logons.channel ≡ turn_of controller k running.logons.channel) =
+      let kept : IsWaiting running.dialling × (turn_of controller (OfMember k) part.value.0.logons.channel ≡ turn_of controller (OfMember k) running.logons.channel) =
       same_turn dialled controller k running what now left part is steps order none waits in
       old.one was kept.0 ∙ ap (λ (l : List LogonTurn). mine k turns ++ l) (sym kept.1)) order.coherent old.turned calls differ
 

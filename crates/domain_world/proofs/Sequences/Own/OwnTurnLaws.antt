@@ -1,6 +1,6 @@
 -- One step of a member keeps what is known of its requester and of its turns.
 -- It serves `sequences_are_own`.
-use Rattle.std.proofs.Common.{◌≡◌, ◌⊎◌, ℕ, zero, suc, ◌+◌, ◌≤◌, ◌==◌, Bool, true, false, List, [], ◌∷◌, ◌++◌, replicate, inl, inr, Option, Some, None, Result, Ok, Err, refl, sym, ap, subst, ◌∙◌, arith}
+use Rattle.std.proofs.Common.{◌≡◌, ◌⊎◌, ℕ, zero, suc, ◌+◌, ◌≤◌, Bool, true, false, List, [], ◌∷◌, ◌++◌, replicate, inl, inr, Option, Some, None, Result, Ok, Err, refl, sym, ap, subst, ◌∙◌, arith}
 use Rattle.std.specs.List.{AllByRecursion, filter}
 use Rattle.std.proofs.lemmas.List.{append-nil, append_assoc}
 use Rattle.outside.specs.Drawing.{IsRest, draws_between}
@@ -31,7 +31,7 @@ use Rattle.channel_client.specs.declared.state.Step.{Step}
 use Rattle.channel_client.specs.declared.state.Step.TheVariants as step
 use Rattle.logon_stubs.specs.declared.calls.Call.TheVariants as call
 use Rattle.step_notes.specs.MemberNotes.{stamped, turn_by, turn_of}
-use Rattle.step_notes.specs.Records.{LogonTurn}
+use Rattle.step_notes.specs.Records.{LogonTurn, OfMember, RequesterId, same_requester}
 use Rattle.step_notes.proofs.Members.RestLaws.{event_rest}
 use Rattle.world_moves.specs.declared.links.EndId.{EndId}
 use Rattle.world_moves.specs.declared.links.EndId.TheVariants.{Member}
@@ -45,7 +45,7 @@ use Rattle.domain_world.proofs.Sequences.SeedTurnLaws.{Turned, comes_so, drawn_s
 -- ---- the turns of a member
 
 abbrev pub mine : ℕ → List LogonTurn → List LogonTurn
-mine k turns = filter (λ (turn : LogonTurn). turn.member == k) turns
+mine k turns = filter (λ (turn : LogonTurn). same_requester turn.requester (OfMember k)) turns
 
 -- so often
 abbrev pub times : ℕ → List LogonTurn → List LogonTurn
@@ -63,7 +63,7 @@ pub record TurnsOf (k controller : ℕ) (d : Option EndId) (rest : Given) (dials
   -- one was given at most, which wasn't answered then
   pub given_once : given_dials k given ≤ 1
   pub given_waits : 1 ≤ given_dials k given → IsWaiting running.dialling × (answered_dials k d ≡ 0)
-  pub turned : Turned (view_of controller running.logons.channel) (mine k turns ++ times (given_dials k given) (turn_of controller k running.logons.channel)) drawn
+  pub turned : Turned (view_of controller running.logons.channel) (mine k turns ++ times (given_dials k given) (turn_of controller (OfMember k) running.logons.channel)) drawn
 
 abbrev pub TurnsIf : ℕ → ℕ → Option EndId → Given → List WaitingDial → List (List ℕ) → Given → List LogonTurn → Option Running → Type 0
 TurnsIf k controller d rest dials drawn given turns None = Unit {0}
@@ -101,23 +101,23 @@ pub both_drawn : (drawn : List (List ℕ)) (one other : List LogonTurn) → AreD
 both_drawn drawn [] other first later = later
 both_drawn drawn (turn ∷ one) other first later = (first.0, both_drawn drawn one other first.1 later)
 
-stamped_drawn : (drawn : List (List ℕ)) (j : ℕ) (channel : Option ChannelIdentity) (stamp : Option Authenticator) → ((c : ChannelIdentity) → channel ≡ Some c → IsDrawn c.client drawn) → AreDrawn drawn (stamped channel stamp j)
-stamped_drawn drawn j None stamp so = tt
-stamped_drawn drawn j (Some channel) None so = tt
-stamped_drawn drawn j (Some channel) (Some stamp) so = (so channel refl, tt)
+stamped_drawn : (drawn : List (List ℕ)) (who : RequesterId) (channel : Option ChannelIdentity) (stamp : Option Authenticator) → ((c : ChannelIdentity) → channel ≡ Some c → IsDrawn c.client drawn) → AreDrawn drawn (stamped channel stamp who)
+stamped_drawn drawn who None stamp so = tt
+stamped_drawn drawn who (Some channel) None so = tt
+stamped_drawn drawn who (Some channel) (Some stamp) so = (so channel refl, tt)
 
-by_drawn : (drawn : List (List ℕ)) (j : ℕ) (st : Option Step) (channel : Option ChannelIdentity) → ((c : ChannelIdentity) → channel ≡ Some c → IsDrawn c.client drawn) → AreDrawn drawn (turn_by st channel j)
-by_drawn drawn j None channel so = tt
-by_drawn drawn j (Some (step.Bind (call.Logon c))) channel so = stamped_drawn drawn j channel c.authenticator so
-by_drawn drawn j (Some (step.Bind (call.Challenge c))) channel so = tt
-by_drawn drawn j (Some (step.Bind (call.Authenticate c))) channel so = tt
-by_drawn drawn j (Some (step.Bind (call.Logoff c))) channel so = tt
-by_drawn drawn j (Some (step.Reply q)) channel so = tt
+by_drawn : (drawn : List (List ℕ)) (who : RequesterId) (st : Option Step) (channel : Option ChannelIdentity) → ((c : ChannelIdentity) → channel ≡ Some c → IsDrawn c.client drawn) → AreDrawn drawn (turn_by st channel who)
+by_drawn drawn who None channel so = tt
+by_drawn drawn who (Some (step.Bind (call.Logon c))) channel so = stamped_drawn drawn who channel c.authenticator so
+by_drawn drawn who (Some (step.Bind (call.Challenge c))) channel so = tt
+by_drawn drawn who (Some (step.Bind (call.Authenticate c))) channel so = tt
+by_drawn drawn who (Some (step.Bind (call.Logoff c))) channel so = tt
+by_drawn drawn who (Some (step.Reply q)) channel so = tt
 
 -- the turn that is out was on a channel whose client's challenge was drawn
-pub turn_drawn : (controller j : ℕ) (s : Requester) (own : List LogonTurn) (drawn : List (List ℕ)) → Turned (view_of controller s) own drawn → AreDrawn drawn (turn_of controller j s)
-turn_drawn controller j s own drawn turned =
-    by_drawn drawn j (step_in s.turn) (stands_in controller s.caller.computer s.standing) (λ c is. turned.held c.client (record { how = inr (c, is, refl) }))
+pub turn_drawn : (controller : ℕ) (who : RequesterId) (s : Requester) (own : List LogonTurn) (drawn : List (List ℕ)) → Turned (view_of controller s) own drawn → AreDrawn drawn (turn_of controller who s)
+turn_drawn controller who s own drawn turned =
+    by_drawn drawn who (step_in s.turn) (stands_in controller s.caller.computer s.standing) (λ c is. turned.held c.client (record { how = inr (c, is, refl) }))
 
 -- ---- a step in which a turn may start
 
@@ -125,7 +125,7 @@ turn_drawn controller j s own drawn turned =
 record HasStarted (k controller : ℕ) (drawn : List (List ℕ)) (turns : List LogonTurn) (new : Requester) (how : Dialling) (count : ℕ) : Type 0 where
   few : count ≤ 1
   waits : 1 ≤ count → IsWaiting how
-  turned : Turned (view_of controller new) (mine k turns ++ times count (turn_of controller k new)) drawn
+  turned : Turned (view_of controller new) (mine k turns ++ times count (turn_of controller (OfMember k) new)) drawn
 
 module _ (k controller : ℕ) (drawn : List (List ℕ)) (turns : List LogonTurn) (before : AreDrawn drawn (mine k turns)) where
   unstarted : (mid new : Requester) (how : Dialling) (count : ℕ) (after : List (List ℕ)) → new ≡ mid → count ≡ 0 → Turned (view_of controller mid) (mine k turns) drawn →
@@ -133,17 +133,17 @@ module _ (k controller : ℕ) (drawn : List (List ℕ)) (turns : List LogonTurn)
   unstarted mid new how count after same none turned = record {
     few = omega (arith, none);
     waits = λ one. absurd (omega (arith, none, one));
-    turned = turned_later (view_of controller new) (mine k turns ++ times count (turn_of controller k new)) drawn (drawn ++ after) (λ challenge is. drawn_still challenge drawn after is)
-        (subst (λ (all : List LogonTurn). Turned (view_of controller new) all drawn) (sym (no_times count (turn_of controller k new) (mine k turns) none))
+    turned = turned_later (view_of controller new) (mine k turns ++ times count (turn_of controller (OfMember k) new)) drawn (drawn ++ after) (λ challenge is. drawn_still challenge drawn after is)
+        (subst (λ (all : List LogonTurn). Turned (view_of controller new) all drawn) (sym (no_times count (turn_of controller (OfMember k) new) (mine k turns) none))
         (subst (λ (x : Requester). Turned (view_of controller x) (mine k turns) drawn) (sym same) turned));
   }
 
   with_start : (new : Requester) (how : Dialling) (count : ℕ) (later : List (List ℕ)) → count ≡ 1 → IsWaiting how →
-      Turned (view_of controller new) (mine k turns ++ turn_of controller k new) later → HasStarted k controller later turns new how count
+      Turned (view_of controller new) (mine k turns ++ turn_of controller (OfMember k) new) later → HasStarted k controller later turns new how count
   with_start new how count later one waits turned = record {
     few = omega (arith, one);
     waits = λ some. waits;
-    turned = subst (λ (all : List LogonTurn). Turned (view_of controller new) all later) (sym (one_time count (turn_of controller k new) (mine k turns) one)) turned;
+    turned = subst (λ (all : List LogonTurn). Turned (view_of controller new) all later) (sym (one_time count (turn_of controller (OfMember k) new) (mine k turns) one)) turned;
   }
 
   started : (starts needs : Bool) (now : ℕ) (mid : Requester) (left rest_left : List (List ℕ)) (new : Requester) (after : List (List ℕ)) (how : Dialling) (dial_work : DialWork) →
@@ -155,9 +155,9 @@ module _ (k controller : ℕ) (drawn : List (List ℕ)) (turns : List LogonTurn)
   started true false now mid left rest_left new after how dial_work can need next rest dials coherent differ turned =
       let t : Requester = (start_of mid (timestamp_of now) (replicate 8 0)).state in
       with_start new dial_work.1 (dials_in dial_work.0.actions) (drawn ++ draws_between left after) dials.0 dials.1
-      (subst (λ (x : Requester). Turned (view_of controller x) (mine k turns ++ turn_of controller k x) (drawn ++ draws_between left after)) (sym next.0)
-      (turned_later (view_of controller t) (mine k turns ++ turn_of controller k t) drawn (drawn ++ draws_between left after) (λ challenge is. drawn_still challenge drawn (draws_between left after) is)
-      (starts_so (mine k turns) drawn controller k (timestamp_of now) (replicate 8 0) false mid can need tt before coherent turned)))
+      (subst (λ (x : Requester). Turned (view_of controller x) (mine k turns ++ turn_of controller (OfMember k) x) (drawn ++ draws_between left after)) (sym next.0)
+      (turned_later (view_of controller t) (mine k turns ++ turn_of controller (OfMember k) t) drawn (drawn ++ draws_between left after) (λ challenge is. drawn_still challenge drawn (draws_between left after) is)
+      (starts_so (mine k turns) drawn controller (OfMember k) (timestamp_of now) (replicate 8 0) false mid can need tt before coherent turned)))
   started true true now mid left rest_left new after how dial_work can need next rest dials coherent differ turned =
       let challenge : List ℕ = next.0 in
       let t : Requester = (start_of mid (timestamp_of now) challenge).state in
@@ -165,10 +165,10 @@ module _ (k controller : ℕ) (drawn : List (List ℕ)) (turns : List LogonTurn)
       let same : all ≡ (drawn ++ rest.front) ++ challenge ∷ [] = one_drawn drawn left rest_left after rest challenge next.1 in
       let fresh : IsDrawn challenge (drawn ++ rest.front) → ⊥ = fresh_last (drawn ++ rest.front) challenge (subst Differ same differ) in
       with_start new dial_work.1 (dials_in dial_work.0.actions) all dials.0 dials.1
-      (subst (λ (x : Requester). Turned (view_of controller x) (mine k turns ++ turn_of controller k x) all) (sym next.2)
-      (turned_later (view_of controller t) (mine k turns ++ turn_of controller k t) (drawn ++ challenge ∷ []) all
+      (subst (λ (x : Requester). Turned (view_of controller x) (mine k turns ++ turn_of controller (OfMember k) x) all) (sym next.2)
+      (turned_later (view_of controller t) (mine k turns ++ turn_of controller (OfMember k) t) (drawn ++ challenge ∷ []) all
       (λ one is. subst (IsDrawn one) (sym same) (drawn_between one drawn rest.front challenge is))
-      (starts_so (mine k turns) drawn controller k (timestamp_of now) challenge true mid can need (λ is. fresh (drawn_still challenge drawn rest.front is)) before coherent turned)))
+      (starts_so (mine k turns) drawn controller (OfMember k) (timestamp_of now) challenge true mid can need (λ is. fresh (drawn_still challenge drawn rest.front is)) before coherent turned)))
 
   free_by : (part : Result (Part DialWork) StepRefused) (running : Running) (what : Event) (now : ℕ) (left : List (List ℕ)) (d : Option EndId) (rest : Given) (dials : List WaitingDial) (given : Given) →
       TurnStepsIfTaken running.logons.channel (by_event what running.dialling (work_of running) left) now part →
@@ -198,7 +198,7 @@ module _ (k controller : ℕ) (drawn : List (List ℕ)) (turns : List LogonTurn)
         given_once = omega (arith, given_after, has.few);
         given_waits = λ some. (has.waits (omega (arith, given_after, some)), omega (arith, out));
         turned = subst
-            (λ (n : ℕ). Turned (view_of controller part.value.0.logons.channel) (mine k turns ++ times n (turn_of controller k part.value.0.logons.channel)) (drawn ++ draws_between left part.left))
+            (λ (n : ℕ). Turned (view_of controller part.value.0.logons.channel) (mine k turns ++ times n (turn_of controller (OfMember k) part.value.0.logons.channel)) (drawn ++ draws_between left part.left))
             (sym given_after) has.turned;
       }
 
@@ -209,10 +209,10 @@ pub stands_same : (controller : ℕ) (old new : Requester) → new.caller ≡ ol
 stands_same controller old new caller standing =
     ap (λ (c : Caller). stands_in controller c.computer new.standing) caller ∙ ap (λ (how : Standing). stands_in controller old.caller.computer how) standing
 
-pub turn_same : (controller k : ℕ) (old new : Requester) → new.caller ≡ old.caller → new.standing ≡ old.standing → new.turn ≡ old.turn → turn_of controller k new ≡ turn_of controller k old
-turn_same controller k old new caller standing turn =
-    ap (λ (t : Option Pending). turn_by (step_in t) (stands_in controller new.caller.computer new.standing) k) turn
-    ∙ ap (λ (c : Option ChannelIdentity). turn_by (step_in old.turn) c k) (stands_same controller old new caller standing)
+pub turn_same : (controller : ℕ) (who : RequesterId) (old new : Requester) → new.caller ≡ old.caller → new.standing ≡ old.standing → new.turn ≡ old.turn → turn_of controller who new ≡ turn_of controller who old
+turn_same controller who old new caller standing turn =
+    ap (λ (t : Option Pending). turn_by (step_in t) (stands_in controller new.caller.computer new.standing) who) turn
+    ∙ ap (λ (c : Option ChannelIdentity). turn_by (step_in old.turn) c who) (stands_same controller old new caller standing)
 
 opening_same : (old new : Requester) → new.standing ≡ old.standing → new.turn ≡ old.turn → opening_in new.standing (step_in new.turn) ≡ opening_in old.standing (step_in old.turn)
 opening_same old new standing turn =
@@ -234,10 +234,10 @@ module _ (k controller : ℕ) (turns : List LogonTurn) where
       let count : given_dials k (given_by (Member k) actions) ≡ 0 = given_own k (Member k) actions (is_itself k) ∙ stays.none in
       let given_after : given_dials k (given ++ given_by (Member k) actions) ≡ given_dials k given = omega (arith, given_append k given (given_by (Member k) actions), count) in
       let rest_after : given_dials k (given_by (Member k) actions ++ rest) ≡ given_dials k rest = omega (arith, given_append k (given_by (Member k) actions) rest, count) in
-      let own : List LogonTurn = mine k turns ++ times (given_dials k given) (turn_of controller k before) in
-      let same : mine k turns ++ times (given_dials k (given ++ given_by (Member k) actions)) (turn_of controller k new) ≡ own =
-      ap (λ (n : ℕ). mine k turns ++ times n (turn_of controller k new)) given_after
-      ∙ ap (λ (l : List LogonTurn). mine k turns ++ times (given_dials k given) l) (turn_same controller k before new stays.caller stays.standing stays.turn) in
+      let own : List LogonTurn = mine k turns ++ times (given_dials k given) (turn_of controller (OfMember k) before) in
+      let same : mine k turns ++ times (given_dials k (given ++ given_by (Member k) actions)) (turn_of controller (OfMember k) new) ≡ own =
+      ap (λ (n : ℕ). mine k turns ++ times n (turn_of controller (OfMember k) new)) given_after
+      ∙ ap (λ (l : List LogonTurn). mine k turns ++ times (given_dials k given) l) (turn_same controller (OfMember k) before new stays.caller stays.standing stays.turn) in
       record {
         order = order;
         out_once = omega (arith, rest_after, old.out_once);
@@ -284,7 +284,7 @@ module _ (asks : AsksWhatWaits) (dialled : TurnsAreDialled) (k controller : ℕ)
       free_by k controller drawn turns before (event_part running what now left) running what now left later rest dials given (dialled.starts running what now left)
       (order_after running what now left old.order) out none old.order.coherent
       (subst (λ (all : List LogonTurn). Turned (view_of controller running.logons.channel) all drawn)
-      (no_times (given_dials k given) (turn_of controller k running.logons.channel) (mine k turns) none) old.turned) differ
+      (no_times (given_dials k given) (turn_of controller (OfMember k) running.logons.channel) (mine k turns) none) old.turned) differ
 
   pub member_step : (r : Option Running) (what : Event) (now : ℕ) (left : List (List ℕ)) (d later : Option EndId) (rest : Given) (dials : List WaitingDial) (drawn : List (List ℕ)) (given : Given) →
       Answers (Member k) what d later rest → TurnsIf k controller d rest dials drawn given turns r → AreDrawn drawn (mine k turns) →
