@@ -74,7 +74,7 @@ impl Accounts {
         }
     }
 
-    /// Each account has the form that its type gives it, which callers learn so.
+    /// Each account has the form that its type gives it. It is called so that this is known.
     pub(crate) fn have_forms(&self)
         requires { AllByRecursion HasFewNames self.now }
         ensures { All HasAccountForm self.now }
@@ -95,7 +95,7 @@ impl Accounts {
         }
     }
 
-    /// No two accounts have the same name, which callers learn so.
+    /// No two accounts have the same name. It is called so that this is known.
     pub(crate) fn names_differ(&self)
         ensures { IsTrue (has_distinct_names self.now) }
     {
@@ -267,7 +267,7 @@ fn put_secret(alloc: Global, text: &mut Vec<u8>, account: &Account) -> Result<()
     Ok(())
 }
 
-/// The account has its ranges, which callers learn so.
+/// The account has its ranges. It is called so that this is known.
 fn has_ranges(account: &Account)
     requires groups { length account.now.groups ≤ group_limit }
     requires sids { IsTrue (has_few_sids account.now.extra_sids) }
@@ -284,22 +284,22 @@ fn has_ranges(account: &Account)
     is_hyper(account.password_expires);
 }
 
-/// A number of 16 bits is below 2^16, which callers learn so.
+/// A number of 16 bits is below 2^16. It is called so that this is known.
 fn is_short(number: u16)
     ensures { number < 2 ^ 16 }
 {}
 
-/// A number of 32 bits is below 2^32, which callers learn so.
+/// A number of 32 bits is below 2^32. It is called so that this is known.
 fn is_long(number: u32)
     ensures { number < 2 ^ 32 }
 {}
 
-/// A number of 64 bits is below 2^64, which callers learn so.
+/// A number of 64 bits is below 2^64. It is called so that this is known.
 fn is_hyper(number: u64)
     ensures { number < 2 ^ 64 }
 {}
 
-/// Numbers of 32 bits are below 2^32, which callers learn so.
+/// Numbers of 32 bits are below 2^32. It is called so that this is known.
 pub(crate) fn are_longs(numbers: &[u32])
     ensures { AreLongs numbers.now }
 {}

@@ -1,4 +1,4 @@
-//! What the types of an account's and a trusted domain's parts give of themselves, which callers learn by calls that do
+//! What the types of an account's and a trusted domain's parts give of themselves, which is known by calls that do
 //! nothing.
 
 ghost use Rattle.std.specs.Prelude.{◌≡◌, ◌^◌, ◌<◌, All};
@@ -38,7 +38,7 @@ fn trust_has_form(trust: &Trust)
     are_bytes(trust.address.bytes());
 }
 
-/// Each is a name, which its type gives. The call does nothing: its caller learns this.
+/// Each is a name, which its type gives. It is called so that this is known.
 pub fn names_have_forms(names: &[Name])
     ensures { All IsName names.now }
 {
@@ -47,14 +47,14 @@ pub fn names_have_forms(names: &[Name])
     }
 }
 
-/// A hash has 16 bytes, which its type gives. The call does nothing: its caller learns this.
+/// A hash has 16 bytes, which its type gives. It is called so that this is known.
 pub fn is_hash(hash: [u8; 16])
     ensures { IsBlock 16 hash }
 {
     are_bytes(hash.as_slice());
 }
 
-/// Bytes are below 2^8, which their type gives. The call does nothing: its caller learns this.
+/// Bytes are below 2^8, which their type gives. It is called so that this is known.
 pub fn are_bytes(bytes: &[u8])
     ensures { All IsByte bytes.now }
 {}

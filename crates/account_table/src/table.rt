@@ -89,8 +89,8 @@ impl Table {
         read_text(alloc, text)
     }
 
-    /// The table has the form that its type gives it, which callers learn so. It takes no memory, and walks the
-    /// accounts and the trusted domains.
+    /// The table has the form that its type gives it. It is called so that this is known. It takes no memory, and walks
+    /// the accounts and the trusted domains.
     pub fn has_form(&self)
         ensures { HasTableForm self.now }
     {
@@ -106,6 +106,7 @@ impl Table {
         ensures value { result.now ≡ self.now.domain }
         ensures form { IsName self.now.domain }
     {
+        // so that it is known that the domain has the form of a name
         let _bytes = self.domain.bytes();
         &self.domain
     }
@@ -115,6 +116,7 @@ impl Table {
         ensures value { result.now ≡ self.now.sid }
         ensures range { InRangeSid self.now.sid }
     {
+        // so that it is known that its numbers are in range
         are_longs(self.sid.numbers());
         &self.sid
     }

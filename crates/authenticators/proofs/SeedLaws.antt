@@ -7,7 +7,7 @@ use Rattle.std.proofs.lemmas.Nat.{le_bytes_4, from_le_bytes-to_le_bytes_4}
 use Rattle.std.specs.Int.{w32, to_le_bytes, from_le_bytes}
 use Rattle.channel_keys.specs.Des.{IsBlock}
 use Rattle.authenticators.specs.Sequences.{add_to, seed_after, moved_by}
-use Rattle.authenticators.proofs.BlockLaws.{bytes_from_all}
+use Rattle.wire_base.proofs.NumberLaws.{bytes_from_all}
 
 pub IsBlock-add_to : (seed : List ℕ) (n : ℕ) → IsBlock seed → IsBlock (add_to seed n)
 unfolding add_to

@@ -1,15 +1,9 @@
 -- The ranges of what the end that asks keeps, through each step, and that what it sends is whole. It serves
 -- `requesters_send_whole`.
-use Rattle.std.proofs.Common.{◌==◌, ◌<◌, ◌^◌, ◌+◌, ℕ, Bool, true, false, List, [], ◌∷◌, ◌++◌, length, nat_le, replicate, Option, Some, None, Result, Ok, Err, refl, sym, subst, arith, append-nil, inl, inr}
-use Rattle.std.specs.Prelude.{All}
+use Rattle.std.proofs.Common.{◌==◌, ◌<◌, ◌^◌, ◌+◌, ℕ, Bool, true, false, List, [], ◌∷◌, ◌++◌, length, nat_le, Option, Some, None, Result, Ok, Err, refl, sym, subst, arith, append-nil}
 use Rattle.std.proofs.Math.Nat.{mod-lt}
-use Rattle.std.proofs.lemmas.Bool.{cases_lt}
-use Rattle.std.proofs.lemmas.List.{get_or_past}
-use Rattle.std.proofs.lemmas.List.Elements.{All-from_recursion, All-get_or}
-use Rattle.wire_base.specs.Numbers.{AreBytes}
-use Rattle.channel_keys.specs.Credentials.{cred_of}
-use Rattle.channel_keys.proofs.CredLaws.{IsBlock-cred_of}
 use Rattle.authenticators.specs.SecureChannels.{SecureChannelState}
+use Rattle.authenticators.proofs.BlockLaws.{cred_block, zeros_block}
 use Rattle.rpc_units.specs.declared.unit.Unit.{Unit as RpcUnit}
 use Rattle.rpc_units.specs.declared.unit.Body.{Body}
 use Rattle.rpc_units.specs.declared.unit.Body.TheVariants.{Bind, BindAck, BindNak, Auth3, Request, Response, Fault}
@@ -43,25 +37,6 @@ use Rattle.channel_client.specs.declared.state.Standing.TheVariants as standing
 use Rattle.channel_client.specs.declared.state.Step.{Step}
 use Rattle.channel_client.specs.declared.state.Step.TheVariants as step
 use Rattle.channel_client.specs.declared.state.Waiting.{Waiting}
-
--- ---- blocks
-
-pub bytes_from_all : (bytes : List ℕ) → All (λ b. b < 256) bytes → AreBytes bytes
-bytes_from_all bytes all place =
-    elim (cases_lt place (length bytes)) [
-      | inl within ↦ All-get_or (λ b. b < 256) bytes place 0 within all
-      | inr past ↦ rw (get_or_past bytes place 0 past) (omega arith)
-    ]
-
-pub cred_block : (key input : List ℕ) → IsBlock 8 (cred_of key input)
-cred_block key input = ((IsBlock-cred_of key input).eight, bytes_from_all (cred_of key input) (IsBlock-cred_of key input).bytes)
-
-pub zeros_block : IsBlock 8 (replicate 8 0)
-zeros_block = (
-  refl,
-  bytes_from_all (replicate 8 0)
-      (All-from_recursion (λ b. b < 256) (replicate 8 0) (omega arith, (omega arith, (omega arith, (omega arith, (omega arith, (omega arith, (omega arith, (omega arith, tt))))))))),
-)
 
 -- ---- numbers
 

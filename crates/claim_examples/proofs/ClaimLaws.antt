@@ -19,10 +19,10 @@ use Rattle.member_server.specs.declared.state.TurnTalk.{TurnTalk}
 use Rattle.domain_controller.specs.Laws.{IsNext}
 use Rattle.domain_controller.specs.declared.state.Computers.{Computers}
 use Rattle.channel_events.specs.Marks.{Calling, ReplyTo}
-use Rattle.step_notes.specs.ControllerNotes.{channel_by, channel_in, has_passed}
+use Rattle.step_notes.specs.ControllerNotes.{identity_by, channel_in, has_passed}
 use Rattle.step_notes.specs.Judged.{channel_if}
 use Rattle.step_notes.specs.Marking.{clashes, is_channel}
-use Rattle.step_notes.specs.Records.{Judging, computer_in, given_in, timestamp_in}
+use Rattle.step_notes.specs.Records.{Judging, computer_named, given_in, timestamp_in}
 use Rattle.world_moves.specs.declared.links.Route.TheVariants.{ToMember}
 use Rattle.world_moves.specs.declared.moves.Move.{Move}
 use Rattle.world_moves.specs.declared.plan.Plan.{Plan}
@@ -137,7 +137,7 @@ wraps_not wraps =
     not_round wraps.channel wraps.between wraps.first parts.1 parts.2 wraps.first_passed wraps.around
 
 -- a call that passed on a channel passed at its controller
-of_state : (controller : ℕ) (computer : List ℕ) (found : Option SecureChannelState) (channel : ChannelIdentity) → is_channel (channel_by controller computer found) channel ≡ true → controller ≡ channel.controller
+of_state : (controller : ℕ) (computer : List ℕ) (found : Option SecureChannelState) (channel : ChannelIdentity) → is_channel (identity_by controller computer found) channel ≡ true → controller ≡ channel.controller
 of_state controller computer None channel is = absurd cc
 of_state controller computer (Some c) channel is = ((same_channel-Decides (channel_of controller computer c) channel).0 is).controller
 
@@ -147,7 +147,7 @@ of_computer controller (Some computer) computers channel is = of_state controlle
 
 of_call : (passes : Bool) (j : Judging) (channel : ChannelIdentity) → is_channel (channel_if passes j) channel ≡ true → j.controller ≡ channel.controller
 of_call false j channel is = absurd cc
-of_call true j channel is = of_computer j.controller (computer_in j.asked) j.computers channel is
+of_call true j channel is = of_computer j.controller (computer_named j.asked) j.computers channel is
 
 pub its_controller : (channel : ChannelIdentity) (j : Judging) → passed_on channel j ≡ true → j.controller ≡ channel.controller
 its_controller channel j is = of_call (has_passed j.how) j channel is
@@ -265,7 +265,7 @@ next_at seed = record {
   passes = refl;
 }
 
-next_small : IsNext (small_computers []) (computer_in next_call.asked) (given_in next_call.asked)
+next_small : IsNext (small_computers []) (computer_named next_call.asked) (given_in next_call.asked)
 next_small = next_at []
 
 passed_next : PassesTheNextCredential (judged_once next_call (told_as (judged.Passed 0) ∷ []))
@@ -274,7 +274,7 @@ passed_next = (
     at = refl;
     controller = refl;
     how = refl;
-    right = right_passed 0 (small_computers []) (computer_in next_call.asked) (given_in next_call.asked) next_small (next_unbarred (small_computers []) (computer_in next_call.asked) (given_in next_call.asked) next_small);
+    right = right_passed 0 (small_computers []) (computer_named next_call.asked) (given_in next_call.asked) next_small (next_unbarred (small_computers []) (computer_named next_call.asked) (given_in next_call.asked) next_small);
   },
   tt,
 )
@@ -321,7 +321,7 @@ accepted_whole = record {
   unused = inl (record { link = refl; challenge = refl; drawn = refl; only = only_draw small_challenge; first = refl });
 }
 
-next_whole : IsNext (small_computers small_seed) (computer_in whole_call.asked) (given_in whole_call.asked)
+next_whole : IsNext (small_computers small_seed) (computer_named whole_call.asked) (given_in whole_call.asked)
 next_whole = next_at small_seed
 
 of_all : OfAll
@@ -337,7 +337,7 @@ of_all = record {
         at = refl;
         controller = refl;
         how = refl;
-        right = right_passed 0 (small_computers small_seed) (computer_in whole_call.asked) (given_in whole_call.asked) next_whole (next_unbarred (small_computers small_seed) (computer_in whole_call.asked) (given_in whole_call.asked) next_whole);
+        right = right_passed 0 (small_computers small_seed) (computer_named whole_call.asked) (given_in whole_call.asked) next_whole (next_unbarred (small_computers small_seed) (computer_named whole_call.asked) (given_in whole_call.asked) next_whole);
       },
       tt,
     );

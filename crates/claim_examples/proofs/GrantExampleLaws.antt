@@ -45,7 +45,7 @@ use Rattle.domain_controller.specs.Machine.{Desk, answer_logon, judge_info}
 use Rattle.domain_controller.specs.declared.line.Line.{Line}
 use Rattle.step_notes.specs.ControllerNotes.{Where, judging_of}
 use Rattle.step_notes.specs.GrantSends.{IsSentAsGranted, actions_granting, reply_granted}
-use Rattle.step_notes.specs.Records.{Judging, computer_in, given_in, network_in}
+use Rattle.step_notes.specs.Records.{Judging, computer_named, given_in, network_in}
 use Rattle.domain_world.specs.Claims.{info_asked}
 use Rattle.domain_world.specs.Claims.Counts.{RaisesCount}
 use Rattle.domain_world.specs.Claims.Grants.{IsToBeGranted}
@@ -101,7 +101,7 @@ unfolding place_in same_name names.upper_of units_of
 verifies_counted count = granted_small.verifies
 
 -- at level 2 it is the next one too
-next_two : IsNext next_call.computers (computer_in (at_level 2).asked) (given_in (at_level 2).asked)
+next_two : IsNext next_call.computers (computer_named (at_level 2).asked) (given_in (at_level 2).asked)
 next_two = next_at []
 
 of_grants : OfGrants

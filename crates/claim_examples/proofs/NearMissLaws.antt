@@ -41,10 +41,10 @@ use Rattle.step_notes.specs.Served.{work_after}
 use Rattle.step_notes.proofs.Members.CallLogonLaws.{calls_carry}
 use Rattle.domain_world.specs.Claims.AskedFor.{AsksForItsMessage, IsForItsMessage, IsOfMessage, MembersAskForKept}
 use Rattle.channel_events.specs.Marks.{OneOf, Calling, Mark, Opened, Opening, Plain, ReplyTo}
-use Rattle.channel_events.proofs.ListLaws.{got_nothing, some_is}
+use Rattle.channel_events.proofs.ListLaws.{got_nothing, no_some, some_is}
 use Rattle.step_notes.specs.Records.{Judging, MessageTaken, Sent, blank}
 use Rattle.world_moves.specs.declared.bag.BagUnit.{BagUnit}
-use Rattle.world_moves.specs.declared.links.Route.TheVariants.{ToMember}
+use Rattle.world_moves.specs.declared.links.Route.TheVariants.{ToController, ToMember}
 use Rattle.world_moves.specs.Forms.{HasMoveForm, IsByte}
 use Rattle.world_moves.specs.World.{IsMove}
 use Rattle.domain_world.specs.Accepting.Answered.{IsItsWay, MarksHaveTheirWay, PassesAreUnclashed}
@@ -53,11 +53,12 @@ use Rattle.domain_world.specs.Claims.Counts.{RaisesCount}
 use Rattle.domain_world.specs.Past.{Past, sent_at}
 use Rattle.claim_examples.specs.ClaimExamples.{challenge_on, elsewhere, extended_flags, judged_as, judging, last_timestamp, message, message_of_link, on_channel, one_logon, open_running, small_account, small_challenge, small_hash, small_logon, small_member, small_name, small_plan, small_run, small_table, small_world}
 use Rattle.claim_examples.specs.GrantExamples.{wrong_call}
-use Rattle.claim_examples.specs.NearMisses.{NearMissesTellApart, OfAcceptingAll, OfAcceptingOnly, OfAsking, OfClearRuns, OfCounts, OfKeys, OfSchedules, OfShortResponses, OfTables, OfTelling, OfUnits, OfWritingDown, at_two_members, barred_again, bob, each_move, extended_taken, foreign, half_timestamp, judged_by, judged_two, keeping, locking_table, long_taken, noting, passed_for, sent_one, small_bound, taking, ten_keeping, untold, waiting_on, wrong_among}
+use Rattle.claim_examples.specs.NearMisses.{NearMissesTellApart, OfAcceptingAll, OfAcceptingOnly, OfAsking, OfClearRuns, OfCounts, OfKeys, OfMaking, OfSchedules, OfShortResponses, OfTables, OfTelling, OfUnits, OfWritingDown, at_two_members, barred_again, bob, each_move, extended_taken, foreign, half_timestamp, judged_by, judged_two, keeping, locking_table, long_taken, noting, passed_for, sent_one, small_bound, taking, ten_keeping, untold, waiting_on, wrong_among}
 use Rattle.claim_examples.proofs.ClaimLaws.{its_controller, moved_by_one, of_wraps, the_two}
 use Rattle.claim_examples.proofs.CompletenessLaws.{lost_schedule}
 use Rattle.claim_examples.proofs.LogonLaws.{extended_pair, free_small, granted_small, only_draw, plain_small, stored_small, this_step}
 use Rattle.claim_examples.proofs.SequenceLaws.{one_apart}
+use Rattle.logon_client.specs.declared.plan.ClientPlan.{ClientPlan}
 
 -- ---- clear runs
 
@@ -422,8 +423,22 @@ of_written = record {
   ];
 }
 
+of_making : OfMaking
+of_making = record {
+  meets = (record { plan = refl; server = 0; link = refl }, tt);
+  fails_plan = λ claim. absurd (let never : 0 ≡ 2 = ap (λ (p : ClientPlan). p.echo) (some_is _ _ claim.0.plan) in omega (arith, never));
+  fails_other = λ claim. absurd (let never : 1 ≡ 0 = ap (λ (p : ClientPlan). p.echo) (some_is _ _ claim.0.plan) in omega (arith, never));
+  fails_link = λ claim. absurd (let is : ToMember 0 0 ≡ ToMember 1 claim.0.server = some_is _ _ claim.0.link in let never : ◌≡◌ {A = ℕ} 0 1 = cc in omega (arith, never));
+  fails_controller = λ claim. absurd (let is : ToController 0 0 ≡ ToMember 0 claim.0.server = some_is _ _ claim.0.link in cc);
+  fails_unmade = λ claim. absurd (no_some _ claim.0.link);
+}
+
 of_telling : OfTelling
-of_telling = record { meets = (refl, tt); fails = λ claim. absurd (let never : false ≡ true = claim.0 in cc) }
+of_telling = record {
+  meets = ((refl, (λ is. absurd (let never : judged.Barred ≡ judged.Forwarded = is in cc))), tt);
+  fails = λ claim. absurd (let never : false ≡ true = claim.0.0 in cc);
+  fails_forwarded = λ claim. claim.0.1 refl;
+}
 
 -- ---- the accounts of controllers
 
@@ -484,6 +499,7 @@ near_misses = record {
   units = of_units;
   asking = of_asking;
   written = of_written;
+  made = of_making;
   telling = of_telling;
   tables = of_tables;
   schedules = of_schedules;

@@ -15,8 +15,8 @@ use Rattle.authenticators.specs.SecureChannels.{key_of_channel, channel_of}
 use Rattle.domain_controller.specs.Laws.{IsNext}
 use Rattle.domain_controller.specs.Machine.{status_of}
 use Rattle.channel_events.specs.Marks.{Mark, Plain, ReplyTo}
-use Rattle.step_notes.specs.ControllerNotes.{channel_by}
-use Rattle.step_notes.specs.Records.{Judging, Sent, computer_in, given_in, network_in}
+use Rattle.step_notes.specs.ControllerNotes.{identity_by}
+use Rattle.step_notes.specs.Records.{Judging, Sent, computer_named, given_in, network_in}
 use Rattle.step_notes.specs.ReplySends.{IsReplyOfCall, verdict_passed}
 use Rattle.world_moves.specs.declared.bag.BagUnit.{BagUnit}
 use Rattle.domain_world.specs.Claims.Replies.{IsReplyOfOne, RepliesCarryTheirJudgement}
@@ -61,10 +61,10 @@ the_reply : (bytes : List ℕ) (channel : ChannelIdentity) (call request : ℕ) 
     (j.reply ≡ Some 0) × IsReplyOfCall channel call request j bytes
 the_reply bytes channel call request j claim = elim (claim 0 _ (sent_at 6 (ReplyTo channel call request)) refl refl) [ inl here ↦ here | inr never ↦ absurd never ]
 
-passed_small : channel_by 0 (codes "FILE1") (lookup same_name (codes "FILE1") (small_computers []).channels) ≡ Some small_name
-passed_small = ap (channel_by 0 (codes "FILE1")) (kept_small [])
+passed_small : identity_by 0 (codes "FILE1") (lookup same_name (codes "FILE1") (small_computers []).channels) ≡ Some small_name
+passed_small = ap (identity_by 0 (codes "FILE1")) (kept_small [])
 
-next_small : IsNext (small_computers []) (computer_in next_call.asked) (given_in next_call.asked)
+next_small : IsNext (small_computers []) (computer_named next_call.asked) (given_in next_call.asked)
 next_small = record {
   computer = codes "FILE1";
   given = authenticator_of (key_of_channel (small_channel [])) [] 0;

@@ -35,7 +35,7 @@ use Rattle.domain_world.specs.Claims.{AcceptsAllGranted, AcceptsOnlyGranted, IsC
 use Rattle.domain_world.specs.Claims.Counts.{EachCallRaisesOnce, RaisesCount}
 use Rattle.domain_world.specs.Claims.MarkedUnits.{EachUnitIsMarked}
 use Rattle.domain_world.specs.Claims.Tables.{TablesFollowVerdicts}
-use Rattle.domain_world.specs.Claims.WrittenDown.{MembersAreWrittenDown}
+use Rattle.domain_world.specs.Claims.WrittenDown.{MembersAreWrittenDown, MessagesAreOfTheirClients}
 use Rattle.domain_world.specs.Past.{Past, sent_at}
 use Rattle.claim_examples.specs.ClaimExamples.{challenge_on, client_plan, elsewhere, extended_flags, extended_message, judged_as, judging, last_timestamp, made_as, made_keeping, message, message_of_link, on_channel, one_logon, open_running, run_in, small_account, small_challenge, small_hash, small_logon, small_member, small_name, small_plan, small_run, small_table, small_world, taken_as, told_of_link, two_logons, with_response, world_of}
 use Rattle.claim_examples.specs.CompletenessExamples.{lost_plan}
@@ -273,13 +273,29 @@ pub record OfWritingDown : Type 0 where
   pub fails_elsewhere : MembersAreWrittenDown (noting (waiting_on 3 small_challenge) [] (challenge_on 4 ∷ [])) → ⊥
   pub fails_other : MembersAreWrittenDown (noting (waiting_on 3 []) [] (challenge_on 3 ∷ [])) → ⊥
 
--- What is told judges a call: not what came of a logon that was asked of another controller.
+-- a run with two clients, in which one made that message
+abbrev pub making : MessageMade → Past
+making made =
+    record (small_run (record blank { made = made ∷ [] })) { plan = record small_plan { clients = client_plan ∷ record client_plan { echo = 1 } ∷ [] } }
+
+-- A message that is written down as made is by the plan of its client, and on a link that this client dialled: not by
+-- another plan or one of another client, nor on a link of another client, to a controller, or that wasn't made.
+pub record OfMaking : Type 0 where
+  pub meets : MessagesAreOfTheirClients (making (made_keeping []))
+  pub fails_plan : MessagesAreOfTheirClients (making (record (made_keeping []) { plan = record client_plan { echo = 2 } })) → ⊥
+  pub fails_other : MessagesAreOfTheirClients (making (record (made_keeping []) { client = 1 })) → ⊥
+  pub fails_link : MessagesAreOfTheirClients (making (record (made_keeping []) { client = 1; plan = record client_plan { echo = 1 } })) → ⊥
+  pub fails_controller : MessagesAreOfTheirClients (making (record (made_keeping []) { link = 0 })) → ⊥
+  pub fails_unmade : MessagesAreOfTheirClients (making (record (made_keeping []) { link = 5 })) → ⊥
+
+-- What is told judges a call, and hands none on: not what came of a logon that was asked of another controller.
 abbrev pub telling : Judged → Past
 telling how = small_run (record blank { judgements = record { at = 6; controller = 0; how = how } ∷ [] })
 
 pub record OfTelling : Type 0 where
   pub meets : TellsOfCallsAlone (telling judged.Barred)
   pub fails : TellsOfCallsAlone (telling (judged.Answered 0)) → ⊥
+  pub fails_forwarded : TellsOfCallsAlone (telling judged.Forwarded) → ⊥
 
 -- ---- the accounts of controllers
 
@@ -345,6 +361,7 @@ pub record NearMissesTellApart : Type 0 where
   pub units : OfUnits
   pub asking : OfAsking
   pub written : OfWritingDown
+  pub made : OfMaking
   pub telling : OfTelling
   pub tables : OfTables
   pub schedules : OfSchedules

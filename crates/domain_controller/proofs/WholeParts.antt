@@ -10,10 +10,9 @@ use Rattle.std.proofs.lemmas.List.Elements.{All-from_get_or}
 use Rattle.std.proofs.Math.Nat.{mod-lt}
 use Rattle.wire_base.specs.Names.{IsName}
 use Rattle.wire_base.specs.declared.authenticator.Authenticator.{Authenticator}
-use Rattle.wire_base.proofs.NumberLaws.{length-to_le_bytes}
+use Rattle.wire_base.proofs.NumberLaws.{bytes_from_all, length-to_le_bytes}
 use Rattle.rc4_stream.proofs.Rc4Laws.{All-applied, length-applied}
 use Rattle.channel_keys.specs.Hidden.{crypt_by, crypt_key, is_zero}
-use Rattle.authenticators.proofs.BlockLaws.{bytes_from_all}
 use Rattle.ntlm_responses.specs.Verification.{base_key_of}
 use Rattle.ntlm_responses.proofs.ResponseLaws.{All-base_key_of, length-base_key_of}
 use Rattle.rpc_units.specs.declared.unit.Syntax.{Syntax}

@@ -5,6 +5,7 @@ ghost use Rattle.rpc_units.specs.Joining.{HasStub, answer_of, open_after};
 ghost use Rattle.rpc_units.specs.Reading.{unit_of};
 ghost use Rattle.rpc_units.specs.Views.{body_shown, trailer_shown, unit_shown};
 ghost use Rattle.rpc_units.specs.Writing.{ContextsFit, written};
+ghost use Rattle.rpc_units.specs.Numbers.{context_limit};
 ghost use Rattle.end_links.specs.Sending.{fault_of};
 ghost use Rattle.logon_stubs.specs.Interface.{netlogon_syntax};
 ghost use Rattle.domain_controller.specs.Hearing.{IsLine, CanAnswer, bound_talk, hear, hear_bind, hear_sealed_bind, hear_unbound, hear_fresh, is_served, hear_fault, hear_opnum, hear_context, hear_whole, hear_joined, hear_bound};
@@ -85,7 +86,7 @@ fn hear_bind(
     contexts: &Contexts,
     joiner: Joiner,
 ) -> Result<Heard, NoMemory>
-    requires { length contexts.now ≤ 242 }
+    requires { length contexts.now ≤ context_limit }
     ensures value { IfOk result (λ heard. heard ≡ hear_bind call receive contexts.now joiner) }
     ensures can { IfOk result CanAnswer }
 {

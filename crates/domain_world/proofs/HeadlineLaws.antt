@@ -15,6 +15,7 @@ use Rattle.domain_world.specs.Claims.WrittenDown.{MembersAreWrittenDown}
 use Rattle.domain_world.specs.Headline.{Proved}
 use Rattle.domain_world.specs.Past.{Past, past}
 use Rattle.domain_world.proofs.Accepting.AnsweredRunLaws.{short_responses}
+use Rattle.domain_world.proofs.Accepting.Messages.ClientMadeLaws.{messages_of_clients}
 use Rattle.domain_world.proofs.Challenges.MessageApartLaws.{messages_apart}
 use Rattle.domain_world.proofs.Challenges.MessageOnceLaws.{messages_once}
 use Rattle.domain_world.proofs.Challenges.OwnChallengeLaws.{messages_own}
@@ -22,11 +23,12 @@ use Rattle.domain_world.proofs.Accepting.UnitLaws.{runs_heard}
 use Rattle.domain_world.proofs.Completeness.SuccessLaws.{each_succeeds}
 use Rattle.domain_world.proofs.Frames.BagFrameLaws.{each_marked}
 use Rattle.domain_world.proofs.Frames.DrawnRunLaws.{draws_are_blocks, draws_differ}
+use Rattle.domain_world.proofs.Judgements.AloneLaws.{tells_of_calls}
 use Rattle.domain_world.proofs.Judgements.GrantLaws.{grants_who_may}
 use Rattle.domain_world.proofs.Judgements.ReplayLaws.{replays_by_sum}
 use Rattle.domain_world.proofs.Judgements.ReplyLaws.{replies_carry}
 use Rattle.domain_world.proofs.Judgements.TableLaws.{tables_follow}
-use Rattle.domain_world.proofs.Judgements.ToldLaws.{passes_the_next, tells_of_calls}
+use Rattle.domain_world.proofs.Judgements.ToldLaws.{passes_the_next}
 use Rattle.domain_world.proofs.Judgements.UnclashedLaws.{passes_unclashed}
 use Rattle.domain_world.proofs.Requests.KeptAskLaws.{members_ask}
 use Rattle.domain_world.proofs.Requests.MarkWayLaws.{marks_have_their_way}
@@ -80,6 +82,7 @@ all_proved laws plan moves short bytes = record {
   sends = laws.sends plan moves;
   let_in = laws.let_in plan moves;
   written = laws.written plan moves;
+  made = messages_of_clients plan moves;
   only = λ schedule clear. runs_heard.only plan moves (laws.heard plan moves schedule short bytes) (draws_differ plan moves) clear;
   all = λ schedule clear. runs_heard.all plan moves (laws.heard plan moves schedule short bytes) (draws_differ plan moves) clear;
   keys = λ schedule clear. runs_heard.keys plan moves (laws.heard plan moves schedule short bytes) (draws_differ plan moves) clear;

@@ -1,4 +1,5 @@
 -- What holds in every run of the calls that controllers judged.
+pub mod AloneLaws
 pub mod GrantLaws
 pub mod JudgedLaws
 pub mod MovedLaws

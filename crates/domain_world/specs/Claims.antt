@@ -35,7 +35,7 @@ use Rattle.channel_events.specs.Marks.{OneOf}
 use Rattle.step_notes.specs.ControllerNotes.{channel_in, has_passed}
 use Rattle.step_notes.specs.Judged.{IsJudgedRight, base_key_asked, passed_channel, stored_hash}
 use Rattle.step_notes.specs.Marking.{is_channel}
-use Rattle.step_notes.specs.Records.{Book, ChallengeSent, Judging, JudgementTold, MessageMade, MessageTaken, OutcomeTold, computer_in, given_in, timestamp_in}
+use Rattle.step_notes.specs.Records.{Book, ChallengeSent, Judging, JudgementTold, MessageMade, MessageTaken, OutcomeTold, computer_named, given_in, timestamp_in}
 use Rattle.world_moves.specs.declared.links.EndId.TheVariants.{Controller, Member}
 use Rattle.world_moves.specs.declared.links.Route.{Route}
 use Rattle.world_moves.specs.Counting.{is_in}
@@ -244,10 +244,11 @@ AreRightlyTold told judgings = AreTheirJudgements (judgements_of_calls told) jud
 abbrev pub PassesTheNextCredential : Past → Type 0
 PassesTheNextCredential past = AreRightlyTold past.book.judgements past.book.judged
 
--- And it told of nothing else: what it told judges a call. No controller asks another one yet, which could then tell of
--- what came of a call that was judged before.
+-- And it told of nothing else: what it told judges a call, and none was handed on. No controller asks another one yet,
+-- which could then tell of what came of a call that was judged before.
 abbrev pub TellsOfCallsAlone : Past → Type 0
-TellsOfCallsAlone past = AllByRecursion (λ (one : JudgementTold). judges_call one.how ≡ true) past.book.judgements
+TellsOfCallsAlone past =
+    AllByRecursion (λ (one : JudgementTold). (judges_call one.how ≡ true) × (one.how ≢ judged.Forwarded)) past.book.judgements
 
 -- ---- further claims
 
@@ -258,7 +259,7 @@ ReplaysBySum past =
     (channel : ChannelIdentity) (later between earlier : List Judging) (second first : Judging) →
     past.book.judged ≡ later ++ second ∷ (between ++ first ∷ earlier) →
     passed_on channel first ≡ true →
-    is_channel (channel_in second.controller (computer_in second.asked) second.computers) channel ≡ true →
+    is_channel (channel_in second.controller (computer_named second.asked) second.computers) channel ≡ true →
     given_in second.asked ≡ given_in first.asked →
     (has_passed second.how ≡ true) ↔ (moved_on channel (between ++ first ∷ []) % 2 ^ 32 ≡ 0)
 

@@ -15,7 +15,7 @@ ghost use Rattle.domain_world.specs.Claims.OwnChallenges.{MessagesHaveOwnChallen
 ghost use Rattle.domain_world.specs.Claims.Replies.{RepliesCarryTheirJudgement};
 ghost use Rattle.domain_world.specs.Claims.NamedLinks.{LinksReachTheNamed};
 ghost use Rattle.domain_world.specs.Claims.Tables.{TablesFollowVerdicts};
-ghost use Rattle.domain_world.specs.Claims.WrittenDown.{MembersAreWrittenDown};
+ghost use Rattle.domain_world.specs.Claims.WrittenDown.{MembersAreWrittenDown, MessagesAreOfTheirClients};
 ghost use Rattle.domain_world.specs.Headline.{Proved};
 ghost use Rattle.domain_world.specs.Past.{past};
 
@@ -33,8 +33,9 @@ pub fn controllers_pass_the_next()
     ensures { (plan : Plan) (moves : List Move) → PassesTheNextCredential (past plan moves) }
 {}
 
-/// In every run, over all moves from a plan on, a controller tells of nothing but the calls that it heard.
-#[tactic(auto, using(crate::proofs::Judgements::ToldLaws::tells_of_calls))]
+/// In every run, over all moves from a plan on, a controller tells of nothing but the calls that it heard,
+/// and of none that it was handed on to another.
+#[tactic(auto, using(crate::proofs::Judgements::AloneLaws::tells_of_calls))]
 pub fn controllers_tell_of_calls_alone()
     ensures { (plan : Plan) (moves : List Move) → TellsOfCallsAlone (past plan moves) }
 {}
@@ -103,6 +104,13 @@ pub fn members_are_written_down()
 pub fn messages_have_own_challenges()
     ensures { (plan : Plan) (moves : List Move) → DrawsDiffer (past plan moves).world →
         MessagesHaveOwnChallenges (past plan moves) }
+{}
+
+/// In every run, over all moves from a plan on, each AUTHENTICATE that is written down as made (MS-NLMP 3.1.5.1.2) is
+/// by the plan of the client that it names, and on a link that this client dialled to a member.
+#[tactic(auto, using(crate::proofs::Accepting::Messages::ClientMadeLaws::messages_of_clients))]
+pub fn messages_are_of_their_clients()
+    ensures { (plan : Plan) (moves : List Move) → MessagesAreOfTheirClients (past plan moves) }
 {}
 
 /// In every run, over all moves from a plan on, an authenticator that passed on a channel and comes again on it,

@@ -1,7 +1,8 @@
 //! Cases of `logon_client`: a client and its events, a scenario a line.
 
 ghost use Rattle.std.specs.Prelude.{◌≡◌, ◌≤◌, true, length, IsTrue};
-ghost use Rattle.logon_client.specs.Plans.{CanLogOn, is_level};
+ghost use Rattle.unit_security.specs.Levels.{is_level};
+ghost use Rattle.logon_client.specs.Plans.{CanLogOn};
 ghost use Rattle.logon_client.specs.declared.plan.AuthKind.{AuthKind};
 
 use crate::scenes::{actions_text, add_left, chances, play};

@@ -7,6 +7,7 @@ use Rattle.rpc_units.specs.declared.unit.Syntax.{Syntax}
 use Rattle.rpc_units.specs.declared.unit.Unit.{Unit as RpcUnit}
 use Rattle.rpc_units.specs.Calls.{IsHeard, bytes_of_call}
 use Rattle.rpc_units.specs.Writing.{written}
+use Rattle.rpc_units.specs.Numbers.{context_limit}
 use Rattle.end_links.specs.Binding.{ack_of, bind_of, nak_of}
 use Rattle.end_links.specs.Sending.{fault_of, frames_of, joined_frames, request_of, response_of}
 
@@ -32,7 +33,7 @@ IsWholeIfSent (action.Judged how) = Unit {0}
 pub record UnitsAreWhole : Type 0 where
   pub bind : (interface : Syntax) (call : ℕ) → length interface.uuid ≡ 16 → interface.version < 2 ^ 32 → call < 2 ^ 32 →
       IsWholeSend (written (bind_of interface call))
-  pub ack : (served : Syntax) (call receive : ℕ) (contexts : List (ℕ × Syntax × List Syntax)) → call < 2 ^ 32 → length contexts ≤ 242 →
+  pub ack : (served : Syntax) (call receive : ℕ) (contexts : List (ℕ × Syntax × List Syntax)) → call < 2 ^ 32 → length contexts ≤ context_limit →
       IsWholeSend (written (ack_of served call receive contexts))
   pub nak : (call : ℕ) → call < 2 ^ 32 → IsWholeSend (written (nak_of call))
   pub fault : (call context status : ℕ) → call < 2 ^ 32 → context < 2 ^ 16 → status < 2 ^ 32 → IsWholeSend (written (fault_of call context status))

@@ -2,6 +2,7 @@
 
 ghost use Rattle.std.specs.Prelude.{◌≡◌, ◌≤◌, IfOk, length, map};
 ghost use Rattle.rpc_units.specs.Writing.{written, IsShortBody, IsWritable};
+ghost use Rattle.rpc_units.specs.Numbers.{context_limit};
 ghost use Rattle.end_links.specs.Agreed.{accepts, has_number};
 ghost use Rattle.end_links.specs.Binding.{same_syntax, offers_ndr, answer_to, accepted_ids, limit_of, binding_of, ack_of, nak_of, bind_of};
 
@@ -82,7 +83,7 @@ pub fn bind_ack(
     receive: u16,
     contexts: &Contexts,
 ) -> Result<Unit, NoMemory>
-    requires { length contexts.now ≤ 242 }
+    requires { length contexts.now ≤ context_limit }
     ensures value { IfOk result (λ u. u ≡ ack_of served.now call receive contexts.now) }
     ensures writable { IfOk result (λ u. IsWritable u) }
     ensures short { IfOk result (λ u. IsShortBody u.body) }

@@ -2,7 +2,7 @@
 -- 3.5.4.4, 3.5.4.5; C706 12.6.3 for binds and calls). One link for each call, and which outcome an answer has, are this
 -- project's own choice. A moment is in units of 100 ns since 1601-01-01; a challenge has 8 bytes, a secret, a hash and
 -- a key 16.
-use Rattle.std.specs.Prelude.{ℕ, ◌==◌, ◌&&◌, ◌++◌, Bool, true, false, not, List, [], ◌∷◌, replicate, Option, Some, None, Result, Ok, Err, is_some}
+use Rattle.std.specs.Prelude.{ℕ, ◌==◌, ◌++◌, Bool, true, false, List, [], ◌∷◌, replicate, Option, Some, None, Result, Ok, Err, is_some}
 use Rattle.wire_base.specs.declared.authenticator.Authenticator.{Authenticator}
 use Rattle.rc4_stream.specs.Rc4.{applied}
 use Rattle.channel_keys.specs.Hidden.{crypt_key}
@@ -13,7 +13,6 @@ use Rattle.outside.specs.declared.action.Action.{Action}
 use Rattle.outside.specs.declared.action.Action.TheVariants as action
 use Rattle.outside.specs.declared.action.CloseCause.{CloseCause}
 use Rattle.outside.specs.declared.action.CloseCause.TheVariants as close
-use Rattle.outside.specs.declared.action.DropCause.{DropCause}
 use Rattle.outside.specs.declared.action.DropCause.TheVariants as drop_cause
 use Rattle.outside.specs.declared.action.Outcome.TheVariants as told
 use Rattle.outside.specs.declared.action.StepRefused.{StepRefused}
@@ -33,7 +32,6 @@ use Rattle.rpc_units.specs.Stream.{cut_stream}
 use Rattle.rpc_units.specs.Writing.{written}
 use Rattle.logon_stubs.specs.declared.refused.StubRefused.{StubRefused}
 use Rattle.logon_stubs.specs.declared.info.SamInfo.{SamInfo}
-use Rattle.logon_stubs.specs.declared.calls.Call.{Call}
 use Rattle.logon_stubs.specs.declared.calls.Reply.{Reply}
 use Rattle.logon_stubs.specs.declared.calls.Reply.TheVariants as reply
 use Rattle.logon_stubs.specs.Calls.{opnum_of_call, reply_of}
@@ -42,7 +40,7 @@ use Rattle.logon_stubs.specs.Writing.{written_call}
 use Rattle.end_links.specs.Binding.{bind_of, limit_of}
 use Rattle.end_links.specs.Links.{LinkState}
 use Rattle.end_links.specs.Sending.{frames_of, joined_frames, request_of}
-use Rattle.end_links.specs.Serving.{Server, Service, ServedPart, served_cut}
+use Rattle.end_links.specs.Serving.{Server, served_cut}
 use Rattle.logon_stubs.specs.Interface.{netlogon_syntax}
 use Rattle.channel_client.specs.declared.caller.Caller.{Caller}
 use Rattle.channel_client.specs.declared.judging.Judgement.{Judgement}

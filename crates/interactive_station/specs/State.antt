@@ -1,5 +1,5 @@
 -- What a station keeps (this project's own choice). Numbers of binds and requests are counted modulo 2^32.
-use Rattle.std.specs.Prelude.{ℕ, Bool, List, Option}
+use Rattle.std.specs.Prelude.{ℕ, List, Option}
 use Rattle.rpc_units.specs.declared.unit.Unit.{Unit as RpcUnit}
 use Rattle.end_links.specs.Links.{LinkState}
 use Rattle.logon_stubs.specs.declared.calls.Call.{Call}

@@ -1,16 +1,11 @@
 -- What a client can be told to do, and what it offers (this project's own choice). Names are lists of 16-bit units.
-use Rattle.std.specs.Prelude.{ℕ, ◌≡◌, ◌≤◌, ◌==◌, ◌||◌, Bool, true, false, length, IsTrue}
+use Rattle.std.specs.Prelude.{ℕ, ◌≡◌, ◌≤◌, ◌||◌, Bool, true, false, length, IsTrue}
 use Rattle.rpc_units.specs.Numbers.{connect_level}
 use Rattle.ntlm_flags.specs.Flags.{offered_flags, offered_flags_v1}
-use Rattle.unit_security.specs.Levels.{is_signed}
+use Rattle.unit_security.specs.Levels.{is_level, is_signed}
 use Rattle.logon_client.specs.declared.plan.AuthKind.{AuthKind}
 use Rattle.logon_client.specs.declared.plan.AuthKind.TheVariants.{V1, V1Ess, V2}
 use Rattle.logon_client.specs.declared.plan.ClientPlan.{ClientPlan}
-
--- ---- levels of authentication (MS-RPCE 2.2.1.1.8)
-
-abbrev pub is_level : ℕ → Bool
-is_level level = level == connect_level || is_signed level
 
 -- A plan that a client can follow.
 pub record CanLogOn (plan : ClientPlan) : Type 0 where

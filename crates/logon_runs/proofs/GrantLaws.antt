@@ -8,9 +8,8 @@ use Rattle.logon_runs.specs.Runs.{Asked, sam_for, message_for, hidden}
 use Rattle.std.proofs.Common.{ap, ◌∙◌}
 use Rattle.std.specs.Prelude.{◌&&◌}
 use Rattle.ntlm_flags.specs.Flags.{has_flag, negotiate_extended_sessionsecurity}
-use Rattle.unit_security.specs.Levels.{is_signed}
+use Rattle.unit_security.specs.Levels.{is_plain, is_signed}
 use Rattle.logon_client.specs.Securing.{session_for, session_if}
-use Rattle.member_server.specs.Levels.{is_plain}
 use Rattle.member_server.specs.Outcomes.{session_in}
 use Rattle.logon_steps.specs.Answers.{AreDraws, answer_for, drawn_of}
 use Rattle.logon_steps.specs.Calling.{TravelsAsZeros}
@@ -23,6 +22,7 @@ use Rattle.std.proofs.lemmas.List.{get_or_past}
 use Rattle.std.proofs.lemmas.List.Elements.{All-append, All-cons, All-get_or}
 use Rattle.wire_base.specs.Names.{IsName, IsNameByte}
 use Rattle.wire_base.specs.Units.{AreUnits}
+use Rattle.wire_base.proofs.NumberLaws.{bytes_from_all}
 use Rattle.channel_keys.specs.Hidden.{crypt_key}
 use Rattle.authenticators.specs.SecureChannels.{SecureChannelState, key_of_channel}
 use Rattle.ntlm_messages.specs.declared.messages.Authenticate.{Authenticate}
@@ -36,7 +36,7 @@ use Rattle.member_server.specs.Turns.{timestamp_of}
 use Rattle.logon_steps.specs.Granting.{base_key}
 use Rattle.logon_steps.specs.MemberAnswers.{granting, sam_shown}
 use Rattle.logon_steps.specs.Turning.{IsTurnReply}
-use Rattle.logon_steps.proofs.CallingLaws.{are_bytes, calls_can_go}
+use Rattle.logon_steps.proofs.CallingLaws.{calls_can_go}
 use Rattle.logon_steps.proofs.GrantingLaws.{logons_are_granted}
 use Rattle.logon_runs.specs.Grants.{GrantsAreTold}
 use Rattle.logon_runs.specs.Runs.{hidden, message_for, sam_for}
@@ -51,7 +51,7 @@ are_units bytes all place =
 
 base_block : (task : ClientPlan) (message : Authenticate) → IsBlock 16 (base_key task message)
 base_block task message =
-    (length-base_key_of task.hash task.user task.domain message.nt, are_bytes (base_key task message) (All-base_key_of task.hash task.user task.domain message.nt))
+    (length-base_key_of task.hash task.user task.domain message.nt, bytes_from_all (base_key task message) (All-base_key_of task.hash task.user task.domain message.nt))
 
 name_bytes : (domain account : List ℕ) → IsName domain → IsName account → All IsNameByte (domain ++ 0x5C ∷ account)
 name_bytes domain account is_domain is_account =

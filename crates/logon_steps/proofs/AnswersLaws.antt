@@ -32,7 +32,7 @@ use Rattle.logon_client.proofs.FittingLaws.{answers_fit}
 use Rattle.logon_client.specs.Machine as client
 use Rattle.logon_client.specs.Plans.{CanLogOn, offer_of}
 use Rattle.member_server.specs.declared.plan.MemberPlan.{MemberPlan}
-use Rattle.member_server.specs.Levels.{is_plain}
+use Rattle.unit_security.specs.Levels.{is_plain}
 use Rattle.member_server.specs.Messages.{ask_by, is_fit, take_message}
 use Rattle.member_server.specs.Units.{unit_challenged}
 use Rattle.logon_steps.specs.Answers.{AnswersAreAsked, AreDraws, answer_for, auth3_for, drawn_of, terms_for}

@@ -1,21 +1,20 @@
 -- That the calls of a member's turns and the replies to them can be written, joined and read, and that a hidden key is
 -- shown again.
 -- Of `calls_can_go`.
-use Rattle.std.proofs.Common.{◌≡◌, ℕ, zero, suc, ◌<◌, Bool, true, false, List, [], ◌∷◌, ◌++◌, length, replicate, refl, sym, ap, subst, ◌∙◌, arith, length-append, inl, inr}
+use Rattle.std.proofs.Common.{◌≡◌, ℕ, Bool, true, false, List, [], ◌∷◌, ◌++◌, length, replicate, refl, sym, ap, subst, ◌∙◌, arith, length-append, inl, inr}
 use Rattle.std.specs.Prelude.{All}
 use Rattle.std.proofs.lemmas.Bool.{cases_Bool, cases_lt}
 use Rattle.std.proofs.lemmas.List.{get_or_past}
-use Rattle.std.proofs.lemmas.List.Elements.{All-append, All-cons, All-from_recursion, All-get_or}
+use Rattle.std.proofs.lemmas.List.Elements.{All-append, All-from_recursion, All-get_or}
 use Rattle.std.proofs.lemmas.Slice.Eq.{bytes_eq-Decides}
 use Rattle.rc4_stream.specs.Rc4.{applied}
 use Rattle.rc4_stream.proofs.Rc4Laws.{All-applied, applied-applied, length-applied}
 use Rattle.wire_base.specs.Names.{IsNameByte}
-use Rattle.wire_base.specs.Numbers.{AreBytes}
 use Rattle.wire_base.specs.Units.{AreUnits}
-use Rattle.channel_keys.specs.Credentials.{cred_of}
+use Rattle.wire_base.proofs.NumberLaws.{all_from_bytes, bytes_from_all}
 use Rattle.channel_keys.specs.Hidden.{crypt_by, crypt_key, is_zero}
-use Rattle.channel_keys.proofs.CredLaws.{IsBlock-cred_of}
 use Rattle.authenticators.specs.SecureChannels.{SecureChannelState, key_of_channel}
+use Rattle.authenticators.proofs.BlockLaws.{cred_block, zeros_block}
 use Rattle.account_table.specs.AccountTable.{AccountTable}
 use Rattle.account_table.specs.declared.account.Account.{Account}
 use Rattle.sam_logon.specs.Granting.{sam_info_of}
@@ -32,13 +31,6 @@ use Rattle.logon_steps.specs.Calling.{CallsCanGo}
 use Rattle.logon_steps.specs.MemberAnswers.{granting}
 use Rattle.logon_steps.specs.Turning.{IsTurnReply}
 
-pub are_bytes : (bytes : List ℕ) → All (λ b. b < 256) bytes → AreBytes bytes
-are_bytes bytes all place =
-    elim (cases_lt place (length bytes)) [
-      | inl within ↦ All-get_or (λ b. b < 256) bytes place 0 within all
-      | inr past ↦ rw (get_or_past bytes place 0 past) (omega arith)
-    ]
-
 are_units : (bytes : List ℕ) → All IsNameByte bytes → AreUnits bytes
 are_units bytes all place =
     elim (cases_lt place (length bytes)) [
@@ -46,27 +38,13 @@ are_units bytes all place =
       | inr past ↦ rw (get_or_past bytes place 0 past) (omega arith)
     ]
 
-cred_block : (key input : List ℕ) → IsBlock 8 (cred_of key input)
-cred_block key input = ((IsBlock-cred_of key input).eight, are_bytes (cred_of key input) (IsBlock-cred_of key input).bytes)
-
-pub zeros_block : IsBlock 8 (replicate 8 0)
-zeros_block = (
-  refl,
-  are_bytes (replicate 8 0)
-      (All-from_recursion (λ b. b < 256) (replicate 8 0) (omega arith, (omega arith, (omega arith, (omega arith, (omega arith, (omega arith, (omega arith, (omega arith, tt))))))))),
-)
-
-pub all_bytes : (bytes : List ℕ) → AreBytes bytes → All (λ b. b < 256) bytes
-all_bytes [] are = All-from_recursion (λ b. b < 256) [] tt
-all_bytes (byte ∷ bytes) are = All-cons (λ b. b < 256) byte bytes (are zero) (all_bytes bytes (λ place. are (suc place)))
-
 -- ---- the reply that grants
 
 hidden_block : (none : Bool) (session key : List ℕ) → IsBlock 16 key → IsBlock 16 (crypt_by none session key)
 hidden_block true session key is = is
 hidden_block false session key is = (
   length-applied session 0 key ∙ is.0,
-  are_bytes (applied session 0 key) (All-applied session 0 key (all_bytes key is.1)),
+  bytes_from_all (applied session 0 key) (All-applied session 0 key (all_from_bytes key is.1)),
 )
 
 -- what is granted with the key hidden

@@ -38,12 +38,11 @@ use Rattle.logon_client.specs.declared.plan.AuthKind.{AuthKind}
 use Rattle.logon_client.specs.declared.plan.AuthKind.TheVariants.{V1, V1Ess, V2}
 use Rattle.logon_client.specs.declared.plan.ClientPlan.{ClientPlan}
 use Rattle.logon_client.specs.Answering.{nt_by, pairs_sent}
-use Rattle.unit_security.specs.Levels.{is_signed}
+use Rattle.unit_security.specs.Levels.{is_plain, is_signed}
 use Rattle.logon_client.specs.Plans.{CanLogOn, offer_of}
 use Rattle.logon_client.specs.Securing.{session_if}
 use Rattle.logon_client.proofs.AnswerLaws.{answers_verify, keys_found}
 use Rattle.member_server.specs.declared.plan.MemberPlan.{MemberPlan}
-use Rattle.member_server.specs.Levels.{is_plain}
 use Rattle.member_server.specs.Messages.{info_of}
 use Rattle.member_server.specs.Outcomes.{key_or, name_in, session_by}
 use Rattle.logon_steps.specs.Answers.{AreDraws, HasUnits, answer_for, drawn_of}

@@ -1,7 +1,7 @@
 -- How a client and a member server meet on a link.
 -- Of `clients_and_members_meet`.
 use Rattle.std.proofs.Common.{◌≡◌, ℕ, ◌≤◌, ◌<◌, ◌^◌, ◌+◌, Bool, true, false, List, [], ◌∷◌, ◌++◌, length, replicate, Option, Some, None, Result, Ok, refl, ap, ◌∙◌, arith, length-append}
-use Rattle.std.specs.Prelude.{◌||◌, ◌==◌, not, IsTrue}
+use Rattle.std.specs.Prelude.{◌||◌, ◌==◌, not}
 use Rattle.std.specs.Int.{w32, w64, to_le_bytes}
 use Rattle.std.proofs.lemmas.Bool.{le-leb, ne_eqb}
 use Rattle.outside.specs.Machine.{then_part}
@@ -39,13 +39,13 @@ use Rattle.logon_client.specs.declared.state.Phase.TheVariants as client_phase
 use Rattle.logon_client.specs.declared.state.Work.{Work as ClientWork}
 use Rattle.logon_client.specs.Answering.{bind_for, drawn_for, is_enough, negotiate_for, pairs_by}
 use Rattle.logon_client.specs.Machine as client
-use Rattle.logon_client.specs.Plans.{CanLogOn, is_level, needs_ess, offer_of}
+use Rattle.logon_client.specs.Plans.{CanLogOn, needs_ess, offer_of}
 use Rattle.unit_security.specs.Securing.{trailer_of}
 use Rattle.member_server.specs.declared.binds.Offer.{Offer}
 use Rattle.member_server.specs.declared.plan.MemberPlan.{MemberPlan}
 use Rattle.member_server.specs.declared.state.AtLink.{AtLink}
 use Rattle.member_server.specs.Binds as binds
-use Rattle.member_server.specs.Levels.{is_plain, is_served}
+use Rattle.unit_security.specs.Levels.{is_plain}
 use Rattle.member_server.specs.Units.{first_unit, link_server}
 use Rattle.member_server.specs.Work.{drawless, send_unit, stay}
 use Rattle.logon_steps.specs.Meeting.{HasShortNames, Meets, ack_for, challenged_talk, flags_agreed, flags_answered, fresh_talk, info_for, memo_contexts, offer_for, offer_heard}
@@ -93,14 +93,6 @@ negotiate_read auth =
 
 -- ---- enough is agreed
 
-level_by : (two five six : Bool) → IsTrue (two || (five || six)) → ((two || five) || six) ≡ true
-level_by true five six is = refl
-level_by false true six is = refl
-level_by false false six is = is
-
-level_served : (level : ℕ) → IsTrue (is_level level) → is_served level ≡ true
-level_served level is = level_by (level == 2) (level == 5) (level == 6) is
-
 pub or_true : (one : Bool) → (one || true) ≡ true
 or_true true = refl
 or_true false = refl
@@ -122,7 +114,7 @@ enough_agreed task can = agreed task.auth task.level can.plain where
 offer_found : (task : ClientPlan) → CanLogOn task → binds.offer_in (Some (trailer_of task.level 1 (written_negotiate (negotiate_for task.auth)))) ≡ Some (offer_heard task)
 offer_found task can =
     let trailer : Trailer = trailer_of task.level 1 (written_negotiate (negotiate_for task.auth)) in
-    ap (λ (served : Bool). binds.offer_at served trailer) (level_served task.level can.level)
+    ap (λ (served : Bool). binds.offer_at served trailer) can.level
     ∙ ap (λ (read : Result Negotiate MessageRefused). binds.offer_by read trailer) (negotiate_read task.auth)
     ∙ ap (λ (enough : Bool). binds.offer_if enough trailer (offer_of task.auth)) (enough_offered task can)
 

@@ -34,7 +34,7 @@ use Rattle.member_server.specs.declared.state.Logons.{Logons}
 use Rattle.member_server.specs.declared.state.Talk.{Talk}
 use Rattle.member_server.specs.declared.state.Work.{Work}
 use Rattle.member_server.specs.Machine.{actions_in, at_turn, halted_state, keep_turn, state_in}
-use Rattle.member_server.specs.Levels.{is_plain}
+use Rattle.unit_security.specs.Levels.{is_plain}
 use Rattle.member_server.specs.Memo.{call_answer, echo_answer, who_answer}
 use Rattle.member_server.specs.Outcomes.{after_served, at_link, end_found, end_logon, reach_in_map, key_in, name_in, reach_link, reach_waiting, waiting_if}
 use Rattle.member_server.specs.Requests.{reply, send_reply, talk_in, unit_in}

@@ -27,7 +27,7 @@ use Rattle.logon_client.specs.declared.state.Question.{Question}
 use Rattle.logon_client.specs.declared.state.Terms.{Terms}
 use Rattle.logon_client.specs.declared.state.Work.{Work as ClientWork}
 use Rattle.logon_client.specs.Machine as client
-use Rattle.unit_security.specs.Levels.{is_sealed}
+use Rattle.unit_security.specs.Levels.{is_plain, is_sealed}
 use Rattle.unit_security.specs.declared.securing.Secured.{Secured}
 use Rattle.unit_security.specs.Opening.{HasRoom, Travels}
 use Rattle.unit_security.specs.Securing.{blank_trailer, open_unit, secure_all, secure_call, secure_unit, then_secured}
@@ -35,7 +35,6 @@ use Rattle.unit_security.proofs.OpeningLaws.{secured_is_opened}
 use Rattle.logon_client.specs.Securing.{has_level, sent_secured}
 use Rattle.member_server.specs.declared.state.AtLink.{AtLink}
 use Rattle.member_server.specs.declared.state.LoggedOn.{LoggedOn}
-use Rattle.member_server.specs.Levels.{is_plain}
 use Rattle.member_server.specs.Requests.{answer_call, cause_by, is_due, join_by, join_opened, join_unit, open_request, secure_reply, send_reply, send_secured, signed_cause, signed_unit, talk_in, unit_in}
 use Rattle.member_server.specs.Work.{send, stay}
 use Rattle.logon_steps.specs.MemoCalls.{AreSessions, MemoCallsGo, ReplyGoes, RequestGoes, logged_on, with_session}

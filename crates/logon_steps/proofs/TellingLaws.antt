@@ -4,7 +4,7 @@ use Rattle.std.proofs.Common.{◌≡◌, ℕ, ◌≤◌, ◌<◌, ◌==◌, Bool
 use Rattle.std.proofs.lemmas.List.Elements.{All-replicate}
 use Rattle.wire_base.specs.Numbers.{AreBytes}
 use Rattle.wire_base.specs.Units.{AreUnits, utf16_of}
-use Rattle.wire_base.proofs.NumberLaws.{AreBytes-append, AreBytes-nil, AreBytes-to_le_bytes}
+use Rattle.wire_base.proofs.NumberLaws.{AreBytes-append, AreBytes-nil, AreBytes-to_le_bytes, all_from_bytes, bytes_from_all}
 use Rattle.wire_base.proofs.UnitLaws.{AreBytes-utf16_of}
 use Rattle.std.specs.Int.{to_le_bytes, w16}
 use Rattle.ntlm_messages.specs.declared.messages.Authenticate.{Authenticate}
@@ -22,7 +22,6 @@ use Rattle.logon_steps.specs.Answers.{answer_for, drawn_of}
 use Rattle.logon_steps.specs.Meeting.{flags_agreed, info_for, offer_for}
 use Rattle.logon_steps.specs.Telling.{LogonsAreShort}
 use Rattle.logon_steps.proofs.AnswersLaws.{answers_are_asked}
-use Rattle.logon_steps.proofs.CallingLaws.{all_bytes, are_bytes}
 use Rattle.logon_steps.proofs.MeetingLaws.{info_length, name_short}
 
 -- ---- the target information
@@ -51,12 +50,12 @@ sent_short false info short = short
 -- ---- the responses
 
 nt_are : (auth : AuthKind) (task : ClientPlan) (offer : ServerOffer) (client : List ℕ) → AreBytes client → AreBytes offer.info → AreBytes (nt_by auth task offer client)
-nt_are V1 task offer client are info = are_bytes (response_v1_of task.hash offer.challenge) (All-response_v1_of task.hash offer.challenge)
-nt_are V1Ess task offer client are info = are_bytes (response_ess_of task.hash offer.challenge client) (All-response_ess_of task.hash offer.challenge client)
+nt_are V1 task offer client are info = bytes_from_all (response_v1_of task.hash offer.challenge) (All-response_v1_of task.hash offer.challenge)
+nt_are V1Ess task offer client are info = bytes_from_all (response_ess_of task.hash offer.challenge client) (All-response_ess_of task.hash offer.challenge client)
 nt_are V2 task offer client are info =
     let pairs : List ℕ = pairs_sent (length offer.info == 0) offer.info in
-    are_bytes (response_v2_of task.hash task.user task.domain offer.challenge offer.time client pairs) (All-response_v2_of task.hash task.user task.domain offer.challenge offer.time client pairs (all_bytes client are)
-    (all_bytes pairs (sent_are (length offer.info == 0) offer.info info)))
+    bytes_from_all (response_v2_of task.hash task.user task.domain offer.challenge offer.time client pairs) (All-response_v2_of task.hash task.user task.domain offer.challenge offer.time client pairs (all_from_bytes client are)
+    (all_from_bytes pairs (sent_are (length offer.info == 0) offer.info info)))
 
 nt_short : (auth : AuthKind) (task : ClientPlan) (offer : ServerOffer) (client : List ℕ) → length client ≡ 8 → length offer.info ≤ 4096 → length (nt_by auth task offer client) ≤ 8192
 nt_short V1 task offer client eight short = omega (arith, length-response_v1_of task.hash offer.challenge)
@@ -66,9 +65,9 @@ nt_short V2 task offer client eight short =
     omega (arith, length-response_v2_of task.hash task.user task.domain offer.challenge offer.time client pairs, sent_short (length offer.info == 0) offer.info short, eight)
 
 lm_are : (auth : AuthKind) (task : ClientPlan) (offer : ServerOffer) (client : List ℕ) → AreBytes client → AreBytes (lm_by auth task offer client)
-lm_are V1 task offer client are = are_bytes (response_v1_of task.hash offer.challenge) (All-response_v1_of task.hash offer.challenge)
-lm_are V1Ess task offer client are = AreBytes-append client (replicate 16 0) are (are_bytes (replicate 16 0) (All-replicate (λ b. b < 256) 16 0 (omega arith)))
-lm_are V2 task offer client are = are_bytes (replicate 24 0) (All-replicate (λ b. b < 256) 24 0 (omega arith))
+lm_are V1 task offer client are = bytes_from_all (response_v1_of task.hash offer.challenge) (All-response_v1_of task.hash offer.challenge)
+lm_are V1Ess task offer client are = AreBytes-append client (replicate 16 0) are (bytes_from_all (replicate 16 0) (All-replicate (λ b. b < 256) 16 0 (omega arith)))
+lm_are V2 task offer client are = bytes_from_all (replicate 24 0) (All-replicate (λ b. b < 256) 24 0 (omega arith))
 
 lm_short : (auth : AuthKind) (task : ClientPlan) (offer : ServerOffer) (client : List ℕ) → length client ≡ 8 → length (lm_by auth task offer client) ≤ 8192
 lm_short V1 task offer client eight = omega (arith, length-response_v1_of task.hash offer.challenge)
@@ -77,7 +76,7 @@ lm_short V2 task offer client eight = omega arith
 
 asked_block : (client : Option (List ℕ)) (challenge : List ℕ) → length challenge ≡ 8 → AreBytes challenge → IsBlock 8 (challenge_by client challenge)
 asked_block None challenge eight are = (eight, are)
-asked_block (Some client) challenge eight are = (length-hashed_challenge_of challenge client, are_bytes (hashed_challenge_of challenge client) (All-hashed_challenge_of challenge client))
+asked_block (Some client) challenge eight are = (length-hashed_challenge_of challenge client, bytes_from_all (hashed_challenge_of challenge client) (All-hashed_challenge_of challenge client))
 
 pub logons_are_short : LogonsAreShort
 logons_are_short = record {

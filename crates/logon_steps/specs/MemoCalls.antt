@@ -16,7 +16,7 @@ use Rattle.logon_client.specs.Machine as client
 use Rattle.logon_client.specs.Securing.{send_call}
 use Rattle.member_server.specs.declared.state.AtLink.{AtLink}
 use Rattle.member_server.specs.declared.state.LoggedOn.{LoggedOn}
-use Rattle.member_server.specs.Levels.{is_plain}
+use Rattle.unit_security.specs.Levels.{is_plain}
 use Rattle.member_server.specs.Requests.{answer_call, send_reply, talk_in, unit_in}
 use Rattle.member_server.specs.Work.{send, stay}
 

@@ -41,7 +41,7 @@ use Rattle.channel_client.specs.declared.answers.Taken.TheVariants as taken
 use Rattle.channel_client.specs.Machine.{can_start, lose_of, needs_challenge, start_of, take_of}
 use Rattle.channel_client.specs.State.{Requester}
 use Rattle.channel_client.specs.Whole.{InRangeCaller, InRangeRequester, IsWholeNext, IsWholeStart}
-use Rattle.channel_client.proofs.WholeLaws.{requesters_send_whole, zeros_block}
+use Rattle.channel_client.proofs.WholeLaws.{requesters_send_whole}
 use Rattle.member_server.specs.declared.outcomes.Ending.{Ending}
 use Rattle.member_server.specs.declared.outcomes.Ending.TheVariants as ending
 use Rattle.member_server.specs.declared.plan.MemberPlan.{MemberPlan}
@@ -64,6 +64,7 @@ use Rattle.member_server.specs.Units.{link_server, serve_held}
 use Rattle.member_server.specs.Whole.{AcceptedUnlessStopped, AreChallenges, InRangeDialling, InRangeEvent, InRangeLink, InRangeLinks, InRangePhase, InRangeRunning, InRangeUnlessStopped, IsAccepted, IsAcceptedAfter, IsSentOn, IsTurnLink, MembersSendWhole, link_of_turn, opened_link}
 use Rattle.member_server.specs.Work.{Served}
 use Rattle.member_server.proofs.WholeUnits.{AtFits, LinkPartFits, SaidFits, held_fits, told_fits, units_stay}
+use Rattle.authenticators.proofs.BlockLaws.{zeros_block}
 
 -- ---- links, each with its number
 

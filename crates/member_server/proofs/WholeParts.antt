@@ -6,10 +6,9 @@ use Rattle.std.proofs.lemmas.List.{length-drop}
 use Rattle.wire_base.specs.Numbers.{AreBytes}
 use Rattle.wire_base.specs.Units.{AreUnits, units_of, whole_units}
 use Rattle.wire_base.specs.declared.units.UnitsRefused.{UnitsRefused}
-use Rattle.wire_base.proofs.NumberLaws.{AreBytes-drop, AreBytes-nil, AreBytes-take}
+use Rattle.wire_base.proofs.NumberLaws.{AreBytes-drop, AreBytes-nil, AreBytes-take, bytes_from_all}
 use Rattle.wire_base.proofs.UnitLaws.{AreUnits-units_of, whole_units_from-units_of}
 use Rattle.ntlm_flags.specs.Flags.{has_flag, negotiate_unicode}
-use Rattle.authenticators.proofs.BlockLaws.{bytes_from_all}
 use Rattle.ntlm_messages.specs.Authenticate.{IsAuthenticate, authenticate_of}
 use Rattle.ntlm_messages.specs.Fields.{IsField, offset_at}
 use Rattle.ntlm_messages.specs.Text.{units_of_text}

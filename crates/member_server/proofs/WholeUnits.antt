@@ -41,7 +41,7 @@ use Rattle.member_server.specs.declared.state.Logon.{Logon}
 use Rattle.member_server.specs.declared.state.Phase.{Phase}
 use Rattle.member_server.specs.declared.state.Talk.{Talk}
 use Rattle.member_server.specs.Held.{held_limit, held_size}
-use Rattle.member_server.specs.Levels.{is_plain}
+use Rattle.unit_security.specs.Levels.{is_plain}
 use Rattle.member_server.specs.Memo.{call_answer}
 use Rattle.member_server.specs.Messages.{ask_by, info_of, is_fit, take_auth3, take_message, take_trailer, wait_by, with_channel}
 use Rattle.member_server.specs.Requests.{answer_call, body_asked, body_out, hold_by, join_by, join_request, join_unit, reply, send_reply, signed_cause, signed_unit, talk_in, unit_asked, unit_in, unit_out, with_session, join_opened, open_request, secure_reply, send_secured}

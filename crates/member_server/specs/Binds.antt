@@ -25,7 +25,7 @@ use Rattle.member_server.specs.declared.plan.MemberPlan.{MemberPlan}
 use Rattle.member_server.specs.declared.state.AtLink.{AtLink}
 use Rattle.member_server.specs.declared.state.Bound.{Bound}
 use Rattle.member_server.specs.declared.state.Phase.TheVariants as phase
-use Rattle.member_server.specs.Levels.{is_plain, is_served}
+use Rattle.unit_security.specs.Levels.{is_level, is_plain}
 use Rattle.rpc_units.specs.Numbers.{ntlm_provider}
 use Rattle.member_server.specs.Work.{Served, ServedPart, send_unit, stay, shut, drawless}
 
@@ -54,7 +54,7 @@ offer_at true trailer = offer_by (negotiate_of trailer.value) trailer
 
 abbrev pub offer_in : Option Trailer → Option Offer
 offer_in None = None
-offer_in (Some trailer) = offer_at ((trailer.kind == ntlm_provider) && is_served trailer.level) trailer
+offer_in (Some trailer) = offer_at ((trailer.kind == ntlm_provider) && is_level trailer.level) trailer
 
 -- ---- the CHALLENGE (MS-NLMP 2.2.1.2): its target is the domain, and its pairs are the domain (2) and the computer (1)
 

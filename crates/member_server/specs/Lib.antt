@@ -4,7 +4,6 @@ pub mod Dials
 pub mod Held
 pub mod Holding
 pub mod Laws
-pub mod Levels
 pub mod Lines
 pub mod Machine
 pub mod Memo

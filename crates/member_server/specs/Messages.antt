@@ -24,7 +24,7 @@ use Rattle.member_server.specs.declared.state.Bound.{Bound}
 use Rattle.member_server.specs.declared.state.Logon.{Logon}
 use Rattle.member_server.specs.declared.state.Logons.{Logons}
 use Rattle.member_server.specs.declared.state.Phase.TheVariants as phase
-use Rattle.member_server.specs.Levels.{is_plain}
+use Rattle.unit_security.specs.Levels.{is_plain}
 use Rattle.rpc_units.specs.Numbers.{ntlm_provider}
 use Rattle.member_server.specs.Work.{Served, tell, stay, shut, with_logons}
 

@@ -15,7 +15,7 @@ use Rattle.rpc_units.specs.Calls.{bytes_of_call}
 use Rattle.rpc_units.specs.Joining.{answer_of, open_after}
 use Rattle.rpc_units.specs.Reading.{unit_of}
 use Rattle.unit_security.specs.declared.securing.Secured.{Secured}
-use Rattle.unit_security.specs.Levels.{is_sealed}
+use Rattle.unit_security.specs.Levels.{is_plain, is_sealed}
 use Rattle.unit_security.specs.Securing.{open_unit, secure_call}
 use Rattle.end_links.specs.Agreed.{accepts}
 use Rattle.end_links.specs.Sending.{fault_of, response_of}
@@ -27,7 +27,6 @@ use Rattle.member_server.specs.declared.state.LoggedOn.{LoggedOn}
 use Rattle.member_server.specs.declared.state.Phase.TheVariants as phase
 use Rattle.member_server.specs.declared.state.Talk.{Talk}
 use Rattle.member_server.specs.Held.{held_size, held_limit}
-use Rattle.member_server.specs.Levels.{is_plain}
 use Rattle.member_server.specs.Memo.{call_answer}
 use Rattle.member_server.specs.Work.{Served, send, send_unit, stay, shut}
 

@@ -16,7 +16,7 @@ use Rattle.member_server.specs.declared.state.Phase.{Phase}
 use Rattle.member_server.specs.declared.state.Phase.TheVariants as phase
 use Rattle.member_server.specs.declared.state.Talk.{Talk}
 use Rattle.member_server.specs.Binds.{fresh_unit}
-use Rattle.member_server.specs.Levels.{is_plain}
+use Rattle.unit_security.specs.Levels.{is_plain}
 use Rattle.member_server.specs.Messages.{take_auth3}
 use Rattle.member_server.specs.Requests.{unit_asked, unit_in, unit_out}
 use Rattle.member_server.specs.Work.{Served, ServedPart, stay, shut, drawless}

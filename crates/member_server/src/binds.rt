@@ -9,16 +9,15 @@ ghost use Rattle.outside.specs.Drawing.{DrawsSome};
 ghost use Rattle.outside.specs.Machine.{AnswersBy};
 ghost use Rattle.rpc_units.specs.Reading.{unit_of};
 ghost use Rattle.rpc_units.specs.Writing.{written, ContextsFit, IsWritable};
-ghost use Rattle.rpc_units.specs.Numbers.{ntlm_provider};
+ghost use Rattle.rpc_units.specs.Numbers.{context_limit, ntlm_provider};
 ghost use Rattle.member_server.specs.Binds.{is_enough, offer_by, offer_at, offer_in, challenge_message, challenge_trailer, challenge_ack, ack_fits, FitsEach, bound_by, refusal_of_bind, answer_of_bind, answer_bind, bind_by, fresh_unit, ClosesBy};
-ghost use Rattle.member_server.specs.Levels.{is_plain, is_served};
+ghost use Rattle.unit_security.specs.Levels.{is_level, is_plain};
 ghost use Rattle.member_server.specs.Units.{first_unit};
 ghost use Rattle.member_server.specs.Work.{send_unit, stay};
 ghost use Rattle.member_server.specs.declared.state.Phase.TheVariants as phase;
 ghost use Rattle.end_links.specs.Binding.{nak_of};
 ghost use Rattle.end_links.specs.Bounds.{send_limit};
 
-use crate::levels::{is_plain, is_served};
 use crate::plan::MemberPlan;
 use crate::state::{AtLink, Bound, Phase, Talk};
 use crate::work::{let_go, send, send_unit, shut_call};
@@ -34,6 +33,7 @@ use rpc_units::{
     Body, Contexts, Joiner, NTLM_PROVIDER, Trailer, UNIT_LIMIT, Unit, UnitRefused, read_unit,
 };
 use std::alloc::Global;
+use unit_security::{is_level, is_plain};
 use wire_base::{Blob, Name, NoMemory};
 
 /// What a bind offers: the level and the security context of its trailer, and the flags of the CHALLENGE that answers
@@ -67,9 +67,9 @@ pub(crate) fn offer_in(trailer: &Option<Trailer>) -> Option<Offer>
 /// The same of a trailer that is there.
 fn offer_at(trailer: &Trailer) -> Option<Offer>
     ensures { result ≡
-        offer_at ((trailer.now.kind == ntlm_provider) && is_served trailer.now.level) trailer.now }
+        offer_at ((trailer.now.kind == ntlm_provider) && is_level trailer.now.level) trailer.now }
 {
-    if trailer.kind != NTLM_PROVIDER || !is_served(trailer.level) {
+    if trailer.kind != NTLM_PROVIDER || !is_level(trailer.level) {
         return None;
     }
     let Ok(message) = view_negotiate(trailer.value.bytes()) else {
@@ -163,7 +163,7 @@ fn challenge_ack(
     contexts: &Contexts,
     challenge: [u8; 8],
 ) -> Result<Unit, NoMemory>
-    requires { length contexts.now ≤ 242 }
+    requires { length contexts.now ≤ context_limit }
     ensures value { IfOk result (λ unit. unit
         ≡ challenge_ack offer plan.now call receive contexts.now challenge) }
     ensures writable { IfOk result IsWritable }
@@ -184,7 +184,7 @@ fn challenge_ack(
 /// beside 24 for each context, four for each byte of the domain's name and two for each of the computer's.
 #[tactic(auto, using(crate::proofs::BindLaws::each_fits))]
 fn ack_fits(plan: &MemberPlan, contexts: &Contexts) -> bool
-    requires { length contexts.now ≤ 242 }
+    requires { length contexts.now ≤ context_limit }
     ensures { FitsEach result plan.now contexts.now }
 {
     let names = 4 * plan.domain.bytes().len() + 2 * plan.computer.bytes().len();
@@ -244,7 +244,7 @@ fn ack_bytes(
     contexts: &Contexts,
     challenge: [u8; 8],
 ) -> Result<Blob, NoMemory>
-    requires few { length contexts.now ≤ 242 }
+    requires few { length contexts.now ≤ context_limit }
     requires fits { IsTrue (ack_fits offer plan.now call receive contexts.now) }
     ensures value { IfOk result (λ bytes. bytes
         ≡ written (challenge_ack offer plan.now call receive contexts.now challenge)) }
@@ -264,7 +264,7 @@ fn send_ack(
     challenge: [u8; 8],
     at: AtLink,
 ) -> Result<AtLink, NoMemory>
-    requires few { length contexts.now ≤ 242 }
+    requires few { length contexts.now ≤ context_limit }
     requires fits { IsTrue (ack_fits offer at.logons.plan call receive contexts.now) }
     ensures { IfOk result (λ sent. sent
         ≡ send_unit at (challenge_ack offer at.logons.plan call receive contexts.now challenge)) }
@@ -294,7 +294,7 @@ fn answer_bind(
     joiner: Joiner,
     at: AtLink,
 ) -> Result<(AtLink, Option<Talk>), NoMemory>
-    requires few { length contexts.now ≤ 242 }
+    requires few { length contexts.now ≤ context_limit }
     requires fits { IsTrue (ack_fits offer at.logons.plan call receive contexts.now) }
     ensures { IfOk result (λ served. served
         ≡ answer_of_bind offer call receive contexts.now challenge joiner at) }
@@ -345,7 +345,7 @@ fn draw_bind<Q: Chances>(
     at: AtLink,
     chances: &mut Q,
 ) -> Result<(AtLink, Option<Talk>), StepRefused>
-    requires few { length contexts.now ≤ 242 }
+    requires few { length contexts.now ≤ context_limit }
     requires fits { IsTrue (ack_fits offer at.logons.plan call receive contexts.now) }
     ensures draws { DrawsSome (Q.drawing chances.old) (Q.drawing chances.new) }
     ensures answer { AnswersBy result
@@ -377,7 +377,7 @@ fn take_bind<Q: Chances>(
     at: AtLink,
     chances: &mut Q,
 ) -> Result<(AtLink, Option<Talk>), StepRefused>
-    requires { length contexts.now ≤ 242 }
+    requires { length contexts.now ≤ context_limit }
     ensures draws { DrawsSome (Q.drawing chances.old) (Q.drawing chances.new) }
     ensures answer { AnswersBy result
         (bind_by (offer_in trailer.now) call receive contexts.now joiner at
@@ -405,7 +405,7 @@ fn take_offer<Q: Chances>(
     at: AtLink,
     chances: &mut Q,
 ) -> Result<(AtLink, Option<Talk>), StepRefused>
-    requires { length contexts.now ≤ 242 }
+    requires { length contexts.now ≤ context_limit }
     ensures draws { DrawsSome (Q.drawing chances.old) (Q.drawing chances.new) }
     ensures answer { AnswersBy result
         (bind_by (Some offer) call receive contexts.now joiner at (Q.drawing chances.old).left)

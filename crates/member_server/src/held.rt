@@ -55,11 +55,12 @@ impl Held {
         more <= HELD_LIMIT && self.size <= HELD_LIMIT - more
     }
 
-    /// The units, in their order.
-    pub(crate) fn units(&self) -> &[Blob]
-        ensures { result.now ≡ self.now }
+    /// The units, in their order, without a copy.
+    pub(crate) fn into_units(self) -> List<Blob>
+        ensures { result ≡ self }
     {
-        self.units.items()
+        let Held { units, .. } = self;
+        units
     }
 
     /// Those that wait, and behind them a copy of this unit, for which there is room.

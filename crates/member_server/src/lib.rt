@@ -7,7 +7,6 @@ mod end;
 mod held;
 mod holding;
 mod laws;
-mod levels;
 mod lines;
 mod member;
 mod memo;

@@ -19,7 +19,6 @@ ghost use Rattle.member_server.specs.Work.{stay, tell};
 ghost use Rattle.member_server.specs.Messages.{is_fit, info_of, with_logon, wait_by, wait_for, ask_by, take_message, take_trailer, take_auth3};
 
 use crate::held::Held;
-use crate::levels::is_plain;
 use crate::state::{AtLink, Bound, Logon, Logons, Phase, Talk};
 use crate::work::{let_go, shut_call, tell};
 use channel_client::AskRefused;
@@ -34,6 +33,7 @@ use outside::{Action, CloseCause, DropCause, Outcome};
 use rpc_units::{Joiner, NO_CONTROLLER, NTLM_PROVIDER, TrailerView};
 use std::alloc::Global;
 use std::mem;
+use unit_security::is_plain;
 use wire_base::{Blob, List, NoMemory, Units, put_number};
 
 /// Whether what is agreed serves the level.

@@ -272,7 +272,7 @@ fn serve_waiting(
         logons,
         actions,
     };
-    let (at, said) = match serve_held(alloc, held.units(), at, talk) {
+    let (at, said) = match serve_held(alloc, held.into_units(), at, talk) {
         Ok(served) => served,
         Err(NoMemory) => return Err(NoMemory),
     };

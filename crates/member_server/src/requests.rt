@@ -12,13 +12,12 @@ ghost use Rattle.end_links.specs.Sending.{fault_of, response_of};
 ghost use Rattle.rpc_units.specs.Calls.{bytes_of_call};
 ghost use Rattle.member_server.specs.declared.state.Phase.TheVariants as phase;
 ghost use Rattle.member_server.specs.Held.{held_size, held_limit};
-ghost use Rattle.member_server.specs.Levels.{is_plain};
+ghost use Rattle.unit_security.specs.Levels.{is_plain};
 ghost use Rattle.member_server.specs.Memo.{IsShortAnswer, call_answer};
 ghost use Rattle.member_server.specs.Requests.{talk_in, send_secured, secure_reply, send_reply, reply, answer_call, join_by, join_request, join_unit, cause_by, is_due, signed_cause, join_opened, open_request, signed_unit, unit_in, body_out, unit_out, hold_by, body_asked, unit_asked};
 ghost use Rattle.member_server.specs.Work.{send, send_unit, stay};
 
 use crate::held::Held;
-use crate::levels::is_plain;
 use crate::memo::{Answer, call_answer};
 use crate::state::{AtLink, Bound, LoggedOn, Phase, Talk};
 use crate::work::{let_go, send, send_unit, shut_call};
@@ -27,7 +26,7 @@ use ntlm_seal::Session;
 use outside::CloseCause;
 use rpc_units::{Body, BodyView, JoinRefused, Joiner, TrailerView, Unit, UnitView, view_unit};
 use std::alloc::Global;
-use unit_security::{Secured, is_sealed, open_unit, secure_call};
+use unit_security::{Secured, is_plain, is_sealed, open_unit, secure_call};
 use wire_base::{Blob, NoMemory};
 
 // ---- no user is logged on

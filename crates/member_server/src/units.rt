@@ -13,7 +13,7 @@ use end_links::ServesUnits;
 use outside::{Action, Chances, CloseCause, StepRefused};
 use rpc_units::{BodyView, Joiner, UnitRefused, view_unit};
 use std::alloc::Global;
-use wire_base::{Blob, NoMemory};
+use wire_base::{Blob, List, NoMemory};
 
 /// A unit on a link that was sent its CHALLENGE: an auth3 is taken.
 fn unit_challenged(
@@ -64,37 +64,31 @@ pub(crate) fn bound_unit(
     }
 }
 
-/// A unit that was held.
+/// A unit that was held. It is opened in its place, so nothing is copied.
 fn serve_one(
     alloc: Global,
-    unit: &Blob,
+    unit: Blob,
     talk: Talk,
     at: AtLink,
 ) -> Result<(AtLink, Option<Talk>), NoMemory>
-    ensures { IfOk result (λ served. served ≡ bound_unit talk.phase unit.now talk.joiner at) }
+    ensures { IfOk result (λ served. served ≡ bound_unit talk.phase unit talk.joiner at) }
 {
-    let mut bytes = match Vec::from_slice(alloc, unit.bytes()) {
-        Ok(bytes) => bytes,
-        Err(_) => {
-            drop(talk);
-            return Err(NoMemory);
-        }
-    };
+    let mut bytes = unit.into_vec();
     bound_unit(alloc, bytes.as_mut_slice(), talk, at)
 }
 
 /// Units that were held, one after the other, until the link is closed.
 pub(crate) fn serve_held(
     alloc: Global,
-    held: &[Blob],
+    held: List<Blob>,
     at: AtLink,
     talk: Talk,
 ) -> Result<(AtLink, Option<Talk>), NoMemory>
-    ensures { IfOk result (λ served. served ≡ serve_held held.now at talk) }
+    ensures { IfOk result (λ served. served ≡ serve_held held at talk) }
 {
     let mut at = at;
     let mut talk = talk;
-    for unit in held {
+    for unit in held.into_vec() {
         let (after, open) = match serve_one(alloc, unit, talk, at) {
             Ok(served) => served,
             Err(NoMemory) => return Err(NoMemory),

@@ -178,7 +178,7 @@ pub fn what_is_put_is_read()
         AreBytes ((put s value old).bytes ++ rest) → ReadsBack s value old (put s value old) rest }
 {}
 
-/// Each item of a slice of bytes is a byte, which callers learn so.
+/// Each item of a slice of bytes is a byte. It is called so that this is known.
 pub(crate) fn are_bytes(bytes: &[u8])
     ensures { AreBytes bytes.now }
 {}

@@ -12,7 +12,8 @@ use Rattle.account_table.specs.AccountTable.{AccountTable}
 use Rattle.account_table.specs.Document.{document_of, identity_of, machine_of, moments_of, needed, new_name, optional, policy_of, restrictions_of, table_in, table_of, user_of}
 use Rattle.account_table.specs.declared.refused.TableRefused.{TableRefused}
 use Rattle.account_table.specs.declared.refused.TableRefused.TheVariants.{Memory}
-use Rattle.logon_client.specs.Plans.{CanLogOn, is_level}
+use Rattle.unit_security.specs.Levels.{is_level}
+use Rattle.logon_client.specs.Plans.{CanLogOn}
 use Rattle.logon_client.specs.declared.plan.AuthKind.{AuthKind}
 use Rattle.logon_client.specs.declared.plan.AuthKind.TheVariants.{V1}
 use Rattle.domain_world.specs.Generator.{Making, made, move_by, moves_of, next_seed, rare_by, value_of}

@@ -6,7 +6,7 @@ use Rattle.std.specs.Str.{bytes_eq}
 use Rattle.std.proofs.lemmas.Bool.{leb-true}
 use Rattle.clap.specs.Words.{Row, Text, first_of, fault_of, matches_of}
 use Rattle.wire_base.specs.Names.{is_name, is_name_byte, IsName, IsNameByte}
-use Rattle.logon_client.specs.Plans.{is_level}
+use Rattle.unit_security.specs.Levels.{is_level}
 use Rattle.logon_client.specs.declared.plan.AuthKind.TheVariants.{V1, V1Ess, V2}
 use Rattle.nt_words.specs.Forms.{IsAddress, IsControllerForm, IsMemberForm, IsLogonForm, IsDrillForm}
 use Rattle.nt_words.specs.Jobs.{Form, form, rows_by, rows_of_values, named_rows, fault_rows, misfit_rows, is_led_by, or_else, number_in, level_in, auth_in, controller_form, member_form, logon_form, drill_form, controller_of, member_of, logon_of, drill_of}

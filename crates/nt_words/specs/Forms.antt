@@ -3,7 +3,7 @@
 use Rattle.std.specs.Prelude.{◌≡◌, ◌≤◌, length, IsTrue}
 use Rattle.clap.specs.Words.{Text}
 use Rattle.wire_base.specs.Names.{IsName}
-use Rattle.logon_client.specs.Plans.{is_level}
+use Rattle.unit_security.specs.Levels.{is_level}
 use Rattle.logon_client.specs.declared.plan.AuthKind.TheVariants.{V1}
 use Rattle.nt_words.specs.Jobs.{ControllerJob, MemberJob, LogonJob, DrillJob}
 

@@ -4,7 +4,7 @@ ghost use Rattle.std.specs.Prelude.{◌≡◌, ◌≤◌, IsTrue, codes, map, op
 ghost use Rattle.std.specs.String.{string_bytes};
 ghost use Rattle.wire_base.specs.Memory.{UpToMemory};
 ghost use Rattle.wire_base.specs.Names.{IsName};
-ghost use Rattle.logon_client.specs.Plans.{is_level};
+ghost use Rattle.unit_security.specs.Levels.{is_level};
 ghost use Rattle.nt_words.specs.Forms.{IsAddress};
 ghost use Rattle.nt_words.specs.Jobs.{is_led_by, level_in, auth_in, logon_form, logon_job};
 

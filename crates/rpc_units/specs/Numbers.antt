@@ -1,4 +1,4 @@
--- Numbers and syntaxes of the standards that all ends of RPC share.
+-- Numbers and syntaxes of the standards that all ends of RPC share, and a limit.
 use Rattle.std.specs.Prelude.{ℕ, [], ◌∷◌}
 use Rattle.rpc_units.specs.declared.unit.Syntax.{Syntax}
 
@@ -50,3 +50,9 @@ integrity_level = 5
 -- units are signed, and their stubs sealed (RPC_C_AUTHN_LEVEL_PKT_PRIVACY)
 abbrev pub privacy_level : ℕ
 privacy_level = 6
+
+-- ---- a limit
+
+-- so many contexts of 24 bytes and more fit into a bind of 5,840 bytes, and so many results into its answer
+abbrev pub context_limit : ℕ
+context_limit = 242

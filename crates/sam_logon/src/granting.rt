@@ -41,6 +41,7 @@ pub(crate) fn sam_info(
     ensures short { IfOk result HasShortTexts }
     ensures range { IfOk result InRangeSamInfo }
 {
+    // so that it is known that the domain, its SID and the controller's name have their forms, and the key 16 bytes
     let _domain = table.domain();
     let _sid = table.sid();
     let _controller = controller.bytes();
@@ -120,14 +121,14 @@ fn without_extra_flag(flags: u32) -> u32
     flags - EXTRA_SIDS_FLAG * (flags / EXTRA_SIDS_FLAG % 2)
 }
 
-/// A key is 16 bytes, which callers learn so.
+/// A key is 16 bytes. It is called so that this is known.
 fn is_key(key: &[u8; 16])
     ensures { IsBlock 16 key.now }
 {
     are_bytes(key);
 }
 
-/// Each item is a byte, which callers learn so.
+/// Each item is a byte. It is called so that this is known.
 fn are_bytes(bytes: &[u8])
     ensures { AreBytes bytes.now }
 {}

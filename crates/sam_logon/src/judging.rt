@@ -348,19 +348,21 @@ fn plain(status: u32) -> Weighed
     }
 }
 
-/// The route of a domain, which the changes leave; its clause says it of the table that they give.
+/// The route of a domain, by the table that the changes give, whose trusts they leave.
 fn route_with(table: &Table, changes: &TableChanges, domain: &[u16]) -> Route
     ensures { result ≡ route_in (with_changes changes.now table.now) domain.now }
 {
+    // only the clause speaks of them
     let _changes = changes.items();
     table.route(domain)
 }
 
-/// The place of the account of that name, which the changes leave; its clause says it of the table that they give.
+/// The place of the account of that name, in the table that the changes give, whose names they leave.
 fn find_with(table: &Table, changes: &TableChanges, user: &[u16]) -> Option<u32>
     ensures value { result ≡ place_in (with_changes changes.now table.now).accounts user.now }
     ensures within { IfSome result (λ place. place < length table.now.accounts) }
 {
+    // only the clause speaks of them
     let _changes = changes.items();
     table.find(user)
 }

@@ -8,4 +8,5 @@ pub mod SameLogonLaws
 pub mod TurnAnswerLaws
 pub mod TurnHeardLaws
 pub mod TurnRequestLaws
+pub mod TurnUnitLaws
 pub mod UnservedLaws

@@ -68,7 +68,7 @@ use Rattle.step_notes.specs.ClientNotes.{ClientAt, made_note, units_of_client}
 use Rattle.step_notes.specs.ControllerNotes.{Where, answer_on, call_answer, has_passed, logon_answer, opened_by, opening, passing, units_of_controller}
 use Rattle.step_notes.specs.Marking.{answered_marks, clashes, sent_channel}
 use Rattle.step_notes.specs.MemberNotes.{TurnNote, half_channel, request_note, taking_note, turn_note}
-use Rattle.step_notes.specs.Records.{Judging, MessageMade, Sent, computer_in, timestamp_in}
+use Rattle.step_notes.specs.Records.{Judging, MessageMade, Sent, computer_named, timestamp_in}
 use Rattle.step_notes.specs.Served.{talk_after, work_after}
 
 -- ---- at a member
@@ -234,7 +234,7 @@ pub record CallsAreNamedAlike : Type 0 where
       (channel : ChannelIdentity) → HasChannel before.work.computers channel →
       IsOfOther channel.computer (opened_unit controller (hear link bytes talk) before) →
       work_after ((controller_server name now link).unit bytes before talk left) ≡ Some after → HasChannel after.work.computers channel
-  pub passes : (j : Judging) (channel : ChannelIdentity) → j.controller ≡ channel.controller → computer_in j.asked ≡ Some channel.computer →
+  pub passes : (j : Judging) (channel : ChannelIdentity) → j.controller ≡ channel.controller → computer_named j.asked ≡ Some channel.computer →
       HasChannel j.computers channel → has_passed j.how ≡ true → logon_answer j ≡ passing (Some channel) j
   pub takes : (controller : ℕ) (s : Requester) (unit : RpcUnit) (place : ℕ) → place_answered (take_of s unit).taken ≡ Some place →
       (channel : ChannelIdentity) × (standing_channel controller s ≡ Some channel)
@@ -264,7 +264,7 @@ pub record ExchangesHaveNoClash : Type 0 where
       channel_marked number sent ≡ Some (half_channel controller s client server) →
       clashes (taking_note (Some (take_of s unit)) controller s).checked number sent ≡ false
   pub calling : (j : Judging) (channel : ChannelIdentity) (sent : List Sent) → j.controller ≡ channel.controller →
-      computer_in j.asked ≡ Some channel.computer → HasChannel j.computers channel → has_passed j.how ≡ true →
+      computer_named j.asked ≡ Some channel.computer → HasChannel j.computers channel → has_passed j.how ≡ true →
       channel_marked j.unit sent ≡ Some channel → clashes (logon_answer j).checked j.unit sent ≡ false
   pub answered : (controller : ℕ) (s : Requester) (unit : RpcUnit) (place : ℕ) (channel : ChannelIdentity) (number : Option ℕ) (sent : List Sent) →
       standing_channel controller s ≡ Some channel → place_answered (take_of s unit).taken ≡ Some place →

@@ -38,16 +38,16 @@ units_if false own piece task now left = []
 units_if true own piece task now left =
     served_units client_server (cut_stream (own.rest ++ piece)).units (work_of task now) own.talk left
 
-abbrev pub units_on : ClientLink → ℕ → List ℕ → ClientPlan → ℕ → List (List ℕ) → List (ServedUnit Work Talk)
-units_on Idle number piece task now left = []
-units_on Dialling number piece task now left = []
-units_on (On own) number piece task now left = units_if (number == own.talk.link) own piece task now left
+abbrev pub units_standing : ClientLink → ℕ → List ℕ → ClientPlan → ℕ → List (List ℕ) → List (ServedUnit Work Talk)
+units_standing Idle number piece task now left = []
+units_standing Dialling number piece task now left = []
+units_standing (On own) number piece task now left = units_if (number == own.talk.link) own piece task now left
 
 -- a client with its outcome serves nothing
 abbrev pub units_by : Option ClientOutcome → Option Running → ℕ → List ℕ → ℕ → List (List ℕ) → List (ServedUnit Work Talk)
 units_by (Some outcome) running number piece now left = []
 units_by None None number piece now left = []
-units_by None (Some running) number piece now left = units_on running.standing number piece running.task now left
+units_by None (Some running) number piece now left = units_standing running.standing number piece running.task now left
 
 -- the units that the client serves when these bytes come on the link
 abbrev pub units_of_client : ClientState → ℕ → List ℕ → ℕ → List (List ℕ) → List (ServedUnit Work Talk)

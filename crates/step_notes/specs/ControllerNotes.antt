@@ -34,7 +34,7 @@ use Rattle.domain_controller.specs.declared.state.ChallengePair.{ChallengePair}
 use Rattle.domain_controller.specs.declared.state.Running.{Running}
 use Rattle.domain_controller.specs.declared.state.Talk.{Talk}
 use Rattle.channel_events.specs.Marks.{Mark, Plain, Opened, ReplyTo}
-use Rattle.step_notes.specs.Records.{Judging, Network, computer_in}
+use Rattle.step_notes.specs.Records.{Judging, Network, computer_named}
 use Rattle.step_notes.specs.Served.{units_if_taken, work_after}
 
 -- ---- the units
@@ -55,14 +55,14 @@ units_of_controller c number piece now left =
 
 -- ---- channels
 
-abbrev pub channel_by : ℕ → List ℕ → Option SecureChannelState → Option ChannelIdentity
-channel_by controller computer None = None
-channel_by controller computer (Some c) = Some (channel_of controller computer c)
+abbrev pub identity_by : ℕ → List ℕ → Option SecureChannelState → Option ChannelIdentity
+identity_by controller computer None = None
+identity_by controller computer (Some c) = Some (channel_of controller computer c)
 
 -- the channel of the computer that a call names
 abbrev pub channel_in : ℕ → Option (List ℕ) → Computers → Option ChannelIdentity
 channel_in controller None computers = None
-channel_in controller (Some computer) computers = channel_by controller computer (lookup same_name computer computers.channels)
+channel_in controller (Some computer) computers = identity_by controller computer (lookup same_name computer computers.channels)
 
 -- the channel that an accepted NetrServerAuthenticate2 opens; the arguments are those of the controller's own cases
 abbrev pub opened_if : Bool → SecureChannelState → Option SecureChannelState
@@ -86,7 +86,7 @@ opened_account (Some account) pair c = opened_offer (has_flag c.flags rc4_flag) 
 
 abbrev pub opened_by : ℕ → AuthCall → Desk → Option ChannelIdentity
 opened_by controller c d =
-    channel_by controller c.computer (opened_account (account_for d.table c) (lookup same_name c.computer d.work.computers.pending) c)
+    identity_by controller c.computer (opened_account (account_for d.table c) (lookup same_name c.computer d.work.computers.pending) c)
 
 -- ---- a unit that is answered
 
@@ -133,7 +133,7 @@ passing (Some channel) j =
 -- the argument: whether it passed
 abbrev pub judging_by : Bool → Judging → Answered
 judging_by false j = record { sends = true; mark = Plain; checked = None; judging = Some j }
-judging_by true j = passing (channel_in j.controller (computer_in j.asked) j.computers) j
+judging_by true j = passing (channel_in j.controller (computer_named j.asked) j.computers) j
 
 -- at which controller, in which unit of the bag, and after how many moves
 pub record Where : Type 0 where

@@ -22,7 +22,7 @@ use Rattle.domain_controller.specs.Machine.{Desk, answer_logon}
 use Rattle.domain_controller.specs.declared.line.Line.{Line}
 use Rattle.step_notes.specs.ControllerNotes.{Where, judging_of, new_actions}
 use Rattle.step_notes.specs.Judged.{base_key_asked}
-use Rattle.step_notes.specs.Records.{Judging, computer_in, given_in, network_in}
+use Rattle.step_notes.specs.Records.{Judging, computer_named, given_in, network_in}
 
 -- ---- what is sent then
 
@@ -48,7 +48,7 @@ actions_granting line answer =
 -- the step that granted the call did no more and no less than that, on the channel of the computer that the call names,
 -- for the account of the user's name
 pub record IsSentAsGranted (j : Judging) (line : Line) (new : List Action) : Type 0 where
-  pub next : IsNext j.computers (computer_in j.asked) (given_in j.asked)
+  pub next : IsNext j.computers (computer_named j.asked) (given_in j.asked)
   pub account : Account
   pub stored : account_in j.table.accounts (network_in j.asked).info.user ≡ Some account
   pub actions : new ≡ actions_granting line (reply_granted j account next.channel next.given)

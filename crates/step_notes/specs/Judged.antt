@@ -16,14 +16,14 @@ use Rattle.account_table.specs.LookUps.{account_in}
 use Rattle.domain_controller.specs.Laws.{IsNext}
 use Rattle.domain_controller.specs.declared.state.Computers.{Computers}
 use Rattle.step_notes.specs.ControllerNotes.{channel_in, has_passed}
-use Rattle.step_notes.specs.Records.{Judging, computer_in, given_in}
+use Rattle.step_notes.specs.Records.{Judging, computer_named, given_in}
 
 -- ---- authenticators that pass
 
 -- the channel on which the authenticator of a call passed: none where it didn't pass
 abbrev pub channel_if : Bool → Judging → Option ChannelIdentity
 channel_if false j = None
-channel_if true j = channel_in j.controller (computer_in j.asked) j.computers
+channel_if true j = channel_in j.controller (computer_named j.asked) j.computers
 
 abbrev pub passed_channel : Judging → Option ChannelIdentity
 passed_channel j = channel_if (has_passed j.how) j
@@ -58,4 +58,4 @@ pub record IsRightOf (how : Option Judged) (computers : Computers) (name : Optio
   pub other : (how ≡ Some judged.NoChannel) ↔ ((IsNext computers name shown → ⊥) × (IsBarredBy computers name shown → ⊥))
 
 abbrev pub IsJudgedRight : Judging → Type 0
-IsJudgedRight j = IsRightOf j.how j.computers (computer_in j.asked) (given_in j.asked)
+IsJudgedRight j = IsRightOf j.how j.computers (computer_named j.asked) (given_in j.asked)

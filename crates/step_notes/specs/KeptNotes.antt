@@ -16,7 +16,7 @@ use Rattle.domain_controller.specs.declared.line.Line.{Line}
 use Rattle.domain_controller.specs.declared.state.Computers.{Computers}
 use Rattle.domain_controller.specs.declared.state.ChallengePair.{ChallengePair}
 use Rattle.domain_controller.specs.declared.state.Work.{Work}
-use Rattle.step_notes.specs.ControllerNotes.{channel_by, opened_by}
+use Rattle.step_notes.specs.ControllerNotes.{identity_by, opened_by}
 
 -- ---- what is kept
 
@@ -29,7 +29,7 @@ abbrev pub waits_in : Computers → List ℕ → Option (List ℕ)
 waits_in computers name = server_in (lookup same_name name computers.pending)
 
 abbrev pub keeps_in : ℕ → Computers → List ℕ → Option ChannelIdentity
-keeps_in controller computers name = channel_by controller name (lookup same_name name computers.channels)
+keeps_in controller computers name = identity_by controller name (lookup same_name name computers.channels)
 
 -- ---- what a call changes
 

@@ -28,8 +28,8 @@ pub data JudgedCall : Type 0 where
   Network : (call : LogonCall) → JudgedCall
 
 -- the computer that it names
-abbrev pub computer_in : JudgedCall → Option (List ℕ)
-computer_in (Network c) = c.computer
+abbrev pub computer_named : JudgedCall → Option (List ℕ)
+computer_named (Network c) = c.computer
 
 -- its authenticator
 abbrev pub given_in : JudgedCall → Option Authenticator

@@ -24,7 +24,7 @@ use Rattle.channel_events.specs.Marks.{Mark, Plain, Opening, Opened, Calling, Re
 use Rattle.step_notes.specs.ChannelNames.{sends_in}
 use Rattle.step_notes.specs.ControllerNotes.{Answered, Where, answer_on, units_of_controller}
 use Rattle.step_notes.specs.Judged.{passed_channel}
-use Rattle.step_notes.specs.Records.{Judging, computer_in, given_in, network_in}
+use Rattle.step_notes.specs.Records.{Judging, computer_named, given_in, network_in}
 
 -- ---- the reply to a call that passed
 
@@ -53,7 +53,7 @@ reply_passed j channel given =
 -- The call passed, with the status of that reply, and these bytes are all frames of the reply, under the call's number.
 -- Which presentation context it names, and how long its frames are, isn't said.
 pub record IsItsReply (j : Judging) (bytes : List ℕ) : Type 0 where
-  pub next : IsNext j.computers (computer_in j.asked) (given_in j.asked)
+  pub next : IsNext j.computers (computer_named j.asked) (given_in j.asked)
   pub how : j.how ≡ Some (judged.Passed (status_of (verdict_passed j)))
   pub context : ℕ
   pub limit : ℕ

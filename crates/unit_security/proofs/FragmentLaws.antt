@@ -1,4 +1,4 @@
--- Units that are signed and sealed one after the other.
+-- Units that are signed and sealed one after the other: the walk of `secure_fragments` over the fragments of a call.
 use Rattle.std.proofs.Common.{◌≡◌, ◌≤◌, ◌<◌, ◌+◌, ℕ, Bool, true, false, List, [], ◌∷◌, ◌++◌, length, drop, get_or, Option, Some, None, refl, sym, ap, ◌∙◌, append_assoc, append-nil}
 use Rattle.std.proofs.lemmas.List.{drop_more}
 use Rattle.ntlm_seal.specs.Sessions.{SessionState}

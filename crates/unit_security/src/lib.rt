@@ -7,5 +7,5 @@ mod levels;
 mod securing;
 
 pub use laws::what_is_secured_is_opened;
-pub use levels::{is_sealed, is_signed};
+pub use levels::{is_level, is_plain, is_sealed, is_signed};
 pub use securing::{Secured, open_unit, secure_call, secure_unit, trailer};

@@ -2,17 +2,16 @@
 
 ghost use Rattle.std.specs.Prelude.{◌≡◌, ◌+◌, ◌*◌, ◌≤◌, ◌++◌, length, take, drop, IfOk, IfSome, Some, replicate};
 ghost use Rattle.rpc_units.specs.Joining.{IsWholeCall, cut_of, stub_of};
-ghost use Rattle.rpc_units.specs.Writing.{IsWritable, value_len, written};
+ghost use Rattle.rpc_units.specs.Writing.{value_len};
 ghost use Rattle.ntlm_seal.specs.Directions.{combine};
 ghost use Rattle.ntlm_seal.specs.Sessions.{seal_of, judge_of, open_of, unit_left};
 ghost use Rattle.unit_security.specs.Levels.{is_sealed};
 ghost use Rattle.unit_security.specs.Securing.{trailer_of, with_room, range_of, signed_part, signature_part, secured_if, secured_with, secure_unit, open_unit, secure_all, secure_call};
 
 use crate::levels::is_sealed;
+use end_links::unit_bytes;
 use ntlm_seal::Session;
-use rpc_units::{
-    NTLM_PROVIDER, Trailer, Unit, UnitWriteRefused, cut_call, sealed_range, set_value, write_unit,
-};
+use rpc_units::{NTLM_PROVIDER, Trailer, Unit, cut_call, sealed_range, set_value};
 use std::alloc::Global;
 use wire_base::{Blob, NoMemory};
 
@@ -88,19 +87,6 @@ pub fn open_unit(session: &mut Session, seals: bool, bytes: &mut [u8]) -> bool
     }
 }
 
-/// The bytes of a unit with a trailer.
-fn room_bytes(alloc: Global, unit: &Unit) -> Result<Vec<u8>, NoMemory>
-    requires writable { IsWritable unit.now }
-    requires short { length (written unit.now) ≤ 5840 }
-    ensures { IfOk result (λ bytes. bytes.items ≡ written unit.now) }
-{
-    match write_unit(alloc, unit) {
-        Ok(bytes) => Ok(bytes.into_vec()),
-        Err(UnitWriteRefused::Memory) => Err(NoMemory),
-        Err(UnitWriteRefused::TooLong) => unreachable!(),
-    }
-}
-
 /// The unit with room for a signature.
 fn with_room(alloc: Global, level: u8, context: u32, unit: Unit) -> Result<Unit, NoMemory>
     ensures { IfOk result (λ room. room ≡ with_room level context unit) }
@@ -132,7 +118,8 @@ fn secure_fragments(
     let units = cut_call(alloc, call, limit)?;
     let mut bytes = Vec::new(alloc);
     for unit in units.items() {
-        let mut one = room_bytes(alloc, unit)?;
+        let room = unit_bytes(alloc, unit)?;
+        let mut one = room.into_vec();
         if !secure_unit(session, seals, &mut one) {
             return Ok(None);
         }

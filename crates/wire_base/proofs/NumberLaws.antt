@@ -2,9 +2,11 @@
 -- read again. They are said once, over the width; at w16, w32 and w64 the premise `IsMessageWidth` is `tt`, and `256 ^
 -- byte_len w` is 2 ^ 16, 2 ^ 32 and 2 ^ 64.
 use Rattle.std.proofs.Common.{◌≡◌, ℕ, zero, suc, ◌+◌, ◌-◌, ◌^◌, ◌<◌, ◌≤◌, List, [], ◌∷◌, ◌++◌, length, take, drop, Some, None, refl, sym, ap, ◌∙◌, arith, inl, inr}
+use Rattle.std.specs.Prelude.{All}
 use Rattle.std.specs.Int.{Width, w8, w16, w32, w64, w128, byte_len, byte_at, bytes_low_first, from_le_bytes, to_le_bytes}
 use Rattle.std.proofs.lemmas.Bool.{cases_lt, le-leb, lt-leb}
 use Rattle.std.proofs.lemmas.List.{take_at, drop_at, take-append-drop, length-append, length-take, length-drop, drop-drop, take-append-le, drop-append-le, get_or-drop, get_or-take, get_or_past, get_or_append_left, get_or-append_right}
+use Rattle.std.proofs.lemmas.List.Elements.{All-cons, All-get_or, All-nil}
 use Rattle.std.proofs.lemmas.Nat.{le_bytes_2, le_bytes_4, le_bytes_8, from_le_bytes-to_le_bytes_2, from_le_bytes-to_le_bytes_4, from_le_bytes-to_le_bytes_8}
 use Rattle.wire_base.specs.Numbers.{number_at, AreBytes}
 
@@ -37,6 +39,18 @@ AreBytes-append front rest first second i =
 
 pub AreBytes-nil : AreBytes []
 AreBytes-nil i = omega arith
+
+-- what stands past their end is below 256 too
+pub bytes_from_all : (bytes : List ℕ) → All (λ b. b < 256) bytes → AreBytes bytes
+bytes_from_all bytes all place =
+    elim (cases_lt place (length bytes)) [
+      | inl within ↦ All-get_or (λ b. b < 256) bytes place 0 within all
+      | inr past ↦ rw (get_or_past bytes place 0 past) (omega arith)
+    ]
+
+pub all_from_bytes : (bytes : List ℕ) → AreBytes bytes → All (λ b. b < 256) bytes
+all_from_bytes [] are = All-nil (λ b. b < 256)
+all_from_bytes (byte ∷ bytes) are = All-cons (λ b. b < 256) byte bytes (are zero) (all_from_bytes bytes (λ place. are (suc place)))
 
 pub AreBytes-cons : (b : ℕ) (bytes : List ℕ) → b < 256 → AreBytes bytes → AreBytes (b ∷ bytes)
 AreBytes-cons b bytes first rest zero = first

@@ -58,7 +58,7 @@ use Rattle.member_server.specs.declared.state.TurnTalk.{TurnTalk}
 use Rattle.member_server.specs.declared.state.Work.{Work}
 use Rattle.member_server.specs.Binds.{ack_fits, answer_bind, bind_by, fresh_unit, offer_in}
 use Rattle.member_server.specs.Held.{held_limit, held_size}
-use Rattle.member_server.specs.Levels.{is_plain}
+use Rattle.unit_security.specs.Levels.{is_plain}
 use Rattle.rpc_units.specs.Numbers.{ntlm_provider}
 use Rattle.member_server.specs.Machine.{actions_in, after_turn, after_units, answer_dial, at_turn, by_event, bytes_by, bytes_on, bytes_on_link, close_link, close_turn, event_part, fail_dial, fresh_link, halted_state, open_by, serve_dialled, state_in, step_of, step_on, work_of}
 use Rattle.member_server.specs.Memo.{call_answer}

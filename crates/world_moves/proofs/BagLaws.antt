@@ -5,7 +5,7 @@ use Rattle.std.proofs.lemmas.List.Elements.{All-get_or, All-nil, All-push, All-s
 use Rattle.std.proofs.lemmas.List.{length-take, get_or_append_left, append_assoc, append-nil, length-set, take_min, take_at, drop_min, drop_at}
 use Rattle.wire_base.specs.Numbers.{AreBytes}
 use Rattle.end_links.specs.Bounds.{send_limit}
-use Rattle.wire_base.proofs.PlaceLaws.{NoneBefore, none_yet, here_first, none_here, none_at_all}
+use Rattle.wire_base.proofs.PlaceLaws.{NoneBefore, here_first, none_here, none_at_all}
 use Rattle.world_moves.specs.declared.bag.BagUnit.{BagUnit}
 use Rattle.world_moves.specs.Bag.{AreSettled, AreShortPieces, AreShortUnits, HaveBytes, is_waiting, piece_limit, pieces_in, pieces_of, settled}
 

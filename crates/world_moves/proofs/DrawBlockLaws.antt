@@ -1,6 +1,6 @@
 -- Each challenge that the maker of challenges drew has 8 bytes.
 -- It serves `MakerChances::next`.
-use Rattle.std.proofs.Common.{◌≡◌, ℕ, List, [], ◌∷◌, ◌++◌, All, Result, Ok, Err, IfOk, OnErr, sym, subst}
+use Rattle.std.proofs.Common.{◌≡◌, ℕ, List, [], ◌∷◌, All, Result, Ok, Err, IfOk, OnErr, sym, subst}
 use Rattle.std.proofs.lemmas.List.Elements.{All-append, All-cons, All-head, All-nil, All-tail}
 use Rattle.channel_keys.specs.Des.{IsBlock}
 use Rattle.outside.specs.Drawing.{Drawing, Draws}

@@ -12,6 +12,15 @@ use Rattle.world_moves.specs.World.{move_limit}
 abbrev pub draws_at : Event → ℕ
 draws_at what = units_at what + 3
 
+-- The most challenges that a piece draws: up to 5,839 bytes waited before it, a unit has 16 bytes or more, and the end
+-- may draw three besides.
+abbrev pub piece_draws : ℕ
+piece_draws = 4463
+
+-- The most that a unit of the bag draws, which comes in nine pieces at most.
+abbrev pub unit_draws : ℕ
+unit_draws = 40167
+
 -- The most challenges that a move draws: a unit comes in nine pieces at most.
 abbrev pub draw_limit : ℕ
 draw_limit = 42949

@@ -5,7 +5,7 @@ ghost use Rattle.wire_base.specs.Maps.{lookup, same_number};
 ghost use Rattle.end_links.specs.Bounds.{AreShortSends, IsShortSend, send_limit};
 ghost use Rattle.world_moves.specs.Acting.{hear, bag_unit, send_on, perform_quietly, perform_all_quietly, hear_closed, closed_at, close, perform, perform_all, hear_and_act, piece_comes, pieces_come, forget, shut_link, is_of_other};
 ghost use Rattle.world_moves.specs.Bag.{AreShortPieces, piece_limit};
-ghost use Rattle.world_moves.specs.Bounds.{DrawsWithin, draws_at};
+ghost use Rattle.world_moves.specs.Bounds.{DrawsWithin, draws_at, piece_draws};
 ghost use Rattle.world_moves.specs.Links.{hearer_of};
 ghost use Rattle.world_moves.specs.Outcomes.{KeepsOutcomes};
 
@@ -273,7 +273,7 @@ impl State {
         requires { length piece ≤ piece_limit }
         ensures state { OnOk result (self.new ≡ (piece_comes back link piece self.old).state) }
         ensures spent { result ≡ Err StepRefused.Spent → self.new.chances.left ≡ [] }
-        ensures few { DrawsWithin 4463 self.old self.new }
+        ensures few { DrawsWithin piece_draws self.old self.new }
         ensures runs { result ≢ Err StepRefused.Stopped }
         ensures outcomes { KeepsOutcomes self.old self.new }
     {
@@ -305,7 +305,7 @@ impl State {
         requires { AreShortPieces pieces }
         ensures state { OnOk result (self.new ≡ (pieces_come back link pieces self.old).state) }
         ensures spent { result ≡ Err StepRefused.Spent → self.new.chances.left ≡ [] }
-        ensures few { DrawsWithin (4463 * length pieces) self.old self.new }
+        ensures few { DrawsWithin (piece_draws * length pieces) self.old self.new }
         ensures runs { result ≢ Err StepRefused.Stopped }
         ensures outcomes { KeepsOutcomes self.old self.new }
     {

@@ -1,4 +1,4 @@
-//! What the types of a plan's parts give of themselves, which callers learn by calls that do nothing.
+//! What the types of a plan's parts give of themselves, which is known by calls that do nothing.
 
 ghost use Rattle.std.specs.Prelude.{◌<◌, ◌^◌, All};
 ghost use Rattle.world_moves.specs.Forms.{AreUnits, IsBlock, IsClientPlan, IsMemberPlan, IsTable};

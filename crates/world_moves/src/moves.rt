@@ -114,7 +114,8 @@ fn rare_move(kind: u32, seed: u64) -> (Move, u64)
     }
 }
 
-/// Each move has the form that its type gives it, which callers learn so. It takes no memory, and walks the moves.
+/// Each move has the form that its type gives it. It is called so that this is known. It takes no memory, and walks the
+/// moves.
 pub fn moves_have_forms(moves: &Moves)
     ensures { All HasMoveForm moves.now }
 {
@@ -123,7 +124,7 @@ pub fn moves_have_forms(moves: &Moves)
     }
 }
 
-/// A move has the form that its type gives it, which callers learn so.
+/// A move has the form that its type gives it. It is called so that this is known.
 fn has_form(what: &Move)
     ensures { HasMoveForm what.now }
 {

@@ -1,7 +1,7 @@
 //! The moves of a world.
 
 ghost use Rattle.std.specs.Prelude.{◌≡◌, ◌≢◌, [], Err, ◌<◌, ◌≤◌, ◌+◌, ◌*◌, ◌^◌, length, OnOk, OnErr, slice_get};
-ghost use Rattle.world_moves.specs.Bounds.{DrawsWithin, draw_limit};
+ghost use Rattle.world_moves.specs.Bounds.{DrawsWithin, draw_limit, piece_draws, unit_draws};
 ghost use Rattle.world_moves.specs.Moving.{act, start, open_link, stranger, end_of_peer, route_to, answered_link, answer, connect_by, without_first, connect, fail_dial, come, onward, lose, deliver, hand, shut, renewed, restart, moment_after, tick};
 ghost use Rattle.world_moves.specs.Outcomes.{KeepsOutcomes};
 ghost use Rattle.world_moves.specs.World.{IsMove};
@@ -210,7 +210,7 @@ impl State {
     fn come(&mut self, alloc: Global, number: usize, link: u32) -> Result<(), StepRefused>
         ensures state { OnOk result (self.new ≡ (come number link self.old).state) }
         ensures spent { result ≡ Err StepRefused.Spent → self.new.chances.left ≡ [] }
-        ensures few { DrawsWithin 40167 self.old self.new }
+        ensures few { DrawsWithin unit_draws self.old self.new }
         ensures runs { result ≢ Err StepRefused.Stopped }
         ensures outcomes { KeepsOutcomes self.old self.new }
     {
@@ -227,7 +227,7 @@ impl State {
     fn onward(&mut self, alloc: Global) -> Result<(), StepRefused>
         ensures state { OnOk result (self.new ≡ (onward self.old).state) }
         ensures spent { result ≡ Err StepRefused.Spent → self.new.chances.left ≡ [] }
-        ensures few { DrawsWithin 40167 self.old self.new }
+        ensures few { DrawsWithin unit_draws self.old self.new }
         ensures runs { result ≢ Err StepRefused.Stopped }
         ensures outcomes { KeepsOutcomes self.old self.new }
     {
@@ -256,7 +256,7 @@ impl State {
     fn deliver(&mut self, alloc: Global, unit: u32, link: u32) -> Result<(), StepRefused>
         ensures state { OnOk result (self.new ≡ (deliver unit link self.old).state) }
         ensures spent { result ≡ Err StepRefused.Spent → self.new.chances.left ≡ [] }
-        ensures few { DrawsWithin 40167 self.old self.new }
+        ensures few { DrawsWithin unit_draws self.old self.new }
         ensures runs { result ≢ Err StepRefused.Stopped }
         ensures outcomes { KeepsOutcomes self.old self.new }
     {
@@ -286,7 +286,7 @@ impl State {
         requires { length bytes.now ≤ 65536 }
         ensures state { OnOk result (self.new ≡ (hand link back bytes.now self.old).state) }
         ensures spent { result ≡ Err StepRefused.Spent → self.new.chances.left ≡ [] }
-        ensures few { DrawsWithin 4463 self.old self.new }
+        ensures few { DrawsWithin piece_draws self.old self.new }
         ensures runs { result ≢ Err StepRefused.Stopped }
         ensures outcomes { KeepsOutcomes self.old self.new }
     {

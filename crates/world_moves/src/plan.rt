@@ -36,8 +36,8 @@ pub struct Plan {
 }
 
 impl Plan {
-    /// The plan has the forms that its types give it (a part of `IsSchedule`), which callers learn so. It takes no
-    /// memory, and walks the accounts of all tables and the other plans.
+    /// The plan has the forms that its types give it (a part of `IsSchedule`). It is called so that this is known. It
+    /// takes no memory, and walks the accounts of all tables and the other plans.
     pub fn has_forms(&self)
         ensures { HasForms self.entry.now }
     {

@@ -144,28 +144,28 @@ impl World {
         }
     }
 
-    /// No two challenges that were drawn are alike, which callers learn so.
+    /// No two challenges that were drawn are alike. It is called so that this is known.
     pub fn draws_differ(&self)
         ensures { DrawsDiffer self.now }
     {
         self.state.chances.draws_differ();
     }
 
-    /// Each challenge that was drawn has 8 bytes, which callers learn so.
+    /// Each challenge that was drawn has 8 bytes. It is called so that this is known.
     pub fn draws_are_blocks(&self)
         ensures { DrawsAreBlocks self.now }
     {
         self.state.chances.draws_are_blocks();
     }
 
-    /// No unit of the bag has more bytes than an end sends at once, which callers learn so.
+    /// No unit of the bag has more bytes than an end sends at once. It is called so that this is known.
     pub fn units_are_short(&self)
         ensures { AreShortUnits self.now.state.bag }
     {
         self.state.bag.units_are_short();
     }
 
-    /// Each unit of the bag has bytes, which callers learn so.
+    /// Each unit of the bag has bytes. It is called so that this is known.
     pub fn units_have_bytes(&self)
         ensures { HaveBytes self.now.state.bag }
     {

@@ -52,7 +52,7 @@ use Rattle.end_links.specs.Bounds.{send_limit}
 use Rattle.world_moves.specs.declared.bag.BagUnit.{BagUnit}
 use Rattle.world_moves.specs.Bag.{AreShortUnits, HaveBytes}
 use Rattle.world_moves.specs.World.{World, first_world, run}
-use Rattle.logon_steps.proofs.CallingLaws.{are_bytes}
+use Rattle.wire_base.proofs.NumberLaws.{bytes_from_all}
 use Rattle.logon_runs.specs.First.ExampleLogon.{ann_moves, ann_plan}
 use Rattle.logon_runs.specs.First.FirstWorlds.{left_then}
 use Rattle.logon_runs.proofs.First.ExampleLogonLaws.{ann_can}
@@ -68,7 +68,7 @@ unit_bytes : (unit : BagUnit) → is_fine unit ≡ true → AreBytes unit.bytes
 unfolding is_fine
 unit_bytes unit fine =
     let parts = and_parts (list_all (λ (byte : ℕ). nat_lt byte 256) unit.bytes) (nat_le (length unit.bytes) send_limit) fine in
-    are_bytes unit.bytes (λ i d within. ltb-true _ _ (AllPass-from_list_all (λ (byte : ℕ). nat_lt byte 256) unit.bytes parts.0 i d within))
+    bytes_from_all unit.bytes (λ i d within. ltb-true _ _ (AllPass-from_list_all (λ (byte : ℕ). nat_lt byte 256) unit.bytes parts.0 i d within))
 
 unit_short : (unit : BagUnit) → is_fine unit ≡ true → length unit.bytes ≤ send_limit
 unfolding is_fine

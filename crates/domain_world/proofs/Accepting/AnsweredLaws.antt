@@ -31,10 +31,10 @@ use Rattle.member_server.specs.Outcomes.{key_in, outcome_of}
 use Rattle.member_server.specs.Turns.{ending_of}
 use Rattle.member_server.specs.declared.state.Logon.{Logon}
 use Rattle.channel_events.specs.Marks.{OneOf, ReplyTo}
-use Rattle.step_notes.specs.ControllerNotes.{channel_by, channel_in, has_passed}
+use Rattle.step_notes.specs.ControllerNotes.{identity_by, channel_in, has_passed}
 use Rattle.step_notes.specs.Judged.{IsJudgedRight, base_key_asked, channel_if, hash_in, passed_channel, stored_hash}
 use Rattle.step_notes.specs.Marking.{clashes, is_channel, sent_channel}
-use Rattle.step_notes.specs.Records.{ChallengeSent, Judging, JudgementTold, MessageMade, MessageTaken, OutcomeTold, Sent, computer_in, given_in, network_in}
+use Rattle.step_notes.specs.Records.{ChallengeSent, Judging, JudgementTold, MessageMade, MessageTaken, OutcomeTold, Sent, computer_named, given_in, network_in}
 use Rattle.step_notes.specs.ReplySends.{IsReplyOfCall, verdict_passed}
 use Rattle.world_moves.specs.declared.bag.BagUnit.{BagUnit}
 use Rattle.world_moves.specs.Counting.{is_in}
@@ -104,14 +104,14 @@ are_answers message j request unit passed call came reply sent =
 
 pub record StandsFor (j : Judging) : Type 0 where
   pub channel : ChannelIdentity
-  pub found : channel_in j.controller (computer_in j.asked) j.computers ≡ Some channel
+  pub found : channel_in j.controller (computer_named j.asked) j.computers ≡ Some channel
   pub passed : passed_channel j ≡ Some channel
 
 pub channel_there : (j : Judging) → IsJudgedRight j → has_passed j.how ≡ true → StandsFor j
 channel_there j right passed =
-    let next : IsNext j.computers (computer_in j.asked) (given_in j.asked) = right.passed.0 passed in
-    let found : channel_in j.controller (computer_in j.asked) j.computers ≡ Some (channel_of j.controller next.computer next.channel) =
-    ap (λ (name : Option (List ℕ)). channel_in j.controller name j.computers) next.named ∙ ap (λ (c : _). channel_by j.controller next.computer c) next.stands in
+    let next : IsNext j.computers (computer_named j.asked) (given_in j.asked) = right.passed.0 passed in
+    let found : channel_in j.controller (computer_named j.asked) j.computers ≡ Some (channel_of j.controller next.computer next.channel) =
+    ap (λ (name : Option (List ℕ)). channel_in j.controller name j.computers) next.named ∙ ap (λ (c : _). identity_by j.controller next.computer c) next.stands in
     record { channel = channel_of j.controller next.computer next.channel; found = found; passed = ap (λ (p : Bool). channel_if p j) passed ∙ found }
 
 -- the channel that a unit was made for is the one on which a credential passed in it
@@ -292,7 +292,7 @@ module _ (past : Past) (known : IsProved past) (heard : AnswersAreHeard past) (c
       let other : IsAnswerOf message found.item = answers_are message found.item found.passes in
       let request : other.call.unit ≡ is.request = some_is other.call.unit is.request (sym other.call.first ∙ is.call) in
       let same : found.item ≡ j = one_pass found.place at.place found.item j is.request found.there at.there other.passed passed (other.call.second ∙ ap Some request) of.came in
-      let on : IsFound j.controller (computer_in j.asked) j.computers is.channel = passed_in j is.channel of.passed in
+      let on : IsFound j.controller (computer_named j.asked) j.computers is.channel = passed_in j is.channel of.passed in
       record {
         in_reply = is;
         carrier = carrier.0;

@@ -3,7 +3,7 @@
 use Rattle.std.proofs.Common.{◌≡◌, ℕ, zero, suc, List, [], ◌∷◌, map, Some, slice_get, ap, ◌∙◌}
 use Rattle.channel_events.specs.Marks.{Mark}
 use Rattle.channel_events.specs.Requests.{CallsAreApart, Requests}
-use Rattle.step_notes.specs.Records.{Sent}
+use Rattle.step_notes.specs.Records.{RequesterId, Sent}
 use Rattle.world_moves.specs.declared.moves.Move.{Move}
 use Rattle.world_moves.specs.declared.plan.Plan.{Plan}
 use Rattle.world_moves.specs.Draws.{DrawsDiffer}
@@ -27,7 +27,7 @@ got_mapped f [] k item there = absurd (got_nothing k item there)
 got_mapped f (one ∷ items) zero item there = ap (λ (found : _). Some (f found)) (some_is one item there)
 got_mapped f (one ∷ items) (suc k) item there = got_mapped f items k item there
 
-calls_numbered : (past : Past) (r : Requests ℕ) → HasMarksOf past r → CallsAreApart r → CallsHaveNumbers past
+calls_numbered : (past : Past) (r : Requests RequesterId) → HasMarksOf past r → CallsAreApart r → CallsHaveNumbers past
 calls_numbered past r marks apart n m number timestamp later c d one other there also mark mark_too same =
     apart.distinct n m number timestamp later c d
     (ap (λ (all : List Mark). slice_get all n) marks ∙ got_mapped (λ (s : Sent). s.mark) past.book.sent n one there ∙ ap Some mark)

@@ -30,9 +30,9 @@ use Rattle.domain_controller.specs.declared.state.Talk.{Talk}
 use Rattle.domain_controller.specs.State.{State as ControllerState}
 use Rattle.domain_controller.specs.Step.{first_desk}
 use Rattle.channel_events.specs.Marks.{OneOf}
-use Rattle.step_notes.specs.ControllerNotes.{Answered, Where, answer_on, channel_by, channel_in, has_passed, judged_in, judging_by, judging_of, new_actions, passing, units_of_controller}
+use Rattle.step_notes.specs.ControllerNotes.{Answered, Where, answer_on, identity_by, channel_in, has_passed, judged_in, judging_by, judging_of, new_actions, passing, units_of_controller}
 use Rattle.step_notes.specs.Judged.{channel_if, hash_in, passed_channel}
-use Rattle.step_notes.specs.Records.{Book, Judging, computer_in, network_in}
+use Rattle.step_notes.specs.Records.{Book, Judging, computer_named, network_in}
 use Rattle.step_notes.specs.Served.{work_after}
 use Rattle.world_moves.specs.declared.bag.BagUnit.{BagUnit}
 use Rattle.world_moves.specs.declared.links.EndId.TheVariants.{Controller}
@@ -133,7 +133,7 @@ module _ (p : LogonComing) (a : Asked) (v : TurnAt) (o c : SecureChannelState) (
   bytes_so : (w : Where) (number : Option ℕ) → key_bytes (passed_channel (record (judging_then w) { reply = number })) ≡ applied (key_of_channel o) 0 (replicate 16 0)
   bytes_so w number =
       ap (λ (how : Option Judged). key_bytes (channel_if (has_passed how) (record (judging_then w) { reply = number }))) passed_so
-      ∙ ap (λ (found : Option SecureChannelState). key_bytes (channel_by w.controller p.meeting.caller.computer found)) aimed.1
+      ∙ ap (λ (found : Option SecureChannelState). key_bytes (identity_by w.controller p.meeting.caller.computer found)) aimed.1
       ∙ ap (λ (key : List ℕ). applied key 0 (replicate 16 0)) aimed.2.key
 
   pub grant_so : (w : Where) (number : Option ℕ) → IsGrant (key_of_channel o) (base_key p.meeting.task (message_for (own p) a)) (record (judging_then w) { reply = number })
@@ -142,7 +142,7 @@ module _ (p : LogonComing) (a : Asked) (v : TurnAt) (o c : SecureChannelState) (
   pub judging_so : (w : Where) → (turn_answer p.name moment (length v.links) v.next (call_for p a (Third o c timestamp)) w before left).judging ≡ Some (judging_then w)
   judging_so w =
       ap (λ (how : Option Judged). (judging_by (has_passed how) (judging_then w)).judging) passed_so
-      ∙ passing_judging (channel_in (judging_then w).controller (computer_in (judging_then w).asked) (judging_then w).computers) (judging_then w)
+      ∙ passing_judging (channel_in (judging_then w).controller (computer_named (judging_then w).asked) (judging_then w).computers) (judging_then w)
 
 -- ---- the move at which it is judged
 

@@ -11,7 +11,7 @@ use Rattle.wire_base.specs.declared.authenticator.Authenticator.{Authenticator}
 use Rattle.ntlm_flags.specs.Flags.{has_flag}
 use Rattle.channel_keys.specs.Credentials.{cred_of}
 use Rattle.channel_keys.specs.Flags.{rc4_flag}
-use Rattle.authenticators.specs.SecureChannels.{SecureChannelState, channel_by as moved_by_call, key_of_channel, passes_on, return_by}
+use Rattle.authenticators.specs.SecureChannels.{SecureChannelState, channel_by, key_of_channel, passes_on, return_by}
 use Rattle.outside.specs.declared.action.Action.{Action}
 use Rattle.outside.specs.declared.action.StepRefused.{StepRefused}
 use Rattle.outside.specs.Machine.{step_by, then_part}
@@ -117,7 +117,7 @@ channel_here : (link : ℕ) (found : Option SecureChannelState) (computer : List
 channel_here link None computer given name now line info validation d on here = judged_here link d.work.actions _ line.link _ on here
 channel_here link (Some channel) computer given name now line info validation d on here =
     return_here link (return_by (passes_on channel given) channel given) (key_of_channel channel) name now line info validation
-    (desk d.table (put_channel computer (moved_by_call (passes_on channel given) channel given) d.work)) on here
+    (desk d.table (put_channel computer (channel_by (passes_on channel given) channel given) d.work)) on here
 
 logon_here : (link : ℕ) (computer : Option (List ℕ)) (given : Option Authenticator) (name : List ℕ) (now : ℕ) (line : Line) (info : NetworkInfo) (validation : ℕ) (d : Desk) → line.link ≡ link →
     AllHere link d.work.actions → AllHere link (answer_logon computer given name now line info validation d).work.actions

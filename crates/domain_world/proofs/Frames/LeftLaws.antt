@@ -5,8 +5,8 @@ use Rattle.std.proofs.Common.{◌≡◌, ◌-◌, ℕ, List, [], ◌∷◌, ◌+
 use Rattle.std.specs.List.{AllByRecursion}
 use Rattle.std.proofs.lemmas.List.Elements.{All-weaker, recursion_from_All}
 use Rattle.wire_base.specs.Maps.{lookup, same_number, take_out}
+use Rattle.wire_base.proofs.NumberLaws.{bytes_from_all}
 use Rattle.channel_keys.specs.Des.{IsBlock}
-use Rattle.authenticators.proofs.BlockLaws.{bytes_from_all}
 use Rattle.outside.specs.Counter.{challenges_from, most_draws}
 use Rattle.logon_stubs.specs.Ranges as stubs
 use Rattle.outside.specs.declared.action.StepRefused.{StepRefused}
@@ -23,13 +23,11 @@ use Rattle.end_links.specs.Serving.{served_cut}
 use Rattle.end_links.proofs.ServingLaws.{units_served}
 use Rattle.domain_controller.specs.Machine.{Desk, controller_server}
 use Rattle.domain_controller.specs.State.{State as ControllerState}
-use Rattle.domain_controller.specs.Step.{LinkMap, by_event, first_desk, halted, keep_link, serve_on, start_turn, state_after, step_of as controller_step_of, step_on, step_part, whole_part}
+use Rattle.domain_controller.specs.Step.{LinkMap, by_event, first_desk, halted, keep_link, serve_on, start_turn, state_after, step_on, step_part, whole_part}
 use Rattle.domain_controller.specs.declared.state.Running.{Running}
 use Rattle.domain_controller.specs.declared.state.Talk.{Talk}
 use Rattle.domain_controller.proofs.RestLaws.{server_leaves}
-use Rattle.logon_client.specs.Machine.{step_of as client_step_of}
 use Rattle.logon_client.specs.State.{State as ClientState}
-use Rattle.member_server.specs.Machine.{step_of as member_step_of}
 use Rattle.member_server.specs.State.{State as MemberState}
 use Rattle.step_notes.proofs.Members.RestLaws.{client_leaves_rest, member_leaves}
 use Rattle.world_moves.specs.declared.links.EndId.{EndId}

@@ -15,7 +15,7 @@ use Rattle.world_moves.specs.declared.plan.Plan.{Plan}
 use Rattle.world_moves.specs.declared.state.State.{State}
 use Rattle.world_moves.specs.Bag.{AreShortUnits, HaveBytes, pieces_of, settle_at}
 use Rattle.world_moves.specs.Links.{OpenMap}
-use Rattle.world_moves.specs.World.{first_world, run}
+use Rattle.world_moves.specs.World.{first_world}
 use Rattle.domain_world.specs.Past.{past}
 use Rattle.channel_events.proofs.ListLaws.{got_nothing, some_is}
 use Rattle.world_moves.proofs.LinkFrameLaws.{StaysAlways, StaysOnLinks}

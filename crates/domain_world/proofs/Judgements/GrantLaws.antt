@@ -1,5 +1,5 @@
 -- In every run a controller grants a Logon call exactly where it is to be granted, by the accounts of the plan.
--- It serves `controllers_grant_who_may_log_on`.
+-- It serves `controllers_grant_who_may_log_on` and `controllers_tell_of_calls_alone`.
 use Rattle.std.proofs.Common.{◌≡◌, ℕ, zero, suc, true, false, List, [], ◌∷◌, ◌++◌, drop, length, Option, Some, None, Ok, Err, inl, inr, slice_get, slice_set, refl, sym, ap, subst, ◌∙◌}
 use Rattle.std.specs.List.{AllByRecursion}
 use Rattle.wire_base.specs.Maps.{lookup, same_number}
@@ -54,6 +54,7 @@ use Rattle.step_notes.proofs.ServedLaws.{served_such}
 use Rattle.outside.specs.declared.action.Action.TheVariants as action
 use Rattle.outside.specs.declared.action.Judged.TheVariants as judged
 use Rattle.outside.specs.declared.event.Event.TheVariants as event
+use Rattle.channel_events.proofs.ListLaws.{all_weaker}
 
 -- ---- a Logon call: its status is that of its verdict
 
@@ -305,6 +306,12 @@ all_rightly plan (j ∷ judgings) planned right = (
   record { granted = (to_be_granted j planned.0.1 right.0, is_granted_so j planned.0.1 right.0); table = planned.0.0.table_is; name = planned.0.0.name_is },
   all_rightly plan judgings planned.1 right.1,
 )
+
+-- in every run each call that passed was told with its status
+pub each_status : (plan : Plan) (moves : List Move) → AllByRecursion HasItsStatus (past plan moves).book.judged
+each_status plan moves =
+    all_weaker (IsByPlan plan) HasItsStatus (past plan moves).book.judged (λ j planned. planned.1)
+    (run_stays (λ (b : Book). b.judged) (ByPlan plan) (stands_written plan) plan moves (first_stands plan)).judged
 
 -- in every run a controller grants a Logon call exactly where it is to be granted, by the accounts of the plan
 pub grants_who_may : (plan : Plan) (moves : List Move) → GrantsWhoMayLogOn (past plan moves)

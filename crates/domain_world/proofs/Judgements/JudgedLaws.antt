@@ -26,7 +26,7 @@ use Rattle.member_server.specs.State.{State as MemberState}
 use Rattle.step_notes.specs.ControllerNotes.{Answered, Where, answer_on, channel_in, has_passed, heard_answer, judging_by, judging_of, logon_answer, opened_by, opening, passing, units_at, units_by, units_of_controller}
 use Rattle.step_notes.specs.Judged.{IsJudgedRight}
 use Rattle.step_notes.specs.MemberNotes.{turn_units}
-use Rattle.step_notes.specs.Records.{Book, Judging, computer_in}
+use Rattle.step_notes.specs.Records.{Book, Judging, computer_named}
 use Rattle.step_notes.specs.Served.{units_if_taken, work_after}
 use Rattle.world_moves.specs.declared.links.EndId.{EndId}
 use Rattle.world_moves.specs.declared.links.EndId.TheVariants.{Controller, Member, Client}
@@ -57,7 +57,7 @@ module _ (Fits : Judging → Type 0) where
 
   pub judging_holds : (passed : Bool) (j : Judging) → Fits j → HoldsIf Fits (judging_by passed j).judging
   judging_holds false j holds = holds
-  judging_holds true j holds = passing_holds (channel_in j.controller (computer_in j.asked) j.computers) j holds
+  judging_holds true j holds = passing_holds (channel_in j.controller (computer_named j.asked) j.computers) j holds
 
   pub opening_holds : (channel : Option ChannelIdentity) (w : Where) (number : ℕ) → HoldsIf Fits (opening channel w number).judging
   opening_holds None w number = tt

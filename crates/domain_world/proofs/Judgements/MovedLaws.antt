@@ -7,10 +7,10 @@ use Rattle.authenticators.specs.Channels.{ChannelIdentity, SameChannel, same_cha
 use Rattle.authenticators.specs.SecureChannels.{SecureChannelState, channel_of}
 use Rattle.channel_events.proofs.SameLaws.{fails_so, found_same, one_channel}
 use Rattle.domain_controller.specs.declared.state.Computers.{Computers}
-use Rattle.step_notes.specs.ControllerNotes.{channel_by, channel_in, has_passed}
+use Rattle.step_notes.specs.ControllerNotes.{identity_by, channel_in, has_passed}
 use Rattle.step_notes.specs.Judged.{channel_if, passed_channel}
 use Rattle.step_notes.specs.Marking.{is_channel}
-use Rattle.step_notes.specs.Records.{Judging, computer_in}
+use Rattle.step_notes.specs.Records.{Judging, computer_named}
 use Rattle.domain_world.specs.Claims.{moved_if, moved_on, passed_on, judged_timestamp}
 
 -- ---- how far a seed moved
@@ -56,7 +56,7 @@ pub record IsFound (controller : ℕ) (computer : Option (List ℕ)) (computers 
   pub is : channel_of controller name state ≡ channel
 
 found_by : (found : Option SecureChannelState) (controller : ℕ) (name : List ℕ) (computers : Computers) (channel : ChannelIdentity) → lookup same_name name computers.channels ≡ found →
-    channel_by controller name found ≡ Some channel → IsFound controller (Some name) computers channel
+    identity_by controller name found ≡ Some channel → IsFound controller (Some name) computers channel
 found_by None controller name computers channel stands is = absurd cc
 found_by (Some state) controller name computers channel stands is = record { name = name; state = state; named = refl; stands = stands; is = cc }
 
@@ -65,12 +65,12 @@ pub found_in : (controller : ℕ) (computer : Option (List ℕ)) (computers : Co
 found_in controller None computers channel is = absurd cc
 found_in controller (Some name) computers channel is = found_by (lookup same_name name computers.channels) controller name computers channel refl is
 
-passed_if : (passed : Bool) (j : Judging) (channel : ChannelIdentity) → channel_if passed j ≡ Some channel → channel_in j.controller (computer_in j.asked) j.computers ≡ Some channel
+passed_if : (passed : Bool) (j : Judging) (channel : ChannelIdentity) → channel_if passed j ≡ Some channel → channel_in j.controller (computer_named j.asked) j.computers ≡ Some channel
 passed_if false j channel is = absurd cc
 passed_if true j channel is = is
 
-pub passed_in : (j : Judging) (channel : ChannelIdentity) → passed_channel j ≡ Some channel → IsFound j.controller (computer_in j.asked) j.computers channel
-passed_in j channel is = found_in j.controller (computer_in j.asked) j.computers channel (passed_if (has_passed j.how) j channel is)
+pub passed_in : (j : Judging) (channel : ChannelIdentity) → passed_channel j ≡ Some channel → IsFound j.controller (computer_named j.asked) j.computers channel
+passed_in j channel is = found_in j.controller (computer_named j.asked) j.computers channel (passed_if (has_passed j.how) j channel is)
 
 -- a call that was barred, or found no channel, passed on none
 pub not_passed : (passed : Bool) (j : Judging) (channel : ChannelIdentity) → passed ≡ false → channel_if passed j ≡ Some channel → ⊥

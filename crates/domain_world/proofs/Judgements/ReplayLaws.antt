@@ -29,7 +29,7 @@ use Rattle.step_notes.specs.ControllerNotes.{channel_in, has_passed}
 use Rattle.step_notes.specs.Judged.{channel_if}
 use Rattle.step_notes.specs.Marking.{is_channel}
 use Rattle.step_notes.specs.MemberNotes.{turn_units}
-use Rattle.step_notes.specs.Records.{Book, Judging, computer_in, given_in, timestamp_in}
+use Rattle.step_notes.specs.Records.{Book, Judging, computer_named, given_in, timestamp_in}
 use Rattle.world_moves.specs.declared.links.EndId.{EndId}
 use Rattle.world_moves.specs.declared.links.EndId.TheVariants.{Controller, Member, Client}
 use Rattle.world_moves.specs.declared.links.Route.{Route}
@@ -187,14 +187,14 @@ later_right (one ∷ later) j earlier right = later_right later j earlier right.
 pub record IsOn (j : Judging) (channel : ChannelIdentity) : Type 0 where
   pub name : List ℕ
   pub state : SecureChannelState
-  pub named : computer_in j.asked ≡ Some name
+  pub named : computer_named j.asked ≡ Some name
   pub stands : lookup same_name name j.computers.channels ≡ Some state
   pub same : SameChannel (channel_of j.controller name state) channel
 
-on_by : (found : Option ChannelIdentity) (j : Judging) (channel : ChannelIdentity) → channel_in j.controller (computer_in j.asked) j.computers ≡ found → is_channel found channel ≡ true → IsOn j channel
+on_by : (found : Option ChannelIdentity) (j : Judging) (channel : ChannelIdentity) → channel_in j.controller (computer_named j.asked) j.computers ≡ found → is_channel found channel ≡ true → IsOn j channel
 on_by None j channel is same = absurd cc
 on_by (Some other) j channel is same =
-    let found = found_in j.controller (computer_in j.asked) j.computers other is in
+    let found = found_in j.controller (computer_named j.asked) j.computers other is in
     record {
       name = found.name;
       state = found.state;
@@ -205,7 +205,7 @@ on_by (Some other) j channel is same =
 
 pub on_if : (passed : Bool) (j : Judging) (channel : ChannelIdentity) → is_channel (channel_if passed j) channel ≡ true → (passed ≡ true) × IsOn j channel
 on_if false j channel same = absurd cc
-on_if true j channel same = (refl, on_by (channel_in j.controller (computer_in j.asked) j.computers) j channel refl same)
+on_if true j channel same = (refl, on_by (channel_in j.controller (computer_named j.asked) j.computers) j channel refl same)
 
 some_is : {T : Type 0} (one other : T) → Some one ≡ Some other → one ≡ other
 some_is one other is = cc
@@ -222,7 +222,7 @@ module _ (j : Judging) (channel : ChannelIdentity) (on : IsOn j channel) where
       ∙ ap (λ (n : ℕ). add_to (cred_of (channel_key channel) channel.client) n) (moved_same (channel_of j.controller on.name on.state) channel on.same older)
 
   -- its authenticator passes there where it is the next one
-  next_passes : (seed : List ℕ) (given : Authenticator) → on.state.seed ≡ seed → given_in j.asked ≡ Some given → IsNext j.computers (computer_in j.asked) (given_in j.asked) → Passes (channel_key channel) seed given
+  next_passes : (seed : List ℕ) (given : Authenticator) → on.state.seed ≡ seed → given_in j.asked ≡ Some given → IsNext j.computers (computer_named j.asked) (given_in j.asked) → Passes (channel_key channel) seed given
   next_passes seed given is there next =
       let name : next.computer ≡ on.name = some_is next.computer on.name (sym next.named ∙ on.named) in
       let state : next.channel ≡ on.state =
@@ -233,7 +233,7 @@ module _ (j : Judging) (channel : ChannelIdentity) (on : IsOn j channel) where
       (subst (λ (c : SecureChannelState). Passes (key_of_channel c) c.seed given) state
       (subst (λ (g : Authenticator). Passes (key_of_channel next.channel) next.channel.seed g) own next.passes)))
 
-  passes_next : (seed : List ℕ) (given : Authenticator) → on.state.seed ≡ seed → given_in j.asked ≡ Some given → Passes (channel_key channel) seed given → IsNext j.computers (computer_in j.asked) (given_in j.asked)
+  passes_next : (seed : List ℕ) (given : Authenticator) → on.state.seed ≡ seed → given_in j.asked ≡ Some given → Passes (channel_key channel) seed given → IsNext j.computers (computer_named j.asked) (given_in j.asked)
   passes_next seed given is there pass = record {
     computer = on.name;
     given = given;
@@ -297,12 +297,12 @@ module _ (channel : ChannelIdentity) (between earlier : List Judging) (first : J
       )
 
 by_sum : (channel : ChannelIdentity) (between earlier : List Judging) (second first : Judging) → AreMoved (second ∷ (between ++ first ∷ earlier)) → AreRight (second ∷ (between ++ first ∷ earlier)) →
-    passed_on channel first ≡ true → is_channel (channel_in second.controller (computer_in second.asked) second.computers) channel ≡ true → given_in second.asked ≡ given_in first.asked →
+    passed_on channel first ≡ true → is_channel (channel_in second.controller (computer_named second.asked) second.computers) channel ≡ true → given_in second.asked ≡ given_in first.asked →
     (has_passed second.how ≡ true) ↔ (moved_on channel (between ++ first ∷ []) % 2 ^ 32 ≡ 0)
 by_sum channel between earlier second first moved right passed same again =
     let was = on_if (has_passed first.how) first channel passed in
-    let is : IsOn second channel = on_by (channel_in second.controller (computer_in second.asked) second.computers) second channel refl same in
-    let next : IsNext first.computers (computer_in first.asked) (given_in first.asked) = (later_right between first earlier right.1).0.passed.0 was.0 in
+    let is : IsOn second channel = on_by (channel_in second.controller (computer_named second.asked) second.computers) second channel refl same in
+    let next : IsNext first.computers (computer_named first.asked) (given_in first.asked) = (later_right between first earlier right.1).0.passed.0 was.0 in
     let given : Authenticator = next.given in
     let base : List ℕ = cred_of (channel_key channel) channel.client in
     let pass : Passes (channel_key channel) (add_to base (moved_on channel earlier)) given =

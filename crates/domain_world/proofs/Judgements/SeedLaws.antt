@@ -34,7 +34,7 @@ use Rattle.step_notes.specs.ControllerNotes.{Where, channel_in, has_passed, judg
 use Rattle.step_notes.specs.ControllerNotes as notes
 use Rattle.step_notes.specs.Judged.{channel_if, passed_channel}
 use Rattle.step_notes.specs.Marking.{is_channel}
-use Rattle.step_notes.specs.Records.{Judging, Network, computer_in, given_in, timestamp_in}
+use Rattle.step_notes.specs.Records.{Judging, Network, computer_named, given_in, timestamp_in}
 use Rattle.domain_world.specs.Claims.{moved_if, moved_on, passed_on, judged_timestamp}
 use Rattle.step_notes.proofs.Controllers.ComputerLaws.{lookup_named, return_computers, taken_none}
 use Rattle.step_notes.proofs.Controllers.JudgedStepLaws.{told_first}
@@ -84,7 +84,7 @@ IsMovedIn judgings controller (Some name) computers =
 
 abbrev pub AreMoved : List Judging → Type 0
 AreMoved [] = Unit {0}
-AreMoved (j ∷ judgings) = IsMovedIn judgings j.controller (computer_in j.asked) j.computers × AreMoved judgings
+AreMoved (j ∷ judgings) = IsMovedIn judgings j.controller (computer_named j.asked) j.computers × AreMoved judgings
 
 -- nothing passed on a channel with a challenge that is left
 abbrev pub AreUnheard : List Judging → List (List ℕ) → Type 0
@@ -281,7 +281,7 @@ module _ (judgings : List Judging) (left : List (List ℕ)) (j : Judging) (kept 
 
   pub judged_order : IsInOrder judgings left → IsInOrder (j ∷ judgings) left
   judged_order order = record {
-    moved = (moved_before (computer_in j.asked), order.moved);
+    moved = (moved_before (computer_named j.asked), order.moved);
     unheard = still_unheard left (λ channel passed. spent_on channel passed) order.unheard;
     apart = order.apart;
   }
@@ -291,7 +291,7 @@ module _ (judgings : List Judging) (left : List (List ℕ)) (j : Judging) (kept 
   others_unmoved channel apart =
       moved_past channel j judgings (λ other passed same. apart (sym same.controller ∙ sym (ap ChannelIdentity.controller (passed_in j other passed).is)))
 
-  unnamed_unmoved : (name : List ℕ) (channel : ChannelIdentity) → computer_in j.asked ≡ Some name → same_name name channel.computer ≡ false → moved_on channel (j ∷ judgings) ≡ moved_on channel judgings
+  unnamed_unmoved : (name : List ℕ) (channel : ChannelIdentity) → computer_named j.asked ≡ Some name → same_name name channel.computer ≡ false → moved_on channel (j ∷ judgings) ≡ moved_on channel judgings
   unnamed_unmoved name channel named apart =
       moved_past channel j judgings (λ other passed same.
       let found = passed_in j other passed in
@@ -323,16 +323,16 @@ module _ (judgings : List Judging) (left : List (List ℕ)) (j : Judging) (kept 
         (λ challenge spent. spent) (kept.each name);
   }
 
-  passed_here : (name : List ℕ) (c : SecureChannelState) → has_passed j.how ≡ true → computer_in j.asked ≡ Some name → lookup same_name name j.computers.channels ≡ Some c →
+  passed_here : (name : List ℕ) (c : SecureChannelState) → has_passed j.how ≡ true → computer_named j.asked ≡ Some name → lookup same_name name j.computers.channels ≡ Some c →
       passed_on (channel_of j.controller name c) j ≡ true
   passed_here name c passed named stands =
       ap (λ (found : Option ChannelIdentity). is_channel found (channel_of j.controller name c))
       (ap (λ (b : Bool). channel_if b j) passed ∙ ap (λ (o : Option (List ℕ)). channel_in j.controller o j.computers) named
-      ∙ ap (λ (found : Option SecureChannelState). notes.channel_by j.controller name found) stands)
+      ∙ ap (λ (found : Option SecureChannelState). notes.identity_by j.controller name found) stands)
       ∙ itself (channel_of j.controller name c)
 
   -- its channel's seed moves where it passes
-  seed_moved : (passes : Bool) (name : List ℕ) (given : Authenticator) (c : SecureChannelState) → has_passed j.how ≡ passes → computer_in j.asked ≡ Some name → given_in j.asked ≡ Some given →
+  seed_moved : (passes : Bool) (name : List ℕ) (given : Authenticator) (c : SecureChannelState) → has_passed j.how ≡ passes → computer_named j.asked ≡ Some name → given_in j.asked ≡ Some given →
       lookup same_name name j.computers.channels ≡ Some c → IsMoved (j ∷ judgings) j.controller name (channel_by passes c given)
   seed_moved false name given c passed named there stands =
       ((kept.each name).channels c stands).0
@@ -353,7 +353,7 @@ module _ (judgings : List Judging) (left : List (List ℕ)) (j : Judging) (kept 
   server_stays true c given = refl
 
   -- the channel is put back so
-  moved_kept : (passes : Bool) (name : List ℕ) (given : Authenticator) (c : SecureChannelState) (new : Computers) → has_passed j.how ≡ passes → computer_in j.asked ≡ Some name →
+  moved_kept : (passes : Bool) (name : List ℕ) (given : Authenticator) (c : SecureChannelState) (new : Computers) → has_passed j.how ≡ passes → computer_named j.asked ≡ Some name →
       given_in j.asked ≡ Some given → lookup same_name name j.computers.channels ≡ Some c → new.pending ≡ j.computers.pending →
       new.channels ≡ put same_name name (channel_by passes c given) (take_out same_name name j.computers.channels) → AreKept (j ∷ judgings) left j.controller new
   moved_kept passes name given c new passed named there stands pending channels =

@@ -24,7 +24,7 @@ use Rattle.domain_controller.specs.declared.state.Computers.{Computers}
 use Rattle.domain_controller.specs.declared.state.Running.{Running}
 use Rattle.domain_controller.specs.declared.state.Talk.{Talk}
 use Rattle.step_notes.specs.ControllerNotes.{Answered, Where, answer_on, channel_in, has_passed, heard_answer, judged_in, judging_by, judging_of, new_actions, opened_by, opening, passing, units_at, units_by}
-use Rattle.step_notes.specs.Records.{Judging, computer_in}
+use Rattle.step_notes.specs.Records.{Judging, computer_named}
 use Rattle.step_notes.specs.Served.{units_if_taken, work_after}
 use Rattle.world_moves.specs.Ends.{EndStates, controller_step}
 use Rattle.domain_world.specs.Claims.{moved_on}
@@ -116,7 +116,7 @@ passing_some (Some channel) j = refl
 
 judging_some : (passed : Bool) (j : Judging) → (judging_by passed j).judging ≡ Some j
 judging_some false j = refl
-judging_some true j = passing_some (channel_in j.controller (computer_in j.asked) j.computers) j
+judging_some true j = passing_some (channel_in j.controller (computer_named j.asked) j.computers) j
 
 module _ (judgings : List Judging) (w : Where) (d : Desk) where
   drawn_goes : (left : List (List ℕ)) (line : Line) (c : ChallengeCall) (talk : Talk) → IsInOrder judgings left → AreKept judgings left w.controller d.work.computers →

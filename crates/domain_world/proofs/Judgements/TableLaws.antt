@@ -30,7 +30,7 @@ use Rattle.logon_client.specs.State.{State as ClientState}
 use Rattle.member_server.specs.State.{State as MemberState}
 use Rattle.step_notes.specs.ControllerNotes.{Answered, Where, answer_on, channel_in, has_passed, heard_answer, judging_by, judging_of, logon_answer, opened_by, opening, passing, units_at, units_by}
 use Rattle.step_notes.specs.Judged.{IsJudgedRight}
-use Rattle.step_notes.specs.Records.{Book, Judging, computer_in}
+use Rattle.step_notes.specs.Records.{Book, Judging, computer_named}
 use Rattle.step_notes.specs.Served.{units_if_taken, work_after}
 use Rattle.world_moves.specs.declared.links.EndId.{EndId}
 use Rattle.world_moves.specs.declared.links.EndId.TheVariants.{Controller, Member, Client}
@@ -99,7 +99,7 @@ module _ (w : Where) (d : Desk) where
 
   logon_judging : (passed : Bool) (j : Judging) → (judging_by passed j).judging ≡ Some j
   logon_judging false j = refl
-  logon_judging true j = passing_judging (channel_in j.controller (computer_in j.asked) j.computers) j
+  logon_judging true j = passing_judging (channel_in j.controller (computer_named j.asked) j.computers) j
 
   opening_judging : (channel : Option ChannelIdentity) (number : ℕ) → (opening channel w number).judging ≡ None
   opening_judging None number = refl

@@ -43,7 +43,7 @@ use Rattle.member_server.specs.State.{State as MemberState}
 use Rattle.step_notes.specs.ControllerNotes.{Answered, Where, answer_on, channel_in, has_passed, heard_answer, judging_by, judging_of, opened_by, opening, passing, units_at, units_by}
 use Rattle.step_notes.specs.Judged.{IsJudgedRight, IsRightOf}
 use Rattle.step_notes.specs.MemberNotes.{turn_units}
-use Rattle.step_notes.specs.Records.{Book, Judging, JudgementTold, computer_in, given_in}
+use Rattle.step_notes.specs.Records.{Book, Judging, JudgementTold, computer_named, given_in}
 use Rattle.step_notes.specs.Served.{units_if_taken, work_after}
 use Rattle.world_moves.specs.declared.links.EndId.{EndId}
 use Rattle.world_moves.specs.declared.links.EndId.TheVariants.{Controller, Member, Client}
@@ -54,7 +54,7 @@ use Rattle.world_moves.specs.Acting.{Given, given_by, hear_and_act}
 use Rattle.world_moves.specs.Ends.{EndStates, actions_by, controller_step}
 use Rattle.world_moves.specs.Links.{acceptor_of}
 use Rattle.world_moves.specs.Moving.{begun, with_link}
-use Rattle.domain_world.specs.Claims.{AreRightlyTold, AreTheirJudgements, PassesTheNextCredential, TellsOfCallsAlone, judgements_of_calls}
+use Rattle.domain_world.specs.Claims.{AreRightlyTold, AreTheirJudgements, PassesTheNextCredential, judgements_of_calls}
 use Rattle.domain_world.specs.Past.{Coming, answers_of, controller_of, first_of, judged_of, judgement_by, judgements_in, later_of, note_at, note_client, note_controller, note_member, note_messages, numbers_on, onto, past, with_reply}
 use Rattle.step_notes.proofs.Controllers.JudgedStepLaws.{Told, by_names, how_is}
 use Rattle.domain_world.proofs.Judgements.JudgedLaws.{AreRight, judged_rightly}
@@ -177,7 +177,7 @@ passing_told (Some channel) j = refl
 
 judging_told : (passed : Bool) (j : Judging) → telling_if (judging_by passed j).judging ≡ telling j
 judging_told false j = refl
-judging_told true j = passing_told (channel_in j.controller (computer_in j.asked) j.computers) j
+judging_told true j = passing_told (channel_in j.controller (computer_named j.asked) j.computers) j
 
 heard_told : (what : Heard) (w : Where) (link : ℕ) (d : Desk) (left : List (List ℕ)) →
     Follows w (acted w d.work.actions ++ telling_if (heard_answer what w d (work_after (by_heard what link w.name w.moment d left))).judging)
@@ -402,21 +402,21 @@ told_keeps = record {
   over = λ at on next s given b told. told;
 }
 
-judgements_told : (plan : Plan) (moves : List Move) → tellings (past plan moves).book.judged ≡ (past plan moves).book.judgements
+pub judgements_told : (plan : Plan) (moves : List Move) → tellings (past plan moves).book.judged ≡ (past plan moves).book.judgements
 judgements_told plan moves = ends_after ToldSoFar told_keeps plan moves (λ on. refl)
 
 -- ---- each is right
 
-none_right : (j : Judging) → j.how ≡ None → IsJudgedRight j → ⊥
+pub none_right : (j : Judging) → j.how ≡ None → IsJudgedRight j → ⊥
 none_right j is right =
-    let none : IsRightOf None j.computers (computer_in j.asked) (given_in j.asked) = subst (λ how. IsRightOf how j.computers (computer_in j.asked) (given_in j.asked)) is right in
+    let none : IsRightOf None j.computers (computer_named j.asked) (given_in j.asked) = subst (λ how. IsRightOf how j.computers (computer_named j.asked) (given_in j.asked)) is right in
     absurd (let told : None ≡ Some judged.NoChannel = none.other.1 (
       (λ next. absurd (let passed : false ≡ true = none.passed.1 next in cc)),
       (λ barred. absurd (let so : None ≡ Some judged.Barred = none.barred.1 barred in cc)),
     ) in cc)
 
 -- what is right of a call judges it
-right_judges : (how : Judged) (computers : Computers) (name : Option (List ℕ)) (shown : Option Authenticator) → IsRightOf (Some how) computers name shown → judges_call how ≡ true
+pub right_judges : (how : Judged) (computers : Computers) (name : Option (List ℕ)) (shown : Option Authenticator) → IsRightOf (Some how) computers name shown → judges_call how ≡ true
 right_judges (judged.Passed status) computers name shown right = refl
 right_judges judged.Forwarded computers name shown right = refl
 right_judges judged.Barred computers name shown right = refl
@@ -436,20 +436,9 @@ one_rightly : (how : Option Judged) (j : Judging) (more : List JudgementTold) (j
 one_rightly None j more judgings is right rest = absurd (none_right j is right)
 one_rightly (Some how) j more judgings is right rest =
     let one : JudgementTold = record { at = j.at; controller = j.controller; how = how } in
-    let of : IsRightOf (Some how) j.computers (computer_in j.asked) (given_in j.asked) = subst (λ (told : Option Judged). IsRightOf told j.computers (computer_in j.asked) (given_in j.asked)) is right in
-    subst (λ (told : List JudgementTold). AreTheirJudgements told (j ∷ judgings)) (sym (call_first how one more refl (right_judges how j.computers (computer_in j.asked) (given_in j.asked) of)))
+    let of : IsRightOf (Some how) j.computers (computer_named j.asked) (given_in j.asked) = subst (λ (told : Option Judged). IsRightOf told j.computers (computer_named j.asked) (given_in j.asked)) is right in
+    subst (λ (told : List JudgementTold). AreTheirJudgements told (j ∷ judgings)) (sym (call_first how one more refl (right_judges how j.computers (computer_named j.asked) (given_in j.asked) of)))
     (record { at = refl; controller = refl; how = sym is; right = right }, rest)
-
--- nothing else was told
-one_judges : (how : Option Judged) (j : Judging) (more : List JudgementTold) → j.how ≡ how → IsJudgedRight j → AllByRecursion (λ (one : JudgementTold). judges_call one.how ≡ true) more →
-    AllByRecursion (λ (one : JudgementTold). judges_call one.how ≡ true) (telling_by j.at j.controller how ++ more)
-one_judges None j more is right all = absurd (none_right j is right)
-one_judges (Some how) j more is right all =
-    (right_judges how j.computers (computer_in j.asked) (given_in j.asked) (subst (λ (told : Option Judged). IsRightOf told j.computers (computer_in j.asked) (given_in j.asked)) is right), all)
-
-all_judge : (judgings : List Judging) → AreRight judgings → AllByRecursion (λ (one : JudgementTold). judges_call one.how ≡ true) (tellings judgings)
-all_judge [] right = tt
-all_judge (j ∷ judgings) right = one_judges j.how j (tellings judgings) refl right.0 (all_judge judgings right.1)
 
 all_rightly : (judgings : List Judging) → AreRight judgings → AreRightlyTold (tellings judgings) judgings
 all_rightly [] right = tt
@@ -460,9 +449,3 @@ pub passes_the_next : (plan : Plan) (moves : List Move) → PassesTheNextCredent
 passes_the_next plan moves =
     subst (λ told. AreRightlyTold told (past plan moves).book.judged) (judgements_told plan moves)
     (all_rightly (past plan moves).book.judged (judged_rightly plan moves))
-
--- and it tells of calls alone
-pub tells_of_calls : (plan : Plan) (moves : List Move) → TellsOfCallsAlone (past plan moves)
-tells_of_calls plan moves =
-    subst (λ told. AllByRecursion (λ (one : JudgementTold). judges_call one.how ≡ true) told) (judgements_told plan moves)
-    (all_judge (past plan moves).book.judged (judged_rightly plan moves))

@@ -21,7 +21,7 @@ use Rattle.step_notes.specs.ControllerNotes.{Answered, Where, answer_on, call_an
 use Rattle.step_notes.specs.Judged.{channel_if, passed_channel}
 use Rattle.step_notes.specs.Marking.{clashes, is_channel, sent_channel}
 use Rattle.step_notes.specs.MemberNotes.{turn_units}
-use Rattle.step_notes.specs.Records.{Book, Judging, Sent, computer_in}
+use Rattle.step_notes.specs.Records.{Book, Judging, Sent, computer_named}
 use Rattle.step_notes.specs.Served.{work_after}
 use Rattle.world_moves.specs.declared.links.EndId.{EndId}
 use Rattle.world_moves.specs.declared.links.EndId.TheVariants.{Controller, Member, Client}
@@ -75,13 +75,13 @@ IfNoted unit checked (Some j) = (passed_channel j ≡ checked) × (j.unit ≡ un
 abbrev IsNoted : Option ℕ → Answered → Type 0
 IsNoted unit one = IfNoted unit one.checked one.judging
 
-passing_noted : (found : Option ChannelIdentity) (j : Judging) → has_passed j.how ≡ true → channel_in j.controller (computer_in j.asked) j.computers ≡ found → IsNoted j.unit (passing found j)
+passing_noted : (found : Option ChannelIdentity) (j : Judging) → has_passed j.how ≡ true → channel_in j.controller (computer_named j.asked) j.computers ≡ found → IsNoted j.unit (passing found j)
 passing_noted None j passed is = (ap (λ (p : Bool). channel_if p j) passed ∙ is, refl)
 passing_noted (Some channel) j passed is = (ap (λ (p : Bool). channel_if p j) passed ∙ is, refl)
 
 judging_noted : (passed : Bool) (j : Judging) → has_passed j.how ≡ passed → IsNoted j.unit (judging_by passed j)
 judging_noted false j is = (ap (λ (p : Bool). channel_if p j) is, refl)
-judging_noted true j is = passing_noted (channel_in j.controller (computer_in j.asked) j.computers) j is refl
+judging_noted true j is = passing_noted (channel_in j.controller (computer_named j.asked) j.computers) j is refl
 
 opening_noted : (channel : Option ChannelIdentity) (w : Where) (number : ℕ) → IsNoted w.unit (opening channel w number)
 opening_noted None w number = tt

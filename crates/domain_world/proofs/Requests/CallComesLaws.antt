@@ -41,7 +41,6 @@ use Rattle.world_moves.specs.declared.state.State.{State}
 use Rattle.world_moves.specs.Acting.{heard_by, perform_all}
 use Rattle.world_moves.specs.Ends.{EndStep, actions_by, client_step, controller_step, member_step}
 use Rattle.domain_world.specs.Accepting.Answered.{IsItsWay}
-use Rattle.domain_world.specs.Accepting.Runs.{seen_member}
 use Rattle.domain_world.specs.Past.{Coming, answers_of, at_controller, at_member, controller_of, first_of, marks_of, note_client, note_controller, note_messages, note_turns, numbers_on, sent_at}
 use Rattle.domain_world.proofs.Accepting.LetInStepLaws.{IsAcceptedBy, IsDialledBy}
 use Rattle.domain_world.proofs.Frames.MarkPlaceLaws.{unit_on}
@@ -51,7 +50,7 @@ use Rattle.domain_world.proofs.Requests.LooserLaws.{IsPlaced, NoCalls}
 use Rattle.domain_world.proofs.Requests.MarkWayLaws.{answers_way}
 use Rattle.domain_world.proofs.Requests.NewMessageLaws.{new_accepted}
 use Rattle.domain_world.proofs.Requests.OutStepLaws.{IsOf, IsOther, IsOutIn, MemberHolds, StaysKnown, heard_not, other_holds}
-use Rattle.domain_world.proofs.Requests.StepApartLaws.{HearsNone, other_apart, requests_after, whole_apart}
+use Rattle.domain_world.proofs.Requests.StepApartLaws.{HearsNone, other_apart, requests_after, seen_member, whole_apart}
 use Rattle.domain_world.proofs.Requests.WholeNotedLaws.{IsFirstNew, SendsFirst, no_calls_marked, none_marked, note_for, placed_first, placed_part, sent_as, sent_first, sent_marks, whole_first, whole_messages, whole_units}
 use Rattle.domain_world.proofs.Requests.WholeOutLaws.{AreAccepted, IsSentAs, noted, noted_accepted, others_known, out_more, whole_holds}
 use Rattle.domain_world.proofs.Frames.TurnFrameLaws.{turns_sent}

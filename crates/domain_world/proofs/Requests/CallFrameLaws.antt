@@ -29,7 +29,7 @@ use Rattle.member_server.specs.declared.state.TurnTalk.{TurnTalk}
 use Rattle.end_links.specs.Links.{LinkState}
 use Rattle.step_notes.specs.ChannelNames.{standing_channel}
 use Rattle.step_notes.specs.MemberNotes.{is_turn_link}
-use Rattle.step_notes.specs.Records.{Book, MessageTaken, blank}
+use Rattle.step_notes.specs.Records.{Book, MessageTaken, OfMember, RequesterId, Sent, blank}
 use Rattle.step_notes.proofs.Members.CallKeptLaws.{fresh_asks}
 use Rattle.step_notes.proofs.Members.KeptLogonLaws.{IfDialled, KeptIn as LogonsKept}
 use Rattle.world_moves.specs.declared.links.EndId.{EndId}
@@ -50,7 +50,7 @@ use Rattle.world_moves.specs.Links.{acceptor_of, is_accepted_by, kind_of}
 use Rattle.world_moves.specs.Moving.{begun, renewed, with_link}
 use Rattle.world_moves.specs.World.{first_world}
 use Rattle.domain_world.specs.Accepting.Carried.{IsWholeUnit}
-use Rattle.domain_world.specs.Accepting.Runs.{AskedIsOut, BagIsWhole, IsOut, IsQuiet, IsQuietTurn, RunsStandSo, Shows}
+use Rattle.domain_world.specs.Accepting.Runs.{AskedIsOut, BagIsWhole, IsOut, IsQuiet, IsQuietTurn, RunsStandSo, Shows, seen_in}
 use Rattle.domain_world.specs.Past.{Coming, Past, controller_of, note_at, note_given, note_member, past, sent_at}
 use Rattle.domain_world.proofs.Accepting.LetInStepLaws.{IsDialledBy, Meets, calm_meets, last_accepted, side_meets}
 use Rattle.domain_world.proofs.Accepting.Quiet.QuietRunLaws.{one_piece, has_bytes, is_quiet, quiet_first, quiet_keeps}
@@ -66,6 +66,7 @@ use Rattle.domain_world.proofs.Requests.CallStepLaws.{CallLaws, client_anew, cli
 use Rattle.domain_world.proofs.Requests.LooserLaws.{NoCalls}
 use Rattle.domain_world.proofs.Requests.OutStepLaws.{IsOther, IsOutIn, MemberHolds, OutFor, none_out}
 use Rattle.domain_world.proofs.Frames.PlacedLaws.{HasBytes}
+use Rattle.domain_world.proofs.Requests.ByRequesterLaws.{by_requester, by_requester_apart}
 
 -- ---- a unit that comes on the link of a turn is whole, and comes in one piece
 
@@ -271,9 +272,12 @@ first_calls plan = λ few differ. record {
 
 -- ---- after a run
 
+seen_so : (n : ℕ) (s : State) (sent : List Sent) (who : RequesterId) → (by_requester (requests_at n s.member_plans s.ends s.chances.drawn sent)).views who ≡ seen_in s who
+seen_so n s sent (OfMember member) = refl
+
 -- the four fields of `RunsStandSo` that speak of calls
 pub record CallsStand (plan : Plan) (moves : List Move) : Type 0 where
-  pub requests : Requests ℕ
+  pub requests : Requests RequesterId
   pub shows : Shows requests (past plan moves) (length moves)
   pub apart : CallsAreApart requests
   pub out : AskedIsOut (past plan moves)
@@ -301,9 +305,9 @@ calls_stand plan moves steps kept few schedule differ =
     let holds : CallsHold steps p.world.state.member_plans p.world.state.ends p.world.state.chances.drawn p.world.state.links p.book.sent p.book.messages =
     kept (omega (arith, few, schedule.few)) differ in
     record {
-      requests = requests_at steps p.world.state.member_plans p.world.state.ends p.world.state.chances.drawn p.book.sent;
-      shows = record { views = λ k. refl; marks = refl; drawn = refl; few = omega (arith, few) };
-      apart = holds.apart;
+      requests = by_requester (requests_at steps p.world.state.member_plans p.world.state.ends p.world.state.chances.drawn p.book.sent);
+      shows = record { views = seen_so steps p.world.state p.book.sent; marks = refl; drawn = refl; few = omega (arith, few) };
+      apart = by_requester_apart (requests_at steps p.world.state.member_plans p.world.state.ends p.world.state.chances.drawn p.book.sent) holds.apart;
       out = λ k m running pending logon there runs turn reply kept_there.
           let out : OutFor p.book.sent p.book.messages (controller_of k p.world.state) k (Some running) =
           subst (λ (r : Option Running). OutFor p.book.sent p.book.messages (controller_of k p.world.state) k r) runs (holds.members k m there).out in

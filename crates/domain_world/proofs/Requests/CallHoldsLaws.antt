@@ -18,13 +18,12 @@ use Rattle.world_moves.specs.declared.links.Route.{Route}
 use Rattle.world_moves.specs.declared.links.Route.TheVariants.{ToController}
 use Rattle.world_moves.specs.Ends.{EndStates, end_in}
 use Rattle.world_moves.specs.Moving.{end_of_peer}
-use Rattle.domain_world.specs.Accepting.Runs.{seen_member, seen_running}
 use Rattle.domain_world.specs.Past.{controller_number, controller_of_plan, sent_at}
 use Rattle.domain_world.proofs.Accepting.LetInStepLaws.{IsAcceptedBy}
 use Rattle.domain_world.proofs.Challenges.MessageOnceLaws.{set_cases}
 use Rattle.domain_world.proofs.Requests.LooserLaws.{NoCalls, calls_before, drawn_before, looser}
 use Rattle.domain_world.proofs.Requests.OutStepLaws.{IsOutIn, MemberHolds, StaysKnown, stays_known}
-use Rattle.domain_world.proofs.Requests.StepApartLaws.{Differ, differ_later, requests_after, seen_or}
+use Rattle.domain_world.proofs.Requests.StepApartLaws.{Differ, differ_later, requests_after, seen_member, seen_or, seen_running}
 use Rattle.domain_world.proofs.Requests.WholeOutLaws.{AreAccepted, out_more}
 
 -- ---- the controller of a member keeps its number while no end comes or goes

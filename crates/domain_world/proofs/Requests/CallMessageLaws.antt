@@ -1,13 +1,12 @@
 -- In every run each Logon call that goes out at a member next is for a message that the member took.
 -- It serves `members_ask_for_messages`, `sends_ask_for_messages`.
-use Rattle.std.proofs.Common.{◌≡◌, ℕ, zero, suc, ◌==◌, Bool, true, false, List, [], ◌∷◌, ◌++◌, map, Option, Some, None, Result, Ok, Err, refl, sym, ap, ap₂, subst, ◌∙◌, slice_get}
+use Rattle.std.proofs.Common.{◌≡◌, ℕ, zero, suc, Bool, true, false, List, [], ◌∷◌, ◌++◌, map, Option, Some, None, Result, Ok, Err, refl, sym, ap, ap₂, subst, ◌∙◌, slice_get}
 use Rattle.std.specs.List.{AllByRecursion}
 use Rattle.wire_base.specs.Maps.{lookup, same_number}
 use Rattle.authenticators.specs.Channels.{ChannelIdentity, channel_key}
 use Rattle.authenticators.specs.Sequences.{authenticator_of}
 use Rattle.outside.specs.declared.action.Action.{Action}
 use Rattle.outside.specs.declared.action.Action.TheVariants as action
-use Rattle.outside.specs.declared.action.StepRefused.{StepRefused}
 use Rattle.outside.specs.declared.event.Event.TheVariants as event
 use Rattle.rpc_units.specs.declared.refused.JoinRefused.{JoinRefused}
 use Rattle.rpc_units.specs.declared.refused.JoinRefused.TheVariants as join
@@ -18,7 +17,7 @@ use Rattle.rpc_units.specs.Reading.{unit_of}
 use Rattle.rpc_units.specs.Stream.{cut_stream}
 use Rattle.end_links.specs.Links.{LinkState}
 use Rattle.end_links.specs.Sending.{joined_frames}
-use Rattle.end_links.specs.Serving.{ServedPart, ServedUnit}
+use Rattle.end_links.specs.Serving.{ServedPart, ServedUnit, served_units}
 use Rattle.channel_client.specs.declared.hearing.Hearing.{Hearing}
 use Rattle.channel_client.specs.declared.hearing.Hearing.TheVariants as hearing
 use Rattle.channel_client.specs.declared.judging.Judgement.{Judgement}
@@ -27,23 +26,21 @@ use Rattle.channel_client.specs.Effects.{seed_in}
 use Rattle.channel_client.specs.Machine.{act, hear, judge, settle}
 use Rattle.member_server.specs.declared.plan.MemberPlan.{MemberPlan}
 use Rattle.member_server.specs.declared.state.AtTurn.{AtTurn}
-use Rattle.member_server.specs.declared.state.Dialling.{Dialling}
-use Rattle.member_server.specs.declared.state.Dialling.TheVariants as dialling
 use Rattle.member_server.specs.declared.state.Logon.{Logon}
 use Rattle.member_server.specs.declared.state.Logons.{Logons}
 use Rattle.member_server.specs.declared.state.Running.{Running}
 use Rattle.member_server.specs.declared.state.TurnTalk.{TurnTalk}
 use Rattle.member_server.specs.Laws.{LetsInTheGranted}
-use Rattle.member_server.specs.Machine.{at_turn, step_of, work_of}
+use Rattle.member_server.specs.Machine.{at_turn, work_of}
 use Rattle.member_server.specs.State.{State as MemberState}
 use Rattle.member_server.specs.Turns.{TurnServed, do_taken, turn_by_join, turn_server, turn_unit}
 use Rattle.channel_events.specs.Marks.{Calling, Mark, Opened, Opening, Plain, ReplyTo}
 use Rattle.step_notes.specs.CallLogons.{AreFirst, AreForLogon, CarriesItsLogon, IfCalling, IsFirstBy, IsForItsLogon, call_for, info_at}
 use Rattle.step_notes.specs.ChannelNames.{AreFramesOf, sends_in}
 use Rattle.step_notes.specs.Marking.{mark_if, turn_marks}
-use Rattle.step_notes.specs.MemberNotes.{turn_note, turn_units, turn_units_by, turn_units_in, turn_units_on}
+use Rattle.step_notes.specs.MemberNotes.{turn_note, turn_units}
 use Rattle.step_notes.specs.Records.{MessageTaken}
-use Rattle.step_notes.specs.Served.{units_if_taken, work_after}
+use Rattle.step_notes.specs.Served.{work_after}
 use Rattle.world_moves.specs.declared.moves.Move.{Move}
 use Rattle.world_moves.specs.declared.plan.Plan.{Plan}
 use Rattle.domain_world.specs.Claims.AskedFor.{AreSentForMessage, AsksForItsMessage, IsForItsMessage, IsOfMessage, MembersAskForMessages, SendsAskForMessages}
@@ -53,6 +50,7 @@ use Rattle.step_notes.proofs.Members.CallKeptLaws.{at_channel}
 use Rattle.step_notes.proofs.Members.CallLogonLaws.{calls_carry}
 use Rattle.step_notes.proofs.Members.KeptLogonLaws.{HasFor, IsFor, KeptIn, OfEach, each_found, turn_keeps}
 use Rattle.step_notes.proofs.Members.RequestOrderLaws.{requests_first}
+use Rattle.step_notes.proofs.Members.TurnUnitLaws.{turn_units_such}
 use Rattle.domain_world.proofs.Accepting.LetInLaws.{HoldsOf, run_holds}
 use Rattle.domain_world.proofs.Accepting.Messages.MessageNoteLaws.{one_so}
 use Rattle.domain_world.proofs.Requests.KeptAskLaws.{members_ask, one_asks}
@@ -76,36 +74,23 @@ module _ (Holds : Logons → Type 0) where
   abbrev pub AllHold : List (ServedUnit AtTurn TurnTalk) → Type 0
   AllHold units = AllByRecursion (λ (unit : ServedUnit AtTurn TurnTalk). Holds unit.work.work.logons) units
 
-  if_hold : (answer : Result (List Action) StepRefused) (units : List (ServedUnit AtTurn TurnTalk)) → AllHold units → AllHold (units_if_taken answer units)
-  if_hold (Ok actions) units all = all
-  if_hold (Err why) units all = tt
-
   abbrev pub HoldsPart : ServedPart AtTurn TurnTalk → Type 0
   HoldsPart (Err why) = Unit {0}
   HoldsPart (Ok part) = HoldsBy part.value.1 part.value.0.work.logons
 
   module _ (keeps : (unit : Result RpcUnit UnitRefused) (joiner : Option RpcUnit) (at : AtTurn) → Holds at.work.logons →
       HoldsBy (turn_unit unit joiner at).1 (turn_unit unit joiner at).0.work.logons) where
-    by_hold : (hit : Bool) (said : LinkState TurnTalk) (number : ℕ) (piece : List ℕ) (running : Running) (left : List (List ℕ)) → Holds running.logons →
-        AllHold (turn_units_by hit said number piece running left)
-    by_hold false said number piece running left holds = tt
-    by_hold true said number piece running left holds =
+    units_hold : (said : LinkState TurnTalk) (number : ℕ) (piece : List ℕ) (running : Running) (left : List (List ℕ)) → Holds running.logons →
+        AllHold (served_units turn_server (cut_stream (said.rest ++ piece)).units (at_turn number (work_of running)) said.talk left)
+    units_hold said number piece running left holds =
         served_such turn_server HoldsPart (λ (unit : ServedUnit AtTurn TurnTalk). Holds unit.work.work.logons)
         (λ bytes at talk left holds. (holds, keeps (unit_of bytes) talk.joiner at holds))
         (cut_stream (said.rest ++ piece)).units (at_turn number (work_of running)) said.talk left holds
 
-    on_hold : (how : Dialling) (number : ℕ) (piece : List ℕ) (running : Running) (left : List (List ℕ)) → Holds running.logons → AllHold (turn_units_on how number piece running left)
-    on_hold dialling.Nothing number piece running left holds = tt
-    on_hold (dialling.Waits turn frames) number piece running left holds = tt
-    on_hold (dialling.On other said) number piece running left holds = by_hold (other == number) said number piece running left holds
-
-    in_hold : (r : Option Running) (number : ℕ) (piece : List ℕ) (left : List (List ℕ)) → HoldsIn r → AllHold (turn_units_in r number piece left)
-    in_hold None number piece left holds = tt
-    in_hold (Some running) number piece left holds = on_hold running.dialling number piece running left holds
-
     all_hold : (m : MemberState) (number : ℕ) (piece : List ℕ) (now : ℕ) (left : List (List ℕ)) → HoldsIn m.running → AllHold (turn_units m number piece now left)
     all_hold m number piece now left holds =
-        if_hold (step_of m (event.Bytes number piece) now left).answer (turn_units_in m.running number piece left) (in_hold m.running number piece left holds)
+        turn_units_such (λ (unit : ServedUnit AtTurn TurnTalk). Holds unit.work.work.logons) (λ how running. Holds running.logons) number piece left
+        (λ other said running known. units_hold said number piece running left known) m now (λ running is. subst HoldsIn is holds)
 
 -- what holds of each logon that is kept
 module _ (Fits : ℕ → Logon → Type 0) where

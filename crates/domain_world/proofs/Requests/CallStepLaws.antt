@@ -24,12 +24,11 @@ use Rattle.step_notes.proofs.Members.KeptLogonLaws.{Dials}
 use Rattle.step_notes.proofs.Members.UnservedLaws.{Opens}
 use Rattle.world_moves.specs.declared.links.Route.{Route}
 use Rattle.world_moves.specs.Ends.{EndStates, client_step, controller_step, member_step, with_client, with_member}
-use Rattle.domain_world.specs.Accepting.Runs.{seen_member}
 use Rattle.domain_world.specs.Past.{controller_of_plan}
 use Rattle.domain_world.proofs.Accepting.LetInStepLaws.{IsAcceptedBy, IsDialledBy}
 use Rattle.domain_world.proofs.Requests.CallHoldsLaws.{CallsHold, differ_front, ends_other, marks_in, member_changed, more_steps, requests_at, views_at}
 use Rattle.domain_world.proofs.Requests.OutStepLaws.{MemberHolds, StaysKnown, none_out, not_bytes, quiet_holds}
-use Rattle.domain_world.proofs.Requests.StepApartLaws.{CoherentIf, Differ, HearsNone, other_apart, seen_or}
+use Rattle.domain_world.proofs.Requests.StepApartLaws.{CoherentIf, Differ, HearsNone, other_apart, seen_member, seen_or}
 
 -- what is proved of requesters and of a member's steps
 pub record CallLaws : Type 0 where

@@ -1,11 +1,9 @@
 -- Each Logon call that goes out at a member is whole, can be read back, and asks for the logon that the member keeps
 -- under the place of its turn, where what the member keeps is in its ranges. It serves `messages_are_called`.
-use Rattle.std.proofs.Common.{◌≡◌, ℕ, ◌<◌, ◌≤◌, ◌^◌, ◌==◌, Bool, true, false, List, [], ◌∷◌, ◌++◌, length, Option, Some, None, Result, Ok, Err, refl, sym, ap, subst, arith}
+use Rattle.std.proofs.Common.{◌≡◌, ℕ, ◌<◌, ◌≤◌, ◌^◌, Bool, true, List, [], ◌∷◌, ◌++◌, length, Option, Some, None, Result, Ok, Err, refl, sym, ap, subst, arith}
 use Rattle.std.specs.List.{AllByRecursion}
 use Rattle.wire_base.specs.Maps.{lookup, same_number}
-use Rattle.outside.specs.declared.action.Action.{Action}
 use Rattle.outside.specs.declared.action.Action.TheVariants as action
-use Rattle.outside.specs.declared.action.StepRefused.{StepRefused}
 use Rattle.outside.specs.declared.event.Event.TheVariants as event
 use Rattle.rpc_units.specs.declared.refused.JoinRefused.{JoinRefused}
 use Rattle.rpc_units.specs.declared.refused.JoinRefused.TheVariants as join
@@ -24,7 +22,7 @@ use Rattle.logon_stubs.specs.declared.calls.LogonCall.{LogonCall}
 use Rattle.logon_stubs.proofs.WrittenLaws.{call_of-written_call, written_call-content}
 use Rattle.end_links.specs.Links.{LinkState}
 use Rattle.end_links.specs.Sending.{frames_of, joined_frames, request_of}
-use Rattle.end_links.specs.Serving.{ServedPart, ServedUnit}
+use Rattle.end_links.specs.Serving.{ServedPart, ServedUnit, served_units}
 use Rattle.end_links.proofs.BoundLaws.{frames_joined}
 use Rattle.channel_client.specs.declared.answers.Taken.{Taken}
 use Rattle.channel_client.specs.declared.answers.Taken.TheVariants as taken
@@ -49,17 +47,18 @@ use Rattle.member_server.specs.declared.state.Dialling.TheVariants as dialling
 use Rattle.member_server.specs.declared.state.Logon.{Logon}
 use Rattle.member_server.specs.declared.state.Running.{Running}
 use Rattle.member_server.specs.declared.state.TurnTalk.{TurnTalk}
-use Rattle.member_server.specs.Machine.{at_turn, step_of, work_of}
+use Rattle.member_server.specs.Machine.{at_turn, work_of}
 use Rattle.member_server.specs.State.{State as MemberState}
 use Rattle.member_server.specs.Turns.{TurnServed, do_taken, turn_by_join, turn_server, turn_unit}
 use Rattle.step_notes.specs.CallLogons.{AsksForKept, IsStamped, IsStampedStep, info_at}
-use Rattle.step_notes.specs.MemberNotes.{TurnNote, asked_note, taken_note, taking_joined, taking_note, taking_read, turn_note, turn_units, turn_units_by, turn_units_in, turn_units_on}
-use Rattle.step_notes.specs.Served.{units_if_taken, work_after}
+use Rattle.step_notes.specs.MemberNotes.{TurnNote, asked_note, taken_note, taking_joined, taking_note, taking_read, turn_note, turn_units}
+use Rattle.step_notes.specs.Served.{work_after}
 use Rattle.step_notes.proofs.ServedLaws.{served_such}
 use Rattle.step_notes.proofs.Channels.ChannelNameLaws.{bound_at}
 use Rattle.step_notes.proofs.Members.CallKeptLaws.{TurnAsksBy, at_channel, turn_asks}
 use Rattle.step_notes.proofs.Members.TurnRequestLaws.{HasLogon, IsOfTurn, asked_after, first_logon, of_turn}
 use Rattle.step_notes.proofs.Members.KeptLogonLaws.{OfEach, turn_keeps}
+use Rattle.step_notes.proofs.Members.TurnUnitLaws.{turn_units_such}
 
 -- ---- what goes out
 
@@ -276,10 +275,9 @@ module _ (law : RequestersSendWhole) where
     ReadyPart (Err why) = Unit {0}
     ReadyPart (Ok part) = ReadyBy part.value.1 part.value.0
 
-    by_ready : (hit : Bool) (said : LinkState TurnTalk) (piece : List ℕ) (running : Running) (left : List (List ℕ)) → IsReady Fits link (at_turn link (work_of running)) →
-        AllReady (turn_units_by hit said link piece running left)
-    by_ready false said piece running left ready = tt
-    by_ready true said piece running left ready =
+    units_ready : (said : LinkState TurnTalk) (piece : List ℕ) (running : Running) (left : List (List ℕ)) → IsReady Fits link (at_turn link (work_of running)) →
+        AllReady (served_units turn_server (cut_stream (said.rest ++ piece)).units (at_turn link (work_of running)) said.talk left)
+    units_ready said piece running left ready =
         served_such turn_server ReadyPart (IsReadyUnit Fits link controller)
         (λ bytes at talk left ready.
         let served : TurnServed = turn_unit (unit_of bytes) talk.joiner at in (
@@ -289,19 +287,7 @@ module _ (law : RequestersSendWhole) where
         ))
         (cut_stream (said.rest ++ piece)).units (at_turn link (work_of running)) said.talk left ready
 
-    on_ready : (how : Dialling) (piece : List ℕ) (running : Running) (left : List (List ℕ)) → ReadyOn Fits link how running → AllReady (turn_units_on how link piece running left)
-    on_ready dialling.Nothing piece running left ready = tt
-    on_ready (dialling.Waits turn frames) piece running left ready = tt
-    on_ready (dialling.On other said) piece running left ready = by_ready (other == link) said piece running left ready
-
-    in_ready : (r : Option Running) (piece : List ℕ) (left : List (List ℕ)) → ReadyIn Fits link r → AllReady (turn_units_in r link piece left)
-    in_ready None piece left ready = tt
-    in_ready (Some running) piece left ready = on_ready running.dialling piece running left ready
-
-    if_ready : (answer : Result (List Action) StepRefused) (units : List (ServedUnit AtTurn TurnTalk)) → AllReady units → AllReady (units_if_taken answer units)
-    if_ready (Ok actions) units all = all
-    if_ready (Err why) units all = tt
-
     pub turns_ready : (m : MemberState) (piece : List ℕ) (now : ℕ) (left : List (List ℕ)) → ReadyIn Fits link m.running → AllReady (turn_units m link piece now left)
     turns_ready m piece now left ready =
-        if_ready (step_of m (event.Bytes link piece) now left).answer (turn_units_in m.running link piece left) (in_ready m.running piece left ready)
+        turn_units_such (IsReadyUnit Fits link controller) (λ how running. ReadyOn Fits link how running) link piece left
+        (λ other said running known. units_ready said piece running left known) m now (λ running is. subst (ReadyIn Fits link) is ready)

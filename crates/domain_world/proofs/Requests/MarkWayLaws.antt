@@ -28,7 +28,7 @@ use Rattle.channel_events.specs.Marks.{Mark, Plain}
 use Rattle.step_notes.specs.ControllerNotes.{Where, answer_on, call_answer, channel_in, has_passed, heard_answer, judging_by, judging_of, opened_by, opened_mark, opening, passing, reply_mark, units_of_controller}
 use Rattle.step_notes.specs.Marking.{answered_marks, mark_if, turn_marks}
 use Rattle.step_notes.specs.MemberNotes.{asked_note, taken_note, taking_at, taking_note, turn_note, turn_units}
-use Rattle.step_notes.specs.Records.{Book, Judging, computer_in}
+use Rattle.step_notes.specs.Records.{Book, Judging, computer_named}
 use Rattle.step_notes.specs.Served.{work_after}
 use Rattle.world_moves.specs.declared.bag.BagUnit.{BagUnit}
 use Rattle.world_moves.specs.declared.moves.Move.{Move}
@@ -89,7 +89,7 @@ passing_way (Some channel) j = reply_way j.unit channel j.number
 
 judging_way : (passed : Bool) (j : Judging) → IsReply (judging_by passed j).mark
 judging_way false j = tt
-judging_way true j = passing_way (channel_in j.controller (computer_in j.asked) j.computers) j
+judging_way true j = passing_way (channel_in j.controller (computer_named j.asked) j.computers) j
 
 call_way : (c : Call) (line : Line) (w : Where) (before : Desk) (after : Option Desk) → IsReply (call_answer c line w before after).mark
 call_way (call.Challenge c) line w before after = tt

@@ -34,8 +34,9 @@ use Rattle.step_notes.specs.EffectNotes.{IsNotedBy, opening_out_of}
 use Rattle.step_notes.specs.MemberNotes.{TurnNote, no_note, request_note, taking_note}
 use Rattle.step_notes.proofs.Channels.EffectNoteLaws.{steps_are_noted}
 use Rattle.step_notes.proofs.Members.RestLaws.{event_rest}
-use Rattle.domain_world.specs.Accepting.Runs.{seen_running}
+use Rattle.domain_world.specs.Accepting.Runs.{view_with}
 use Rattle.domain_world.proofs.Requests.LooserLaws.{IsPlaced, NoCalls, Placed, drawn_before, fewer_marks, looser, more_marks, placed_marks}
+use Rattle.domain_world.specs.Past.{requester_in, running_in}
 
 -- ---- draws that differ
 
@@ -258,6 +259,15 @@ module _ (keep : RequestersKeepCallsApart) (views : ℕ → Option View) (who co
         subst (λ (x : Requester). StandsAfter x after) (sym next.2)
         (subst (λ (d : List (List ℕ)). StandsApart views who controller (start_of s (timestamp_of now) challenge).state marks d (uses + 1)) (sym same)
         (started s (timestamp_of now) challenge true marks (drawn ++ rest.front) uses few can need fresh stands))
+
+-- ---- members
+
+-- how a member is seen, which asks
+abbrev pub seen_running : ℕ → Option Running → Option View
+seen_running controller r = view_with controller (requester_in r)
+
+abbrev pub seen_member : ℕ → Option MemberState → Option View
+seen_member controller found = view_with controller (requester_in (running_in found))
 
 -- ---- a step
 

@@ -1,7 +1,7 @@
 -- Each reply to a call answers one that was made on its channel, of that number, which passed then.
 -- It serves `replies_answer_calls`.
-use Rattle.std.proofs.Common.{◌≡◌, ℕ, false, List, Some, refl, subst}
-use Rattle.channel_events.specs.Marks.{Mark, ReplyTo}
+use Rattle.std.proofs.Common.{◌≡◌, false, List, Some, refl, subst}
+use Rattle.channel_events.specs.Marks.{Mark}
 use Rattle.channel_events.proofs.ListLaws.{one_weaker}
 use Rattle.step_notes.specs.ControllerNotes.{has_passed}
 use Rattle.step_notes.specs.Records.{Judging}

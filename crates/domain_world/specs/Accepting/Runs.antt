@@ -9,6 +9,7 @@ use Rattle.channel_client.specs.Effects.{View, view_of}
 use Rattle.channel_client.specs.declared.state.Pending.{Pending}
 use Rattle.channel_client.specs.declared.state.Question.TheVariants as question
 use Rattle.channel_client.specs.declared.state.Step.TheVariants as step
+use Rattle.channel_client.specs.State.{Requester}
 use Rattle.domain_controller.specs.State.{State as ControllerState}
 use Rattle.domain_controller.specs.declared.state.Running.{Running as ControllerRunning}
 use Rattle.domain_controller.specs.declared.state.Talk.{Talk as ControllerTalk}
@@ -20,7 +21,7 @@ use Rattle.member_server.specs.declared.state.Running.{Running as MemberRunning}
 use Rattle.channel_events.specs.Marks.{Calling, OneOf}
 use Rattle.channel_events.specs.Requests.{CallsAreApart, Requests}
 use Rattle.step_notes.specs.ChannelNames.{standing_channel}
-use Rattle.step_notes.specs.Records.{MessageTaken, Sent}
+use Rattle.step_notes.specs.Records.{MessageTaken, RequesterId, Sent}
 use Rattle.world_moves.specs.declared.bag.BagUnit.{BagUnit}
 use Rattle.world_moves.specs.declared.links.LinkKind.TheVariants as kind
 use Rattle.world_moves.specs.declared.links.Route.{Route}
@@ -28,11 +29,10 @@ use Rattle.world_moves.specs.declared.links.Route.TheVariants.{ToController}
 use Rattle.world_moves.specs.declared.moves.Move.{Move}
 use Rattle.world_moves.specs.declared.plan.Plan.{Plan}
 use Rattle.world_moves.specs.declared.state.State.{State}
-use Rattle.world_moves.specs.Draws.{DrawsDiffer}
 use Rattle.world_moves.specs.Forms.{IsSchedule}
 use Rattle.domain_world.specs.Accepting.Carried.{IsWholeUnit}
-use Rattle.domain_world.specs.Accepting.Units.{HasMarksOf, UnitsAreHeard}
-use Rattle.domain_world.specs.Past.{Past, controller_of, past}
+use Rattle.domain_world.specs.Accepting.Units.{HasMarksOf}
+use Rattle.domain_world.specs.Past.{Past, controller_asked, controller_of, past, requester_at}
 
 -- ---- what is under way between members and controllers is whole
 
@@ -69,18 +69,18 @@ pub record IsQuiet (s : State) : Type 0 where
 
 -- ---- calls
 
-abbrev pub seen_running : ℕ → Option MemberRunning → Option View
-seen_running controller None = None
-seen_running controller (Some running) = Some (view_of controller running.logons.channel)
+abbrev pub view_with : ℕ → Option Requester → Option View
+view_with controller None = None
+view_with controller (Some requester) = Some (view_of controller requester)
 
-abbrev pub seen_member : ℕ → Option MemberState → Option View
-seen_member controller None = None
-seen_member controller (Some m) = seen_running controller m.running
+-- how who asks is seen in a state
+abbrev pub seen_in : State → RequesterId → Option View
+seen_in s who = view_with (controller_asked who s) (requester_at s who)
 
 -- how requesters are seen in a world; and no number comes round: a move comes to 40 of them at most, where a link that
 -- is open stands for those that its end can come to
-pub record Shows (r : Requests ℕ) (past : Past) (moves : ℕ) : Type 0 where
-  pub views : (k : ℕ) → r.views k ≡ seen_member (controller_of k past.world.state) (slice_get past.world.state.ends.members k)
+pub record Shows (r : Requests RequesterId) (past : Past) (moves : ℕ) : Type 0 where
+  pub views : (who : RequesterId) → r.views who ≡ seen_in past.world.state who
   pub marks : HasMarksOf past r
   pub drawn : r.drawn ≡ past.world.state.chances.drawn
   pub few : r.uses + 4 * length past.world.state.open_links ≤ 40 * moves
@@ -108,14 +108,14 @@ AskedIsOut past =
 
 pub record RunsStandSo (plan : Plan) (moves : List Move) : Type 0 where
   pub quiet : IsQuiet (past plan moves).world.state
-  pub requests : Requests ℕ
+  pub requests : Requests RequesterId
   pub shows : Shows requests (past plan moves) (length moves)
   pub apart : CallsAreApart requests
   pub out : AskedIsOut (past plan moves)
 
 -- no number comes round within a schedule
 abbrev pub NumbersSuffice : Type 0
-NumbersSuffice = (plan : Plan) (moves : List Move) (r : Requests ℕ) → IsSchedule plan moves → Shows r (past plan moves) (length moves) → r.uses + 2 < 2 ^ 32
+NumbersSuffice = (plan : Plan) (moves : List Move) (r : Requests RequesterId) → IsSchedule plan moves → Shows r (past plan moves) (length moves) → r.uses + 2 < 2 ^ 32
 
 -- the first world
 abbrev pub FirstWorldsStandSo : Type 0

@@ -1,8 +1,8 @@
 -- What the claims on answers rest on in a run whose draws differ: each fact is of one unit of the bag, one message or
 -- one step.
-use Rattle.std.specs.Prelude.{ℕ, ◌≡◌, List, map}
+use Rattle.std.specs.Prelude.{◌≡◌, List, map}
 use Rattle.channel_events.specs.Requests.{CallsAreApart, Requests}
-use Rattle.step_notes.specs.Records.{Sent}
+use Rattle.step_notes.specs.Records.{RequesterId, Sent}
 use Rattle.world_moves.specs.declared.moves.Move.{Move}
 use Rattle.world_moves.specs.declared.plan.Plan.{Plan}
 use Rattle.world_moves.specs.Draws.{DrawsDiffer}
@@ -27,11 +27,11 @@ pub record UnitsAreHeard (past : Past) : Type 0 where
   pub taken : MessagesAreTakenAsSent past
 
 -- requesters whose marks are those of what was sent, whatever is seen of them
-abbrev pub HasMarksOf : Past → Requests ℕ → Type 0
+abbrev pub HasMarksOf : Past → Requests RequesterId → Type 0
 HasMarksOf past r = r.marks ≡ map (λ (one : Sent). one.mark) past.book.sent
 
 pub record RunsAreHeard : Type 0 where
-  pub numbers : (past : Past) (r : Requests ℕ) → HasMarksOf past r → CallsAreApart r → CallsHaveNumbers past
+  pub numbers : (past : Past) (r : Requests RequesterId) → HasMarksOf past r → CallsAreApart r → CallsHaveNumbers past
   pub heard : (plan : Plan) (moves : List Move) → UnitsAreHeard (past plan moves) → DrawsDiffer (past plan moves).world → AnswersAreHeard (past plan moves)
   pub only : (plan : Plan) (moves : List Move) → UnitsAreHeard (past plan moves) → DrawsDiffer (past plan moves).world → IsClear (past plan moves).book →
       AcceptsOnlyGranted (past plan moves)

@@ -8,7 +8,7 @@ use Rattle.account_table.specs.Changes.{DifferInCounts}
 use Rattle.sam_logon.specs.MayLogOn.{MayLogOn, ResponseVerifies}
 use Rattle.domain_controller.specs.Laws.{IsNext}
 use Rattle.domain_controller.specs.Machine.{IsServedLevel}
-use Rattle.step_notes.specs.Records.{Judging, computer_in, given_in, network_in}
+use Rattle.step_notes.specs.Records.{Judging, computer_named, given_in, network_in}
 use Rattle.world_moves.specs.declared.plan.Plan.{Plan}
 use Rattle.domain_world.specs.Past.{Past}
 
@@ -19,7 +19,7 @@ use Rattle.domain_world.specs.Past.{Past}
 -- account may log on, and the response is the written function of the stored hash and of the challenge that the call
 -- names.
 pub record IsToBeGranted (j : Judging) : Type 0 where
-  pub next : IsNext j.computers (computer_in j.asked) (given_in j.asked)
+  pub next : IsNext j.computers (computer_named j.asked) (given_in j.asked)
   pub level : IsServedLevel (network_in j.asked).validation
   pub may : MayLogOn j.table (network_in j.asked).info j.moment
   pub verifies : ResponseVerifies j.table (network_in j.asked).info

@@ -37,7 +37,7 @@ use Rattle.channel_client.specs.declared.caller.Caller.{Caller}
 use Rattle.channel_client.specs.declared.state.Question.TheVariants as question
 use Rattle.channel_client.specs.Machine.{auth_call, challenge_call, level_asked, logon_call, offered_flags}
 use Rattle.authenticators.specs.SecureChannels.{SecureChannelState, key_of_channel, channel_by, passes_on, return_by}
-use Rattle.authenticators.proofs.BlockLaws.{cred_block}
+use Rattle.authenticators.proofs.BlockLaws.{cred_block, zeros_block}
 use Rattle.domain_controller.specs.Hearing.{bound_talk}
 use Rattle.domain_controller.specs.Machine.{Desk, account_for, channel_for, desk, goes_on, judge_account, judge_channel, judge_info, judge_pair, judge_return as return_judged, open_channel, put_channel, put_pair_if, reply_info, send_reply, status_of, take_channel, take_pair}
 use Rattle.domain_controller.specs.State.{State}
@@ -53,7 +53,6 @@ use Rattle.domain_controller.proofs.WholeParts.{Fits, crypt_block, judged_fits, 
 use Rattle.logon_steps.specs.Answering.{auth_value, pair_of}
 use Rattle.logon_steps.specs.ControllerTurns.{controller_at, passed_reply, turn_link}
 use Rattle.logon_steps.specs.Turning.{IsTurnReply, turn_agreed, turn_request}
-use Rattle.logon_steps.proofs.CallingLaws.{zeros_block}
 use Rattle.logon_steps.proofs.ControllerTurnLaws.{asked_steps, running, stepped}
 use Rattle.logon_steps.proofs.KnowingLaws.{computers_are_known}
 use Rattle.logon_runs.specs.Any.ControllerAnswers.{ControllersAnswer, KeepsBut, TellsShort, ToldChallenge, ToldLogon, ToldProof}

@@ -11,6 +11,7 @@ use Rattle.std.proofs.lemmas.List.Elements.{All-get_or, All-head, All-tail}
 use Rattle.std.proofs.lemmas.Option.{slice_get-map}
 use Rattle.wire_base.specs.Names.{IsName}
 use Rattle.wire_base.specs.Units.{AreUnits}
+use Rattle.wire_base.proofs.NumberLaws.{bytes_from_all}
 use Rattle.channel_keys.specs.Des.{IsBlock as IsDesBlock}
 use Rattle.channel_keys.proofs.CredLaws.{IsBlock-cred_of}
 use Rattle.outside.specs.Counter.{challenge_of, challenges_from, most_draws}
@@ -33,7 +34,7 @@ use Rattle.world_moves.proofs.RangeLaws.{table_in_range}
 use Rattle.logon_steps.specs.Answers.{AreDraws, HasUnits}
 use Rattle.logon_steps.specs.ClientSteps.{client_ended}
 use Rattle.logon_steps.specs.Meeting.{HasShortNames}
-use Rattle.logon_steps.proofs.CallingLaws.{are_bytes, calls_can_go}
+use Rattle.logon_steps.proofs.CallingLaws.{calls_can_go}
 use Rattle.logon_steps.proofs.KnowingLaws.{computers_are_known}
 use Rattle.logon_steps.proofs.TellingLaws.{logons_are_short}
 use Rattle.logon_runs.specs.Seen.AskScenes.{with_controller}
@@ -90,7 +91,7 @@ unfolding challenge_of
 draw_is seed count = IsBlock-cred_of _ _
 
 draw_block : (seed : List ℕ) (count : ℕ) → IsBlock 8 (challenge_of seed 0 count)
-draw_block seed count = ((draw_is seed count).eight, are_bytes (challenge_of seed 0 count) (draw_is seed count).bytes)
+draw_block seed count = ((draw_is seed count).eight, bytes_from_all (challenge_of seed 0 count) (draw_is seed count).bytes)
 
 six_left : (seed : List ℕ) →
     challenges_from seed 0 0 (most_draws - 0)

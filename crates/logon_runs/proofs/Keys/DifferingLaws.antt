@@ -33,7 +33,7 @@ use Rattle.logon_client.specs.declared.state.Question.{Question}
 use Rattle.logon_client.specs.declared.state.Question.TheVariants as client_question
 use Rattle.logon_client.specs.declared.state.Terms.{Terms}
 use Rattle.logon_client.specs.Machine as client
-use Rattle.unit_security.specs.Levels.{is_sealed}
+use Rattle.unit_security.specs.Levels.{is_plain, is_sealed}
 use Rattle.logon_client.specs.Plans.{CanLogOn}
 use Rattle.unit_security.specs.declared.securing.Secured.{Secured}
 use Rattle.unit_security.specs.Opening.{HasRoom, Travels}
@@ -44,7 +44,6 @@ use Rattle.member_server.specs.declared.memo.Answer.TheVariants as answer
 use Rattle.member_server.specs.declared.state.AtLink.{AtLink}
 use Rattle.member_server.specs.declared.state.Bound.{Bound}
 use Rattle.member_server.specs.declared.state.LoggedOn.{LoggedOn}
-use Rattle.member_server.specs.Levels.{is_plain}
 use Rattle.member_server.specs.Memo.{call_answer, echo_answer, memo_answer, who_answer}
 use Rattle.member_server.specs.Requests.{cause_by, is_due, join_by, join_opened, join_unit, open_request, reply, secure_reply, send_reply, signed_cause, signed_unit, talk_in, unit_in, with_session}
 use Rattle.member_server.specs.Work.{Served, send, shut, stay}

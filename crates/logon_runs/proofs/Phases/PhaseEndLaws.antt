@@ -3,6 +3,7 @@
 use Rattle.std.proofs.Common.{◌≡◌, ℕ, ◌<◌, ◌≤◌, ◌^◌, Bool, true, false, refl, sym, subst, ◌∙◌, List, [], ◌∷◌, ◌++◌, length, Option, Some, None, arith, inr}
 use Rattle.std.specs.Prelude.{◌==◌}
 use Rattle.wire_base.specs.Units.{AreUnits}
+use Rattle.wire_base.proofs.NumberLaws.{bytes_from_all}
 use Rattle.channel_keys.specs.Hidden.{crypt_key}
 use Rattle.authenticators.specs.SecureChannels.{SecureChannelState, after_call, after_return, fresh_channel, key_of_channel}
 use Rattle.ntlm_seal.specs.Sessions.{SessionState}
@@ -32,7 +33,7 @@ use Rattle.logon_steps.specs.MemberAnswers.{granting, sam_shown}
 use Rattle.logon_steps.specs.MemoCalls.{ReplyGoes, RequestGoes, logged_on, with_session}
 use Rattle.logon_steps.specs.Turning.{IsTurnReply}
 use Rattle.logon_steps.proofs.AnsweringLaws.{calls_are_answered}
-use Rattle.logon_steps.proofs.CallingLaws.{are_bytes, calls_can_go}
+use Rattle.logon_steps.proofs.CallingLaws.{calls_can_go}
 use Rattle.logon_steps.proofs.ClientStepLaws.{echo_are, echo_length}
 use Rattle.logon_steps.proofs.GrantingLaws.{logons_are_granted}
 use Rattle.logon_steps.proofs.MemoCallLaws.{memo_calls_go}
@@ -62,7 +63,7 @@ use Rattle.logon_runs.proofs.Phases.PhaseStartLaws.{ComesBy, under, zero_so}
 base_block : (p : Coming) (a : Asked) → IsBlock 16 (base_key p.meeting.task (message_for (own p) a))
 base_block p a = (
   length-base_key_of p.meeting.task.hash p.meeting.task.user p.meeting.task.domain (message_for (own p) a).nt,
-  are_bytes (base_key p.meeting.task (message_for (own p) a)) (All-base_key_of p.meeting.task.hash p.meeting.task.user p.meeting.task.domain (message_for (own p) a).nt),
+  bytes_from_all (base_key p.meeting.task (message_for (own p) a)) (All-base_key_of p.meeting.task.hash p.meeting.task.user p.meeting.task.domain (message_for (own p) a).nt),
 )
 
 module _ (p : Coming) (a : Asked) (o : SecureChannelState) (timestamp judged_at : ℕ) (known : IsKnown p) where

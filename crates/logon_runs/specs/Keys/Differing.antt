@@ -23,7 +23,7 @@ use Rattle.logon_client.specs.Machine as client
 use Rattle.logon_client.specs.Plans.{CanLogOn}
 use Rattle.member_server.specs.declared.state.AtLink.{AtLink}
 use Rattle.member_server.specs.declared.state.LoggedOn.{LoggedOn}
-use Rattle.member_server.specs.Levels.{is_plain}
+use Rattle.unit_security.specs.Levels.{is_plain}
 use Rattle.member_server.specs.Requests.{talk_in, unit_in}
 use Rattle.member_server.specs.Work.{send, shut, stay}
 use Rattle.logon_steps.specs.ClientSteps.{client_at, client_ended, on_link}

@@ -15,7 +15,7 @@ use Rattle.ntlm_flags.specs.Flags.{has_flag}
 use Rattle.channel_keys.specs.Credentials.{cred_of}
 use Rattle.channel_keys.specs.Flags.{rc4_flag, supported_flags}
 use Rattle.channel_keys.specs.SessionKeys.{key_of}
-use Rattle.authenticators.specs.SecureChannels.{channel_of, SecureChannelState, after_return, fresh_channel, is_awaited, channel_by as moved_by_call, key_of_channel, passes_on, return_by}
+use Rattle.authenticators.specs.SecureChannels.{channel_of, SecureChannelState, after_return, fresh_channel, is_awaited, channel_by, key_of_channel, passes_on, return_by}
 use Rattle.rpc_units.specs.declared.unit.Body.{Body}
 use Rattle.rpc_units.specs.declared.unit.Body.TheVariants.{Bind, BindAck, BindNak, Auth3, Request, Response, Fault}
 use Rattle.rpc_units.specs.declared.unit.Unit.{Unit as RpcUnit}
@@ -62,10 +62,10 @@ use Rattle.domain_controller.specs.declared.state.Work.{Work}
 use Rattle.channel_events.specs.Marks.{Calling, Opening}
 use Rattle.channel_events.proofs.SameLaws.{same_self}
 use Rattle.step_notes.specs.ChannelNames.{AreFramesOf, CallsAreNamedAlike, ChallengesAreShared, ChannelsAreNamedAlike, ChannelsStandAsAsked, ExchangesHaveNoClash, Expects, HasChannel, IsOfOther, OpeningsAreNamedAlike, OwnUnitsAreNoClash, StandsOrGoes, WillAsk, WillCall, WillOpen, frames_sent, opened_call, opened_unit, channel_marked, passed_note, place_answered, standing_channel}
-use Rattle.step_notes.specs.ControllerNotes.{Answered, channel_by, channel_in, has_passed, judging_by, opened_account, opened_by, opened_if, opened_offer, opened_pair, opening, passing}
+use Rattle.step_notes.specs.ControllerNotes.{Answered, identity_by, channel_in, has_passed, judging_by, opened_account, opened_by, opened_if, opened_offer, opened_pair, opening, passing}
 use Rattle.step_notes.specs.Marking.{clashes, is_channel}
 use Rattle.step_notes.specs.MemberNotes.{TurnNote, asked_note, half_channel, request_note, taking_note, timestamp_bound}
-use Rattle.step_notes.specs.Records.{Judging, Sent, computer_in, timestamp_in}
+use Rattle.step_notes.specs.Records.{Judging, Sent, computer_named, timestamp_in}
 use Rattle.step_notes.specs.Served.{work_after}
 
 some_is : {T : Type 0} (one other : T) → Some one ≡ Some other → one ≡ other
@@ -445,7 +445,7 @@ named_alike controller account s client server same = ap₂ (named controller s.
 
 opens_named : (controller : ℕ) (s : Requester) (client server : List ℕ) (d : Desk) → Expects d s client server → opened_by controller (auth_of s client server) d ≡ Some (half_channel controller s client server)
 opens_named controller s client server d expects =
-    ap (channel_by controller s.caller.computer)
+    ap (identity_by controller s.caller.computer)
     (ap₂ (λ (account : Option Account) (pair : Option ChallengePair). opened_account account pair (auth_of s client server)) expects.found expects.pair
     ∙ opened_known expects.account s client server expects.secret)
     ∙ ap Some (named_alike controller expects.account s client server expects.secret)
@@ -522,7 +522,7 @@ draw_has (server ∷ left) line c talk d channel has =
 
 -- another opening leaves it, unless it is accepted for that computer
 open_has : (right : Bool) (controller : ℕ) (state : SecureChannelState) (line : Line) (c : AuthCall) (work : Work) (channel : ChannelIdentity) → HasChannel work.computers channel →
-    IsOfOther channel.computer (channel_by controller c.computer (opened_if right state)) → HasChannel (open_channel right state line c work).computers channel
+    IsOfOther channel.computer (identity_by controller c.computer (opened_if right state)) → HasChannel (open_channel right state line c work).computers channel
 open_has false controller state line c work channel has other = same_channels work.computers _ channel refl has
 open_has true controller state line c work channel has other = record {
   state = has.state;
@@ -531,18 +531,18 @@ open_has true controller state line c work channel has other = record {
 }
 
 pair_has : (pair : Option ChallengePair) (controller : ℕ) (account : Account) (line : Line) (c : AuthCall) (work : Work) (channel : ChannelIdentity) → HasChannel work.computers channel →
-    IsOfOther channel.computer (channel_by controller c.computer (opened_pair pair account c)) → HasChannel (judge_pair pair account line c work).computers channel
+    IsOfOther channel.computer (identity_by controller c.computer (opened_pair pair account c)) → HasChannel (judge_pair pair account line c work).computers channel
 pair_has None controller account line c work channel has other = same_channels work.computers _ channel refl has
 pair_has (Some pair) controller account line c work channel has other =
     open_has (bytes_eq c.credential (cred_of (key_of_channel (channel_for account pair c)) pair.client)) controller (channel_for account pair c) line c work channel has other
 
 offer_has : (offered : Bool) (pair : Option ChallengePair) (controller : ℕ) (account : Account) (line : Line) (c : AuthCall) (work : Work) (channel : ChannelIdentity) → HasChannel work.computers channel →
-    IsOfOther channel.computer (channel_by controller c.computer (opened_offer offered pair account c)) → HasChannel (judge_offer offered pair account line c work).computers channel
+    IsOfOther channel.computer (identity_by controller c.computer (opened_offer offered pair account c)) → HasChannel (judge_offer offered pair account line c work).computers channel
 offer_has false pair controller account line c work channel has other = same_channels work.computers _ channel refl has
 offer_has true pair controller account line c work channel has other = pair_has pair controller account line c work channel has other
 
 account_has : (account : Option Account) (pair : Option ChallengePair) (controller : ℕ) (line : Line) (c : AuthCall) (work : Work) (channel : ChannelIdentity) → HasChannel work.computers channel →
-    IsOfOther channel.computer (channel_by controller c.computer (opened_account account pair c)) → HasChannel (judge_account account pair line c work).computers channel
+    IsOfOther channel.computer (identity_by controller c.computer (opened_account account pair c)) → HasChannel (judge_account account pair line c work).computers channel
 account_has None pair controller line c work channel has other = same_channels work.computers _ channel refl has
 account_has (Some account) pair controller line c work channel has other = offer_has (has_flag c.flags rc4_flag) pair controller account line c work channel has other
 
@@ -572,7 +572,7 @@ found_alike one other (entry ∷ entries) is =
     ap (λ (hit : Bool). if hit then Some entry.1 else lookup same_name one entries) (tests_alike one other entry.0 is)
     ∙ ap (λ (rest : Option SecureChannelState). if same_name other entry.0 then Some entry.1 else rest) (found_alike one other entries is)
 
-moved_named : (passes : Bool) (controller : ℕ) (computer : List ℕ) (state : SecureChannelState) (given : Authenticator) → channel_of controller computer (moved_by_call passes state given) ≡ channel_of controller computer state
+moved_named : (passes : Bool) (controller : ℕ) (computer : List ℕ) (state : SecureChannelState) (given : Authenticator) → channel_of controller computer (channel_by passes state given) ≡ channel_of controller computer state
 moved_named false controller computer state given = refl
 moved_named true controller computer state given = refl
 
@@ -586,7 +586,7 @@ other_has : (found : Option SecureChannelState) (computer : List ℕ) (given : A
     same_name computer channel.computer ≡ false → HasChannel d.work.computers channel → HasChannel (judge_channel found computer given name now line info validation d).work.computers channel
 other_has None computer given name now line info validation d channel differs has = same_channels d.work.computers _ channel refl has
 other_has (Some state) computer given name now line info validation d channel differs has =
-    let moved : SecureChannelState = moved_by_call (passes_on state given) state given in
+    let moved : SecureChannelState = channel_by (passes_on state given) state given in
     let later : Desk = desk d.table (put_channel computer moved d.work) in
     let same = returned_same (return_by (passes_on state given) state given) (key_of_channel state) name now line info validation later in
     record {
@@ -601,7 +601,7 @@ own_has : (state : SecureChannelState) (computer : List ℕ) (given : Authentica
     same_name computer channel.computer ≡ true → channel_of channel.controller channel.computer state ≡ channel →
     HasChannel (judge_channel (Some state) computer given name now line info validation d).work.computers channel
 own_has state computer given name now line info validation d channel same is =
-    let moved : SecureChannelState = moved_by_call (passes_on state given) state given in
+    let moved : SecureChannelState = channel_by (passes_on state given) state given in
     let later : Desk = desk d.table (put_channel computer moved d.work) in
     let kept = returned_same (return_by (passes_on state given) state given) (key_of_channel state) name now line info validation later in
     record {
@@ -658,13 +658,13 @@ part_has (Ok part) channel later has is = subst (λ (d : Desk). HasChannel d.wor
 
 -- ---- a call passes on it
 
-passes_named : (j : Judging) (channel : ChannelIdentity) → j.controller ≡ channel.controller → computer_in j.asked ≡ Some channel.computer → HasChannel j.computers channel → has_passed j.how ≡ true →
+passes_named : (j : Judging) (channel : ChannelIdentity) → j.controller ≡ channel.controller → computer_named j.asked ≡ Some channel.computer → HasChannel j.computers channel → has_passed j.how ≡ true →
     judging_by (has_passed j.how) j ≡ passing (Some channel) j
 passes_named j channel at names has passed =
     ap (λ (so : Bool). judging_by so j) passed
     ∙ ap (λ (c : Option ChannelIdentity). passing c j)
     (ap₂ (λ (controller : ℕ) (computer : Option (List ℕ)). channel_in controller computer j.computers) at names
-    ∙ ap (channel_by channel.controller channel.computer) has.kept ∙ ap Some has.is)
+    ∙ ap (identity_by channel.controller channel.computer) has.kept ∙ ap Some has.is)
 
 pub calls : CallsAreNamedAlike
 calls = record {

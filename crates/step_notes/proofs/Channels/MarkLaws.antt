@@ -10,7 +10,7 @@ use Rattle.ntlm_flags.specs.Flags.{has_flag}
 use Rattle.channel_keys.specs.Credentials.{cred_of}
 use Rattle.channel_keys.specs.Flags.{rc4_flag}
 use Rattle.authenticators.specs.Channels.{ChannelIdentity}
-use Rattle.authenticators.specs.SecureChannels.{SecureChannelState, channel_by as moved_by_call, key_of_channel, passes_on, return_by}
+use Rattle.authenticators.specs.SecureChannels.{SecureChannelState, channel_by, key_of_channel, passes_on, return_by}
 use Rattle.outside.specs.declared.action.Action.{Action}
 use Rattle.outside.specs.declared.action.Action.TheVariants as action
 use Rattle.outside.specs.declared.action.Judged.{Judged}
@@ -68,7 +68,7 @@ use Rattle.step_notes.specs.ChannelNames.{IsMarkedBy, UnitsHaveTheirMarks, link_
 use Rattle.step_notes.specs.ControllerNotes.{Answered, Where, answer_on, call_answer, channel_in, has_passed, heard_answer, judging_by, judging_of, opened_by, opening, passing, units_at, units_by}
 use Rattle.step_notes.specs.Marking.{answered_marks, mark_if}
 use Rattle.step_notes.specs.MemberNotes.{asked_note, taken_note, taking_joined, taking_note, taking_read, turn_note}
-use Rattle.step_notes.specs.Records.{Judging, computer_in}
+use Rattle.step_notes.specs.Records.{Judging, computer_named}
 use Rattle.step_notes.specs.Served.{talk_after, units_if_taken, work_after}
 use Rattle.step_notes.proofs.ServedLaws.{StaysNoted, served_mapped}
 
@@ -195,7 +195,7 @@ channel_one : (found : Option SecureChannelState) (computer : List ℕ) (given :
 channel_one None computer given name now line info validation d = judged_more d.work.actions _ line.link _
 channel_one (Some channel) computer given name now line info validation d =
     return_one (return_by (passes_on channel given) channel given) (key_of_channel channel) name now line info validation
-    (desk d.table (put_channel computer (moved_by_call (passes_on channel given) channel given) d.work))
+    (desk d.table (put_channel computer (channel_by (passes_on channel given) channel given) d.work))
 
 logon_one : (computer : Option (List ℕ)) (given : Option Authenticator) (name : List ℕ) (now : ℕ) (line : Line) (info : NetworkInfo) (validation : ℕ) (d : Desk) →
     links_sent (answer_logon computer given name now line info validation d).work.actions ≡ links_sent d.work.actions ++ line.link ∷ []
@@ -222,7 +222,7 @@ passing_sends (Some channel) j = refl
 
 judging_sends : (passed : Bool) (j : Judging) → (judging_by passed j).sends ≡ true
 judging_sends false j = refl
-judging_sends true j = passing_sends (channel_in j.controller (computer_in j.asked) j.computers) j
+judging_sends true j = passing_sends (channel_in j.controller (computer_named j.asked) j.computers) j
 
 call_sends : (c : Call) (line : Line) (w : Where) (before : Desk) (after : Option Desk) → (call_answer c line w before after).sends ≡ true
 call_sends (call.Challenge c) line w before after = refl

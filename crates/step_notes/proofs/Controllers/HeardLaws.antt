@@ -2,12 +2,8 @@
 -- It serves `controllers_hear_whole`.
 use Rattle.std.proofs.Common.{◌≡◌, ◌⊎◌, ℕ, Bool, true, false, not, ◌&&◌, List, [], ◌∷◌, map, inl, inr, Option, Some, None, Result, Ok, Err, refl, sym, ap, ap₂, subst, ◌∙◌, nat_le}
 use Rattle.std.specs.List.{AllByRecursion}
-use Rattle.outside.specs.Machine.{Part}
-use Rattle.outside.specs.declared.action.StepRefused.{StepRefused}
-use Rattle.rpc_units.specs.Calls.{IsHeard}
-use Rattle.rpc_units.specs.Joining.{AddsTo, answer_by, answer_of, given_by, grown, in_place, joined_by, joined_of, kept_by, open_after, same_call, stub_len}
+use Rattle.rpc_units.specs.Joining.{AddsTo, answer_by, answer_of, grown, in_place, joined_by, joined_of, kept_by, open_after, same_call, stub_len}
 use Rattle.rpc_units.specs.Reading.{unit_of}
-use Rattle.rpc_units.specs.Stream.{cut_stream}
 use Rattle.rpc_units.specs.Writing.{written}
 use Rattle.rpc_units.specs.declared.refused.JoinRefused.{JoinRefused}
 use Rattle.rpc_units.specs.declared.refused.JoinRefused.TheVariants as join
@@ -27,7 +23,7 @@ use Rattle.domain_controller.specs.declared.hearing.Heard.{Heard}
 use Rattle.domain_controller.specs.declared.hearing.Heard.TheVariants as heard
 use Rattle.domain_controller.specs.declared.line.Line.{Line}
 use Rattle.domain_controller.specs.declared.state.Talk.{Talk}
-use Rattle.step_notes.specs.HeardWhole.{ControllersHearWhole, IsCallOf, LeavesNothingOpen, NothingOpen, call_carried, call_read}
+use Rattle.step_notes.specs.HeardWhole.{ControllersHearWhole, IsCallOf, LeavesNothingOpen, call_carried, call_read}
 
 -- ---- joining
 

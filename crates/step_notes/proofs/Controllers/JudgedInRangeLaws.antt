@@ -30,7 +30,7 @@ use Rattle.domain_controller.proofs.ReadBackLaws.{replies_are_read_back}
 use Rattle.domain_controller.proofs.WholeLaws.{found_link, sends_are_whole}
 use Rattle.step_notes.specs.ControllerNotes.{Answered, Where, answer_on, channel_in, has_passed, heard_answer, judging_by, judging_of, opened_by, opening, passing, units_at, units_by, units_of_controller}
 use Rattle.step_notes.specs.JudgedInRange.{IsJudgedInRange, IsReadAsMade, PassedRepliesAreRead}
-use Rattle.step_notes.specs.Records.{Judging, computer_in, network_in}
+use Rattle.step_notes.specs.Records.{Judging, computer_named, network_in}
 use Rattle.step_notes.specs.ReplySends.{IsItsReply, reply_passed, standing_at}
 use Rattle.step_notes.specs.Served.{units_if_taken, work_after}
 use Rattle.step_notes.proofs.ServedLaws.{all_mapped, served_such}
@@ -53,7 +53,7 @@ passing_fits (Some channel) j is = is
 
 judging_fits : (passed : Bool) (j : Judging) → IsJudgedInRange j → AnswerFits (judging_by passed j)
 judging_fits false j is = is
-judging_fits true j is = passing_fits (channel_in j.controller (computer_in j.asked) j.computers) j is
+judging_fits true j is = passing_fits (channel_in j.controller (computer_named j.asked) j.computers) j is
 
 answer_fits : (what : Heard) (w : Where) (before : Desk) (after : Option Desk) → IsName w.name → w.moment < 2 ^ 64 → InRangeTable before.table → AnswerFits (heard_answer what w before after)
 answer_fits (heard.Close cause) w before after name moment table = tt

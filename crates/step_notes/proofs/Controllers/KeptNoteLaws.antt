@@ -12,7 +12,7 @@ use Rattle.ntlm_flags.specs.Flags.{has_flag}
 use Rattle.channel_keys.specs.Credentials.{cred_of}
 use Rattle.channel_keys.specs.Flags.{rc4_flag}
 use Rattle.authenticators.specs.Channels.{ChannelIdentity, SameChannel}
-use Rattle.authenticators.specs.SecureChannels.{SecureChannelState, channel_by as moved_by_call, key_of_channel, passes_on, return_by, channel_of}
+use Rattle.authenticators.specs.SecureChannels.{SecureChannelState, channel_by, key_of_channel, passes_on, return_by, channel_of}
 use Rattle.logon_stubs.specs.declared.calls.AuthCall.{AuthCall}
 use Rattle.logon_stubs.specs.declared.info.NetworkInfo.{NetworkInfo}
 use Rattle.account_table.specs.LookUps.{knows_in}
@@ -22,7 +22,7 @@ use Rattle.domain_controller.specs.declared.line.Line.{Line}
 use Rattle.domain_controller.specs.declared.state.Computers.{Computers}
 use Rattle.domain_controller.specs.declared.state.ChallengePair.{ChallengePair}
 use Rattle.domain_controller.specs.declared.state.Work.{Work}
-use Rattle.step_notes.specs.ControllerNotes.{channel_by, opened_account, opened_if, opened_offer, opened_pair}
+use Rattle.step_notes.specs.ControllerNotes.{identity_by, opened_account, opened_if, opened_offer, opened_pair}
 use Rattle.step_notes.specs.KeptNotes.{Accepts, CallsAreKept, IsKeptBy, KeepsNoMore, WaitsIfKnown, server_in, waits_in}
 use Rattle.channel_events.proofs.ListLaws.{no_some, not_both, some_is}
 use Rattle.step_notes.proofs.Controllers.ComputerLaws.{lookup_named, return_computers, taken_none}
@@ -116,7 +116,7 @@ waited_other computer name challenge computers map at =
 
 opening_kept : (found : Option SecureChannelState) (controller : ℕ) (computer : List ℕ) (work later : Work) → IsMap same_name work.computers.pending →
     IsOpened found (lookup same_name computer work.computers.pending) computer (take_pair computer work) later →
-    IsKeptBy controller computer (channel_by controller computer found) work.computers later.computers
+    IsKeptBy controller computer (identity_by controller computer found) work.computers later.computers
 opening_kept None controller computer work later map is =
     subst (λ (x : Computers). KeepsNoMore controller work.computers x × (waits_in x computer ≡ None)) (sym is) (
       record { waits = λ name challenge at. (waited_other computer name challenge work.computers map at).0; keeps = λ name c at. at },
@@ -128,23 +128,23 @@ opening_kept (Some channel) controller computer work later map is =
       controller_is = refl;
       computer_is = refl;
       waited = ap server_in is.1 ∙ ap Some (sym is.2);
-      now = ap (channel_by controller computer)
+      now = ap (identity_by controller computer)
           (lookup-put_same same_name computer channel work.computers.channels (IsSameness-same_name.reflexive computer));
       served = λ name challenge at. waited_other computer name challenge work.computers map at;
       kept = λ name c at. elim (found_put computer name channel work.computers.channels) [
         | inl here ↦ inl (
             subst (λ (x : ChannelIdentity). SameChannel (channel_of controller computer channel) x)
-            (some_is (channel_of controller name channel) c (sym (ap (channel_by controller name) here.1) ∙ at))
+            (some_is (channel_of controller name channel) c (sym (ap (identity_by controller name) here.1) ∙ at))
             (record { controller = refl; computer = sym here.0; secret = refl; client = refl; server = refl; flags = refl })
             )
-        | inr other ↦ inr (sym (ap (channel_by controller name) other) ∙ at)
+        | inr other ↦ inr (sym (ap (identity_by controller name) other) ∙ at)
       ];
     })
 
 -- ---- a call on a channel
 
 moved_alike : (passes : Bool) (controller : ℕ) (name : List ℕ) (state : SecureChannelState) (given : Authenticator) →
-    channel_of controller name (moved_by_call passes state given) ≡ channel_of controller name state
+    channel_of controller name (channel_by passes state given) ≡ channel_of controller name state
 moved_alike false controller name state given = refl
 moved_alike true controller name state given = refl
 
@@ -173,7 +173,7 @@ found_kept None controller computer given name now line info validation d stands
     (ap (λ (channels : List (List ℕ × SecureChannelState)). record d.work.computers { channels = channels }) (taken_none computer d.work.computers.channels stands))
 found_kept (Some channel) controller computer given name now line info validation d stands =
     let passes : Bool = passes_on channel given in
-    let moved : SecureChannelState = moved_by_call passes channel given in
+    let moved : SecureChannelState = channel_by passes channel given in
     let back : Desk = desk d.table (put_channel computer moved (take_channel computer d.work)) in
     subst (λ (x : Computers). KeepsNoMore controller d.work.computers x)
     (sym (return_computers (return_by passes channel given) (key_of_channel channel) name now line info validation back))
@@ -181,11 +181,11 @@ found_kept (Some channel) controller computer given name now line info validatio
       waits = λ other challenge at. at;
       keeps = λ other c at. elim (found_back computer other channel moved d.work.computers.channels stands) [
         | inl here ↦
-            ap (channel_by controller other) here.1
+            ap (identity_by controller other) here.1
             ∙ ap Some (sym (moved_alike passes controller other channel given))
-            ∙ sym (ap (channel_by controller other) here.0)
+            ∙ sym (ap (identity_by controller other) here.0)
             ∙ at
-        | inr same ↦ sym (ap (channel_by controller other) same) ∙ at
+        | inr same ↦ sym (ap (identity_by controller other) same) ∙ at
       ];
     })
 

@@ -20,7 +20,7 @@ use Rattle.domain_controller.specs.Laws.{IsNext, is_passed}
 use Rattle.domain_controller.specs.Machine.{Desk, answer_logon, desk, judge_channel, judge_return, put_channel, status_of, take_channel}
 use Rattle.domain_controller.specs.declared.line.Line.{Line}
 use Rattle.step_notes.specs.ControllerNotes.{Where, has_passed, judged_in, judging_of, new_actions}
-use Rattle.step_notes.specs.Records.{Judging, computer_in, given_in, network_in}
+use Rattle.step_notes.specs.Records.{Judging, computer_named, given_in, network_in}
 use Rattle.step_notes.specs.ReplySends.{reply_with, verdict_passed}
 use Rattle.step_notes.proofs.Controllers.JudgedStepLaws.{told_first}
 
@@ -43,7 +43,7 @@ actions_passing line key credential validation verdict =
 -- the step at which the call passed did no more and no less than that, on the channel of the computer that the call
 -- names
 pub record IsSentAsPassed (j : Judging) (line : Line) (new : List Action) : Type 0 where
-  pub next : IsNext j.computers (computer_in j.asked) (given_in j.asked)
+  pub next : IsNext j.computers (computer_named j.asked) (given_in j.asked)
   pub actions : new
       ≡ actions_passing line (key_of_channel next.channel) (return_of (key_of_channel next.channel) next.channel.seed next.given.timestamp) (network_in j.asked).validation (verdict_passed j)
 

@@ -33,9 +33,9 @@ use Rattle.domain_controller.specs.declared.state.Running.{Running}
 use Rattle.domain_controller.specs.declared.state.Talk.{Talk}
 use Rattle.domain_controller.specs.declared.state.Work.{Work}
 use Rattle.step_notes.specs.ChannelNames.{sends_in, sent_by}
-use Rattle.step_notes.specs.ControllerNotes.{Answered, Where, answer_on, channel_in, channel_by, has_passed, heard_answer, judged_in, judging_by, judging_of, logon_answer, new_actions, opened_account, opened_if, opened_mark, opened_offer, opened_pair, opening, passing, plain, reply_mark, units_at, units_by}
+use Rattle.step_notes.specs.ControllerNotes.{Answered, Where, answer_on, channel_in, identity_by, has_passed, heard_answer, judged_in, judging_by, judging_of, logon_answer, new_actions, opened_account, opened_if, opened_mark, opened_offer, opened_pair, opening, passing, plain, reply_mark, units_at, units_by}
 use Rattle.step_notes.specs.Judged.{channel_if}
-use Rattle.step_notes.specs.Records.{Judging, computer_in}
+use Rattle.step_notes.specs.Records.{Judging, computer_named}
 use Rattle.step_notes.specs.ReplySends.{AreSentFor, CarriesReply, IsItsReply, IsOpeningReply, IsSentIf, RepliesAreSentAsJudged, standing_at}
 use Rattle.step_notes.specs.Served.{units_if_taken, work_after}
 use Rattle.step_notes.proofs.Controllers.JudgedStepLaws.{Told, by_names}
@@ -150,7 +150,7 @@ opened_carries None channel number bytes opens = tt
 opened_carries (Some unit) channel number bytes opens = opens
 
 opening_sent : (opened : Option SecureChannelState) (w : Where) (computer : List ℕ) (number : ℕ) (bytes : List ℕ) → OpensBy opened bytes →
-    AreSentFor (opening (channel_by w.controller computer opened) w number ∷ []) (bytes ∷ [])
+    AreSentFor (opening (identity_by w.controller computer opened) w number ∷ []) (bytes ∷ [])
 opening_sent None w computer number bytes opens = (tt, tt)
 opening_sent (Some channel) w computer number bytes opens = (opened_carries w.unit (channel_of w.controller computer channel) number bytes opens, tt)
 
@@ -168,7 +168,7 @@ passing_sent (Some channel) j bytes is passed carries = (reply_carries j.unit ch
 
 judging_sent : (passed : Bool) (j : Judging) (bytes : List ℕ) → has_passed j.how ≡ passed → (has_passed j.how ≡ true → IsItsReply j bytes) → AreSentFor (judging_by passed j ∷ []) (bytes ∷ [])
 judging_sent false j bytes is carries = (tt, tt)
-judging_sent true j bytes is carries = passing_sent (channel_in j.controller (computer_in j.asked) j.computers) j bytes refl is (carries is)
+judging_sent true j bytes is carries = passing_sent (channel_in j.controller (computer_named j.asked) j.computers) j bytes refl is (carries is)
 
 same_sent : (how other : Judged) (link at : ℕ) (bytes more : List ℕ) → action.Judged how ∷ action.Send link bytes ∷ [] ≡ action.Judged other ∷ action.Send at more ∷ [] → bytes ≡ more
 same_sent how other link at bytes more is = cc

@@ -1,12 +1,10 @@
 -- Each Logon call that goes out at a member carries the logon that it keeps under the place of the turn.
 -- It serves `calls_carry_their_logon`.
-use Rattle.std.proofs.Common.{◌≡◌, ℕ, ◌==◌, Bool, true, false, List, ◌++◌, Option, Some, None, Result, Ok, Err, refl, sym, ap, ap₂, subst, ◌∙◌}
+use Rattle.std.proofs.Common.{◌≡◌, ℕ, true, List, ◌++◌, Option, Some, None, Result, Ok, Err, refl, sym, ap, ap₂, subst, ◌∙◌}
 use Rattle.std.specs.List.{AllByRecursion}
 use Rattle.authenticators.specs.Channels.{ChannelIdentity, channel_key}
 use Rattle.authenticators.specs.Sequences.{authenticator_of, next_seed}
 use Rattle.authenticators.specs.SecureChannels.{channel_of, SecureChannelState, after_call, key_of_channel}
-use Rattle.outside.specs.declared.action.Action.{Action}
-use Rattle.outside.specs.declared.action.StepRefused.{StepRefused}
 use Rattle.outside.specs.declared.event.Event.TheVariants as event
 use Rattle.rpc_units.specs.declared.refused.JoinRefused.{JoinRefused}
 use Rattle.rpc_units.specs.declared.refused.UnitRefused.{UnitRefused}
@@ -19,7 +17,7 @@ use Rattle.logon_stubs.specs.declared.calls.Call.TheVariants as call
 use Rattle.logon_stubs.specs.declared.calls.LogonCall.{LogonCall}
 use Rattle.logon_stubs.specs.declared.info.NetworkInfo.{NetworkInfo}
 use Rattle.end_links.specs.Links.{LinkState}
-use Rattle.end_links.specs.Serving.{ServedUnit}
+use Rattle.end_links.specs.Serving.{ServedUnit, served_units}
 use Rattle.channel_client.specs.declared.answers.Taken.TheVariants as taken
 use Rattle.channel_client.specs.declared.caller.Caller.{Caller}
 use Rattle.channel_client.specs.declared.hearing.Hearing.{Hearing}
@@ -38,21 +36,19 @@ use Rattle.channel_client.specs.Machine.{act, hear, judge, logon_call, place_of,
 use Rattle.channel_client.specs.State.{Requester}
 use Rattle.member_server.specs.declared.plan.MemberPlan.{MemberPlan}
 use Rattle.member_server.specs.declared.state.AtTurn.{AtTurn}
-use Rattle.member_server.specs.declared.state.Dialling.{Dialling}
-use Rattle.member_server.specs.declared.state.Dialling.TheVariants as dialling
 use Rattle.member_server.specs.declared.state.Running.{Running}
 use Rattle.member_server.specs.declared.state.TurnTalk.{TurnTalk}
 use Rattle.member_server.specs.Laws.{is_dialled}
-use Rattle.member_server.specs.Machine.{at_turn, caller_of, step_of, work_of}
+use Rattle.member_server.specs.Machine.{at_turn, caller_of, work_of}
 use Rattle.member_server.specs.Turns.{do_taken, turn_by_join, turn_server, turn_unit}
 use Rattle.step_notes.specs.CallLogons.{AsksForKept, AsksUnlessStopped, CallsCarryTheirLogon, CarriesItsLogon, CarriesNoted, HasSecret, IsForItsLogon, IsStamped, IsStampedStep, call_for, info_at}
 use Rattle.step_notes.specs.ChannelNames.{AreFramesOf}
-use Rattle.step_notes.specs.MemberNotes.{asked_note, taken_note, taking_joined, taking_note, taking_read, timestamp_bound, turn_units_by, turn_units_in, turn_units_on}
-use Rattle.step_notes.specs.Served.{units_if_taken}
+use Rattle.step_notes.specs.MemberNotes.{asked_note, taken_note, taking_joined, taking_note, taking_read, timestamp_bound}
 use Rattle.step_notes.proofs.Channels.ChannelNameLaws.{bound_at}
 use Rattle.step_notes.proofs.Members.TurnRequestLaws.{HasLogon, IsOfTurn, asked_after, first_logon, of_turn}
 use Rattle.step_notes.proofs.Members.CallKeptLaws.{TurnPartAsks, at_channel, fresh_asks, step_asks, turn_asks}
 use Rattle.step_notes.proofs.ServedLaws.{served_such}
+use Rattle.step_notes.proofs.Members.TurnUnitLaws.{turn_units_such}
 
 -- ---- a request that goes out
 
@@ -157,27 +153,12 @@ module _ (controller : ℕ) (at : AtTurn) (kept : AsksForKept true at.work.logon
 abbrev pub AllCarry : ℕ → List (ServedUnit AtTurn TurnTalk) → Type 0
 AllCarry controller units = AllByRecursion (CarriesItsLogon controller) units
 
-by_carries : (hit : Bool) (controller : ℕ) (said : LinkState TurnTalk) (number : ℕ) (piece : List ℕ) (running : Running) (left : List (List ℕ)) → AsksForKept true running.logons →
-    AllCarry controller (turn_units_by hit said number piece running left)
-by_carries false controller said number piece running left kept = tt
-by_carries true controller said number piece running left kept =
+units_carry : (controller : ℕ) (said : LinkState TurnTalk) (number : ℕ) (piece : List ℕ) (running : Running) (left : List (List ℕ)) → AsksForKept true running.logons →
+    AllCarry controller (served_units turn_server (cut_stream (said.rest ++ piece)).units (at_turn number (work_of running)) said.talk left)
+units_carry controller said number piece running left kept =
     served_such turn_server TurnPartAsks (CarriesItsLogon controller)
     (λ bytes at talk some asks. (read_carries controller at asks (unit_of bytes) talk.joiner, turn_asks (unit_of bytes) talk.joiner at asks))
     (cut_stream (said.rest ++ piece)).units (at_turn number (work_of running)) said.talk left kept
-
-on_carries : (how : Dialling) (controller number : ℕ) (piece : List ℕ) (running : Running) (left : List (List ℕ)) → AsksForKept (is_dialled how) running.logons →
-    AllCarry controller (turn_units_on how number piece running left)
-on_carries dialling.Nothing controller number piece running left kept = tt
-on_carries (dialling.Waits turn frames) controller number piece running left kept = tt
-on_carries (dialling.On other said) controller number piece running left kept = by_carries (other == number) controller said number piece running left kept
-
-in_carries : (r : Option Running) (controller number : ℕ) (piece : List ℕ) (left : List (List ℕ)) → AsksUnlessStopped r → AllCarry controller (turn_units_in r number piece left)
-in_carries None controller number piece left kept = tt
-in_carries (Some running) controller number piece left kept = on_carries running.dialling controller number piece running left kept
-
-if_carries : (answer : Result (List Action) StepRefused) (controller : ℕ) (units : List (ServedUnit AtTurn TurnTalk)) → AllCarry controller units → AllCarry controller (units_if_taken answer units)
-if_carries (Ok actions) controller units all = all
-if_carries (Err why) controller units all = tt
 
 -- each Logon call carries its logon
 pub calls_carry : CallsCarryTheirLogon
@@ -185,5 +166,6 @@ calls_carry = record {
   fresh = fresh_asks;
   keeps = step_asks;
   carries = λ controller m number piece now left kept.
-      if_carries (step_of m (event.Bytes number piece) now left).answer controller (turn_units_in m.running number piece left) (in_carries m.running controller number piece left kept);
+      turn_units_such (CarriesItsLogon controller) (λ how running. AsksForKept (is_dialled how) running.logons) number piece left
+      (λ other said running asks. units_carry controller said number piece running left asks) m now (λ running is. subst AsksUnlessStopped is kept);
 }

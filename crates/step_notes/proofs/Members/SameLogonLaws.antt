@@ -27,7 +27,7 @@ use Rattle.member_server.specs.declared.state.Phase.TheVariants as phase
 use Rattle.member_server.specs.declared.state.Talk.{Talk}
 use Rattle.member_server.specs.Binds.{ack_fits, answer_bind, bind_by, fresh_unit, offer_in}
 use Rattle.member_server.specs.Held.{held_limit, held_size}
-use Rattle.member_server.specs.Levels.{is_plain}
+use Rattle.unit_security.specs.Levels.{is_plain}
 use Rattle.member_server.specs.Memo.{call_answer}
 use Rattle.unit_security.specs.declared.securing.Secured.{Secured}
 use Rattle.member_server.specs.Requests.{answer_call, body_asked, body_out, hold_by, join_by, join_opened, join_request, join_unit, open_request, reply, secure_reply, send_reply, send_secured, signed_cause, signed_unit, unit_asked, unit_in, unit_out, with_session}

@@ -1,21 +1,17 @@
 -- What the end that asks takes of the bytes of one whole unit.
 -- It serves `members_take_whole`.
-use Rattle.std.proofs.Common.{◌≡◌, ℕ, Bool, true, false, List, [], ◌∷◌, ◌++◌, map, Option, Some, None, Result, Ok, Err, refl, sym, ap, ap₂, subst, ◌∙◌}
-use Rattle.std.specs.List.{AllByRecursion}
-use Rattle.outside.specs.Machine.{Part}
+use Rattle.std.proofs.Common.{◌≡◌, ℕ, List, [], ◌∷◌, map, Option, Some, None, Result, Ok, Err, refl, sym, ap, ap₂, subst, ◌∙◌}
 use Rattle.channel_client.specs.Machine.{take_of}
-use Rattle.rpc_units.specs.Calls.{IsHeard}
 use Rattle.rpc_units.specs.Joining.{AddsTo, answer_of, open_after}
 use Rattle.rpc_units.specs.Reading.{unit_of}
-use Rattle.rpc_units.specs.Stream.{cut_stream}
 use Rattle.rpc_units.specs.Writing.{written}
 use Rattle.rpc_units.specs.declared.refused.JoinRefused.{JoinRefused}
 use Rattle.rpc_units.specs.declared.unit.Unit.{Unit as RpcUnit}
 use Rattle.end_links.specs.Serving.{ServedPart, served_by, served_cut, then_open, then_talk, ServedUnit, served_units, units_on, units_then}
-use Rattle.member_server.specs.Turns.{TurnServed, take_by, turn_by_join, turn_server, turn_talk, turn_unit}
+use Rattle.member_server.specs.Turns.{take_by, turn_by_join, turn_server, turn_talk, turn_unit}
 use Rattle.member_server.specs.declared.state.AtTurn.{AtTurn}
 use Rattle.member_server.specs.declared.state.TurnTalk.{TurnTalk}
-use Rattle.step_notes.specs.MemberNotes.{taking_at, taking_joined, taking_read}
+use Rattle.step_notes.specs.MemberNotes.{taking_joined, taking_read}
 use Rattle.step_notes.specs.TakenWhole.{MembersTakeWhole, TakesWhole}
 use Rattle.step_notes.proofs.Controllers.HeardLaws.{AreRead, each_read, none_open}
 

@@ -48,7 +48,7 @@ use Rattle.member_server.specs.declared.state.Work.{Work}
 use Rattle.member_server.specs.Held.{held_limit, held_size}
 use Rattle.member_server.specs.Laws.{IsPast, is_past}
 use Rattle.member_server.proofs.LinkLaws.{serves_one_message}
-use Rattle.member_server.specs.Levels.{is_plain}
+use Rattle.unit_security.specs.Levels.{is_plain}
 use Rattle.member_server.specs.Machine.{actions_in, after_turn, after_units, answer_dial, at_turn, by_event, bytes_by, bytes_on, bytes_on_link, close_link, close_turn, event_part, fail_dial, fresh_link, halted_state, open_by, serve_dialled, state_in, step_of, step_on, work_of}
 use Rattle.member_server.specs.Memo.{call_answer}
 use Rattle.member_server.specs.Outcomes.{after_link, at_link, end_found, end_logon, keep_link, phase_after, reach_link, tell_outcome, reach_in_map, reach_waiting, waiting_at, without_link, without_logon}

@@ -28,10 +28,10 @@ use Rattle.domain_controller.specs.Machine.{info_of, reply_info, status_of}
 use Rattle.member_server.specs.Outcomes.{outcome_of}
 use Rattle.member_server.specs.Turns.{ending_of}
 use Rattle.channel_events.specs.Marks.{OneOf, ReplyTo}
-use Rattle.step_notes.specs.ControllerNotes.{channel_by, channel_in, has_passed}
+use Rattle.step_notes.specs.ControllerNotes.{identity_by, channel_in, has_passed}
 use Rattle.step_notes.specs.Judged.{channel_if, passed_channel}
 use Rattle.step_notes.specs.Marking.{mark_channel}
-use Rattle.step_notes.specs.Records.{Judging, MessageTaken, OutcomeTold, Sent, computer_in, given_in, network_in}
+use Rattle.step_notes.specs.Records.{Judging, MessageTaken, OutcomeTold, Sent, computer_named, given_in, network_in}
 use Rattle.step_notes.specs.ReplySends.{IsReplyOfCall, verdict_passed}
 use Rattle.world_moves.specs.declared.bag.BagUnit.{BagUnit}
 use Rattle.world_moves.specs.Counting.{is_in}
@@ -99,10 +99,10 @@ module _ (past : Past) (back : RepliesAreReadBack past) where
   read_of : (message : MessageTaken) (u : ℕ) (result : Outcome) (read : IsReadIn past message u result) (channel : ChannelIdentity) (number request place : ℕ) (j : Judging) →
       slice_get past.book.judged place ≡ Some j → read.sent.mark ≡ ReplyTo channel number request → IsReplyOfCall channel number request j read.carrier.bytes → result ≡ outcome_read channel j message
   read_of message u result read channel number request place j judged mark reply =
-      let next : IsNext j.computers (computer_in j.asked) (given_in j.asked) = reply.carries.next in
+      let next : IsNext j.computers (computer_named j.asked) (given_in j.asked) = reply.carries.next in
       let found : passed_channel j ≡ Some (channel_of j.controller next.computer next.channel) =
       ap (λ (how : _). channel_if (has_passed how) j) reply.carries.how ∙ ap (λ (name : Option (List ℕ)). channel_in j.controller name j.computers) next.named
-      ∙ ap (λ (c : Option SecureChannelState). channel_by j.controller next.computer c) next.stands in
+      ∙ ap (λ (c : Option SecureChannelState). identity_by j.controller next.computer c) next.stands in
       let its : channel_of j.controller next.computer next.channel ≡ channel = some_is (channel_of j.controller next.computer next.channel) channel (sym found ∙ reply.passed) in
       let key : key_of_channel next.channel ≡ channel_key channel = ap channel_key its in
       let named : read.named ≡ channel = some_is read.named channel (sym read.made ∙ ap mark_channel mark) in

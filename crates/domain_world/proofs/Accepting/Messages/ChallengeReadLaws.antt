@@ -36,7 +36,7 @@ use Rattle.channel_client.specs.declared.answers.AskRefused.{AskRefused}
 use Rattle.channel_client.specs.declared.answers.AskRefused.TheVariants as ask_refused
 use Rattle.channel_client.specs.Machine.{ask_of}
 use Rattle.member_server.specs.Binds.{ack_fits, answer_bind, bind_by, challenge_ack, challenge_message, challenge_trailer, fresh_unit, is_enough, offer_at, offer_by, offer_if, offer_in}
-use Rattle.member_server.specs.Levels.{is_served}
+use Rattle.unit_security.specs.Levels.{is_level}
 use Rattle.member_server.specs.Messages.{ask_by, info_of, is_fit, take_auth3, take_message, take_trailer, wait_by, with_channel}
 use Rattle.member_server.specs.Units.{body_challenged, first_unit, unit_challenged}
 use Rattle.member_server.specs.Work.{Served}
@@ -145,7 +145,7 @@ at_below true trailer = by_below (negotiate_of trailer.value) trailer
 
 in_below : (trailer : Option Trailer) → OffersBelow (offer_in trailer)
 in_below None = tt
-in_below (Some trailer) = at_below ((trailer.kind == ntlm_provider) && is_served trailer.level) trailer
+in_below (Some trailer) = at_below ((trailer.kind == ntlm_provider) && is_level trailer.level) trailer
 
 -- where the link has its challenge then, the CHALLENGE can be read
 abbrev pub CanBeReadAt : MemberPlan → Phase → Type 0

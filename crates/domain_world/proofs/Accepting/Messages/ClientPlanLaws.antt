@@ -1,5 +1,5 @@
 -- A client goes by one plan through its steps, and what it makes is the answer of that plan.
--- It serves `messages_are_made`.
+-- It serves `messages_are_made` and `messages_are_of_their_clients`.
 use Rattle.std.proofs.Common.{◌≡◌, ◌==◌, ℕ, Bool, true, false, List, ◌++◌, Option, Some, None, Result, Ok, Err, refl, sym, subst, ◌∙◌}
 use Rattle.std.specs.Prelude.{flat_map}
 use Rattle.outside.specs.Machine.{Part, left_by, step_by, then_part}
@@ -30,7 +30,7 @@ use Rattle.logon_client.specs.declared.state.ClientLink.TheVariants.{Idle, Diall
 use Rattle.logon_client.specs.declared.state.Talk.{Talk}
 use Rattle.logon_client.specs.declared.state.Terms.{Terms}
 use Rattle.logon_client.specs.declared.state.Work.{Work}
-use Rattle.step_notes.specs.ClientNotes.{ClientAt, made_note, units_by, units_if, units_of_client, units_on as units_standing}
+use Rattle.step_notes.specs.ClientNotes.{ClientAt, made_note, units_by, units_if, units_of_client, units_standing}
 use Rattle.step_notes.specs.MemberNotes.{message_in}
 use Rattle.step_notes.specs.Records.{MessageMade}
 use Rattle.step_notes.specs.Served.{units_if_taken}
@@ -63,7 +63,7 @@ heard_goes : (what : Heard) (plan : ClientPlan) (bytes : List ℕ) (left : List 
 heard_goes (heard.Done work talk) plan bytes left known = known
 heard_goes (heard.Challenged work link offer) plan bytes left known = drawn_goes (drawn_for (has_flag offer.flags negotiate_key_exch) left) plan offer link work known.0
 
-served_goes : (bytes : List ℕ) (plan : ClientPlan) (work : Work) (talk : Talk) (left : List (List ℕ)) → work.task ≡ plan → GoesBy plan (client_server.unit bytes work talk left)
+pub served_goes : (bytes : List ℕ) (plan : ClientPlan) (work : Work) (talk : Talk) (left : List (List ℕ)) → work.task ≡ plan → GoesBy plan (client_server.unit bytes work talk left)
 served_goes bytes plan work talk left is =
     heard_goes (hear bytes talk work) plan (message_in bytes) left (subst (λ (p : ClientPlan). HeardOf p (message_in bytes) (hear bytes talk work)) is (heard_of bytes talk work))
 
@@ -132,30 +132,31 @@ event_goes event.Stop Idle plan now left = refl
 event_goes event.Stop Dialling plan now left = refl
 event_goes event.Stop (On own) plan now left = refl
 
--- a client that runs goes by a plan whose names are texts
-abbrev pub NamesIn : Option Running → Type 0
-NamesIn None = Unit {0}
-NamesIn (Some running) = HasNames running.task
+-- a client that runs goes by such a plan
+abbrev pub TaskIn : (ClientPlan → Type 0) → Option Running → Type 0
+TaskIn P None = Unit {0}
+TaskIn P (Some running) = P running.task
 
-part_names : (part : Result (Part After) StepRefused) (plan : ClientPlan) (c : ClientState) (left : List (List ℕ)) → GoesAfter plan part → HasNames plan →
-    NamesIn (step_by actions_after state_after (halted c) left part).state.running
-part_names (Err why) plan c left goes names = tt
-part_names (Ok part) plan c left goes names = subst (λ (p : ClientPlan). HasNames p) (sym goes) names
+module _ (P : ClientPlan → Type 0) where
+  part_task : (part : Result (Part After) StepRefused) (plan : ClientPlan) (c : ClientState) (left : List (List ℕ)) → GoesAfter plan part → P plan →
+      TaskIn P (step_by actions_after state_after (halted c) left part).state.running
+  part_task (Err why) plan c left goes its = tt
+  part_task (Ok part) plan c left goes its = subst P (sym goes) its
 
-outcome_names : (outcome : Option ClientOutcome) (running : Running) (c : ClientState) (what : Event) (now : ℕ) (left : List (List ℕ)) → NamesIn c.running → HasNames running.task →
-    NamesIn (step_by_outcome outcome running c what now left).state.running
-outcome_names (Some outcome) running c what now left was names = was
-outcome_names None running c what now left was names =
-    part_names (by_event what running.standing (work_of running.task now) left) running.task c left (event_goes what running.standing running.task now left) names
+  outcome_task : (outcome : Option ClientOutcome) (running : Running) (c : ClientState) (what : Event) (now : ℕ) (left : List (List ℕ)) → TaskIn P c.running → P running.task →
+      TaskIn P (step_by_outcome outcome running c what now left).state.running
+  outcome_task (Some outcome) running c what now left was its = was
+  outcome_task None running c what now left was its =
+      part_task (by_event what running.standing (work_of running.task now) left) running.task c left (event_goes what running.standing running.task now left) its
 
-running_names : (running : Option Running) (c : ClientState) (what : Event) (now : ℕ) (left : List (List ℕ)) → NamesIn c.running → NamesIn running →
-    NamesIn (step_by_running running c what now left).state.running
-running_names None c what now left was names = was
-running_names (Some running) c what now left was names = outcome_names c.outcome running c what now left was names
+  running_task : (running : Option Running) (c : ClientState) (what : Event) (now : ℕ) (left : List (List ℕ)) → TaskIn P c.running → TaskIn P running →
+      TaskIn P (step_by_running running c what now left).state.running
+  running_task None c what now left was its = was
+  running_task (Some running) c what now left was its = outcome_task c.outcome running c what now left was its
 
--- the plan of a client that takes a step has the names that it had
-pub names_stay : (c : ClientState) (what : Event) (now : ℕ) (left : List (List ℕ)) → NamesIn c.running → NamesIn (step_of c what now left).state.running
-names_stay c what now left names = running_names c.running c what now left names names
+  -- the plan of a client that takes a step is such a one, where it was
+  pub task_stays : (c : ClientState) (what : Event) (now : ℕ) (left : List (List ℕ)) → TaskIn P c.running → TaskIn P (step_of c what now left).state.running
+  task_stays c what now left its = running_task c.running c what now left its its
 
 -- ---- what is written down of a step
 
@@ -170,7 +171,7 @@ standing_made Idle w number piece plan now left names eights = tt
 standing_made Dialling w number piece plan now left names eights = tt
 standing_made (On own) w number piece plan now left names eights = if_made (number == own.talk.link) w own piece plan now left names eights
 
-by_made : (outcome : Option ClientOutcome) (running : Option Running) (w : ClientAt) (number : ℕ) (piece : List ℕ) (now : ℕ) (left : List (List ℕ)) → NamesIn running → AreEights left →
+by_made : (outcome : Option ClientOutcome) (running : Option Running) (w : ClientAt) (number : ℕ) (piece : List ℕ) (now : ℕ) (left : List (List ℕ)) → TaskIn HasNames running → AreEights left →
     AreMadeFrom (flat_map (made_note w) (units_by outcome running number piece now left))
 by_made (Some outcome) running w number piece now left names eights = tt
 by_made None None w number piece now left names eights = tt
@@ -182,7 +183,7 @@ taken_made (Err why) w units made = tt
 taken_made (Ok actions) w units made = made
 
 -- what a client makes at a step is made from its plan
-pub client_made : (c : ClientState) (w : ClientAt) (number : ℕ) (piece : List ℕ) (now : ℕ) (left : List (List ℕ)) → NamesIn c.running → AreEights left →
+pub client_made : (c : ClientState) (w : ClientAt) (number : ℕ) (piece : List ℕ) (now : ℕ) (left : List (List ℕ)) → TaskIn HasNames c.running → AreEights left →
     AreMadeFrom (flat_map (made_note w) (units_of_client c number piece now left))
 client_made c w number piece now left names eights =
     taken_made (step_of c (event.Bytes number piece) now left).answer w (units_by c.outcome c.running number piece now left)

@@ -31,7 +31,7 @@ use Rattle.world_moves.specs.World.{first_world}
 use Rattle.domain_world.specs.Accepting.KeysMade.{IsMadeFrom, MessagesAreMade}
 use Rattle.domain_world.specs.Past.{Coming, controller_of, note_at, note_client, note_controller, note_member, note_messages, numbers_on, past}
 use Rattle.domain_world.proofs.Accepting.Messages.ClientOfferLaws.{AreMadeFrom, HasNames}
-use Rattle.domain_world.proofs.Accepting.Messages.ClientPlanLaws.{NamesIn, client_made, names_stay}
+use Rattle.domain_world.proofs.Accepting.Messages.ClientPlanLaws.{TaskIn, client_made, task_stays}
 use Rattle.domain_world.proofs.Accepting.ListPlaceLaws.{all_at}
 use Rattle.domain_world.proofs.Challenges.MessageOnceLaws.{each_put}
 use Rattle.domain_world.proofs.Frames.FrameLaws.{HoldsAfter, HoldsByPlans, PlannedFact, StaysByPlans, StaysWrittenByPlans, run_stays_by_plans}
@@ -43,7 +43,7 @@ use Rattle.domain_world.proofs.Frames.AllLaws.{all_join}
 -- each message that was made is the answer of its plan.
 pub record AreAnswers (made : List MessageMade) (plans : List ClientPlan) (clients : List ClientState) (left : List (List ℕ)) : Type 0 where
   pub names : AllByRecursion HasNames plans
-  pub each : (k : ℕ) (c : ClientState) → slice_get clients k ≡ Some c → NamesIn c.running
+  pub each : (k : ℕ) (c : ClientState) → slice_get clients k ≡ Some c → TaskIn HasNames c.running
   pub eights : AreEights left
   pub from : AreMadeFrom made
 
@@ -53,10 +53,10 @@ Answers made plans ends chances links = AreAnswers made plans ends.clients chanc
 
 -- a client is changed
 client_put : (made : List MessageMade) (plans : List ClientPlan) (clients : List ClientState) (left rest : List (List ℕ)) (at : ℕ) (new : ClientState) → AreAnswers made plans clients left →
-    AreEights rest → NamesIn new.running → AreAnswers made plans (slice_set clients at new) rest
+    AreEights rest → TaskIn HasNames new.running → AreAnswers made plans (slice_set clients at new) rest
 client_put made plans clients left rest at new kept eights names = record {
   names = kept.names;
-  each = each_put (λ (k : ℕ) (c : ClientState). NamesIn c.running) clients at new (λ k c differs there. kept.each k c there) names;
+  each = each_put (λ (k : ℕ) (c : ClientState). TaskIn HasNames c.running) clients at new (λ k c differs there. kept.each k c there) names;
   eights = eights;
   from = kept.from;
 }
@@ -80,7 +80,7 @@ client_answers : (found : Option ClientState) (made : List MessageMade) (at : �
 client_answers None made at what now plans ends chances links is kept = kept
 client_answers (Some c) made at what now plans ends chances links is kept =
     client_put made plans ends.clients chances.left (client_step_of c what now chances.left).left at (client_step_of c what now chances.left).state kept
-    (client_left (Some c) at what now ends chances kept.eights) (names_stay c what now chances.left (kept.each at c is))
+    (client_left (Some c) at what now ends chances kept.eights) (task_stays HasNames c what now chances.left (kept.each at c is))
 
 hear_answers : (end : EndId) (made : List MessageMade) (what : Event) (now : ℕ) (plans : List ClientPlan) (ends : EndStates) (chances : Drawing) (links : List Route) →
     Answers made plans ends chances links → HoldsAfter (Answers made plans) (end_step end what now ends chances) links
@@ -102,11 +102,11 @@ answers_stay made = record {
 
 -- ---- bytes come
 
-controller_made : (found : Option ControllerState) (controller : ℕ) (w : Coming) (piece : List ℕ) (s after : State) (b : Book) → (note_controller found controller w piece s after b).made ≡ b.made
+pub controller_made : (found : Option ControllerState) (controller : ℕ) (w : Coming) (piece : List ℕ) (s after : State) (b : Book) → (note_controller found controller w piece s after b).made ≡ b.made
 controller_made None controller w piece s after b = refl
 controller_made (Some c) controller w piece s after b = refl
 
-member_made : (found : Option MemberState) (member : ℕ) (w : Coming) (piece : List ℕ) (s after : State) (b : Book) → (note_member found member w piece s after b).made ≡ b.made
+pub member_made : (found : Option MemberState) (member : ℕ) (w : Coming) (piece : List ℕ) (s after : State) (b : Book) → (note_member found member w piece s after b).made ≡ b.made
 member_made None member w piece s after b = refl
 member_made (Some m) member w piece s after b =
     turns_made (controller_of member s) (turn_units m w.link piece s.moment s.chances.left) w.unit (numbers_on w.link false s.bag after.bag) (note_messages member m w piece s b)
@@ -142,9 +142,9 @@ end_heard (Client at) w piece s after b kept = client_heard (slice_get s.ends.cl
 answers_written : StaysWrittenByPlans (λ (b : Book). b.made) Answers
 answers_written = record { stays = answers_stay; bytes = end_heard; given = λ at given after b. refl }
 
-fresh_names : (plans : List ClientPlan) (k : ℕ) (c : ClientState) → AllByRecursion HasNames plans → slice_get (map fresh_client plans) k ≡ Some c → NamesIn c.running
+fresh_names : (plans : List ClientPlan) (k : ℕ) (c : ClientState) → AllByRecursion HasNames plans → slice_get (map fresh_client plans) k ≡ Some c → TaskIn HasNames c.running
 fresh_names [] k c names there = absurd cc
-fresh_names (plan ∷ plans) zero c names there = let is : fresh_client plan ≡ c = cc in subst (λ (x : ClientState). NamesIn x.running) is names.0
+fresh_names (plan ∷ plans) zero c names there = let is : fresh_client plan ≡ c = cc in subst (λ (x : ClientState). TaskIn HasNames x.running) is names.0
 fresh_names (plan ∷ plans) (suc k) c names there = fresh_names plans k c names.1 there
 
 first_answers : (plan : Plan) → AllByRecursion HasNames plan.clients → HoldsByPlans (Answers []) (first_world plan).state

@@ -1,21 +1,19 @@
 -- The links of a controller through each step: nothing stays open on those that members dialled, where what comes on
 -- them are whole units. It serves `runs_stand_so`.
-use Rattle.std.proofs.Common.{◌≡◌, ℕ, Bool, true, false, List, [], ◌∷◌, ◌++◌, length, nat_le, Option, Some, None, Result, Ok, Err, if◌then◌else◌, refl, sym, ap, subst, ◌∙◌}
+use Rattle.std.proofs.Common.{◌≡◌, ℕ, Bool, true, false, List, [], ◌∷◌, ◌++◌, length, nat_le, Option, Some, None, Ok, Err, if◌then◌else◌, refl, sym, ap, subst, ◌∙◌}
 use Rattle.std.specs.List.{AllByRecursion}
 use Rattle.std.proofs.lemmas.Bool.{eqb-true}
 use Rattle.wire_base.specs.Maps.{has_key, lookup, put, same_number, take_out}
-use Rattle.outside.specs.Machine.{Part, step_by, then_part}
-use Rattle.outside.specs.declared.action.StepRefused.{StepRefused}
+use Rattle.outside.specs.Machine.{step_by, then_part}
 use Rattle.outside.specs.declared.event.Event.{Event}
 use Rattle.outside.specs.declared.event.Event.TheVariants as event
 use Rattle.rpc_units.specs.Stream.{cut_stream}
 use Rattle.end_links.specs.Links.{LinkState}
 use Rattle.end_links.specs.Serving.{ServedPart, served_cut}
-use Rattle.account_table.specs.AccountTable.{AccountTable}
 use Rattle.domain_controller.specs.Hearing.{first_talk}
 use Rattle.domain_controller.specs.Machine.{Desk, controller_server}
 use Rattle.domain_controller.specs.State.{State as ControllerState}
-use Rattle.domain_controller.specs.Step.{LinkMap, StepPart, after_units, by_event, first_desk, halted, keep_link, open_by, open_link, serve_on, start_turn, state_after, step_of, step_on, step_part, with_open}
+use Rattle.domain_controller.specs.Step.{LinkMap, StepPart, after_units, by_event, first_desk, halted, keep_link, open_by, serve_on, start_turn, state_after, step_of, step_on}
 use Rattle.domain_controller.specs.declared.state.Running.{Running}
 use Rattle.domain_controller.specs.declared.state.Talk.{Talk}
 use Rattle.domain_controller.specs.declared.state.Work.{Work}

@@ -23,7 +23,7 @@ use Rattle.std.specs.Prelude.{All}
 use Rattle.std.specs.List.{AllByRecursion}
 use Rattle.wire_base.specs.Names.{IsName}
 use Rattle.wire_base.specs.Numbers.{AreBytes}
-use Rattle.authenticators.proofs.BlockLaws.{bytes_from_all}
+use Rattle.wire_base.proofs.NumberLaws.{bytes_from_all}
 use Rattle.outside.specs.declared.action.Action.{Action}
 use Rattle.outside.specs.declared.action.Action.TheVariants.{Keep, Send, Dial, Close, Told, Judged}
 use Rattle.outside.specs.declared.event.Event.{Event}
@@ -129,7 +129,7 @@ stands_more links route k task Idle stands = tt
 stands_more links route k task Waiting stands = tt
 stands_more links route k task (On state) stands = clients_more links route k state.talk.link stands
 
-client_more : (links : List Route) (route : Route) (k : ℕ) (r : Option ClientRunning) → AtUnlessStopped (IsClients links k) r → AtUnlessStopped (IsClients (links ++ route ∷ []) k) r
+pub client_more : (links : List Route) (route : Route) (k : ℕ) (r : Option ClientRunning) → AtUnlessStopped (IsClients links k) r → AtUnlessStopped (IsClients (links ++ route ∷ []) k) r
 client_more links route k None stands = tt
 client_more links route k (Some running) stands = stands_more links route k running.task running.standing stands
 
@@ -160,7 +160,7 @@ members_route (ToController other controller) k is = (controller, ap (λ (n : �
 members_route (ToMember one server) k is = absurd cc
 members_route (Stranger to) k is = absurd cc
 
-clients_route : (route : Route) (k : ℕ) → dialler_of route ≡ Some (Client k) → (server : ℕ) × (route ≡ ToMember k server)
+pub clients_route : (route : Route) (k : ℕ) → dialler_of route ≡ Some (Client k) → (server : ℕ) × (route ≡ ToMember k server)
 clients_route (ToMember other server) k is = (server, ap (λ (n : ℕ). ToMember n server) (let same : other ≡ k = cc in same))
 clients_route (ToController one controller) k is = absurd cc
 clients_route (Stranger to) k is = absurd cc

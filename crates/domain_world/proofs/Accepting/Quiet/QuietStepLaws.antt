@@ -1,10 +1,8 @@
 -- What holds where what is under way between members and controllers is whole, and nothing stays open there: and that
 -- it holds after one step of an end. It serves `runs_stand_so`.
-use Rattle.std.proofs.Common.{◌≡◌, ◌≢◌, ◌⊎◌, ℕ, zero, suc, ◌+◌, ◌<◌, ◌≤◌, ◌^◌, Bool, true, false, List, [], ◌∷◌, ◌++◌, drop, length, map, min, nat_le, take, inl, inr, Option, Some, None, Result, Ok, Err, slice_get, slice_set, if◌then◌else◌, refl, sym, ap, subst, ◌∙◌, arith}
-use Rattle.std.specs.Prelude.{All}
+use Rattle.std.proofs.Common.{◌≡◌, ℕ, ◌<◌, ◌^◌, List, [], ◌∷◌, inl, inr, Option, Some, None, Result, Ok, Err, slice_get, refl, sym, ap, subst, ◌∙◌}
 use Rattle.std.specs.List.{AllByRecursion}
 use Rattle.wire_base.specs.Names.{IsName}
-use Rattle.wire_base.specs.Numbers.{AreBytes}
 use Rattle.outside.specs.Drawing.{Drawing}
 use Rattle.outside.specs.Machine.{Stepped}
 use Rattle.outside.specs.declared.action.Action.{Action}
@@ -12,7 +10,6 @@ use Rattle.outside.specs.declared.action.Action.TheVariants.{Keep, Send, Dial, C
 use Rattle.outside.specs.declared.action.StepRefused.{StepRefused}
 use Rattle.outside.specs.declared.event.Event.{Event}
 use Rattle.outside.specs.declared.event.Event.TheVariants as event
-use Rattle.account_table.specs.AccountTable.{AccountTable}
 use Rattle.end_links.specs.Links.{LinkState}
 use Rattle.end_links.specs.Whole.{IsWholeIfSent, IsWholeSend}
 use Rattle.end_loop.specs.Runs.{actions_of, taken_actions}
@@ -23,7 +20,6 @@ use Rattle.domain_controller.proofs.WholeLaws.{sends_are_whole}
 use Rattle.logon_client.specs.Machine as client
 use Rattle.logon_client.specs.Sends.{IsSentAt}
 use Rattle.logon_client.specs.State.{State as ClientState}
-use Rattle.logon_client.specs.declared.plan.ClientPlan.{ClientPlan}
 use Rattle.logon_client.proofs.SendLaws.{AtUnlessStopped, DialledAt, SendsAt, client_sends}
 use Rattle.member_server.specs.Machine as member
 use Rattle.member_server.specs.State.{State as MemberState}
@@ -32,40 +28,25 @@ use Rattle.member_server.specs.declared.plan.MemberPlan.{MemberPlan}
 use Rattle.member_server.specs.declared.state.Running.{Running}
 use Rattle.member_server.specs.declared.state.Talk.{Talk}
 use Rattle.member_server.proofs.WholeLaws.{LinksAre, accepted_such, members_send_whole}
-use Rattle.step_notes.specs.Records.{Book, blank}
 use Rattle.world_moves.specs.declared.bag.BagUnit.{BagUnit}
 use Rattle.world_moves.specs.declared.links.EndId.{EndId}
 use Rattle.world_moves.specs.declared.links.EndId.TheVariants.{Controller, Member, Client}
 use Rattle.world_moves.specs.declared.links.LinkKind.{LinkKind}
 use Rattle.world_moves.specs.declared.links.LinkKind.TheVariants as kind
-use Rattle.world_moves.specs.declared.links.OpenLink.{OpenLink}
 use Rattle.world_moves.specs.declared.links.Route.{Route}
 use Rattle.world_moves.specs.declared.links.Route.TheVariants.{ToMember, ToController, Stranger}
-use Rattle.world_moves.specs.declared.plan.Plan.{Plan}
 use Rattle.world_moves.specs.declared.state.State.{State}
-use Rattle.world_moves.specs.Acting.{Given, Heard, bag_unit, given_by, hear, hear_and_act, perform_quietly, send_on, shut_link}
-use Rattle.world_moves.specs.Bag.{piece_limit, pieces_in, pieces_of, settle_at}
-use Rattle.world_moves.specs.Ends.{EndStates, actions_by, client_step, controller_step, end_step, member_step, renew_client, renew_controller, renew_member}
-use Rattle.world_moves.specs.Forms.{HasForms, IsMemberPlan, IsTable}
-use Rattle.world_moves.specs.Links.{acceptor_of, dialler_of, is_accepted_by, kind_of}
-use Rattle.world_moves.specs.Moving.{answered_link, begun, moment_after, renewed, settle, tick, with_link, without_first}
-use Rattle.world_moves.specs.World.{first_controllers, first_world}
-use Rattle.world_moves.proofs.RangeLaws.{table_in_range}
-use Rattle.domain_world.specs.Accepting.Carried.{IsWholeUnit}
+use Rattle.world_moves.specs.Ends.{EndStates, actions_by, client_step, controller_step, end_step, member_step}
+use Rattle.world_moves.specs.Links.{acceptor_of}
 use Rattle.domain_world.specs.Accepting.Runs.{IsOfMember}
-use Rattle.domain_world.specs.Past.{Coming, note_at, note_given}
-use Rattle.channel_events.proofs.ListLaws.{at_end, got_append, got_last, got_nothing, some_is}
+use Rattle.channel_events.proofs.ListLaws.{some_is}
 use Rattle.domain_world.proofs.Accepting.LetInStepLaws.{IsAcceptedBy, IsDialledBy}
-use Rattle.domain_world.proofs.Accepting.Quiet.QuietListenLaws.{Entries, ListensWell, LinksWell, OpensWell, WellUnlessStopped, entries_so, listens_on}
-use Rattle.domain_world.proofs.Accepting.Quiet.QuietTurnLaws.{ComesWell, IfOn, IsOneUnit, IsRested, OnUnlessStopped, turn_stays}
+use Rattle.domain_world.proofs.Accepting.Quiet.QuietListenLaws.{OpensWell, WellUnlessStopped, entries_so, listens_on}
+use Rattle.domain_world.proofs.Accepting.Quiet.QuietTurnLaws.{ComesWell, IfOn, OnUnlessStopped, turn_stays}
 use Rattle.domain_world.proofs.Challenges.MessageOnceLaws.{each_put}
-use Rattle.domain_world.proofs.Frames.BagFrameLaws.{IsServer}
-use Rattle.domain_world.proofs.Frames.ComingLaws.{CameFrom, IsPieceOf, IsStill, kept_settled}
 use Rattle.logon_stubs.specs.Ranges.{IsBlock}
 use Rattle.domain_world.proofs.Frames.LeftLaws.{AreBlocks, all_rest, end_rests, eights_of}
-use Rattle.domain_world.proofs.Frames.MarkPlaceLaws.{got_beside, settled_length}
-use Rattle.domain_world.proofs.Frames.OpenMadeLaws.{IsAtSide}
-use Rattle.domain_world.proofs.Frames.StepFrameLaws.{ActionFact, HasHeard, Keeps, NoFact, RunFact}
+use Rattle.domain_world.proofs.Frames.StepFrameLaws.{ActionFact, RunFact}
 
 -- ---- what is to hold
 

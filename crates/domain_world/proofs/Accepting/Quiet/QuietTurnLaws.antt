@@ -1,6 +1,6 @@
 -- The link of a member's turn through each step: it stays the one on which the turn's bind went out, and nothing is
 -- open on it, where what comes on it are whole units. It serves `runs_stand_so`.
-use Rattle.std.proofs.Common.{◌≡◌, ℕ, ◌==◌, Bool, true, false, List, [], ◌∷◌, ◌++◌, replicate, Option, Some, None, Result, Ok, Err, refl, sym, ap, subst, ◌∙◌}
+use Rattle.std.proofs.Common.{◌≡◌, ℕ, ◌==◌, Bool, true, false, List, [], ◌∷◌, ◌++◌, replicate, Option, Some, None, Result, Ok, Err, refl, sym, ap, subst}
 use Rattle.std.proofs.lemmas.Bool.{eqb-true}
 use Rattle.wire_base.specs.Maps.{lookup, same_number}
 use Rattle.outside.specs.Machine.{Part, step_by, then_part}
@@ -12,10 +12,10 @@ use Rattle.rpc_units.specs.Stream.{cut_stream}
 use Rattle.rpc_units.specs.declared.unit.Unit.{Unit as RpcUnit}
 use Rattle.end_links.specs.Links.{LinkState}
 use Rattle.end_links.specs.Serving.{ServedPart, served_cut}
-use Rattle.channel_client.specs.Machine.{Starting, Taking, can_start, needs_challenge, start_of, take_of}
+use Rattle.channel_client.specs.Machine.{Taking, can_start, needs_challenge, start_of, take_of}
 use Rattle.channel_client.specs.declared.answers.Taken.{Taken}
 use Rattle.channel_client.specs.declared.answers.Taken.TheVariants as taken
-use Rattle.member_server.specs.Machine.{actions_in, after_turn, after_units, answer_dial, at_turn, by_event, bytes_by, bytes_on, bytes_on_link, close_link, close_turn, event_part, fail_dial, halted_state, keep_turn, open_after_close, serve_alone, state_in, step_of, step_on, work_of}
+use Rattle.member_server.specs.Machine.{actions_in, after_turn, after_units, answer_dial, at_turn, by_event, bytes_by, bytes_on, bytes_on_link, close_link, close_turn, event_part, fail_dial, halted_state, keep_turn, state_in, step_of, step_on, work_of}
 use Rattle.member_server.specs.Outcomes.{at_link, without_link}
 use Rattle.member_server.specs.State.{State as MemberState}
 use Rattle.member_server.specs.Turns.{DialWork, dial_for, do_taken, next_turn, take_by, timestamp_of, turn_by, turn_server, with_requester, with_work}

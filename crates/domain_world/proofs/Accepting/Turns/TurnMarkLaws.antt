@@ -15,9 +15,9 @@ use Rattle.domain_controller.specs.declared.state.Computers.{Computers}
 use Rattle.domain_controller.specs.declared.state.Talk.{Talk}
 use Rattle.channel_events.specs.Marks.{Mark, Plain, Opening, Opened, Calling, ReplyTo}
 use Rattle.channel_events.proofs.ListLaws.{all_weaker, got_nothing, some_is}
-use Rattle.step_notes.specs.ControllerNotes.{Where, answer_on, call_answer, channel_by, channel_in, has_passed, heard_answer, judging_by, judging_of, opened_by, opened_mark, opening, passing, reply_mark, units_of_controller}
+use Rattle.step_notes.specs.ControllerNotes.{Where, answer_on, call_answer, identity_by, channel_in, has_passed, heard_answer, judging_by, judging_of, opened_by, opened_mark, opening, passing, reply_mark, units_of_controller}
 use Rattle.step_notes.specs.Marking.{answered_marks, mark_channel, turn_marks}
-use Rattle.step_notes.specs.Records.{Book, Judging, computer_in}
+use Rattle.step_notes.specs.Records.{Book, Judging, computer_named}
 use Rattle.step_notes.specs.Served.{work_after}
 use Rattle.world_moves.specs.declared.bag.BagUnit.{BagUnit}
 use Rattle.world_moves.specs.declared.moves.Move.{Move}
@@ -54,7 +54,7 @@ module _ (count : ℕ) where
   IsKnownMark (Calling channel number timestamp) = Unit {0}
   IsKnownMark (ReplyTo channel number request) = channel.controller < count
 
-  by_known : (controller : ℕ) (computer : List ℕ) (found : Option SecureChannelState) → controller < count → IfChannel (channel_by controller computer found)
+  by_known : (controller : ℕ) (computer : List ℕ) (found : Option SecureChannelState) → controller < count → IfChannel (identity_by controller computer found)
   by_known controller computer None few = tt
   by_known controller computer (Some c) few = few
 
@@ -80,7 +80,7 @@ module _ (count : ℕ) where
 
   judging_known : (passed : Bool) (j : Judging) → j.controller < count → IsKnownMark (judging_by passed j).mark
   judging_known false j few = tt
-  judging_known true j few = passing_known (channel_in j.controller (computer_in j.asked) j.computers) j (in_known j.controller (computer_in j.asked) j.computers few)
+  judging_known true j few = passing_known (channel_in j.controller (computer_named j.asked) j.computers) j (in_known j.controller (computer_named j.asked) j.computers few)
 
   call_known : (c : Call) (line : Line) (w : Where) (before : Desk) (after : Option Desk) → w.controller < count → IsKnownMark (call_answer c line w before after).mark
   call_known (call.Challenge c) line w before after few = tt

@@ -1,24 +1,19 @@
 -- In every schedule answers are taken in turn and told: what that rests on holds of each state, since calls stay apart
 -- there, what is under way is whole, and draws differ. It serves `answers_are_taken_in_turn`.
-use Rattle.std.proofs.Common.{◌≡◌, ◌≢◌, ℕ, Bool, ◌+◌, ◌*◌, ◌-◌, ◌≤◌, List, [], ◌∷◌, ◌++◌, length, Option, Some, None, slice_get, refl, ap, sym, subst, ◌∙◌, arith}
-use Rattle.std.specs.Prelude.{AllPairs}
-use Rattle.wire_base.specs.Maps.{lookup, same_number}
-use Rattle.authenticators.specs.Channels.{ChannelIdentity}
+use Rattle.std.proofs.Common.{◌≡◌, ℕ, Bool, ◌+◌, ◌-◌, List, [], ◌++◌, length, Option, Some, None, slice_get, refl, ap, sym, subst, ◌∙◌, arith}
 use Rattle.outside.specs.Counter.{most_draws}
 use Rattle.outside.specs.declared.action.Action.{Action}
 use Rattle.outside.specs.declared.action.Action.TheVariants.{Keep, Send, Dial, Close, Told, Judged}
 use Rattle.outside.specs.declared.event.Event.TheVariants as event
 use Rattle.outside.proofs.CounterLaws.{challenges_from-distinct, challenges_from-none}
-use Rattle.channel_client.specs.declared.state.Pending.{Pending}
 use Rattle.channel_events.specs.RequestSteps.{RequestersKeepCallsApart}
 use Rattle.channel_events.specs.Requests.{CallsStayApart}
 use Rattle.member_server.specs.ChannelSteps.{ChannelStepsKnown}
 use Rattle.member_server.specs.Laws.{LetsInTheGranted}
-use Rattle.member_server.specs.State.{State as MemberState}
 use Rattle.member_server.specs.declared.state.Logon.{Logon}
 use Rattle.member_server.specs.declared.state.Running.{Running}
 use Rattle.step_notes.specs.ChannelNames.{standing_channel}
-use Rattle.step_notes.specs.Records.{Book, MessageTaken, blank}
+use Rattle.step_notes.specs.Records.{Book, blank}
 use Rattle.step_notes.proofs.Members.KeptLogonLaws.{kept_so}
 use Rattle.world_moves.specs.declared.links.EndId.{EndId}
 use Rattle.world_moves.specs.declared.links.LinkKind.{LinkKind}
@@ -35,19 +30,19 @@ use Rattle.world_moves.specs.Links.{acceptor_of, is_accepted_by, kind_of}
 use Rattle.world_moves.specs.World.{first_world}
 use Rattle.domain_world.specs.Accepting.ReadBack.{TurnsAreHeard}
 use Rattle.domain_world.specs.Accepting.Runs.{AskedIsOut, IsOut}
-use Rattle.domain_world.specs.Past.{Past, controller_of, past}
+use Rattle.domain_world.specs.Past.{controller_of, past}
 use Rattle.channel_events.proofs.ListLaws.{one_weaker}
-use Rattle.domain_world.proofs.Accepting.LetInStepLaws.{IsAcceptedBy, IsDialledBy}
+use Rattle.domain_world.proofs.Accepting.LetInStepLaws.{IsDialledBy}
 use Rattle.domain_world.proofs.Accepting.Quiet.QuietRunLaws.{has_bytes, is_quiet, quiet_first, quiet_keeps}
 use Rattle.domain_world.proofs.Accepting.Quiet.QuietStepLaws.{QuietAction, QuietFact}
-use Rattle.domain_world.proofs.Accepting.Turns.TurnFactLaws.{Any, past_at}
+use Rattle.domain_world.proofs.Accepting.Turns.TurnFactLaws.{past_at}
 use Rattle.domain_world.proofs.Accepting.Turns.TurnKeepLaws.{TurnsHold, TurnsRestOn, turns_begin, turns_keep, turns_of}
 use Rattle.domain_world.proofs.Frames.DrawnRunLaws.{all_of, end_all, given_all}
-use Rattle.domain_world.proofs.Frames.StepFrameLaws.{ActionFact, AnyAction, BothFacts, BothFine, HasHeard, HoldsAfterRun, Keeps, NoFact, RunFact, WhileFew, all_any, join, run_keeps, while_few, with_side}
+use Rattle.domain_world.proofs.Frames.StepFrameLaws.{ActionFact, AnyAction, BothFacts, BothFine, HoldsAfterRun, Keeps, NoFact, RunFact, WhileFew, all_any, join, run_keeps, while_few, with_side}
 use Rattle.domain_world.proofs.Requests.CallFrameLaws.{CallsKept, QuietSide, calls_keep, first_calls, out_of}
 use Rattle.domain_world.proofs.Requests.CallHoldsLaws.{CallsHold, differ_front}
 use Rattle.domain_world.proofs.Requests.CallStepLaws.{CallLaws, most_steps}
-use Rattle.domain_world.proofs.Requests.OutStepLaws.{HasOne, IsOutIn, MemberHolds, OutFor}
+use Rattle.domain_world.proofs.Requests.OutStepLaws.{HasOne, IsOutIn, OutFor}
 use Rattle.domain_world.proofs.Requests.StepApartLaws.{Differ}
 
 -- ---- what was drawn and what is left, at each state

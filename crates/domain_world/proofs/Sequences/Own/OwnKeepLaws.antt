@@ -1,17 +1,14 @@
 -- What is known of the calls of members' turns is kept through all that happens in a run, where it is kept as bytes
 -- come at a member. It serves `sequences_are_shared`.
-use Rattle.std.proofs.Common.{◌≡◌, ℕ, ◌+◌, ◌-◌, ◌≤◌, false, List, [], ◌∷◌, ◌++◌, length, replicate, inl, inr, Option, Some, None, slice_get, slice_set, refl, sym, ap, subst, ◌∙◌, arith}
+use Rattle.std.proofs.Common.{◌≡◌, ℕ, ◌+◌, ◌-◌, ◌≤◌, false, List, [], ◌++◌, length, replicate, Option, Some, None, slice_get, refl, sym, subst, arith}
 use Rattle.std.proofs.lemmas.List.{append-nil}
 use Rattle.outside.specs.Drawing.{Drawing}
 use Rattle.outside.specs.declared.action.Action.{Action}
 use Rattle.outside.specs.declared.event.Event.{Event}
 use Rattle.outside.specs.declared.event.Event.TheVariants as event
 use Rattle.channel_events.specs.Marks.{Mark, Calling, Plain}
-use Rattle.channel_events.proofs.ListLaws.{got_append}
 use Rattle.domain_controller.specs.State.{State as ControllerState}
 use Rattle.logon_client.specs.State.{State as ClientState}
-use Rattle.logon_client.specs.Machine.{begin_of, fresh_client}
-use Rattle.logon_client.specs.declared.plan.ClientPlan.{ClientPlan}
 use Rattle.member_server.specs.ChannelSteps.{ChannelStepsKnown}
 use Rattle.member_server.specs.Dials.{TurnsAreDialled}
 use Rattle.member_server.specs.Laws.{AsksWhatWaits}
@@ -29,7 +26,7 @@ use Rattle.world_moves.specs.Acting.{Given, given_by, hear}
 use Rattle.world_moves.specs.Ends.{EndStates, client_step, controller_step, end_step, member_step}
 use Rattle.domain_world.specs.Accepting.Sequences.{IsTakenFor}
 use Rattle.domain_world.specs.Past.{controller_of, note_given, sent_at, turns_in}
-use Rattle.domain_world.proofs.Accepting.Turns.TurnFactLaws.{AreApart, GrowsTo, MarksAreKnown, marks_before, past_at}
+use Rattle.domain_world.proofs.Accepting.Turns.TurnFactLaws.{AreApart, MarksAreKnown, marks_before, past_at}
 use Rattle.domain_world.proofs.Accepting.Turns.TurnQuietLaws.{client_members, controller_members, hear_grows, over_grows}
 use Rattle.domain_world.proofs.Challenges.MessageApartLaws.{links_in}
 use Rattle.domain_world.proofs.Frames.StepFrameLaws.{RunFact}

@@ -1,8 +1,7 @@
 -- What is known of the calls of members' turns stays where no member takes a step, and where one does with no whole
 -- unit on the link of its turn. It serves `sequences_are_shared`.
-use Rattle.std.proofs.Common.{◌≡◌, ℕ, ◌+◌, ◌==◌, Bool, true, false, List, [], ◌++◌, inl, inr, Option, Some, None, slice_get, slice_set, refl, sym, ap, subst, ◌∙◌, arith}
+use Rattle.std.proofs.Common.{◌≡◌, ℕ, ◌+◌, ◌==◌, Bool, true, false, List, [], ◌++◌, inl, inr, Option, Some, None, slice_get, refl, sym, ap, subst, ◌∙◌, arith}
 use Rattle.std.proofs.lemmas.Bool.Decides.{Decides-eqb}
-use Rattle.std.proofs.lemmas.List.{length-set}
 use Rattle.outside.specs.declared.action.Action.{Action}
 use Rattle.outside.specs.declared.event.Event.{Event}
 use Rattle.authenticators.specs.Channels.{ChannelIdentity}
@@ -16,8 +15,7 @@ use Rattle.member_server.specs.State.{State as MemberState}
 use Rattle.member_server.specs.declared.plan.MemberPlan.{MemberPlan}
 use Rattle.member_server.specs.declared.state.Running.{Running}
 use Rattle.step_notes.specs.Records.{Book, LogonTurn, Sent}
-use Rattle.world_moves.specs.declared.links.EndId.{EndId}
-use Rattle.world_moves.specs.declared.links.EndId.TheVariants.{Controller, Member, Client}
+use Rattle.world_moves.specs.declared.links.EndId.TheVariants.{Member}
 use Rattle.world_moves.specs.declared.plan.Plan.{Plan}
 use Rattle.world_moves.specs.declared.state.State.{State}
 use Rattle.world_moves.specs.Acting.{Given, Heard, given_by, heard_by}
@@ -26,7 +24,6 @@ use Rattle.domain_world.specs.Accepting.Sequences.{IsTakenFor}
 use Rattle.domain_world.specs.Past.{controller_of, controller_of_plan}
 use Rattle.domain_world.proofs.Accepting.Turns.TurnFactLaws.{GrowsTo, SameEnds, past_at, taken_stays, world_in}
 use Rattle.domain_world.proofs.Challenges.MessageOnceLaws.{set_cases}
-use Rattle.domain_world.proofs.Frames.ComingLaws.{kept_same}
 use Rattle.domain_world.proofs.Frames.MarkPlaceLaws.{got_map}
 use Rattle.domain_world.proofs.Requests.CallHoldsLaws.{controller_same, differ_front, marks_in}
 use Rattle.domain_world.proofs.Requests.StepApartLaws.{Differ, HearsNone}

@@ -13,8 +13,8 @@ use Rattle.channel_client.specs.Effects.{view_of}
 use Rattle.channel_client.specs.Machine.{take_of}
 use Rattle.channel_client.specs.State.{Requester}
 use Rattle.channel_events.specs.Marks.{Mark, Calling}
-use Rattle.member_server.specs.ChannelSteps.{ChannelSteps, ChannelStepsKnown, ComesCalmly, StepsIfTaken}
-use Rattle.member_server.specs.Dials.{IsWaiting, TurnSteps, TurnStepsIfTaken, TurnsAreDialled, dials_in}
+use Rattle.member_server.specs.ChannelSteps.{ChannelStepsKnown, ComesCalmly, StepsIfTaken}
+use Rattle.member_server.specs.Dials.{IsWaiting, TurnSteps, TurnStepsIfTaken, TurnsAreDialled}
 use Rattle.member_server.specs.Laws.{IsInOrder, heard_in, is_dialled}
 use Rattle.member_server.specs.Machine.{actions_in, by_event, event_part, halted_state, state_in, step_of, work_of}
 use Rattle.member_server.specs.Turns.{DialWork}

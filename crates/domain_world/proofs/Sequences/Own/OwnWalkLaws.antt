@@ -1,6 +1,6 @@
 -- What is known of the calls of members' turns holds after a run, where it is kept as bytes come at a member.
 -- It serves `sequences_are_shared`.
-use Rattle.std.proofs.Common.{◌≡◌, ℕ, ◌+◌, true, false, List, [], ◌++◌, drop, length, map, Option, Some, None, slice_get, refl, sym, subst, arith}
+use Rattle.std.proofs.Common.{◌≡◌, ℕ, ◌+◌, true, List, ◌++◌, drop, length, map, Option, Some, None, slice_get, refl, subst}
 use Rattle.std.specs.List.{AllByRecursion}
 use Rattle.outside.specs.declared.event.Event.{Event}
 use Rattle.outside.specs.declared.event.Event.TheVariants as event

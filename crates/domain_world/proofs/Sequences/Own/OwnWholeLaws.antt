@@ -27,7 +27,6 @@ use Rattle.world_moves.specs.declared.plan.Plan.{Plan}
 use Rattle.world_moves.specs.declared.state.State.{State}
 use Rattle.world_moves.specs.Acting.{Given, Heard, given_by, hear, heard_by, hear_and_act, perform_all}
 use Rattle.world_moves.specs.Ends.{actions_by, member_step}
-use Rattle.domain_world.specs.Accepting.Runs.{seen_member}
 use Rattle.domain_world.specs.Accepting.Sequences.{IsTakenFor}
 use Rattle.domain_world.specs.Past.{Coming, controller_of, note_member, sent_at}
 use Rattle.domain_world.proofs.Accepting.LetInStepLaws.{IsDialledBy}
@@ -44,7 +43,7 @@ use Rattle.domain_world.proofs.Requests.CallFrameLaws.{TurnOn, turn_case}
 use Rattle.domain_world.proofs.Requests.CallHoldsLaws.{CallsHold, differ_front, marks_append, marks_in, marks_sent}
 use Rattle.domain_world.proofs.Requests.CallStepLaws.{CallLaws, most_steps}
 use Rattle.domain_world.proofs.Requests.LooserLaws.{IsPlaced, NoCalls, Placed}
-use Rattle.domain_world.proofs.Requests.StepApartLaws.{Differ, PlacedBy}
+use Rattle.domain_world.proofs.Requests.StepApartLaws.{Differ, PlacedBy, seen_member}
 use Rattle.domain_world.proofs.Requests.WholeNotedLaws.{placed_part}
 use Rattle.domain_world.proofs.Sequences.CallTakenLaws.{IsAnswer}
 use Rattle.domain_world.proofs.Sequences.DialCountLaws.{given_append, given_other}

@@ -14,7 +14,7 @@ returns-then-not-secure_unit-clause-answer c =
     let unit = c.unit-item.result in
     let front = front_of items c.loop-unit.unit-index unit c.unit-item.is c.loop-unit-test.true in
     let secured : secure_unit c.args.seals c.loop-unit.session (written unit) ≡ secured_if c.secure_unit.result c.secure_unit.new.bytes c.secure_unit.new.session =
-    ap (secure_unit c.args.seals c.loop-unit.session) (sym (c.deref_mut.ensures.value ∙ c.in_ok-one.ensures)) ∙ c.secure_unit.ensures.answer in
+    ap (secure_unit c.args.seals c.loop-unit.session) (sym (c.deref_mut.ensures.value ∙ c.into_vec-one.ensures ∙ c.in_ok-room.ensures.value)) ∙ c.secure_unit.ensures.answer in
     ap (secure_all c.args.seals c.args.session.now) (sym (c.items-unit-items.ensures ∙ c.in_ok-units.ensures.cut))
     ∙ sym c.loop-unit.invariant.so_far
     ∙ ap (λ rest. behind c.loop-unit.bytes.items (secure_all c.args.seals c.loop-unit.session rest)) front
@@ -27,10 +27,10 @@ loop-unit-preserved c =
     let unit = c.unit-item.result in
     let front = front_of items c.loop-unit.unit-index unit c.unit-item.is c.loop-unit-test.true in
     let secured : secure_unit c.args.seals c.loop-unit.session (written unit) ≡ secured_if c.secure_unit.result c.secure_unit.new.bytes c.secure_unit.new.session =
-    ap (secure_unit c.args.seals c.loop-unit.session) (sym (c.deref_mut.ensures.value ∙ c.in_ok-one.ensures)) ∙ c.secure_unit.ensures.answer in
-    let size : c.in_ok-one.one.len ≡ length c.secure_unit.new.bytes = omega (arith, c.secure_unit.auto.bytes, c.deref_mut.ensures.len, c.in_ok-one.one.ok) in
-    let put = c.deref.ensures.value ∙ ap (λ n. take n (c.secure_unit.new.bytes ++ drop (length c.secure_unit.new.bytes) c.in_ok-one.one.items)) size
-    ∙ take-append_seam c.secure_unit.new.bytes (drop (length c.secure_unit.new.bytes) c.in_ok-one.one.items) in
+    ap (secure_unit c.args.seals c.loop-unit.session) (sym (c.deref_mut.ensures.value ∙ c.into_vec-one.ensures ∙ c.in_ok-room.ensures.value)) ∙ c.secure_unit.ensures.answer in
+    let size : c.into_vec-one.result.len ≡ length c.secure_unit.new.bytes = omega (arith, c.secure_unit.auto.bytes, c.deref_mut.ensures.len, c.into_vec-one.result.ok) in
+    let put = c.deref.ensures.value ∙ ap (λ n. take n (c.secure_unit.new.bytes ++ drop (length c.secure_unit.new.bytes) c.into_vec-one.result.items)) size
+    ∙ take-append_seam c.secure_unit.new.bytes (drop (length c.secure_unit.new.bytes) c.into_vec-one.result.items) in
     let out = c.in_ok-extend_from_slice.ensures.items ∙ ap (λ more. c.loop-unit.bytes.items ++ more) put in
     record {
       so_far =
@@ -43,7 +43,7 @@ loop-unit-preserved c =
         arith,
         ap (λ (bytes : List ℕ). length bytes) out,
         length-append c.loop-unit.bytes.items c.secure_unit.new.bytes,
-        c.secure_unit.ensures.len ∙ ap (λ (bytes : List ℕ). length bytes) (c.deref_mut.ensures.value ∙ c.in_ok-one.ensures),
+        c.secure_unit.ensures.len ∙ ap (λ (bytes : List ℕ). length bytes) (c.deref_mut.ensures.value ∙ c.into_vec-one.ensures ∙ c.in_ok-room.ensures.value),
         length-append (written unit) (flat_map written (drop (c.loop-unit.unit-index + 1) items)),
         ap (λ units. length (flat_map written units)) front,
         c.loop-unit.invariant.size,

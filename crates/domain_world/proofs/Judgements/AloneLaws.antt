@@ -1,0 +1,45 @@
+-- What a controller tells judges a call, and it tells of none that it was handed on to another.
+-- It serves `controllers_tell_of_calls_alone`.
+use Rattle.std.proofs.Common.{◌≡◌, ◌≢◌, List, [], ◌∷◌, ◌++◌, Option, Some, None, true, refl, sym, ap, ◌∙◌, subst}
+use Rattle.std.specs.List.{AllByRecursion}
+use Rattle.outside.specs.declared.action.Judged.{Judged}
+use Rattle.outside.specs.declared.action.Judged.TheVariants as judged
+use Rattle.domain_controller.specs.Laws.{judges_call}
+use Rattle.step_notes.specs.ControllerNotes.{has_passed}
+use Rattle.step_notes.specs.Judged.{IsJudgedRight, IsRightOf}
+use Rattle.step_notes.specs.Records.{Judging, JudgementTold, computer_named, given_in}
+use Rattle.world_moves.specs.declared.moves.Move.{Move}
+use Rattle.world_moves.specs.declared.plan.Plan.{Plan}
+use Rattle.domain_world.specs.Claims.{TellsOfCallsAlone}
+use Rattle.domain_world.specs.Past.{past}
+use Rattle.domain_world.proofs.Judgements.GrantLaws.{HasItsStatus, each_status}
+use Rattle.domain_world.proofs.Judgements.JudgedLaws.{AreRight, judged_rightly}
+use Rattle.domain_world.proofs.Judgements.ToldLaws.{judgements_told, none_right, right_judges, telling_by, tellings}
+
+abbrev IsOfCall : JudgementTold → Type 0
+IsOfCall one = (judges_call one.how ≡ true) × (one.how ≢ judged.Forwarded)
+
+-- a call that passed was told with its status, so it wasn't handed on
+not_forwarded : (j : Judging) → HasItsStatus j → j.how ≡ Some judged.Forwarded → ⊥
+not_forwarded j status is = absurd (let told : Some judged.Forwarded ≡ Some (judged.Passed _) = sym is ∙ status (ap has_passed is) in cc)
+
+one_judges : (how : Option Judged) (j : Judging) (more : List JudgementTold) → j.how ≡ how → IsJudgedRight j → HasItsStatus j → AllByRecursion IsOfCall more →
+    AllByRecursion IsOfCall (telling_by j.at j.controller how ++ more)
+one_judges None j more is right status all = absurd (none_right j is right)
+one_judges (Some how) j more is right status all = (
+  (
+    right_judges how j.computers (computer_named j.asked) (given_in j.asked) (subst (λ (told : Option Judged). IsRightOf told j.computers (computer_named j.asked) (given_in j.asked)) is right),
+    (λ forwarded. not_forwarded j status (is ∙ ap Some forwarded)),
+  ),
+  all,
+)
+
+all_judge : (judgings : List Judging) → AreRight judgings → AllByRecursion HasItsStatus judgings → AllByRecursion IsOfCall (tellings judgings)
+all_judge [] right status = tt
+all_judge (j ∷ judgings) right status = one_judges j.how j (tellings judgings) refl right.0 status.0 (all_judge judgings right.1 status.1)
+
+-- in every run a controller tells of calls alone
+pub tells_of_calls : (plan : Plan) (moves : List Move) → TellsOfCallsAlone (past plan moves)
+tells_of_calls plan moves =
+    subst (λ told. AllByRecursion IsOfCall told) (judgements_told plan moves)
+    (all_judge (past plan moves).book.judged (judged_rightly plan moves) (each_status plan moves))

@@ -1,0 +1,26 @@
+-- Members by their numbers are who asks: what is said of calls over the one holds over the other.
+-- It serves `runs_begin` and `schedules_are_heard`.
+use Rattle.std.proofs.Common.{◌≡◌, ℕ, ap}
+use Rattle.channel_events.specs.Requests.{CallsAreApart, Requests}
+use Rattle.step_notes.specs.Records.{OfMember, RequesterId}
+
+abbrev pub member_of : RequesterId → ℕ
+member_of (OfMember member) = member
+
+-- members by their numbers are who asks
+abbrev pub by_requester : Requests ℕ → Requests RequesterId
+by_requester r = record { views = λ who. r.views (member_of who); marks = r.marks; drawn = r.drawn; uses = r.uses }
+
+same_members : (one other : RequesterId) → member_of one ≡ member_of other → one ≡ other
+same_members (OfMember one) (OfMember other) is = ap OfMember is
+
+pub by_requester_apart : (r : Requests ℕ) → CallsAreApart r → CallsAreApart (by_requester r)
+by_requester_apart r apart = record {
+  made_before = apart.made_before;
+  held_before = λ i v challenge at holds. apart.held_before (member_of i) v challenge at holds;
+  apart = λ i j u v challenge at also holds too. same_members i j (apart.apart (member_of i) (member_of j) u v challenge at also holds too);
+  opening = λ i v unit number timestamp c at opening there. apart.opening (member_of i) v unit number timestamp c at opening there;
+  numbers = λ i v unit number timestamp c at holds there. apart.numbers (member_of i) v unit number timestamp c at holds there;
+  distinct = apart.distinct;
+  calls = λ i v at. apart.calls (member_of i) v at;
+}
