@@ -4,6 +4,8 @@ use Rattle.std.proofs.Common.{◌≡◌, ◌≢◌, ◌+◌, ℕ, zero, suc, Boo
 use Rattle.std.specs.Prelude.{◌%◌, ◌^◌}
 use Rattle.std.proofs.lemmas.Bool.{eqb-true}
 use Rattle.wire_base.specs.Maps.{lookup, same_number}
+use Rattle.rpc_units.specs.Writing.{written}
+use Rattle.end_links.specs.Binding.{nak_of}
 use Rattle.end_links.specs.Links.{LinkState}
 use Rattle.end_links.specs.Serving.{ServedUnit}
 use Rattle.account_table.specs.AccountTable.{AccountTable}
@@ -20,12 +22,14 @@ use Rattle.member_server.specs.declared.state.Phase.TheVariants as phase
 use Rattle.member_server.specs.declared.state.Running.{Running as MemberRunning}
 use Rattle.member_server.specs.declared.state.Talk.{Talk}
 use Rattle.domain_world.specs.Claims.Tables.{accounts_after}
-use Rattle.domain_world.specs.Claims.WrittenDown.{IsChallengeOf, IsMessageOf, MembersAreWrittenDown}
+use Rattle.domain_world.specs.Claims.WrittenDown.{IsChallengeOf, IsMadeOn, IsMadeWith, IsMessageOf, MembersAreWrittenDown}
 use Rattle.std.proofs.lemmas.List.Elements.{All-from_recursion}
 use Rattle.wire_base.specs.Names.{same_name}
 use Rattle.wire_base.specs.Names as names
 use Rattle.wire_base.specs.Units.{units_of}
 use Rattle.authenticators.specs.Channels.{ChannelIdentity}
+use Rattle.outside.specs.declared.action.Action.{Action}
+use Rattle.outside.specs.declared.action.Action.TheVariants as action
 use Rattle.outside.specs.declared.action.Judged.TheVariants as judged
 use Rattle.ntlm_responses.specs.Responses.{is_ess_pair}
 use Rattle.ntlm_responses.specs.Verification.{verifies}
@@ -42,7 +46,7 @@ use Rattle.step_notes.proofs.Members.CallLogonLaws.{calls_carry}
 use Rattle.domain_world.specs.Claims.AskedFor.{AsksForItsMessage, IsForItsMessage, IsOfMessage, MembersAskForKept}
 use Rattle.channel_events.specs.Marks.{OneOf, Calling, Mark, Opened, Opening, Plain, ReplyTo}
 use Rattle.channel_events.proofs.ListLaws.{got_nothing, no_some, some_is}
-use Rattle.step_notes.specs.Records.{Judging, MessageTaken, Sent, blank}
+use Rattle.step_notes.specs.Records.{Judging, MessageMade, MessageTaken, Sent, blank}
 use Rattle.world_moves.specs.declared.bag.BagUnit.{BagUnit}
 use Rattle.world_moves.specs.declared.links.Route.TheVariants.{ToController, ToMember}
 use Rattle.world_moves.specs.Forms.{HasMoveForm, IsByte}
@@ -51,14 +55,23 @@ use Rattle.domain_world.specs.Accepting.Answered.{IsItsWay, MarksHaveTheirWay, P
 use Rattle.domain_world.specs.Claims.{IsAccepted, IsClear, IsGrantedBy, IsItsControllersAnswer, IsPlainlyAccepted, passed_on, judged_timestamp}
 use Rattle.domain_world.specs.Claims.Counts.{RaisesCount}
 use Rattle.domain_world.specs.Past.{Past, sent_at}
-use Rattle.claim_examples.specs.ClaimExamples.{challenge_on, elsewhere, extended_flags, judged_as, judging, last_timestamp, message, message_of_link, on_channel, one_logon, open_running, small_account, small_challenge, small_hash, small_logon, small_member, small_name, small_plan, small_run, small_table, small_world}
+use Rattle.claim_examples.specs.ClaimExamples.{challenge_on, client_plan, elsewhere, extended_flags, judged_as, judging, last_timestamp, made_keeping, message, message_of_link, on_channel, one_logon, open_running, small_account, small_challenge, small_hash, small_logon, small_member, small_name, small_plan, small_run, small_table, small_world}
 use Rattle.claim_examples.specs.GrantExamples.{wrong_call}
-use Rattle.claim_examples.specs.NearMisses.{NearMissesTellApart, OfAcceptingAll, OfAcceptingOnly, OfAsking, OfClearRuns, OfCounts, OfKeys, OfMaking, OfSchedules, OfShortResponses, OfTables, OfTelling, OfUnits, OfWritingDown, at_two_members, barred_again, bob, each_move, extended_taken, foreign, half_timestamp, judged_by, judged_two, keeping, locking_table, long_taken, noting, passed_for, sent_one, small_bound, taking, ten_keeping, untold, waiting_on, wrong_among}
+use Rattle.claim_examples.specs.NearMisses.{NearMissesTellApart, OfAcceptingAll, OfAcceptingOnly, OfAsking, OfClearRuns, OfCounts, OfKeeping, OfKeys, OfLeavingOut, OfMaking, OfSchedules, OfShortResponses, OfTables, OfTelling, OfUnits, OfWritingDown, at_two_members, barred_again, bob, each_move, extended_taken, foreign, half_timestamp, in_client, judged_by, judged_two, keeping, kept_client, kept_link, kept_running, kept_terms, locking_table, long_taken, noting, passed_for, sent_one, small_bound, taking, ten_keeping, untold, waiting_on, wrong_among}
 use Rattle.claim_examples.proofs.ClaimLaws.{its_controller, moved_by_one, of_wraps, the_two}
 use Rattle.claim_examples.proofs.CompletenessLaws.{lost_schedule}
 use Rattle.claim_examples.proofs.LogonLaws.{extended_pair, free_small, granted_small, only_draw, plain_small, stored_small, this_step}
 use Rattle.claim_examples.proofs.SequenceLaws.{one_apart}
 use Rattle.logon_client.specs.declared.plan.ClientPlan.{ClientPlan}
+use Rattle.logon_client.specs.State.{State as ClientState}
+use Rattle.logon_client.specs.declared.outcome.ClientOutcome.TheVariants as client_outcome
+use Rattle.logon_client.specs.declared.state.ClientLink.TheVariants as client_link
+use Rattle.logon_client.specs.declared.state.Phase.TheVariants as client_phase
+use Rattle.logon_client.specs.declared.state.Question.{Question}
+use Rattle.logon_client.specs.declared.state.Question.TheVariants.{Who}
+use Rattle.logon_client.specs.declared.state.Running.{Running as ClientRunning}
+use Rattle.logon_client.specs.declared.state.Talk.{Talk as ClientTalk}
+use Rattle.logon_client.specs.declared.state.Terms.{Terms}
 
 -- ---- clear runs
 
@@ -339,7 +352,7 @@ module _ (run : Past) (r : MemberRunning) (only : run.world.state.ends.members �
 
   written_by : ((place : ℕ) (logon : Logon) → lookup same_number place r.logons.asked ≡ Some logon → OneOf (IsMessageOf run 0 place logon) run.book.messages) →
       ((number : ℕ) (link : LinkState Talk) (bound : Bound) (challenge : List ℕ) (flags : ℕ) → lookup same_number number r.links ≡ Some link →
-      link.talk.phase ≡ phase.Challenged bound challenge flags → OneOf (IsChallengeOf number challenge) run.book.challenges) → MembersAreWrittenDown run
+      link.talk.phase ≡ phase.Challenged bound challenge flags → OneOf (IsChallengeOf 0 number challenge) run.book.challenges) → MembersAreWrittenDown run
   written_by kept waited = record {
     logons = λ member m running place logon at runs there.
         let is = there_is member m running at runs in
@@ -347,7 +360,8 @@ module _ (run : Past) (r : MemberRunning) (only : run.world.state.ends.members �
         (kept place logon (subst (λ (x : MemberRunning). lookup same_number place x.logons.asked ≡ Some logon) is.1 there));
     challenges = λ member m running number link bound challenge flags at runs there waits.
         let is = there_is member m running at runs in
-        waited number link bound challenge flags (subst (λ (x : MemberRunning). lookup same_number number x.links ≡ Some link) is.1 there) waits;
+        subst (λ (n : ℕ). OneOf (IsChallengeOf n number challenge) run.book.challenges) (sym is.0)
+        (waited number link bound challenge flags (subst (λ (x : MemberRunning). lookup same_number number x.links ≡ Some link) is.1 there) waits);
   }
 
 -- the one that is kept under a number is that one
@@ -374,11 +388,11 @@ kept_message : (place : ℕ) (logon : Logon) → (0 ≡ place) × (small_logon 3
 kept_message place logon is = record { same_member = refl; same_place = is.0; same_logon = is.1; link = ap (λ (l : Logon). l.link) is.1; before = omega arith }
 
 waited_challenge : (number : ℕ) (link : LinkState Talk) (bound : Bound) (challenge : List ℕ) (flags : ℕ) → (number ≡ 3) × (record { rest = []; talk = record { joiner = None; phase = phase.Challenged small_bound small_challenge 0 } } ≡ link) →
-    link.talk.phase ≡ phase.Challenged bound challenge flags → IsChallengeOf number challenge (challenge_on 3)
+    link.talk.phase ≡ phase.Challenged bound challenge flags → IsChallengeOf 0 number challenge (challenge_on 3)
 waited_challenge number link bound challenge flags is waits =
     let same : phase.Challenged small_bound small_challenge 0 ≡ phase.Challenged bound challenge flags = ap (λ (l : LinkState Talk). l.talk.phase) is.1 ∙ waits in
     let both : small_challenge ≡ challenge = cc in
-    (sym is.0, both)
+    (sym is.0, both, refl)
 
 of_written : OfWritingDown
 of_written = record {
@@ -417,20 +431,107 @@ of_written = record {
     | inl is ↦ absurd (let never : 4 ≡ 3 = is.0 in omega (arith, never))
     | inr none ↦ none
   ];
+  fails_sender = λ claim. elim (claim.challenges 0 (record { running = Some (waiting_running 3 small_challenge) }) (waiting_running 3 small_challenge) 3 _ small_bound small_challenge 0 refl refl refl refl) [
+    | inl is ↦ absurd (let never : 1 ≡ 0 = is.2 in omega (arith, never))
+    | inr none ↦ none
+  ];
   fails_other = λ claim. elim (claim.challenges 0 (record { running = Some (waiting_running 3 []) }) (waiting_running 3 []) 3 _ small_bound [] 0 refl refl refl refl) [
     | inl is ↦ absurd (let never : 8 ≡ 0 = ap (λ (c : List ℕ). length c) is.1 in omega (arith, never))
     | inr none ↦ none
   ];
 }
 
+of_leaving : OfLeavingOut
+of_leaving = record {
+  fails_silent = λ answers. elim answers [
+    | inl shut ↦ absurd (let never : ◌≡◌ {A = List Action} [] (action.Close 3 shut.0 ∷ []) = shut.1 in cc)
+    | inr nak ↦ absurd (let never : ◌≡◌ {A = List Action} [] (action.Send 3 (written (nak_of nak.0)) ∷ []) = nak.1 in cc)
+  ];
+  fails_two = λ after answers. answers;
+  fails_link = λ after answers. absurd (let never : 4 ≡ 3 = answers.1.link in omega (arith, never));
+  fails_closed = λ after takes. absurd (let never : ◌≡◌ {A = List MessageTaken} (message_of_link 3 ∷ []) [] = takes.0 in cc);
+  fails_waiting = λ after takes. absurd (let never : ◌≡◌ {A = List MessageTaken} [] (takes.0 ∷ []) = takes.1 in cc);
+  fails_place = λ after takes. absurd (
+      let all : ◌≡◌ {A = List MessageTaken} (message_of_link 3 ∷ []) (takes.0 ∷ []) = takes.1 in
+      let same : message_of_link 3 ≡ takes.0 = cc in
+      let never : 0 ≡ 1 = ap (λ (m : MessageTaken). m.place) same ∙ takes.2.place_is in
+      omega (arith, never));
+  fails_drawn = λ draws. absurd (let never : ◌≡◌ {A = List (List ℕ)} (small_challenge ∷ []) [] = draws in cc);
+}
+
 of_making : OfMaking
 of_making = record {
   meets = (record { plan = refl; server = 0; link = refl }, tt);
+  meets_second = (record { plan = refl; server = 0; link = refl }, tt);
   fails_plan = λ claim. absurd (let never : 0 ≡ 2 = ap (λ (p : ClientPlan). p.echo) (some_is _ _ claim.0.plan) in omega (arith, never));
   fails_other = λ claim. absurd (let never : 1 ≡ 0 = ap (λ (p : ClientPlan). p.echo) (some_is _ _ claim.0.plan) in omega (arith, never));
   fails_link = λ claim. absurd (let is : ToMember 0 0 ≡ ToMember 1 claim.0.server = some_is _ _ claim.0.link in let never : ◌≡◌ {A = ℕ} 0 1 = cc in omega (arith, never));
   fails_controller = λ claim. absurd (let is : ToController 0 0 ≡ ToMember 0 claim.0.server = some_is _ _ claim.0.link in cc);
   fails_unmade = λ claim. absurd (no_some _ claim.0.link);
+}
+
+kept_on : (client : ℕ) (c : ClientState) (running : ClientRunning) (link : LinkState ClientTalk) (terms : Terms) (question : Question) → slice_get (kept_client ∷ []) client ≡ Some c →
+    c.running ≡ Some running → running.standing ≡ client_link.On link → link.talk.phase ≡ client_phase.Asked terms question →
+    OneOf (IsMadeOn client link.talk.link terms.key) (made_keeping (1 ∷ []) ∷ [])
+kept_on zero c running link terms question at runs stands asked =
+    let here : kept_client ≡ c = some_is kept_client c at in
+    let its : kept_running ≡ running = some_is kept_running running (ap (λ (x : ClientState). x.running) here ∙ runs) in
+    let on : client_link.On kept_link ≡ client_link.On link = ap (λ (x : ClientRunning). x.standing) its ∙ stands in
+    let same : kept_link ≡ link = cc in
+    let phase : client_phase.Asked kept_terms Who ≡ client_phase.Asked terms question = ap (λ (x : LinkState ClientTalk). x.talk.phase) same ∙ asked in
+    let key : kept_terms ≡ terms = cc in
+    inl (refl, ap (λ (x : Terms). x.key) key, ap (λ (x : LinkState ClientTalk). x.talk.link) same)
+kept_on (suc k) c running link terms question at runs stands asked = absurd (got_nothing k c at)
+
+kept_out : (client : ℕ) (c : ClientState) (name key : List ℕ) (echoed : ℕ) (made : List MessageMade) → slice_get (kept_client ∷ []) client ≡ Some c → c.outcome ≡ Some (client_outcome.In name key echoed) →
+    OneOf (IsMadeWith client key) made
+kept_out zero c name key echoed made at is = absurd (no_some (client_outcome.In name key echoed) (ap (λ (x : ClientState). x.outcome) (some_is kept_client c at) ∙ is))
+kept_out (suc k) c name key echoed made at is = absurd (got_nothing k c at)
+
+in_on : (client : ℕ) (c : ClientState) (running : ClientRunning) (link : LinkState ClientTalk) (made : List MessageMade) → slice_get (in_client ∷ []) client ≡ Some c → c.running ≡ Some running →
+    running.standing ≡ client_link.On link → (key : List ℕ) → OneOf (IsMadeOn client link.talk.link key) made
+in_on zero c running link made at runs stands key =
+    let its : record { task = client_plan; standing = client_link.Idle } ≡ running = some_is _ running (ap (λ (x : ClientState). x.running) (some_is in_client c at) ∙ runs) in
+    absurd (let never : client_link.Idle ≡ client_link.On link = ap (λ (x : ClientRunning). x.standing) its ∙ stands in cc)
+in_on (suc k) c running link made at runs stands key = absurd (got_nothing k c at)
+
+in_out : (client : ℕ) (c : ClientState) (name key : List ℕ) (echoed link : ℕ) → slice_get (in_client ∷ []) client ≡ Some c → c.outcome ≡ Some (client_outcome.In name key echoed) →
+    OneOf (IsMadeWith client key) (record (made_keeping (1 ∷ [])) { link = link } ∷ [])
+in_out zero c name key echoed link at is =
+    let both : Some (client_outcome.In [] (1 ∷ []) 0) ≡ Some (client_outcome.In name key echoed) = ap (λ (x : ClientState). x.outcome) (some_is in_client c at) ∙ is in
+    let same : 1 ∷ [] ≡ key = cc in
+    inl (refl, same)
+in_out (suc k) c name key echoed link at is = absurd (got_nothing k c at)
+
+of_keeping : OfKeeping
+of_keeping = record {
+  meets = record { keys = kept_on; outcomes = λ client c name key echoed at is. kept_out client c name key echoed (made_keeping (1 ∷ []) ∷ []) at is };
+  fails = λ claim. claim.keys 0 kept_client kept_running kept_link kept_terms Who refl refl refl refl;
+  fails_key = λ claim. elim (claim.keys 0 kept_client kept_running kept_link kept_terms Who refl refl refl refl) [
+    | inl is ↦ absurd (let never : 2 ≡ 1 = ap (λ (k : List ℕ). length k) is.1 in omega (arith, never))
+    | inr none ↦ none
+  ];
+  fails_link = λ claim. elim (claim.keys 0 kept_client kept_running kept_link kept_terms Who refl refl refl refl) [
+    | inl is ↦ absurd (let never : 4 ≡ 3 = is.2 in omega (arith, never))
+    | inr none ↦ none
+  ];
+  fails_client = λ claim. elim (claim.keys 0 kept_client kept_running kept_link kept_terms Who refl refl refl refl) [
+    | inl is ↦ absurd (let never : 1 ≡ 0 = is.0 in omega (arith, never))
+    | inr none ↦ none
+  ];
+  meets_in = record {
+    keys = λ client c running link terms question at runs stands asked. in_on client c running link (record (made_keeping (1 ∷ [])) { link = 4 } ∷ []) at runs stands terms.key;
+    outcomes = λ client c name key echoed at is. in_out client c name key echoed 4 at is;
+  };
+  fails_in = λ claim. claim.outcomes 0 in_client [] (1 ∷ []) 0 refl refl;
+  fails_in_key = λ claim. elim (claim.outcomes 0 in_client [] (1 ∷ []) 0 refl refl) [
+    | inl is ↦ absurd (let never : 2 ≡ 1 = ap (λ (k : List ℕ). length k) is.1 in omega (arith, never))
+    | inr none ↦ none
+  ];
+  fails_in_client = λ claim. elim (claim.outcomes 0 in_client [] (1 ∷ []) 0 refl refl) [
+    | inl is ↦ absurd (let never : 1 ≡ 0 = is.0 in omega (arith, never))
+    | inr none ↦ none
+  ];
 }
 
 of_telling : OfTelling
@@ -499,7 +600,10 @@ near_misses = record {
   units = of_units;
   asking = of_asking;
   written = of_written;
+  leaving = of_leaving;
   made = of_making;
+  keeping = of_keeping;
+  seeing = record { sees = refl; none = refl };
   telling = of_telling;
   tables = of_tables;
   schedules = of_schedules;

@@ -1,7 +1,7 @@
 -- Near misses beside those of the other files (this project's own choice): runs that differ in one thing more from one
 -- that meets a claim, so that a claim which leaves that thing out, or which asks it besides, is told apart. Responses
 -- are the values of their functions.
-use Rattle.std.specs.Prelude.{ℕ, ◌≡◌, ◌-◌, ◌^◌, Bool, true, false, List, [], ◌∷◌, ◌++◌, replicate, Some, None, codes, slice_get}
+use Rattle.std.specs.Prelude.{ℕ, ◌≡◌, ◌-◌, ◌^◌, Bool, true, false, List, [], ◌∷◌, ◌++◌, replicate, Some, None, Ok, codes, slice_get}
 use Rattle.outside.specs.declared.action.Judged.{Judged}
 use Rattle.outside.specs.declared.action.Judged.TheVariants as judged
 use Rattle.ntlm_responses.specs.Hashes.{key_v2_of}
@@ -10,21 +10,34 @@ use Rattle.account_table.specs.AccountTable.{AccountTable}
 use Rattle.account_table.specs.declared.account.Account.{Account}
 use Rattle.domain_controller.specs.Step.{first_state}
 use Rattle.logon_client.specs.declared.plan.AuthKind.TheVariants as auth
+use Rattle.logon_client.specs.State.{State as ClientState}
+use Rattle.logon_client.specs.declared.outcome.ClientOutcome.TheVariants as client_outcome
+use Rattle.logon_client.specs.declared.state.ClientLink.TheVariants as client_link
+use Rattle.logon_client.specs.declared.state.Phase.TheVariants as client_phase
+use Rattle.logon_client.specs.declared.state.Question.TheVariants.{Who}
+use Rattle.logon_client.specs.declared.state.Running.{Running as ClientRunning}
+use Rattle.logon_client.specs.declared.state.Talk.{Talk as ClientTalk}
+use Rattle.logon_client.specs.declared.state.Terms.{Terms}
 use Rattle.authenticators.specs.Channels.{ChannelIdentity}
+use Rattle.channel_client.specs.Machine.{fresh_requester}
 use Rattle.end_links.specs.Binding.{binding_of}
 use Rattle.memo_stubs.specs.Interface.{memo_syntax}
 use Rattle.end_links.specs.Serving.{ServedUnit}
+use Rattle.end_links.specs.Links.{LinkState}
+use Rattle.member_server.specs.Machine.{caller_of}
 use Rattle.member_server.specs.State.{State as MemberState}
+use Rattle.member_server.specs.declared.state.AtLink.{AtLink}
 use Rattle.member_server.specs.declared.state.AtTurn.{AtTurn}
 use Rattle.member_server.specs.declared.state.Bound.{Bound}
 use Rattle.member_server.specs.declared.state.Logon.{Logon}
 use Rattle.member_server.specs.declared.state.Phase.TheVariants as phase
 use Rattle.member_server.specs.declared.state.Running.{Running as MemberRunning}
 use Rattle.member_server.specs.declared.state.TurnTalk.{TurnTalk}
-use Rattle.step_notes.specs.MemberNotes.{turn_note, turn_units}
+use Rattle.step_notes.specs.MemberNotes.{LinkAt, turn_note, turn_units}
 use Rattle.domain_world.specs.Claims.AskedFor.{MembersAskForKept, MembersAskForMessages}
 use Rattle.channel_events.specs.Marks.{Calling, Mark, Opened, Opening, Plain, ReplyTo}
-use Rattle.step_notes.specs.Records.{Book, ChallengeSent, Judging, MessageMade, MessageTaken, blank}
+use Rattle.channel_events.specs.Requests.{fresh_view}
+use Rattle.step_notes.specs.Records.{Book, ChallengeSent, Judging, MessageMade, MessageTaken, OfMember, blank}
 use Rattle.world_moves.specs.declared.links.LinkKind.TheVariants as kind
 use Rattle.world_moves.specs.declared.links.Route.TheVariants.{ToController, ToMember}
 use Rattle.world_moves.specs.declared.moves.Move.{Move}
@@ -33,11 +46,13 @@ use Rattle.world_moves.specs.Forms.{IsSchedule}
 use Rattle.domain_world.specs.Accepting.Answered.{MarksHaveTheirWay, MessagesAreApart, PassesAreUnclashed}
 use Rattle.domain_world.specs.Claims.{AcceptsAllGranted, AcceptsOnlyGranted, IsClear, KeysAgree, ShortResponsesServeOnce, TellsOfCallsAlone, taken_answer_on}
 use Rattle.domain_world.specs.Claims.Counts.{EachCallRaisesOnce, RaisesCount}
+use Rattle.domain_world.specs.Claims.LeftOut.{Answers, DrawsFor, Takes, TakesOn}
 use Rattle.domain_world.specs.Claims.MarkedUnits.{EachUnitIsMarked}
 use Rattle.domain_world.specs.Claims.Tables.{TablesFollowVerdicts}
-use Rattle.domain_world.specs.Claims.WrittenDown.{MembersAreWrittenDown, MessagesAreOfTheirClients}
+use Rattle.domain_world.specs.Claims.WrittenDown.{ClientsAreWrittenDown, MembersAreWrittenDown, MessagesAreOfTheirClients}
+use Rattle.domain_world.specs.Accepting.Runs.{seen_in}
 use Rattle.domain_world.specs.Past.{Past, sent_at}
-use Rattle.claim_examples.specs.ClaimExamples.{challenge_on, client_plan, elsewhere, extended_flags, extended_message, judged_as, judging, last_timestamp, made_as, made_keeping, message, message_of_link, on_channel, one_logon, open_running, run_in, small_account, small_challenge, small_hash, small_logon, small_member, small_name, small_plan, small_run, small_table, small_world, taken_as, told_of_link, two_logons, with_response, world_of}
+use Rattle.claim_examples.specs.ClaimExamples.{challenge_on, client_plan, elsewhere, extended_flags, extended_message, judged_as, judging, last_timestamp, made_as, made_keeping, message, message_of_link, on_channel, one_logon, open_running, run_in, small_account, small_challenge, small_hash, small_links, small_logon, small_member, small_name, small_plan, small_run, small_table, small_world, taken_as, told_of_link, two_logons, with_response, world_of}
 use Rattle.claim_examples.specs.CompletenessExamples.{lost_plan}
 use Rattle.claim_examples.specs.GrantExamples.{judged_all, wrong_call}
 
@@ -258,7 +273,7 @@ ten_keeping place = let run : Past = keeping ((place, small_logon 3) ∷ []) in 
 
 -- A logon that is kept is that of a message that is written down: not where none is, or one of another place, another
 -- link, another logon or another member, or one that was taken later. A challenge that is waited on is written down:
--- not where none is, or one of another link, or another challenge.
+-- not where none is, or one of another link, another challenge, or one that another member sent.
 pub record OfWritingDown : Type 0 where
   pub meets : MembersAreWrittenDown (small_run blank)
   pub meets_kept : MembersAreWrittenDown (noting (ten_keeping 0) (message_of_link 3 ∷ []) [])
@@ -271,22 +286,91 @@ pub record OfWritingDown : Type 0 where
   pub meets_challenge : MembersAreWrittenDown (noting (waiting_on 3 small_challenge) [] (challenge_on 3 ∷ []))
   pub fails_challenge : MembersAreWrittenDown (waiting_on 3 small_challenge) → ⊥
   pub fails_elsewhere : MembersAreWrittenDown (noting (waiting_on 3 small_challenge) [] (challenge_on 4 ∷ [])) → ⊥
+  pub fails_sender : MembersAreWrittenDown (noting (waiting_on 3 small_challenge) [] (record (challenge_on 3) { member = 1 } ∷ [])) → ⊥
   pub fails_other : MembersAreWrittenDown (noting (waiting_on 3 []) [] (challenge_on 3 ∷ [])) → ⊥
 
--- a run with two clients, in which one made that message
+-- a member at work on link 3 that did nothing yet, and where it is
+abbrev pub small_at : AtLink
+small_at = record { link = 3; logons = record { plan = small_member; channel = fresh_requester (caller_of small_member); asked = [] }; actions = [] }
+
+abbrev pub at_move : ℕ → LinkAt
+at_move moves = record { at = moves; member = 0; link = 3; drawn = 0; left = 1 }
+
+-- What leaves nothing out of a step isn't met where nothing is done of a bind, where two CHALLENGEs are written down of
+-- it, or one of another link. Nor is it where a message is written down of a link that is closed, none of a logon that
+-- waits, or one of another place, nor where a challenge is drawn and none is written down.
+pub record OfLeavingOut : Type 0 where
+  pub fails_silent : Answers (at_move 4) (small_challenge ∷ []) [] small_at small_at → ⊥
+  pub fails_two : (after : AtLink) → Answers (at_move 4) (small_challenge ∷ []) (challenge_on 3 ∷ challenge_on 3 ∷ []) small_at after → ⊥
+  pub fails_link : (after : AtLink) → Answers (at_move 4) (small_challenge ∷ []) (challenge_on 4 ∷ []) small_at after → ⊥
+  pub fails_closed : (after : AtLink) → Takes None (at_move 5) [] small_challenge (message_of_link 3 ∷ []) [] small_at after → ⊥
+  pub fails_waiting : (after : AtLink) → TakesOn (phase.Asked small_bound 0 []) (at_move 5) [] small_challenge [] small_at after → ⊥
+  pub fails_place : (after : AtLink) → TakesOn (phase.Asked small_bound 1 []) (at_move 5) [] small_challenge (message_of_link 3 ∷ []) small_at after → ⊥
+  pub fails_drawn : DrawsFor (small_challenge ∷ []) [] (Ok (record { value = (small_at, None); left = [] })) → ⊥
+
+-- a run with two clients, in which one made that message; link 5 is one of the second client
 abbrev pub making : MessageMade → Past
 making made =
-    record (small_run (record blank { made = made ∷ [] })) { plan = record small_plan { clients = client_plan ∷ record client_plan { echo = 1 } ∷ [] } }
+    record (run_in (world_of (small_links ++ ToMember 1 0 ∷ []) (small_challenge ∷ [])) (record blank { made = made ∷ [] })) {
+      plan = record small_plan { clients = client_plan ∷ record client_plan { echo = 1 } ∷ [] };
+    }
+
+-- by the second client
+abbrev pub made_second : MessageMade
+made_second = record (made_keeping []) { client = 1; link = 5; plan = record client_plan { echo = 1 } }
 
 -- A message that is written down as made is by the plan of its client, and on a link that this client dialled: not by
 -- another plan or one of another client, nor on a link of another client, to a controller, or that wasn't made.
 pub record OfMaking : Type 0 where
   pub meets : MessagesAreOfTheirClients (making (made_keeping []))
+  pub meets_second : MessagesAreOfTheirClients (making made_second)
   pub fails_plan : MessagesAreOfTheirClients (making (record (made_keeping []) { plan = record client_plan { echo = 2 } })) → ⊥
-  pub fails_other : MessagesAreOfTheirClients (making (record (made_keeping []) { client = 1 })) → ⊥
-  pub fails_link : MessagesAreOfTheirClients (making (record (made_keeping []) { client = 1; plan = record client_plan { echo = 1 } })) → ⊥
+  pub fails_other : MessagesAreOfTheirClients (making (record made_second { plan = client_plan })) → ⊥
+  pub fails_link : MessagesAreOfTheirClients (making (record made_second { link = 3 })) → ⊥
   pub fails_controller : MessagesAreOfTheirClients (making (record (made_keeping []) { link = 0 })) → ⊥
-  pub fails_unmade : MessagesAreOfTheirClients (making (record (made_keeping []) { link = 5 })) → ⊥
+  pub fails_unmade : MessagesAreOfTheirClients (making (record (made_keeping []) { link = 6 })) → ⊥
+
+-- a run with one client, which stands so
+abbrev pub with_client : ClientState → List MessageMade → Past
+with_client c made =
+    run_in
+    (record small_world { state = record small_world.state { ends = record small_world.state.ends { clients = c ∷ [] } } })
+    (record blank { made = made })
+
+-- it keeps a key on link 3
+abbrev pub kept_terms : Terms
+kept_terms = record { key = 1 ∷ []; receive = 5840; session = None }
+
+abbrev pub kept_link : LinkState ClientTalk
+kept_link = record { rest = []; talk = record { link = 3; joiner = None; phase = client_phase.Asked kept_terms Who } }
+
+abbrev pub kept_running : ClientRunning
+kept_running = record { task = client_plan; standing = client_link.On kept_link }
+
+abbrev pub kept_client : ClientState
+kept_client = record { running = Some kept_running; outcome = None }
+
+-- it is in with a key
+abbrev pub in_client : ClientState
+in_client = record { running = Some (record { task = client_plan; standing = client_link.Idle }); outcome = Some (client_outcome.In [] (1 ∷ []) 0) }
+
+-- A key that a client keeps or is in with is that of a message that is written down: not where none is, or one with
+-- another key, on another link, or of another client. Of who is in no link is asked.
+pub record OfKeeping : Type 0 where
+  pub meets : ClientsAreWrittenDown (with_client kept_client (made_keeping (1 ∷ []) ∷ []))
+  pub fails : ClientsAreWrittenDown (with_client kept_client []) → ⊥
+  pub fails_key : ClientsAreWrittenDown (with_client kept_client (made_keeping (1 ∷ 2 ∷ []) ∷ [])) → ⊥
+  pub fails_link : ClientsAreWrittenDown (with_client kept_client (record (made_keeping (1 ∷ [])) { link = 4 } ∷ [])) → ⊥
+  pub fails_client : ClientsAreWrittenDown (with_client kept_client (record (made_keeping (1 ∷ [])) { client = 1 } ∷ [])) → ⊥
+  pub meets_in : ClientsAreWrittenDown (with_client in_client (record (made_keeping (1 ∷ [])) { link = 4 } ∷ []))
+  pub fails_in : ClientsAreWrittenDown (with_client in_client []) → ⊥
+  pub fails_in_key : ClientsAreWrittenDown (with_client in_client (record (made_keeping (1 ∷ 2 ∷ [])) { link = 4 } ∷ [])) → ⊥
+  pub fails_in_client : ClientsAreWrittenDown (with_client in_client (record (made_keeping (1 ∷ [])) { client = 1; link = 4 } ∷ [])) → ⊥
+
+-- A member that is begun anew is seen as who asks, with nothing under way. One that there isn't is not.
+pub record OfSeeing : Type 0 where
+  pub sees : seen_in small_world.state (OfMember 0) ≡ Some fresh_view
+  pub none : seen_in small_world.state (OfMember 1) ≡ None
 
 -- What is told judges a call, and hands none on: not what came of a logon that was asked of another controller.
 abbrev pub telling : Judged → Past
@@ -361,7 +445,10 @@ pub record NearMissesTellApart : Type 0 where
   pub units : OfUnits
   pub asking : OfAsking
   pub written : OfWritingDown
+  pub leaving : OfLeavingOut
   pub made : OfMaking
+  pub keeping : OfKeeping
+  pub seeing : OfSeeing
   pub telling : OfTelling
   pub tables : OfTables
   pub schedules : OfSchedules

@@ -50,8 +50,9 @@ pub fn own_challenges_tell_apart()
     ensures { OfOwnChallenges }
 {}
 
-/// Claims on accepting, keys, counts, units of the bag and what members ask aren't met by runs that differ in one thing
-/// more from those that meet them. A run with two calls is clear, and moves of each kind are a schedule.
+/// Claims on accepting, keys, counts, units of the bag, what members ask, what is written down of members and clients,
+/// what controllers tell, and their accounts aren't met by runs that differ in one thing more from those that meet
+/// them. A run with two calls is clear, and moves of each kind are a schedule.
 #[tactic(auto, using(crate::proofs::NearMissLaws::near_misses))]
 pub fn near_misses_tell_apart()
     ensures { NearMissesTellApart }

@@ -4,6 +4,7 @@ pub mod BagFrameLaws
 pub mod BagRunLaws
 pub mod BagStepLaws
 pub mod BookFrameLaws
+pub mod ClientFrameLaws
 pub mod ComingLaws
 pub mod DrawnRunLaws
 pub mod EndFrameLaws

@@ -11,7 +11,7 @@ use Rattle.domain_world.specs.Claims.{IsClear}
 use Rattle.domain_world.specs.Claims.AskedFor.{MembersAskForMessages, SendsAskForMessages}
 use Rattle.domain_world.specs.Claims.LetIn.{LetsInWhoAsked}
 use Rattle.domain_world.specs.Claims.SharedSequences.{OneTurnIsOut, SequencesAreOwn, SequencesAreShared}
-use Rattle.domain_world.specs.Claims.WrittenDown.{MembersAreWrittenDown}
+use Rattle.domain_world.specs.Claims.WrittenDown.{ClientsAreWrittenDown, MembersAreWrittenDown}
 use Rattle.domain_world.specs.Headline.{Proved}
 use Rattle.domain_world.specs.Past.{Past, past}
 use Rattle.domain_world.proofs.Accepting.AnsweredRunLaws.{short_responses}
@@ -54,6 +54,7 @@ IfNoClash Holds past = past.book.clash ≡ false → Holds past
 pub record Laws : Type 0 where
   pub let_in : OfRuns LetsInWhoAsked
   pub written : OfRuns MembersAreWrittenDown
+  pub clients : OfRuns ClientsAreWrittenDown
   pub asked : OfRuns MembersAskForMessages
   pub sends : OfRuns SendsAskForMessages
   pub heard : OfSchedules UnitsAreHeard
@@ -83,6 +84,7 @@ all_proved laws plan moves short bytes = record {
   let_in = laws.let_in plan moves;
   written = laws.written plan moves;
   made = messages_of_clients plan moves;
+  clients = laws.clients plan moves;
   only = λ schedule clear. runs_heard.only plan moves (laws.heard plan moves schedule short bytes) (draws_differ plan moves) clear;
   all = λ schedule clear. runs_heard.all plan moves (laws.heard plan moves schedule short bytes) (draws_differ plan moves) clear;
   keys = λ schedule clear. runs_heard.keys plan moves (laws.heard plan moves schedule short bytes) (draws_differ plan moves) clear;

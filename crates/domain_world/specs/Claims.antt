@@ -10,6 +10,7 @@ pub mod AskedFor
 pub mod Completeness
 pub mod Counts
 pub mod Grants
+pub mod LeftOut
 pub mod LetIn
 pub mod MarkedUnits
 pub mod NamedLinks

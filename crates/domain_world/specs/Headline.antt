@@ -17,7 +17,7 @@ use Rattle.domain_world.specs.Claims.OwnChallenges.{MessagesHaveOwnChallenges}
 use Rattle.domain_world.specs.Claims.Replies.{RepliesCarryTheirJudgement}
 use Rattle.domain_world.specs.Claims.SharedSequences.{OneTurnIsOut, SequencesAreOwn, SequencesAreShared}
 use Rattle.domain_world.specs.Claims.Tables.{TablesFollowVerdicts}
-use Rattle.domain_world.specs.Claims.WrittenDown.{MembersAreWrittenDown, MessagesAreOfTheirClients}
+use Rattle.domain_world.specs.Claims.WrittenDown.{ClientsAreWrittenDown, MembersAreWrittenDown, MessagesAreOfTheirClients}
 use Rattle.domain_world.specs.Past.{past}
 
 -- What holds of the run of every list of moves from any plan: `claims_hold_of_runs`, and the clause of `drive`. What
@@ -45,8 +45,9 @@ pub record Proved (plan : Plan) (moves : List Move) : Type 0 where
   pub sends : SendsAskForMessages (past plan moves)
   pub let_in : LetsInWhoAsked (past plan moves)
   pub written : MembersAreWrittenDown (past plan moves)
-  -- what clients make
+  -- what clients make, and keep
   pub made : MessagesAreOfTheirClients (past plan moves)
+  pub clients : ClientsAreWrittenDown (past plan moves)
   -- a member accepts exactly what its controller granted, client and member hold one key, and a call raises a count of
   -- bad passwords at most once
   pub only : IsSchedule plan moves → IsClear (past plan moves).book → AcceptsOnlyGranted (past plan moves)

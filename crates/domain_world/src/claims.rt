@@ -9,13 +9,14 @@ ghost use Rattle.domain_world.specs.Claims.{PassesTheNextCredential, ReplaysBySu
 ghost use Rattle.domain_world.specs.Claims.AskedFor.{MembersAskForKept, MembersAskForMessages, SendsAskForMessages};
 ghost use Rattle.domain_world.specs.Claims.Completeness.{EachSucceeds};
 ghost use Rattle.domain_world.specs.Claims.Grants.{GrantsWhoMayLogOn};
+ghost use Rattle.domain_world.specs.Claims.LeftOut.{MembersLeaveNothingOut};
 ghost use Rattle.domain_world.specs.Claims.LetIn.{LetsInWhoAsked};
 ghost use Rattle.domain_world.specs.Claims.MarkedUnits.{EachUnitIsMarked};
 ghost use Rattle.domain_world.specs.Claims.OwnChallenges.{MessagesHaveOwnChallenges};
 ghost use Rattle.domain_world.specs.Claims.Replies.{RepliesCarryTheirJudgement};
 ghost use Rattle.domain_world.specs.Claims.NamedLinks.{LinksReachTheNamed};
 ghost use Rattle.domain_world.specs.Claims.Tables.{TablesFollowVerdicts};
-ghost use Rattle.domain_world.specs.Claims.WrittenDown.{MembersAreWrittenDown, MessagesAreOfTheirClients};
+ghost use Rattle.domain_world.specs.Claims.WrittenDown.{ClientsAreWrittenDown, MembersAreWrittenDown, MessagesAreOfTheirClients};
 ghost use Rattle.domain_world.specs.Headline.{Proved};
 ghost use Rattle.domain_world.specs.Past.{past};
 
@@ -24,6 +25,7 @@ use crate::answering::{
     sequences_are_shared, turns_are_called,
 };
 use member_server::in_is_told_of_a_granted_logon;
+use step_notes::clients_write_down_what_they_send;
 
 /// In every run, over all moves from a plan on, whatever a controller tells of a Logon call is told of one that it
 /// heard, and of each that it hears; and it tells that it passed exactly where its authenticator is the next one of its
@@ -86,13 +88,24 @@ pub fn members_let_in_who_asked()
 
 /// After every run, over all moves from a plan on, each logon that a member keeps is that of an AUTHENTICATE which is
 /// written down as taken (MS-NLMP 3.2.5.1.2). Each link on which a member waits for one has its CHALLENGE written down
-/// as sent (MS-NLMP 3.2.5.1.1).
+/// as sent by it (MS-NLMP 3.2.5.1.1).
 pub fn members_are_written_down()
     ensures { (plan : Plan) (moves : List Move) → MembersAreWrittenDown (past plan moves) }
 {
     // As of `members_let_in_who_asked`.
     in_is_told_of_a_granted_logon();
 }
+
+/// What is written down of a member's step for bytes leaves out no CHALLENGE that answers a bind (MS-NLMP 3.2.5.1.1),
+/// and no AUTHENTICATE for which a logon then waits (MS-NLMP 3.2.5.1.2). Where nothing is bound on an accepted link,
+/// the CHALLENGE is written down that goes out in the bind_ack. Where none is, a bind_nak goes out, or the link is
+/// closed. Where a CHALLENGE had been sent, the message is written down whose logon the member then keeps. Where none
+/// is, the link is closed, or the member tells that as many logons wait as may. What a unit draws is the challenges of
+/// its CHALLENGEs. So is what the step draws, but for one more at most, where it dials.
+#[tactic(auto, using(crate::proofs::Challenges::LeftOutLaws::members_leave))]
+pub fn members_leave_nothing_out()
+    ensures { MembersLeaveNothingOut }
+{}
 
 /// In every run, over all moves from a plan on, in which no two challenges that were drawn are alike, each AUTHENTICATE
 /// that a member took (MS-NLMP 3.2.5.1.2), and for which a logon waits or waited, came on a link that this member
@@ -112,6 +125,16 @@ pub fn messages_have_own_challenges()
 pub fn messages_are_of_their_clients()
     ensures { (plan : Plan) (moves : List Move) → MessagesAreOfTheirClients (past plan moves) }
 {}
+
+/// In every run, over all moves from a plan on, the exported session key that a client keeps on its link is that of an
+/// AUTHENTICATE (MS-NLMP 3.1.5.1.2) which is written down as made by it on that link. So is the key that it is in with,
+/// of one that it made on any link.
+pub fn clients_are_written_down()
+    ensures { (plan : Plan) (moves : List Move) → ClientsAreWrittenDown (past plan moves) }
+{
+    // It rests on what is written down of each step.
+    clients_write_down_what_they_send();
+}
 
 /// In every run, over all moves from a plan on, an authenticator that passed on a channel and comes again on it,
 /// whoever sends it, passes again exactly where the timestamps that passed on the channel since, its own first pass
@@ -182,6 +205,7 @@ pub fn claims_hold_of_runs()
     // These rest on laws of the ends and of channels.
     members_let_in_who_asked();
     members_are_written_down();
+    clients_are_written_down();
     members_ask_for_messages();
     sends_ask_for_messages();
     schedules_are_heard();

@@ -17,12 +17,13 @@ pub use answering::{
     turns_are_called, what_is_heard_is_accepted,
 };
 pub use claims::{
-    claims_hold_of_runs, controllers_grant_who_may_log_on, controllers_pass_the_next,
-    controllers_tell_of_calls_alone, each_unit_is_marked, links_reach_the_named,
-    links_take_one_message, logons_succeed, members_are_written_down, members_ask_for_messages,
-    members_ask_for_what_they_keep, members_let_in_who_asked, messages_are_of_their_clients,
-    messages_have_own_challenges, replays_pass_by_sum, replies_carry_their_judgement,
-    sends_ask_for_messages, tables_follow_verdicts,
+    claims_hold_of_runs, clients_are_written_down, controllers_grant_who_may_log_on,
+    controllers_pass_the_next, controllers_tell_of_calls_alone, each_unit_is_marked,
+    links_reach_the_named, links_take_one_message, logons_succeed, members_are_written_down,
+    members_ask_for_messages, members_ask_for_what_they_keep, members_leave_nothing_out,
+    members_let_in_who_asked, messages_are_of_their_clients, messages_have_own_challenges,
+    replays_pass_by_sum, replies_carry_their_judgement, sends_ask_for_messages,
+    tables_follow_verdicts,
 };
 pub use driving::{drive, drive_from};
 pub use world_moves::{

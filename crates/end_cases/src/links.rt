@@ -2,6 +2,7 @@
 
 ghost use Rattle.std.specs.Prelude.{◌≡◌, ◌≤◌, ◌<◌, ◌^◌, true, length, None};
 ghost use Rattle.rpc_units.specs.Joining.{IsWholeCall};
+ghost use Rattle.rpc_units.specs.Numbers.{context_limit};
 
 use crate::hearing;
 use case_words::{
@@ -36,7 +37,7 @@ fn ack_text(
     receive: u16,
     contexts: &Contexts,
 ) -> anyhow::Result<String>
-    requires { length contexts.now ≤ 242 }
+    requires { length contexts.now ≤ context_limit }
 {
     let answer = bind_ack(alloc, served, call, receive, contexts)?;
     let bytes = short_unit_bytes(alloc, &answer)?;
@@ -78,7 +79,7 @@ fn bound_text(
     contexts: &Contexts,
     words: &[&str],
 ) -> anyhow::Result<String>
-    requires { length contexts.now ≤ 242 }
+    requires { length contexts.now ≤ context_limit }
 {
     let mut answer = ack_text(alloc, served, call, receive, contexts)?;
     let agreed = agreed_text(alloc, served, receive, contexts, words)?;

@@ -12,8 +12,8 @@ use Rattle.world_moves.specs.World.{move_limit}
 abbrev pub draws_at : Event → ℕ
 draws_at what = units_at what + 3
 
--- The most challenges that a piece draws: up to 5,839 bytes waited before it, a unit has 16 bytes or more, and the end
--- may draw three besides.
+-- The most challenges that a piece draws: it has 65,536 bytes at most and up to 5,839 waited before it, a unit has 16
+-- bytes or more, and the end may draw three besides.
 abbrev pub piece_draws : ℕ
 piece_draws = 4463
 
@@ -21,7 +21,8 @@ piece_draws = 4463
 abbrev pub unit_draws : ℕ
 unit_draws = 40167
 
--- The most challenges that a move draws: a unit comes in nine pieces at most.
+-- The most that a move draws, beside three for each link that it closes: 100,000 times as many are fewer than 2^32.
+-- What a unit draws is less.
 abbrev pub draw_limit : ℕ
 draw_limit = 42949
 

@@ -125,7 +125,7 @@ notes_of b = record { challenges = b.challenges; taken = b.taken; messages = map
 -- the message came on a link of its member, for a challenge that was sent on it, and is one that was taken
 abbrev pub IsItsOwn : Notes → List Route → MessageTaken → Type 0
 IsItsOwn notes links one =
-    IsLinkIn links one.link one.member × OneOf (IsSentOn one.link one.logon.challenge) notes.challenges × OneOf (λ (link : ℕ). link ≡ one.link) notes.taken
+    IsLinkIn links one.link one.member × OneOf (IsSentOn one.member one.link one.logon.challenge) notes.challenges × OneOf (λ (link : ℕ). link ≡ one.link) notes.taken
 
 -- another draw gave it
 abbrev pub OfOtherDraw : ChallengeSent → ChallengeSent → Type 0
@@ -272,13 +272,14 @@ bare_own notes links (one ∷ items) more all others = (all.0, bare_own notes li
 
 -- the messages of a step
 own_taken : (notes : Notes) (links : List Route) (w : LinkAt) (messages : List MessageTaken) → AllByRecursion (IsTakenIn w notes.taken) messages →
-    AllByRecursion (λ (one : MessageTaken). IsLinkIn links w.link w.member × OneOf (IsSentOn w.link one.logon.challenge) notes.challenges) messages →
+    AllByRecursion (λ (one : MessageTaken). IsLinkIn links w.link w.member × OneOf (IsSentOn w.member w.link one.logon.challenge) notes.challenges) messages →
     AllByRecursion (IsItsOwn notes links) messages
 own_taken notes links w messages taken own =
-    all_with (IsTakenIn w notes.taken) (λ (one : MessageTaken). IsLinkIn links w.link w.member × OneOf (IsSentOn w.link one.logon.challenge) notes.challenges) (IsItsOwn notes links)
+    all_with (IsTakenIn w notes.taken) (λ (one : MessageTaken). IsLinkIn links w.link w.member × OneOf (IsSentOn w.member w.link one.logon.challenge) notes.challenges) (IsItsOwn notes links)
     (λ one there its. (
       subst (λ n. IsLinkIn links n one.member) (sym there.0) (subst (λ k. IsLinkIn links w.link k) (sym there.1) its.0),
-      subst (λ n. OneOf (IsSentOn n one.logon.challenge) notes.challenges) (sym there.0) its.1,
+      subst (λ (m : ℕ). OneOf (IsSentOn m one.link one.logon.challenge) notes.challenges) (sym there.1)
+          (subst (λ (n : ℕ). OneOf (IsSentOn w.member n one.logon.challenge) notes.challenges) (sym there.0) its.1),
       subst (λ n. OneOf (λ (link : ℕ). link ≡ n) notes.taken) (sym there.0) there.2,
     )) messages taken own
 
@@ -308,7 +309,7 @@ messages_heard m at w piece s b is kept =
     let fresh : AllByRecursion (IsSentAt l) sent = all_sent l units in
     let own = bytes_own new.challenges s.links l piece s.moment s.chances.left m
     (in_so (IsOwn b.challenges s.links at) (IsOwn new.challenges s.links at) (λ link p its. own_more b.challenges sent s.links at link p its) m.running (kept.each at m is))
-    (sent_among w.link b.challenges sent (all_so (IsSentAt l) (λ (one : ChallengeSent). one.link ≡ w.link) (λ one its. its.0) sent fresh)) in
+    (sent_among at w.link b.challenges sent (all_so (IsSentAt l) (λ (one : ChallengeSent). (one.link ≡ w.link) × (one.member ≡ at)) (λ one its. (its.0, its.2)) sent fresh)) in
     record {
       drew = all_join (IsDrawn (s.chances.drawn ++ step.drawn)) b.challenges sent (drew_more b.challenges s.chances.drawn step.drawn kept.drew)
           (bytes_drawn s.chances.drawn s.chances.left l refl refl piece s.moment m);
@@ -322,7 +323,7 @@ messages_heard m at w piece s b is kept =
           (all_so (IsItsOwn old s.links) (IsItsOwn new s.links)
           (λ one its. (
             its.0,
-            one_earlier (IsSentOn one.link one.logon.challenge) b.challenges sent its.1,
+            one_earlier (IsSentOn one.member one.link one.logon.challenge) b.challenges sent its.1,
             one_earlier (λ (link : ℕ). link ≡ one.link) b.taken taken its.2,
           )) (map bare b.messages) kept.messages)
           (own_taken new s.links l more
@@ -365,7 +366,7 @@ own_unused run drew differ once one its =
     let drawn : List (List ℕ) = run.world.state.chances.drawn in
     record {
       own = record { route = its.0.route; at = its.0.at; acceptor = its.0.acceptor };
-      unused = one_with (IsSentOn one.link one.logon.challenge) (IsDrawn drawn) (IsUnusedChallenge run one)
+      unused = one_with (IsSentOn one.member one.link one.logon.challenge) (IsDrawn drawn) (IsUnusedChallenge run one)
           (λ sent is there. record {
             link = is.0;
             challenge = is.1;

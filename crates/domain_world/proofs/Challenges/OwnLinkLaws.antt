@@ -1,6 +1,6 @@
 -- What a member writes down of the links that it accepts: which CHALLENGE was sent, by which draw, and for which an
--- AUTHENTICATE is. It serves `messages_are_taken_as_sent`, `messages_have_own_challenges`, `runs_are_heard`,
--- `runs_are_proved`, `short_responses_serve_once`.
+-- AUTHENTICATE is. It serves `members_leave_nothing_out`, `messages_are_taken_as_sent`, `messages_have_own_challenges`
+-- and 3 more.
 use Rattle.std.proofs.Common.{◌≡◌, ◌==◌, ◌≤◌, ℕ, Bool, true, false, List, [], ◌∷◌, ◌++◌, length, Option, Some, None, Result, Ok, Err, inl, inr, refl, sym, ap, subst, ◌∙◌, arith, slice_get, append_assoc, length-append}
 use Rattle.std.proofs.lemmas.List.{flat_map_more}
 use Rattle.std.specs.Prelude.{flat_map}
@@ -95,9 +95,9 @@ pub record IsLinkIn (links : List Route) (link member : ℕ) : Type 0 where
   pub at : slice_get links link ≡ Some route
   pub acceptor : acceptor_of route ≡ Member member
 
--- a CHALLENGE that was sent on that link, with that challenge
-abbrev pub IsSentOn : ℕ → List ℕ → ChallengeSent → Type 0
-IsSentOn link challenge sent = (sent.link ≡ link) × (sent.challenge ≡ challenge)
+-- a CHALLENGE that this member sent on that link, with that challenge
+abbrev pub IsSentOn : ℕ → ℕ → List ℕ → ChallengeSent → Type 0
+IsSentOn member link challenge sent = (sent.link ≡ link) × (sent.challenge ≡ challenge) × (sent.member ≡ member)
 
 -- something of the link, and of its challenge where a CHALLENGE was sent
 abbrev pub IsKnown : Type 0 → (List ℕ → Type 0) → Phase → Type 0
@@ -116,14 +116,14 @@ known_so F G D E so also (phase.Out bound status) known = so known
 
 -- the member accepted the link, and the CHALLENGE that was sent on it is written down
 abbrev pub IsOwn : List ChallengeSent → List Route → ℕ → ℕ → Phase → Type 0
-IsOwn challenges links member link p = IsKnown (IsLinkIn links link member) (λ (challenge : List ℕ). OneOf (IsSentOn link challenge) challenges) p
+IsOwn challenges links member link p = IsKnown (IsLinkIn links link member) (λ (challenge : List ℕ). OneOf (IsSentOn member link challenge) challenges) p
 
 pub own_more : (challenges more : List ChallengeSent) (links : List Route) (member link : ℕ) (p : Phase) → IsOwn challenges links member link p →
     IsOwn (challenges ++ more) links member link p
 own_more challenges more links member link p own =
-    known_so (IsLinkIn links link member) (IsLinkIn links link member) (λ (challenge : List ℕ). OneOf (IsSentOn link challenge) challenges)
-    (λ (challenge : List ℕ). OneOf (IsSentOn link challenge) (challenges ++ more)) (λ its. its)
-    (λ challenge one. one_earlier (IsSentOn link challenge) challenges more one) p own
+    known_so (IsLinkIn links link member) (IsLinkIn links link member) (λ (challenge : List ℕ). OneOf (IsSentOn member link challenge) challenges)
+    (λ (challenge : List ℕ). OneOf (IsSentOn member link challenge) (challenges ++ more)) (λ its. its)
+    (λ challenge one. one_earlier (IsSentOn member link challenge) challenges more one) p own
 
 pub link_more : (links : List Route) (route : Route) (link member : ℕ) → IsLinkIn links link member → IsLinkIn (links ++ route ∷ []) link member
 link_more links route link member its = record { route = its.route; at = got_append links (route ∷ []) link its.route its.at; acceptor = its.acceptor }
@@ -131,8 +131,8 @@ link_more links route link member its = record { route = its.route; at = got_app
 pub own_opened : (challenges : List ChallengeSent) (links : List Route) (route : Route) (member link : ℕ) (p : Phase) → IsOwn challenges links member link p →
     IsOwn challenges (links ++ route ∷ []) member link p
 own_opened challenges links route member link p own =
-    known_so (IsLinkIn links link member) (IsLinkIn (links ++ route ∷ []) link member) (λ (challenge : List ℕ). OneOf (IsSentOn link challenge) challenges)
-    (λ (challenge : List ℕ). OneOf (IsSentOn link challenge) challenges) (λ its. link_more links route link member its) (λ challenge one. one) p own
+    known_so (IsLinkIn links link member) (IsLinkIn (links ++ route ∷ []) link member) (λ (challenge : List ℕ). OneOf (IsSentOn member link challenge) challenges)
+    (λ (challenge : List ℕ). OneOf (IsSentOn member link challenge) challenges) (λ its. link_more links route link member its) (λ challenge one. one) p own
 
 -- ---- what is written down of a unit on an accepted link
 
@@ -141,9 +141,9 @@ abbrev pub unit_at : Bool → Phase → List ℕ → Option RpcUnit → AtLink �
 unit_at fresh p bytes joiner at left =
     record { bytes = bytes; work = at; talk = record { joiner = joiner; phase = p }; left = left; part = unit_by fresh p bytes joiner at left }
 
--- a CHALLENGE of this link, which no earlier draw gave
+-- a CHALLENGE of this link and member, which no earlier draw gave
 abbrev pub IsSentAt : LinkAt → ChallengeSent → Type 0
-IsSentAt w sent = (sent.link ≡ w.link) × (w.drawn ≤ sent.draw)
+IsSentAt w sent = (sent.link ≡ w.link) × (w.drawn ≤ sent.draw) × (sent.member ≡ w.member)
 
 -- a message of this link and member, which took an AUTHENTICATE on one of those links
 abbrev pub IsTakenIn : LinkAt → List ℕ → MessageTaken → Type 0
@@ -154,7 +154,7 @@ module _ (w : LinkAt) where
 
   sent_in : (p : Phase) (at : AtLink) (left : List (List ℕ)) → AllByRecursion (IsSentAt w) (challenge_in p w at left)
   sent_in phase.Fresh at left = tt
-  sent_in (phase.Challenged bound challenge flags) at left = ((refl, omega arith), tt)
+  sent_in (phase.Challenged bound challenge flags) at left = ((refl, omega arith, refl), tt)
   sent_in (phase.Asked bound place held) at left = tt
   sent_in (phase.In on) at left = tt
   sent_in (phase.Out bound status) at left = tt
@@ -208,13 +208,13 @@ module _ (w : LinkAt) where
       (all_taken units))
 
 -- those that are sent on a link are among those that are written down
-pub sent_among : (link : ℕ) (front sent : List ChallengeSent) → AllByRecursion (λ (one : ChallengeSent). one.link ≡ link) sent →
-    AllByRecursion (λ (one : ChallengeSent). OneOf (IsSentOn link one.challenge) (front ++ sent)) sent
-sent_among link front [] all = tt
-sent_among link front (one ∷ sent) all = (
-  one_behind (IsSentOn link one.challenge) front (one ∷ sent) (inl (all.0, refl)),
-  subst (λ (items : List ChallengeSent). AllByRecursion (λ (other : ChallengeSent). OneOf (IsSentOn link other.challenge) items) sent) (append_assoc front (one ∷ []) sent)
-      (sent_among link (front ++ one ∷ []) sent all.1),
+pub sent_among : (member link : ℕ) (front sent : List ChallengeSent) → AllByRecursion (λ (one : ChallengeSent). (one.link ≡ link) × (one.member ≡ member)) sent →
+    AllByRecursion (λ (one : ChallengeSent). OneOf (IsSentOn member link one.challenge) (front ++ sent)) sent
+sent_among member link front [] all = tt
+sent_among member link front (one ∷ sent) all = (
+  one_behind (IsSentOn member link one.challenge) front (one ∷ sent) (inl (all.0.0, refl, all.0.1)),
+  subst (λ (items : List ChallengeSent). AllByRecursion (λ (other : ChallengeSent). OneOf (IsSentOn member link other.challenge) items) sent) (append_assoc front (one ∷ []) sent)
+      (sent_among member link (front ++ one ∷ []) sent all.1),
 )
 
 -- ---- an AUTHENTICATE that is taken keeps the challenge of its link
@@ -546,8 +546,8 @@ units_drawn w drawn all drew had cut at talk =
 -- messages and of the links
 abbrev pub IsServedOwn : List ChallengeSent → List Route → LinkAt → List (ServedUnit AtLink Talk) → Type 0 → Type 0
 IsServedOwn challenges links w units After =
-    AreSent w (λ (challenge : List ℕ). OneOf (IsSentOn w.link challenge) challenges) units →
-    AllByRecursion (λ (one : MessageTaken). IsLinkIn links w.link w.member × OneOf (IsSentOn w.link one.logon.challenge) challenges) (flat_map (message_note w) units)
+    AreSent w (λ (challenge : List ℕ). OneOf (IsSentOn w.member w.link challenge) challenges) units →
+    AllByRecursion (λ (one : MessageTaken). IsLinkIn links w.link w.member × OneOf (IsSentOn w.member w.link one.logon.challenge) challenges) (flat_map (message_note w) units)
     × After
 
 module _ (challenges : List ChallengeSent) (links : List Route) (w : LinkAt) (piece : List ℕ) (now : ℕ) (left : List (List ℕ)) where
@@ -557,7 +557,7 @@ module _ (challenges : List ChallengeSent) (links : List Route) (w : LinkAt) (pi
   link_own running (Some link) how all there sent =
       let cut : Cut = cut_stream (link.rest ++ piece) in
       let at : AtLink = at_link w.link (work_of running) in
-      let own = units_for w (IsLinkIn links w.link w.member) (λ (challenge : List ℕ). OneOf (IsSentOn w.link challenge) challenges) cut at link.talk left
+      let own = units_for w (IsLinkIn links w.link w.member) (λ (challenge : List ℕ). OneOf (IsSentOn w.member w.link challenge) challenges) cut at link.talk left
       (found_known (IsOwn challenges links w.member) w.link running.links link there all) sent in (
         own.0,
         after_known (IsOwn challenges links w.member) (served_cut link_server cut at link.talk left) cut.rest w.link how (without_link w.link (work_of running)) own.1

@@ -53,7 +53,7 @@ logon_is run member (Some one) running place logon Own runs kept there =
 
 challenge_is : (run : Past) (member : ℕ) (r : Option Running) (running : Running) (number : ℕ) (link : LinkState Talk) (bound : Bound) (challenge : List ℕ) (flags : ℕ) → r ≡ Some running →
     LinksIn (IsOwn run.book.challenges run.world.state.links member) r → lookup same_number number running.links ≡ Some link → link.talk.phase ≡ phase.Challenged bound challenge flags →
-    OneOf (IsChallengeOf number challenge) run.book.challenges
+    OneOf (IsChallengeOf member number challenge) run.book.challenges
 challenge_is run member None running number link bound challenge flags runs known there waits = absurd (let never : ◌≡◌ {A = Option Running} None (Some running) = runs in cc)
 challenge_is run member (Some one) running number link bound challenge flags runs known there waits =
     let same : one ≡ running = cc in

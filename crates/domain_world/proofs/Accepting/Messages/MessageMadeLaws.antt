@@ -1,7 +1,7 @@
 -- In every schedule each AUTHENTICATE that a client made is the answer of its plan to the CHALLENGE that it heard.
 -- It serves `messages_are_made`.
 use Rattle.std.proofs.Common.{◌≡◌, ◌<◌, ◌^◌, ℕ, zero, suc, List, [], ◌∷◌, length, map, All, Option, Some, None, refl, sym, subst, arith, inl, inr, slice_get, slice_set}
-use Rattle.std.specs.Prelude.{false, flat_map}
+use Rattle.std.specs.Prelude.{flat_map}
 use Rattle.std.specs.List.{AllByRecursion}
 use Rattle.std.proofs.lemmas.Bool.{cases_lt}
 use Rattle.std.proofs.lemmas.List.{get_or_past}
@@ -16,7 +16,6 @@ use Rattle.logon_client.specs.State.{State as ClientState}
 use Rattle.logon_client.specs.declared.plan.ClientPlan.{ClientPlan}
 use Rattle.member_server.specs.State.{State as MemberState}
 use Rattle.step_notes.specs.ClientNotes.{ClientAt, made_note, units_of_client}
-use Rattle.step_notes.specs.MemberNotes.{turn_units}
 use Rattle.step_notes.specs.Records.{Book, MessageMade}
 use Rattle.world_moves.specs.declared.links.EndId.{EndId}
 use Rattle.world_moves.specs.declared.links.EndId.TheVariants.{Controller, Member, Client}
@@ -29,14 +28,14 @@ use Rattle.world_moves.specs.Forms.{IsClientPlan, IsSchedule}
 use Rattle.world_moves.specs.Links.{acceptor_of}
 use Rattle.world_moves.specs.World.{first_world}
 use Rattle.domain_world.specs.Accepting.KeysMade.{IsMadeFrom, MessagesAreMade}
-use Rattle.domain_world.specs.Past.{Coming, controller_of, note_at, note_client, note_controller, note_member, note_messages, numbers_on, past}
+use Rattle.domain_world.specs.Past.{Coming, note_at, note_client, past}
 use Rattle.domain_world.proofs.Accepting.Messages.ClientOfferLaws.{AreMadeFrom, HasNames}
 use Rattle.domain_world.proofs.Accepting.Messages.ClientPlanLaws.{TaskIn, client_made, task_stays}
 use Rattle.domain_world.proofs.Accepting.ListPlaceLaws.{all_at}
 use Rattle.domain_world.proofs.Challenges.MessageOnceLaws.{each_put}
+use Rattle.domain_world.proofs.Frames.ClientFrameLaws.{controller_made, member_made}
 use Rattle.domain_world.proofs.Frames.FrameLaws.{HoldsAfter, HoldsByPlans, PlannedFact, StaysByPlans, StaysWrittenByPlans, run_stays_by_plans}
 use Rattle.domain_world.proofs.Frames.LeftLaws.{AreEights, client_left, controller_left, first_eights, member_left}
-use Rattle.domain_world.proofs.Frames.TurnFrameLaws.{turns_made}
 use Rattle.domain_world.proofs.Frames.AllLaws.{all_join}
 
 -- The names of the clients' plans are texts, clients go by such plans, each challenge that is left has 8 bytes, and
@@ -101,15 +100,6 @@ answers_stay made = record {
 }
 
 -- ---- bytes come
-
-pub controller_made : (found : Option ControllerState) (controller : ℕ) (w : Coming) (piece : List ℕ) (s after : State) (b : Book) → (note_controller found controller w piece s after b).made ≡ b.made
-controller_made None controller w piece s after b = refl
-controller_made (Some c) controller w piece s after b = refl
-
-pub member_made : (found : Option MemberState) (member : ℕ) (w : Coming) (piece : List ℕ) (s after : State) (b : Book) → (note_member found member w piece s after b).made ≡ b.made
-member_made None member w piece s after b = refl
-member_made (Some m) member w piece s after b =
-    turns_made (controller_of member s) (turn_units m w.link piece s.moment s.chances.left) w.unit (numbers_on w.link false s.bag after.bag) (note_messages member m w piece s b)
 
 client_heard : (found : Option ClientState) (at : ℕ) (w : Coming) (piece : List ℕ) (s : State) (b : Book) → slice_get s.ends.clients at ≡ found → HoldsByPlans (Answers b.made) s →
     HoldsAfter (Answers (note_client found at w piece s b).made s.client_plans) (client_step found at (event.Bytes w.link piece) s.moment s.ends s.chances) s.links

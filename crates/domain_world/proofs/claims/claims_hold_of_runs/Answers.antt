@@ -6,6 +6,7 @@ returns c =
     let laws : Laws = record {
       let_in = c.members_let_in_who_asked.ensures;
       written = c.members_are_written_down.ensures;
+      clients = c.clients_are_written_down.ensures;
       asked = c.members_ask_for_messages.ensures;
       sends = c.sends_ask_for_messages.ensures;
       heard = c.schedules_are_heard.ensures;

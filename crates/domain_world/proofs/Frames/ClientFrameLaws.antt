@@ -1,0 +1,244 @@
+-- What holds of each client through the moves of a world, by its plan, the links and what is written down as made: what
+-- holds through its own steps, whatever other clients make. It is an instance of `EndFrameLaws`.
+-- It serves `clients_are_written_down` and `messages_are_of_their_clients`.
+use Rattle.std.proofs.Common.{◌≡◌, ℕ, List, [], ◌∷◌, ◌++◌, length, map, Option, Some, None, refl, sym, subst, slice_get, slice_set}
+use Rattle.std.specs.Prelude.{false, true, flat_map}
+use Rattle.outside.specs.Drawing.{Drawing}
+use Rattle.outside.specs.declared.event.Event.{Event}
+use Rattle.outside.specs.declared.event.Event.TheVariants as event
+use Rattle.domain_controller.specs.State.{State as ControllerState}
+use Rattle.logon_client.specs.Machine.{begin_of, fresh_client, step_of}
+use Rattle.logon_client.specs.State.{State as ClientState}
+use Rattle.logon_client.specs.declared.plan.ClientPlan.{ClientPlan}
+use Rattle.member_server.specs.State.{State as MemberState}
+use Rattle.member_server.specs.declared.plan.MemberPlan.{MemberPlan}
+use Rattle.step_notes.specs.ClientNotes.{ClientAt, made_note, units_of_client}
+use Rattle.step_notes.specs.Records.{Book, MessageMade}
+use Rattle.world_moves.specs.declared.links.EndId.{EndId}
+use Rattle.world_moves.specs.declared.links.EndId.TheVariants.{Controller, Member, Client}
+use Rattle.world_moves.specs.declared.links.Route.{Route}
+use Rattle.world_moves.specs.declared.moves.Move.{Move}
+use Rattle.world_moves.specs.declared.plan.Plan.{Plan}
+use Rattle.world_moves.specs.declared.state.State.{State}
+use Rattle.world_moves.specs.Acting.{hear_and_act}
+use Rattle.world_moves.specs.Ends.{EndStates, client_step, controller_step, end_step, member_step, renew_client, renew_controller, renew_member}
+use Rattle.world_moves.specs.Links.{acceptor_of}
+use Rattle.world_moves.specs.Moving.{renewed}
+use Rattle.domain_world.specs.Past.{Coming, controller_of, note_at, note_client, note_controller, note_member, note_messages, numbers_on, past}
+use Rattle.step_notes.specs.MemberNotes.{turn_units}
+use Rattle.domain_world.proofs.Challenges.MessageOnceLaws.{each_put}
+use Rattle.domain_world.proofs.Frames.EndFrameLaws.{EndFact, IsCalm, KeepsEnds, ends_after}
+use Rattle.domain_world.proofs.Frames.MarkPlaceLaws.{got_map}
+use Rattle.domain_world.proofs.Frames.OpenMadeLaws.{IsAtSide}
+use Rattle.domain_world.proofs.Frames.TurnFrameLaws.{turns_made}
+
+-- ---- what is to hold
+
+-- of a client by its number, the links, and what is written down as made
+abbrev pub ClientFact : Type 1
+ClientFact = List Route → List MessageMade → ℕ → ClientState → Type 0
+
+-- of the links, and what is written down as made
+abbrev pub MadeFact : Type 1
+MadeFact = List Route → List MessageMade → Type 0
+
+-- no bytes come; and the link of an answered dial is one that the client dialled
+abbrev pub MeetsClient : List Route → ℕ → Event → Type 0
+MeetsClient links k (event.Bytes link piece) = ⊥
+MeetsClient links k (event.Dialled link) = IsAtSide links link true (Client k)
+MeetsClient links k (event.Opened link) = Unit {0}
+MeetsClient links k (event.Closed link) = Unit {0}
+MeetsClient links k event.DialFailed = Unit {0}
+MeetsClient links k event.Stop = Unit {0}
+
+-- what is written down of bytes that come at a client
+abbrev pub made_at : ClientAt → ClientState → List ℕ → ℕ → List (List ℕ) → List MessageMade
+made_at w c piece now left = flat_map (made_note w) (units_of_client c w.link piece now left)
+
+-- It holds on where the client hears something, as other links are made and others make messages, and where it is made
+-- anew from its plan and begun. What is written down of bytes goes with its step.
+pub record KeepsClients (plans : List ClientPlan) (Fits : ClientFact) (Made : MadeFact) : Type 0 where
+  pub hears : (links : List Route) (made : List MessageMade) (k : ℕ) (c : ClientState) (what : Event) (now : ℕ) (left : List (List ℕ)) → MeetsClient links k what → Fits links made k c →
+      Fits links made k (step_of c what now left).state
+  pub comes : (links : List Route) (made : List MessageMade) (w : ClientAt) (c : ClientState) (piece : List ℕ) (now : ℕ) (left : List (List ℕ)) → Fits links made w.client c → Made links made →
+      Fits links (made ++ made_at w c piece now left) w.client (step_of c (event.Bytes w.link piece) now left).state × Made links (made ++ made_at w c piece now left)
+  pub more : (links : List Route) (made more : List MessageMade) (k : ℕ) (c : ClientState) → Fits links made k c → Fits links (made ++ more) k c
+  pub opens : (links : List Route) (route : Route) (made : List MessageMade) (k : ℕ) (c : ClientState) → Fits links made k c → Fits (links ++ route ∷ []) made k c
+  pub made_opens : (links : List Route) (route : Route) (made : List MessageMade) → Made links made → Made (links ++ route ∷ []) made
+  pub begins : (links : List Route) (made : List MessageMade) (k : ℕ) (plan : ClientPlan) → slice_get plans k ≡ Some plan → Fits links made k (begin_of (fresh_client plan)).state
+  pub anew : (links : List Route) (made : List MessageMade) (k : ℕ) (plan : ClientPlan) → slice_get plans k ≡ Some plan → Fits links made k (fresh_client plan)
+
+-- ---- what is written down of the other ends
+
+pub controller_made : (found : Option ControllerState) (controller : ℕ) (w : Coming) (piece : List ℕ) (s after : State) (b : Book) → (note_controller found controller w piece s after b).made ≡ b.made
+controller_made None controller w piece s after b = refl
+controller_made (Some c) controller w piece s after b = refl
+
+pub member_made : (found : Option MemberState) (member : ℕ) (w : Coming) (piece : List ℕ) (s after : State) (b : Book) → (note_member found member w piece s after b).made ≡ b.made
+member_made None member w piece s after b = refl
+member_made (Some m) member w piece s after b =
+    turns_made (controller_of member s) (turn_units m w.link piece s.moment s.chances.left) w.unit (numbers_on w.link false s.bag after.bag) (note_messages member m w piece s b)
+
+-- ---- clients among ends
+
+module _ (plans : List ClientPlan) (Fits : ClientFact) (Made : MadeFact) (keeps : KeepsClients plans Fits Made) where
+  pub record AreKept (clients : List ClientState) (links : List Route) (messages : List MessageMade) : Type 0 where
+    pub each : (k : ℕ) (c : ClientState) → slice_get clients k ≡ Some c → Fits links messages k c
+    pub made : Made links messages
+
+  client_put : (clients : List ClientState) (links : List Route) (made : List MessageMade) (at : ℕ) (new : ClientState) → AreKept clients links made → Fits links made at new →
+      AreKept (slice_set clients at new) links made
+  client_put clients links made at new kept its =
+      record { each = each_put (λ (k : ℕ) (c : ClientState). Fits links made k c) clients at new (λ k c differs there. kept.each k c there) its; made = kept.made }
+
+  link_made : (clients : List ClientState) (links : List Route) (made : List MessageMade) (route : Route) → AreKept clients links made → AreKept clients (links ++ route ∷ []) made
+  link_made clients links made route kept =
+      record { each = λ k c there. keeps.opens links route made k c (kept.each k c there); made = keeps.made_opens links route made kept.made }
+
+  -- ---- an end hears something but bytes
+
+  abbrev Meets : EndId → List Route → Event → Type 0
+  Meets (Controller at) links what = Unit {0}
+  Meets (Member at) links what = Unit {0}
+  Meets (Client at) links what = MeetsClient links at what
+
+  module _ (what : Event) (now : ℕ) (ends : EndStates) (chances : Drawing) (links : List Route) (made : List MessageMade) where
+    controller_hears : (found : Option ControllerState) (at : ℕ) → AreKept ends.clients links made → AreKept (controller_step found at what now ends chances).ends.clients links made
+    controller_hears None at kept = kept
+    controller_hears (Some c) at kept = kept
+
+    member_hears : (found : Option MemberState) (at : ℕ) → AreKept ends.clients links made → AreKept (member_step found at what now ends chances).ends.clients links made
+    member_hears None at kept = kept
+    member_hears (Some m) at kept = kept
+
+    client_hears : (found : Option ClientState) (at : ℕ) → slice_get ends.clients at ≡ found → MeetsClient links at what → AreKept ends.clients links made →
+        AreKept (client_step found at what now ends chances).ends.clients links made
+    client_hears None at is meets kept = kept
+    client_hears (Some c) at is meets kept =
+        client_put ends.clients links made at (step_of c what now chances.left).state kept (keeps.hears links made at c what now chances.left meets (kept.each at c is))
+
+    end_hears : (end : EndId) → Meets end links what → AreKept ends.clients links made → AreKept (end_step end what now ends chances).ends.clients links made
+    end_hears (Controller at) meets kept = controller_hears (slice_get ends.controllers at) at kept
+    end_hears (Member at) meets kept = member_hears (slice_get ends.members at) at kept
+    end_hears (Client at) meets kept = client_hears (slice_get ends.clients at) at refl meets kept
+
+  calm_meets : (end : EndId) (links : List Route) (what : Event) → IsCalm what → Meets end links what
+  calm_meets (Controller at) links what calm = tt
+  calm_meets (Member at) links what calm = tt
+  calm_meets (Client at) links (event.Bytes link piece) calm = absurd calm
+  calm_meets (Client at) links (event.Opened link) calm = tt
+  calm_meets (Client at) links (event.Closed link) calm = tt
+  calm_meets (Client at) links (event.Dialled link) calm = absurd calm
+  calm_meets (Client at) links event.DialFailed calm = tt
+  calm_meets (Client at) links event.Stop calm = tt
+
+  dialled_meets : (end : EndId) (links : List Route) (link : ℕ) → IsAtSide links link true end → Meets end links (event.Dialled link)
+  dialled_meets (Controller at) links link side = tt
+  dialled_meets (Member at) links link side = tt
+  dialled_meets (Client at) links link side = side
+
+  opened_meets : (end : EndId) (links : List Route) (link : ℕ) → Meets end links (event.Opened link)
+  opened_meets (Controller at) links link = tt
+  opened_meets (Member at) links link = tt
+  opened_meets (Client at) links link = tt
+
+  -- ---- bytes come
+
+  client_comes : (found : Option ClientState) (at : ℕ) (w : Coming) (piece : List ℕ) (s : State) (b : Book) → slice_get s.ends.clients at ≡ found → AreKept s.ends.clients s.links b.made →
+      AreKept (client_step found at (event.Bytes w.link piece) s.moment s.ends s.chances).ends.clients s.links (note_client found at w piece s b).made
+  client_comes None at w piece s b is kept = kept
+  client_comes (Some c) at w piece s b is kept =
+      let l : ClientAt = record { at = w.at; client = at; link = w.link } in
+      let new : List MessageMade = made_at l c piece s.moment s.chances.left in
+      let its = keeps.comes s.links b.made l c piece s.moment s.chances.left (kept.each at c is) kept.made in
+      record {
+        each = each_put (λ (k : ℕ) (one : ClientState). Fits s.links (b.made ++ new) k one) s.ends.clients at (step_of c (event.Bytes w.link piece) s.moment s.chances.left).state
+            (λ k one differs there. keeps.more s.links b.made new k one (kept.each k one there)) its.0;
+        made = its.1;
+      }
+
+  end_comes : (end : EndId) (w : Coming) (piece : List ℕ) (s after : State) (b : Book) → AreKept s.ends.clients s.links b.made →
+      AreKept (end_step end (event.Bytes w.link piece) s.moment s.ends s.chances).ends.clients s.links (note_at (Some end) w piece s after b).made
+  end_comes (Controller at) w piece s after b kept =
+      subst (λ (made : List MessageMade). AreKept (end_step (Controller at) (event.Bytes w.link piece) s.moment s.ends s.chances).ends.clients s.links made)
+      (sym (controller_made (slice_get s.ends.controllers at) at w piece s after b))
+      (controller_hears (event.Bytes w.link piece) s.moment s.ends s.chances s.links b.made (slice_get s.ends.controllers at) at kept)
+  end_comes (Member at) w piece s after b kept =
+      subst (λ (made : List MessageMade). AreKept (end_step (Member at) (event.Bytes w.link piece) s.moment s.ends s.chances).ends.clients s.links made)
+      (sym (member_made (slice_get s.ends.members at) at w piece s after b))
+      (member_hears (event.Bytes w.link piece) s.moment s.ends s.chances s.links b.made (slice_get s.ends.members at) at kept)
+  end_comes (Client at) w piece s after b kept = client_comes (slice_get s.ends.clients at) at w piece s b refl kept
+
+  -- ---- ends that are made anew
+
+  client_anew : (found : Option ClientPlan) (at : ℕ) (ends : EndStates) (links : List Route) (made : List MessageMade) → slice_get plans at ≡ found → AreKept ends.clients links made →
+      AreKept (renew_client found at ends).clients links made
+  client_anew None at ends links made is kept = kept
+  client_anew (Some plan) at ends links made is kept = client_put ends.clients links made at (fresh_client plan) kept (keeps.anew links made at plan is)
+
+  controller_anew : (found : Option ControllerState) (at : ℕ) (ends : EndStates) (links : List Route) (made : List MessageMade) → AreKept ends.clients links made →
+      AreKept (renew_controller found at ends).clients links made
+  controller_anew None at ends links made kept = kept
+  controller_anew (Some c) at ends links made kept = kept
+
+  member_anew : (found : Option MemberPlan) (at : ℕ) (ends : EndStates) (links : List Route) (made : List MessageMade) → AreKept ends.clients links made →
+      AreKept (renew_member found at ends).clients links made
+  member_anew None at ends links made kept = kept
+  member_anew (Some plan) at ends links made kept = kept
+
+  end_anew : (end : EndId) (s : State) (made : List MessageMade) → s.client_plans ≡ plans → AreKept s.ends.clients s.links made → AreKept (renewed end s).ends.clients s.links made
+  end_anew (Controller at) s made same kept = controller_anew (slice_get s.ends.controllers at) at s.ends s.links made kept
+  end_anew (Member at) s made same kept = member_anew (slice_get s.member_plans at) at s.ends s.links made kept
+  end_anew (Client at) s made same kept =
+      subst (λ (all : List ClientPlan). AreKept (renew_client (slice_get all at) at s.ends).clients s.links made) (sym same)
+      (client_anew (slice_get plans at) at s.ends s.links made refl kept)
+
+  -- ---- a run
+
+  -- the clients' plans are these
+  record ByPlans (now : List ClientPlan) (ends : EndStates) (links : List Route) (messages : List MessageMade) : Type 0 where
+    same : now ≡ plans
+    kept : AreKept ends.clients links messages
+
+  abbrev OfClients : EndFact
+  OfClients at on now given b = ByPlans now.client_plans now.ends now.links b.made
+
+  of_keeps : KeepsEnds OfClients
+  of_keeps = record {
+    calm = λ at on end what s given b calm holds. record {
+      same = holds.same;
+      kept = end_hears what s.moment s.ends s.chances s.links b.made end (calm_meets end s.links what calm) holds.kept;
+    };
+    dialled = λ at end link s given b side holds. record {
+      same = holds.same;
+      kept = end_hears (event.Dialled link) s.moment s.ends s.chances s.links b.made end (dialled_meets end s.links link side) holds.kept;
+    };
+    opens = λ at route s given b holds. record {
+      same = holds.same;
+      kept = end_hears (event.Opened (length s.links)) s.moment s.ends s.chances (s.links ++ route ∷ []) b.made (acceptor_of route)
+          (opened_meets (acceptor_of route) (s.links ++ route ∷ []) (length s.links)) (link_made s.ends.clients s.links b.made route holds.kept);
+    };
+    begins = λ at client plan s b is holds. record {
+      same = holds.same;
+      kept = client_put s.ends.clients s.links b.made client (begin_of (fresh_client plan)).state holds.kept
+          (keeps.begins s.links b.made client plan (subst (λ (all : List ClientPlan). slice_get all client ≡ Some plan) holds.same is));
+    };
+    comes = λ end w piece s given b side came holds. record {
+      same = holds.same;
+      kept = end_comes end w piece s (hear_and_act end (event.Bytes w.link piece) s).state b holds.kept;
+    };
+    renews = λ at end s b holds. record { same = holds.same; kept = end_anew end s b.made holds.same holds.kept };
+    over = λ at on next s given b holds. holds;
+  }
+
+  first_kept : Made [] [] → AreKept (map fresh_client plans) [] []
+  first_kept made = record {
+    each = λ k c there. let found = got_map fresh_client plans k c there in subst (λ (x : ClientState). Fits [] [] k x) found.2 (keeps.anew [] [] k found.0 found.1);
+    made = made;
+  }
+
+-- after all moves of a run
+pub clients_after : (plan : Plan) (moves : List Move) (Fits : ClientFact) (Made : MadeFact) (keeps : KeepsClients plan.clients Fits Made) → Made [] [] →
+    AreKept plan.clients Fits Made keeps (past plan moves).world.state.ends.clients (past plan moves).world.state.links (past plan moves).book.made
+clients_after plan moves Fits Made keeps made =
+    (ends_after (OfClients plan.clients Fits Made keeps) (of_keeps plan.clients Fits Made keeps) plan moves (λ on. record { same = refl; kept = first_kept plan.clients Fits Made keeps made })).kept
