@@ -35,8 +35,8 @@ pub fn controllers_pass_the_next()
     ensures { (plan : Plan) (moves : List Move) → PassesTheNextCredential (past plan moves) }
 {}
 
-/// In every run, over all moves from a plan on, a controller tells of nothing but the calls that it heard,
-/// and of none that it was handed on to another.
+/// In every run, over all moves from a plan on, a controller tells of nothing but the calls that it heard, and never
+/// that it handed one on to another.
 #[tactic(auto, using(crate::proofs::Judgements::AloneLaws::tells_of_calls))]
 pub fn controllers_tell_of_calls_alone()
     ensures { (plan : Plan) (moves : List Move) → TellsOfCallsAlone (past plan moves) }

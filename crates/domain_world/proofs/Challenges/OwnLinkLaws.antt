@@ -1,14 +1,11 @@
 -- What a member writes down of the links that it accepts: which CHALLENGE was sent, by which draw, and for which an
 -- AUTHENTICATE is. It serves `members_leave_nothing_out`, `messages_are_taken_as_sent`, `messages_have_own_challenges`
 -- and 3 more.
-use Rattle.std.proofs.Common.{◌≡◌, ◌==◌, ◌≤◌, ℕ, Bool, true, false, List, [], ◌∷◌, ◌++◌, length, Option, Some, None, Result, Ok, Err, inl, inr, refl, sym, ap, subst, ◌∙◌, arith, slice_get, append_assoc, length-append}
+use Rattle.std.proofs.Common.{◌≡◌, ◌≤◌, ℕ, Bool, true, false, List, [], ◌∷◌, ◌++◌, length, Option, Some, None, Result, Ok, Err, inl, inr, refl, sym, ap, subst, ◌∙◌, arith, slice_get, append_assoc, length-append}
 use Rattle.std.proofs.lemmas.List.{flat_map_more}
 use Rattle.std.specs.Prelude.{flat_map}
 use Rattle.std.specs.List.{AllByRecursion}
-use Rattle.std.proofs.lemmas.Bool.{eq-eqb}
-use Rattle.std.proofs.lemmas.Option.{same_Some}
-use Rattle.wire_base.specs.Maps.{lookup, put, same_number}
-use Rattle.wire_base.proofs.MapLaws.{lookup-put_same}
+use Rattle.wire_base.specs.Maps.{lookup, same_number}
 use Rattle.outside.specs.declared.action.Action.{Action}
 use Rattle.outside.specs.declared.action.StepRefused.{StepRefused}
 use Rattle.outside.specs.declared.event.Event.TheVariants as event
@@ -16,45 +13,29 @@ use Rattle.outside.specs.Drawing.{IsRest, draws_between}
 use Rattle.outside.specs.Machine.{Part, left_by, step_by, then_part}
 use Rattle.outside.proofs.DrawLaws.{IsRest-refl, IsRest-trans, between_front}
 use Rattle.outside.proofs.MachineLaws.{then_part-rest}
-use Rattle.ntlm_flags.specs.Flags.{agreed_flags}
-use Rattle.ntlm_messages.specs.declared.messages.Authenticate.{Authenticate}
-use Rattle.ntlm_messages.specs.declared.refused.MessageRefused.{MessageRefused}
-use Rattle.ntlm_messages.specs.Authenticate.{authenticate_of}
-use Rattle.rpc_units.specs.declared.refused.UnitRefused.{UnitRefused}
-use Rattle.rpc_units.specs.declared.unit.Body.{Body}
-use Rattle.rpc_units.specs.declared.unit.Body.TheVariants.{Bind, BindAck, BindNak, Auth3, Request, Response, Fault}
-use Rattle.rpc_units.specs.declared.unit.Syntax.{Syntax}
-use Rattle.rpc_units.specs.declared.unit.Trailer.{Trailer}
 use Rattle.rpc_units.specs.declared.unit.Unit.{Unit as RpcUnit}
 use Rattle.rpc_units.specs.Reading.{unit_of}
 use Rattle.rpc_units.specs.Stream.{Cut, cut_stream}
 use Rattle.end_links.specs.Links.{LinkState}
 use Rattle.end_links.specs.Serving.{ServedPart, served_cut, ServedUnit, served_units}
 use Rattle.end_links.proofs.KeepLaws.{comes_to, unit_served}
-use Rattle.channel_client.specs.declared.answers.AskRefused.{AskRefused}
 use Rattle.channel_client.specs.declared.answers.AskRefused.TheVariants as ask_refused
-use Rattle.channel_client.specs.Machine.{ask_of}
-use Rattle.member_server.specs.declared.binds.Offer.{Offer}
 use Rattle.member_server.specs.declared.state.AtLink.{AtLink}
 use Rattle.member_server.specs.declared.state.Bound.{Bound}
 use Rattle.member_server.specs.declared.state.Dialling.{Dialling}
 use Rattle.member_server.specs.declared.state.Logon.{Logon}
-use Rattle.member_server.specs.declared.state.Logons.{Logons}
 use Rattle.member_server.specs.declared.state.Phase.{Phase}
 use Rattle.member_server.specs.declared.state.Phase.TheVariants as phase
 use Rattle.member_server.specs.declared.state.Running.{Running}
 use Rattle.member_server.specs.declared.state.Talk.{Talk}
 use Rattle.member_server.specs.declared.state.Work.{Work}
-use Rattle.member_server.specs.Binds.{ack_fits, answer_bind, bind_by, fresh_unit, offer_in}
 use Rattle.member_server.specs.Laws.{is_past}
-use Rattle.rpc_units.specs.Numbers.{ntlm_provider}
 use Rattle.member_server.specs.Machine.{actions_in, after_units, bytes_on, bytes_on_link, event_part, halted_state, state_in, step_of, step_on, work_of}
-use Rattle.member_server.specs.Messages.{ask_by, info_of, is_fit, take_auth3, take_message, take_trailer, wait_by, with_channel}
 use Rattle.member_server.specs.Outcomes.{at_link, without_link}
 use Rattle.member_server.specs.Rests.{link_leaves}
 use Rattle.member_server.specs.State.{State as MemberState}
 use Rattle.member_server.specs.Turns.{DialWork, next_turn}
-use Rattle.member_server.specs.Units.{body_challenged, bound_unit, first_unit, is_fresh, link_server, unit_by, unit_challenged}
+use Rattle.member_server.specs.Units.{bound_unit, first_unit, is_fresh, link_server, unit_by}
 use Rattle.member_server.specs.Work.{Served}
 use Rattle.channel_events.specs.Marks.{OneOf}
 use Rattle.step_notes.specs.MemberNotes.{LinkAt, challenge_after, challenge_by, challenge_in, challenge_note, is_challenged, link_if, link_units, link_units_in, link_units_by, link_units_on, is_turn_link, message_after, message_at, message_by, message_kept, message_note, next_draw, taken_after, taken_by, taken_link}
@@ -67,6 +48,8 @@ use Rattle.channel_events.proofs.ListLaws.{got_append, got_behind}
 use Rattle.step_notes.proofs.ServedLaws.{served_beside, served_noted}
 use Rattle.step_notes.proofs.Members.RestLaws.{next_rest}
 use Rattle.step_notes.proofs.Members.UnservedLaws.{DialWorkLinks, HasServed, IfUnserved, IfUnservedAfter, IfUnservedPart, LinksIn, Unserved, after_known, bound_serves, bytes_hold, dialled_known, fewer_known, found_known, next_known, none_so}
+use Rattle.domain_world.specs.Claims.LeftOut.{DrawsFor, Takes, TakesOn, challenges_in}
+use Rattle.domain_world.proofs.Challenges.LinkUnitLaws.{challenged_takes, first_sends, unit_at}
 use Rattle.domain_world.proofs.Frames.AllLaws.{all_join, all_flat}
 
 -- ---- lists
@@ -135,11 +118,6 @@ own_opened challenges links route member link p own =
     (λ (challenge : List ℕ). OneOf (IsSentOn member link challenge) challenges) (λ its. link_more links route link member its) (λ challenge one. one) p own
 
 -- ---- what is written down of a unit on an accepted link
-
--- a unit that comes where the link is so far; the first argument: whether nothing is bound
-abbrev pub unit_at : Bool → Phase → List ℕ → Option RpcUnit → AtLink → List (List ℕ) → ServedUnit AtLink Talk
-unit_at fresh p bytes joiner at left =
-    record { bytes = bytes; work = at; talk = record { joiner = joiner; phase = p }; left = left; part = unit_by fresh p bytes joiner at left }
 
 -- a CHALLENGE of this link and member, which no earlier draw gave
 abbrev pub IsSentAt : LinkAt → ChallengeSent → Type 0
@@ -219,60 +197,22 @@ sent_among member link front (one ∷ sent) all = (
 
 -- ---- an AUTHENTICATE that is taken keeps the challenge of its link
 
--- so does each that is written down of what a unit comes to
-abbrev pub AsksFor : LinkAt → List ℕ → List ℕ → Served → Type 0
-AsksFor w bytes challenge served = AllByRecursion (λ (one : MessageTaken). one.logon.challenge ≡ challenge) (message_after served.1 (Some served.0) w bytes)
+-- so does each that is written down
+abbrev KeepChallenge : List ℕ → List MessageTaken → Type 0
+KeepChallenge challenge messages = AllByRecursion (λ (one : MessageTaken). one.logon.challenge ≡ challenge) messages
 
-module _ (w : LinkAt) (bytes : List ℕ) where
-  kept_asks : (found : Option Logon) (place : ℕ) (logon : Logon) → found ≡ Some logon →
-      AllByRecursion (λ (one : MessageTaken). one.logon.challenge ≡ logon.challenge) (message_kept found place w bytes)
-  kept_asks None place logon is = tt
-  kept_asks (Some other) place logon is = (ap (λ (l : Logon). l.challenge) (same_Some other logon is), tt)
+on_asks : (p : Phase) (w : LinkAt) (bytes challenge : List ℕ) (messages : List MessageTaken) (before after : AtLink) → TakesOn p w bytes challenge messages before after →
+    KeepChallenge challenge messages
+on_asks phase.Fresh w bytes challenge messages before after none = absurd none
+on_asks (phase.Challenged bound other flags) w bytes challenge messages before after none = absurd none
+on_asks (phase.Asked bound place held) w bytes challenge messages before after takes = subst (KeepChallenge challenge) (sym takes.1) (takes.2.challenge_is, tt)
+on_asks (phase.In on) w bytes challenge messages before after none = absurd none
+on_asks (phase.Out bound status) w bytes challenge messages before after takes = subst (KeepChallenge challenge) (sym takes.0) tt
 
-  wait_asks : (answer : Result ℕ AskRefused) (logons : Logons) (logon : Logon) (bound : Bound) (joiner : Option RpcUnit) (at : AtLink) →
-      AsksFor w bytes logon.challenge (wait_by answer logons logon bound joiner at)
-  wait_asks (Ok place) logons logon bound joiner at =
-      kept_asks (lookup same_number place (put same_number place logon logons.asked)) place logon (lookup-put_same same_number place logon logons.asked (eq-eqb place place refl))
-  wait_asks (Err ask_refused.QueueFull) logons logon bound joiner at = tt
-  wait_asks (Err ask_refused.Memory) logons logon bound joiner at = tt
-
-  ask_asks : (fit : Bool) (message : Authenticate) (agreed : ℕ) (challenge : List ℕ) (bound : Bound) (joiner : Option RpcUnit) (at : AtLink) →
-      AsksFor w bytes challenge (ask_by fit message agreed challenge bound joiner at)
-  ask_asks false message agreed challenge bound joiner at = tt
-  ask_asks true message agreed challenge bound joiner at =
-      let asking = ask_of at.logons.channel (info_of message agreed challenge) in
-      wait_asks asking.answer (with_channel at.logons asking.state) (record { link = at.link; challenge = challenge; message = message; agreed = agreed }) bound joiner at
-
-  message_asks : (message : Result Authenticate MessageRefused) (bound : Bound) (challenge : List ℕ) (flags : ℕ) (joiner : Option RpcUnit) (at : AtLink) →
-      AsksFor w bytes challenge (take_message message bound challenge flags joiner at)
-  message_asks (Err why) bound challenge flags joiner at = tt
-  message_asks (Ok message) bound challenge flags joiner at =
-      ask_asks (is_fit bound.level (agreed_flags flags message.flags) message) message (agreed_flags flags message.flags) challenge bound joiner at
-
-  trailer_asks : (is_ntlm : Bool) (trailer : Trailer) (bound : Bound) (challenge : List ℕ) (flags : ℕ) (joiner : Option RpcUnit) (at : AtLink) →
-      AsksFor w bytes challenge (take_trailer is_ntlm trailer bound challenge flags joiner at)
-  trailer_asks false trailer bound challenge flags joiner at = tt
-  trailer_asks true trailer bound challenge flags joiner at = message_asks (authenticate_of trailer.value) bound challenge flags joiner at
-
-  auth3_asks : (trailer : Option Trailer) (bound : Bound) (challenge : List ℕ) (flags : ℕ) (joiner : Option RpcUnit) (at : AtLink) →
-      AsksFor w bytes challenge (take_auth3 trailer bound challenge flags joiner at)
-  auth3_asks None bound challenge flags joiner at = tt
-  auth3_asks (Some trailer) bound challenge flags joiner at = trailer_asks (trailer.kind == ntlm_provider) trailer bound challenge flags joiner at
-
-  body_asks : (body : Body) (trailer : Option Trailer) (bound : Bound) (challenge : List ℕ) (flags : ℕ) (joiner : Option RpcUnit) (at : AtLink) →
-      AsksFor w bytes challenge (body_challenged body trailer bound challenge flags joiner at)
-  body_asks Auth3 trailer bound challenge flags joiner at = auth3_asks trailer bound challenge flags joiner at
-  body_asks (Bind send receive group contexts) trailer bound challenge flags joiner at = tt
-  body_asks (BindAck send receive group results) trailer bound challenge flags joiner at = tt
-  body_asks (BindNak reason) trailer bound challenge flags joiner at = tt
-  body_asks (Request hint context opnum stub) trailer bound challenge flags joiner at = tt
-  body_asks (Response hint context stub) trailer bound challenge flags joiner at = tt
-  body_asks (Fault hint context status) trailer bound challenge flags joiner at = tt
-
-  challenged_asks : (unit : Result RpcUnit UnitRefused) (bound : Bound) (challenge : List ℕ) (flags : ℕ) (joiner : Option RpcUnit) (at : AtLink) →
-      AsksFor w bytes challenge (unit_challenged unit bound challenge flags joiner at)
-  challenged_asks (Err why) bound challenge flags joiner at = tt
-  challenged_asks (Ok unit) bound challenge flags joiner at = body_asks unit.body unit.trailer bound challenge flags joiner at
+takes_ask : (said : Option Talk) (w : LinkAt) (bytes challenge : List ℕ) (messages : List MessageTaken) (links : List ℕ) (before after : AtLink) →
+    Takes said w bytes challenge messages links before after → KeepChallenge challenge messages
+takes_ask None w bytes challenge messages links before after takes = subst (KeepChallenge challenge) (sym takes.0) tt
+takes_ask (Some talk) w bytes challenge messages links before after takes = on_asks talk.phase w bytes challenge messages before after takes.1
 
 -- ---- the units of a stream
 
@@ -317,7 +257,8 @@ module _ (w : LinkAt) (F : Type 0) (D : List ℕ → Type 0) where
   unit_for (phase.Challenged bound challenge flags) bytes joiner at left known sent =
       let served : Served = bound_unit (phase.Challenged bound challenge flags) bytes joiner at in (
         all_so (λ (one : MessageTaken). one.logon.challenge ≡ challenge) (λ (one : MessageTaken). F × D one.logon.challenge) (λ one is. (known.0, subst D (sym is) known.1))
-            (message_after served.1 (Some served.0) w bytes) (challenged_asks w bytes (unit_of bytes) bound challenge flags joiner at),
+            (message_after served.1 (Some served.0) w bytes) (takes_ask served.1 w bytes challenge (message_after served.1 (Some served.0) w bytes) (taken_after served.1 w.link) at served.0
+            (challenged_takes w bytes (unit_of bytes) bound challenge flags joiner at)),
         none_so (IsKnown F D) served.1 (bound_serves (phase.Challenged bound challenge flags) bytes joiner at),
       )
   unit_for (phase.Asked bound place held) bytes joiner at left known sent = (tt, none_so (IsKnown F D) _ (bound_serves (phase.Asked bound place held) bytes joiner at))
@@ -438,48 +379,6 @@ module _ (w : LinkAt) where
 abbrev pub IsDrawn : List (List ℕ) → ChallengeSent → Type 0
 IsDrawn drawn sent = slice_get drawn sent.draw ≡ Some sent.challenge
 
--- where the link has its challenge then, that was the first of those that were left
-abbrev pub IsFirstLeft : List (List ℕ) → List (List ℕ) → Phase → Type 0
-IsFirstLeft left rest phase.Fresh = Unit {0}
-IsFirstLeft left rest (phase.Challenged bound challenge flags) = left ≡ challenge ∷ rest
-IsFirstLeft left rest (phase.Asked bound place held) = Unit {0}
-IsFirstLeft left rest (phase.In on) = Unit {0}
-IsFirstLeft left rest (phase.Out bound status) = Unit {0}
-
-abbrev pub DrewAfter : List (List ℕ) → List (List ℕ) → Option Talk → Type 0
-DrewAfter left rest None = Unit {0}
-DrewAfter left rest (Some talk) = IsFirstLeft left rest talk.phase
-
-abbrev pub DrewFirst : List (List ℕ) → ServedPart AtLink Talk → Type 0
-DrewFirst left (Err why) = Unit {0}
-DrewFirst left (Ok part) = DrewAfter left part.left part.value.1
-
-answer_drew : (fits : Bool) (offer : Offer) (call receive : ℕ) (contexts : List (ℕ × Syntax × List Syntax)) (joiner : Option RpcUnit) (at : AtLink) (left : List (List ℕ)) →
-    DrewFirst left (answer_bind fits offer call receive contexts joiner at left)
-answer_drew false offer call receive contexts joiner at left = tt
-answer_drew true offer call receive contexts joiner at [] = tt
-answer_drew true offer call receive contexts joiner at (challenge ∷ left) = refl
-
-bind_drew : (offer : Option Offer) (call receive : ℕ) (contexts : List (ℕ × Syntax × List Syntax)) (joiner : Option RpcUnit) (at : AtLink) (left : List (List ℕ)) →
-    DrewFirst left (bind_by offer call receive contexts joiner at left)
-bind_drew None call receive contexts joiner at left = tt
-bind_drew (Some offer) call receive contexts joiner at left =
-    answer_drew (ack_fits offer at.logons.plan call receive contexts) offer call receive contexts joiner at left
-
-fresh_drew : (body : Body) (trailer : Option Trailer) (call : ℕ) (joiner : Option RpcUnit) (at : AtLink) (left : List (List ℕ)) →
-    DrewFirst left (fresh_unit body trailer call joiner at left)
-fresh_drew (Bind send receive group contexts) trailer call joiner at left = bind_drew (offer_in trailer) call receive contexts joiner at left
-fresh_drew (BindAck send receive group results) trailer call joiner at left = tt
-fresh_drew (BindNak reason) trailer call joiner at left = tt
-fresh_drew Auth3 trailer call joiner at left = tt
-fresh_drew (Request hint context opnum stub) trailer call joiner at left = tt
-fresh_drew (Response hint context stub) trailer call joiner at left = tt
-fresh_drew (Fault hint context status) trailer call joiner at left = tt
-
-first_drew : (unit : Result RpcUnit UnitRefused) (joiner : Option RpcUnit) (at : AtLink) (left : List (List ℕ)) → DrewFirst left (first_unit unit joiner at left)
-first_drew (Err why) joiner at left = tt
-first_drew (Ok unit) joiner at left = fresh_drew unit.body unit.trailer unit.call joiner at left
-
 -- the draws gave them: those that were drawn before a step, and those that were left then and aren't left after it
 abbrev pub WereDrawn : List (List ℕ) → List (List ℕ) → List (List ℕ) → List ChallengeSent → Type 0
 WereDrawn drawn all last sent = AllByRecursion (IsDrawn (drawn ++ draws_between all last)) sent
@@ -499,18 +398,18 @@ module _ (w : LinkAt) (drawn all last : List (List ℕ)) (drew : w.drawn ≡ len
       ∙ ap (λ (n : ℕ). slice_get ((drawn ++ front) ++ more) n) number
       ∙ got_behind (drawn ++ front) challenge after.front
 
-  in_drawn : (p : Phase) (at : AtLink) (left rest : List (List ℕ)) → IsFirstLeft left rest p → IsRest left all → IsRest last rest → WereDrawn drawn all last (challenge_in p w at left)
+  in_drawn : (p : Phase) (at : AtLink) (left rest : List (List ℕ)) → left ≡ challenges_in (challenge_in p w at left) ++ rest → IsRest left all → IsRest last rest → WereDrawn drawn all last (challenge_in p w at left)
   in_drawn phase.Fresh at left rest first before after = tt
   in_drawn (phase.Challenged bound challenge flags) at left rest first before after = (draw_found challenge left rest first before after, tt)
   in_drawn (phase.Asked bound place held) at left rest first before after = tt
   in_drawn (phase.In on) at left rest first before after = tt
   in_drawn (phase.Out bound status) at left rest first before after = tt
 
-  said_drawn : (said : Option Talk) (at : AtLink) (left rest : List (List ℕ)) → DrewAfter left rest said → IsRest left all → IsRest last rest → WereDrawn drawn all last (challenge_after said w at left)
+  said_drawn : (said : Option Talk) (at : AtLink) (left rest : List (List ℕ)) → left ≡ challenges_in (challenge_after said w at left) ++ rest → IsRest left all → IsRest last rest → WereDrawn drawn all last (challenge_after said w at left)
   said_drawn None at left rest first before after = tt
   said_drawn (Some talk) at left rest first before after = in_drawn talk.phase at left rest first before after
 
-  part_drawn : (part : ServedPart AtLink Talk) (at : AtLink) (left : List (List ℕ)) → DrewFirst left part → IsRest left all → IsRest last (left_by part) →
+  part_drawn : (part : ServedPart AtLink Talk) (at : AtLink) (left : List (List ℕ)) → DrawsFor left (challenge_after (talk_after part) w at left) part → IsRest left all → IsRest last (left_by part) →
       WereDrawn drawn all last (challenge_after (talk_after part) w at left)
   part_drawn (Err why) at left first before after = tt
   part_drawn (Ok part) at left first before after = said_drawn part.value.1 at left part.left first before after
@@ -518,7 +417,7 @@ module _ (w : LinkAt) (drawn all last : List (List ℕ)) (drew : w.drawn ≡ len
   own_drawn : (fresh : Bool) (p : Phase) (bytes : List ℕ) (joiner : Option RpcUnit) (at : AtLink) (left : List (List ℕ)) → IsRest left all →
       IsRest last (left_by (unit_by fresh p bytes joiner at left)) → WereDrawn drawn all last (challenge_by fresh (unit_at fresh p bytes joiner at left) w)
   own_drawn false p bytes joiner at left before after = tt
-  own_drawn true p bytes joiner at left before after = part_drawn (first_unit (unit_of bytes) joiner at left) at left (first_drew (unit_of bytes) joiner at left) before after
+  own_drawn true p bytes joiner at left before after = part_drawn (first_unit (unit_of bytes) joiner at left) at left (first_sends w (unit_of bytes) joiner at left).1 before after
 
 -- whatever is left at the end
 abbrev pub DrawnSoFar : List (List ℕ) → List (List ℕ) → List ChallengeSent → ServedPart AtLink Talk → Type 0

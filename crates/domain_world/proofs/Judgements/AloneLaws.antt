@@ -1,4 +1,4 @@
--- What a controller tells judges a call, and it tells of none that it was handed on to another.
+-- What a controller tells judges a call, and it never tells that it handed one on to another.
 -- It serves `controllers_tell_of_calls_alone`.
 use Rattle.std.proofs.Common.{◌≡◌, ◌≢◌, List, [], ◌∷◌, ◌++◌, Option, Some, None, true, refl, sym, ap, ◌∙◌, subst}
 use Rattle.std.specs.List.{AllByRecursion}

@@ -34,7 +34,8 @@ use Rattle.step_notes.specs.Served.{talk_after, units_if_taken}
 use Rattle.step_notes.proofs.Members.UnservedLaws.{DialWorkLinks, HasServed, IfUnserved, IfUnservedAfter, IfUnservedPart, LinksIn, Unserved, after_known, bound_serves, bytes_hold, dialled_known, found_known, links_so, next_known, none_so, phase_so}
 use Rattle.step_notes.proofs.ServedLaws.{StaysBeside, served_beside}
 use Rattle.domain_world.proofs.Accepting.Messages.ChallengeReadLaws.{AreTakenWith, CanBeReadAfter, CanBeReadAt, CanBeReadPart, IsReadAs, IsTakenWith, challenged_with, first_reads, read_again}
-use Rattle.domain_world.proofs.Challenges.OwnLinkLaws.{served_bound, unit_at}
+use Rattle.domain_world.proofs.Challenges.LinkUnitLaws.{unit_at}
+use Rattle.domain_world.proofs.Challenges.OwnLinkLaws.{served_bound}
 use Rattle.domain_world.proofs.Frames.LeftLaws.{AreEights, eights_rest}
 use Rattle.domain_world.proofs.Frames.AllLaws.{all_join}
 
