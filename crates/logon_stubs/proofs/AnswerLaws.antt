@@ -1,5 +1,5 @@
 -- The law `answers_are_long`: a reply to a Logon call with an authenticator has more than 16 bytes.
-use Rattle.std.proofs.Common.{◌≡◌, ℕ, ◌+◌, ◌≤◌, Bool, true, false, List, [], ◌++◌, length, Option, Some, None, Ok, refl, sym, ap, ◌∙◌, arith}
+use Rattle.std.proofs.Common.{◌≡◌, ℕ, ◌+◌, ◌≤◌, Bool, true, false, List, ◌++◌, length, Option, Some, Ok, sym, ap, ◌∙◌, arith}
 use Rattle.std.proofs.lemmas.List.{length-append}
 use Rattle.std.specs.Int.{Width, w16, w32, byte_len, to_le_bytes}
 use Rattle.wire_base.proofs.NumberLaws.{length-to_le_bytes}

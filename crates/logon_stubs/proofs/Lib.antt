@@ -2,4 +2,5 @@ pub mod AnswerLaws
 pub mod CallLaws
 pub mod GivenLaws
 pub mod ListLaws
+pub mod WritableLaws
 pub mod WrittenLaws

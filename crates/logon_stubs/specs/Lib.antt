@@ -6,6 +6,7 @@ pub mod Ranges
 pub mod Refusals
 pub mod Status
 pub mod Structures
+pub mod Verdicts
 pub mod Writing
 pub use Rattle.ndr_codec.specs.Parts
 pub use Rattle.wire_base.specs.Memory

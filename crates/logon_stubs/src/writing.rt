@@ -7,7 +7,7 @@ ghost use Rattle.logon_stubs.specs.declared.calls.Call.{Call as Asked};
 ghost use Rattle.logon_stubs.specs.declared.calls.Reply.{Reply as Answered};
 ghost use Rattle.logon_stubs.specs.Calls.{call_of, reply_of, opnum_of_call, opnum_of_reply, IsCall, IsReply};
 ghost use Rattle.logon_stubs.specs.Structures.{has_extra};
-ghost use Rattle.logon_stubs.specs.Writing.{CanWriteNetworkInfo, CanWriteLogonCall, CanWriteLogoffCall, CanWriteArm, CanWriteCall, CanWriteReply, put_challenge_call, put_challenge_reply, put_auth_call, put_auth_reply, put_leveled_info, logoff_of, put_logoff_call, put_logoff_reply, put_logon_call, put_logon_reply, put_sam_info, put_call, put_reply, written_call, written_reply};
+ghost use Rattle.logon_stubs.specs.Writing.{CanWriteNetworkInfo, CanWriteLogonCall, CanWriteLogoffCall, CanWriteArm, CanWriteInfo, CanWriteCall, CanWriteReply, put_challenge_call, put_challenge_reply, put_auth_call, put_auth_reply, put_leveled_info, logoff_of, put_logoff_call, put_logoff_reply, put_logon_call, put_logon_reply, put_sam_info, put_call, put_reply, written_call, written_reply};
 ghost use Rattle.logon_stubs.specs.Ranges.{InRangeNetworkInfo, InRangeSamInfo, InRangeChallengeCall, InRangeAuthCall, InRangeLogoffCall, InRangeLogonCall, InRangeCall, InRangeChallengeReply, InRangeAuthReply, InRangeLogoffReply, InRangeLogonReply, InRangeReply, call_content, IsShortReply};
 
 use crate::calls::{
@@ -244,6 +244,9 @@ pub fn write_reply(alloc: Global, reply: &Reply) -> Result<Blob, NoMemory>
 /// bytes has them. A stub is bytes, fewer than 2^20. A call has at most 400 bytes more than its texts and responses. A
 /// reply whose texts have at most 64 units each has at most 28,015, fewer than are joined from fragments: 65,536 (this
 /// project's own choice).
+///
+/// What is read of bytes can be written: each reply, the information of each logon, and each call whose stub has at
+/// most 65,536 bytes.
 pub fn what_is_written_is_read()
     ensures calls { (value : Asked) → CanWriteCall value → InRangeCall value →
         call_of (opnum_of_call value) (written_call value) ≡ Ok value }
@@ -265,4 +268,10 @@ pub fn what_is_written_is_read()
         AreBytes stub → call_of opnum stub ≡ Ok value → InRangeCall value }
     ensures reply_ranges { (opnum : ℕ) (stub : List ℕ) (value : Answered) →
         AreBytes stub → reply_of opnum stub ≡ Ok value → InRangeReply value }
+    ensures call_writable { (opnum : ℕ) (stub : List ℕ) (value : Asked) → AreBytes stub →
+        length stub ≤ 65536 → call_of opnum stub ≡ Ok value → CanWriteCall value }
+    ensures info_writable { (opnum : ℕ) (stub : List ℕ) (value : Asked) →
+        AreBytes stub → call_of opnum stub ≡ Ok value → CanWriteInfo value }
+    ensures reply_writable { (opnum : ℕ) (stub : List ℕ) (value : Answered) →
+        AreBytes stub → reply_of opnum stub ≡ Ok value → CanWriteReply value }
 {}
