@@ -1,5 +1,6 @@
 pub mod CauseLaws
 pub mod EffectLaws
+pub mod GrantLaws
 pub mod StubLaws
 pub mod TurnLaws
 pub mod WholeLaws

@@ -1,5 +1,6 @@
 pub mod Causes
 pub mod Effects
+pub mod Grants
 pub mod Machine
 pub mod State
 pub mod Turns

@@ -1,7 +1,9 @@
 //! The channel.
 
 ghost use Rattle.std.specs.Prelude.{◌≡◌, ◌≤◌, length, IfOk, OnOk, OnErr};
-ghost use Rattle.logon_stubs.specs.Writing.{CanWriteNetworkInfo};
+ghost use Rattle.logon_stubs.specs.Ranges.{InRangeSamInfo};
+ghost use Rattle.logon_stubs.specs.Writing.{CanWriteNetworkInfo, CanWriteSamInfo};
+ghost use Rattle.channel_client.specs.Grants.{CanWriteHeard, IfTaken};
 ghost use Rattle.channel_client.specs.Machine.{CanWriteStep, fresh_requester, ask_of, AsksBy, needs_challenge, can_start, start_of, wait_for, hear, settle, act, take_of, lose_of, end_turn, remove_first, place_of};
 
 use crate::answers::{AskRefused, TakeRefused, Taken};
@@ -179,6 +181,9 @@ impl Channel {
         ensures answer { IfOk result (λ taken. taken ≡ (take_of self.old unit.now).taken) }
         ensures state { OnOk result (self.new ≡ (take_of self.old unit.now).state) }
         ensures unchanged { OnErr result (self.new ≡ self.old) }
+        // What is granted can be handed on: it can be written into a stub again, and has its ranges.
+        ensures writable { IfOk result (λ taken. IfTaken taken CanWriteSamInfo) }
+        ensures range { IfOk result (λ taken. IfTaken taken InRangeSamInfo) }
     {
         match self.hear(alloc, unit) {
             Ok(heard) => Ok(self.act(turn, heard)),
@@ -197,7 +202,9 @@ impl Channel {
 
     /// What a unit comes to for the turn.
     fn hear(&self, alloc: Global, unit: &Unit) -> Result<Hearing, NoMemory>
-        ensures { IfOk result (λ heard. heard ≡ hear self.now.turn unit.now self.now.next_call) }
+        ensures exact { IfOk result
+            (λ heard. heard ≡ hear self.now.turn unit.now self.now.next_call) }
+        ensures writable { IfOk result CanWriteHeard }
     {
         match &self.turn {
             Some(pending) if unit.call == pending.number => {
@@ -208,9 +215,13 @@ impl Channel {
     }
 
     /// Does what a unit comes to.
+    #[tactic(auto, using(crate::proofs::GrantLaws::settled_writable, crate::proofs::GrantLaws::settled_range))]
     fn act(&mut self, turn: Turn, heard: Hearing) -> Taken
+        requires { CanWriteHeard heard }
         ensures answer { result ≡ (act heard self.old).taken }
         ensures state { self.new ≡ (act heard self.old).state }
+        ensures writable { IfTaken result CanWriteSamInfo }
+        ensures range { IfTaken result InRangeSamInfo }
     {
         match heard {
             Hearing::Skip => Taken::Skip(turn),

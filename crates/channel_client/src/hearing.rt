@@ -5,6 +5,7 @@ ghost use Rattle.logon_stubs.specs.Calls.{call_of, opnum_of_call};
 ghost use Rattle.logon_stubs.specs.Writing.{CanWriteCall, written_call};
 ghost use Rattle.end_links.specs.Binding.{limit_of};
 ghost use Rattle.end_links.specs.Sending.{frames_of, request_of};
+ghost use Rattle.channel_client.specs.Grants.{CanWriteHeard};
 ghost use Rattle.channel_client.specs.Machine.{CanWriteStep, question_of, opnum_asked, is_accepting, hear_ack, hear_stub, hear_body};
 
 use crate::short_frames::ShortFrames;
@@ -41,7 +42,8 @@ pub(crate) fn hear_body(
     next: u32,
 ) -> Result<Hearing, NoMemory>
     requires { CanWriteStep step.now }
-    ensures { IfOk result (λ heard. heard ≡ hear_body body.now step.now next) }
+    ensures exact { IfOk result (λ heard. heard ≡ hear_body body.now step.now next) }
+    ensures writable { IfOk result CanWriteHeard }
 {
     match body {
         Body::BindNak(_) => Ok(Hearing::Drop(DropCause::Bind)),
@@ -77,7 +79,8 @@ fn hear_ack(
     next: u32,
 ) -> Result<Hearing, NoMemory>
     requires { CanWriteStep step.now }
-    ensures { IfOk result (λ heard. heard ≡ hear_ack accepting step.now receive next) }
+    ensures exact { IfOk result (λ heard. heard ≡ hear_ack accepting step.now receive next) }
+    ensures writable { IfOk result CanWriteHeard }
 {
     if !accepting {
         return Ok(Hearing::Drop(DropCause::Bind));
@@ -150,9 +153,10 @@ fn opnum_asked(question: Question) -> u16
     }
 }
 
-/// What the stub of a response comes to.
+/// What the stub of a response comes to. A reply that is read can be written again.
 fn hear_stub(alloc: Global, step: &Step, stub: &[u8]) -> Result<Hearing, NoMemory>
-    ensures { IfOk result (λ heard. heard ≡ hear_stub step.now stub.now) }
+    ensures exact { IfOk result (λ heard. heard ≡ hear_stub step.now stub.now) }
+    ensures writable { IfOk result CanWriteHeard }
 {
     match step {
         Step::Bind(_) => Ok(Hearing::Drop(DropCause::BadReply)),

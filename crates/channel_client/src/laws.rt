@@ -2,6 +2,7 @@
 
 ghost use Rattle.channel_client.specs.Causes.{CausesInOrder};
 ghost use Rattle.channel_client.specs.Effects.{StepsHaveEffects};
+ghost use Rattle.channel_client.specs.Grants.{GrantsAreWritable};
 ghost use Rattle.channel_client.specs.Turns.{OneTurn};
 ghost use Rattle.channel_client.specs.Whole.{RequestersSendWhole};
 
@@ -33,4 +34,10 @@ pub fn each_step_has_its_effect()
 #[tactic(auto, using(crate::proofs::WholeLaws::requesters_send_whole))]
 pub fn requesters_send_whole()
     ensures { RequestersSendWhole }
+{}
+
+/// What a verdict grants that is taken can be handed on: it can be written into a stub again, and has its ranges.
+#[tactic(auto, using(crate::proofs::GrantLaws::grants_are_writable))]
+pub fn grants_can_be_written()
+    ensures { GrantsAreWritable }
 {}
